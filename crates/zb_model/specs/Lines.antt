@@ -1,0 +1,33 @@
+-- The lines of a transcript. A line's node is its EUI, or `nobody` where a line of a foreign transcript names a
+-- node that it never declared; the text shows the name that the node's own line gives.
+use Rattle.std.specs.Prelude.{ℕ, Bool, Option}
+use Rattle.zb_model.specs.Data.{Bytes, Tier, Station, Sealing, Edit, Spot, Reason}
+
+pub data LogLine : Type 0 where
+  -- the start: a node, a network key and a link key that it holds, a stored outgoing limit that isn't 0
+  Declared : (station : Station) → LogLine
+  GivenNet : (node : ℕ) (key : Bytes) (sequence : ℕ) → LogLine
+  GivenLink : (node : ℕ) (partner : ℕ) (key : Bytes) → LogLine
+  Counter : (node : ℕ) (layer : Tier) (limit : ℕ) → LogLine
+  -- a change of the node's stable state. The text of some changes at the centre doesn't show the node.
+  Changed : (event : ℕ) (node : ℕ) (edit : Edit) → LogLine
+  -- the changes before it in its group are stored
+  Commit : (event : ℕ) (node : ℕ) → LogLine
+  Accept : (event : ℕ) (node : ℕ) (sealing : Sealing) → LogLine
+  Refuse : (event : ℕ) (node : ℕ) (spot : Spot) (reason : Reason) → LogLine
+  Seal : (event : ℕ) (node : ℕ) (sealing : Sealing) → LogLine
+  -- a frame that an outsider made with keys that it knows
+  Forge : (event : ℕ) (sealing : Sealing) → LogLine
+  -- a frame went on the air, sent by a node, or by an outsider that forged it (None)
+  Send : (event : ℕ) (node : Option ℕ) (frame : ℕ) (bytes : Bytes) → LogLine
+  Inject : (event : ℕ) (frame : ℕ) (bytes : Bytes) → LogLine
+  -- power and disk
+  Stopped : (event : ℕ) (node : ℕ) → LogLine
+  DownReset : (event : ℕ) (node : ℕ) → LogLine
+  DownDisk : (event : ℕ) (node : ℕ) → LogLine
+  Boot : (event : ℕ) (node : ℕ) → LogLine
+  -- the record that the node's disk stands for
+  Dump : (event : ℕ) (node : ℕ) (bytes : Bytes) → LogLine
+  -- how many events, seal lines, accept lines and refuse lines; whether all that was accepted was sealed or forged
+  -- before, and whether outsiders forged only with what outsiders know
+  End : (events : ℕ) (seals : ℕ) (accepts : ℕ) (refusals : ℕ) (ideal : Bool) (private : Bool) → LogLine
