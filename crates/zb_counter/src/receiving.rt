@@ -1,0 +1,69 @@
+//! Incoming counters: the floor below which a sender's numbers are refused.
+ghost use Rattle.std.specs.Prelude.{◌≡◌, ◌<◌, ◌≤◌, ◌+◌};
+
+/// The floor of one sender under one key.
+#[derive(Clone, Copy, Debug, PartialEq, Eq)]
+pub struct Floor {
+    /// The least number that is taken now.
+    pub kept: u32,
+    /// The least number that is taken after a boot. It is the stored one.
+    pub stored: u32,
+}
+
+/// How a received number is judged.
+#[derive(Clone, Copy, Debug, PartialEq, Eq)]
+pub enum Judge {
+    /// It may be accepted, once `store_to` has been stored as the floor, if it is there.
+    Fresh {
+        /// The floor to be stored first, where the number isn't below the stored floor.
+        store_to: Option<u32>,
+    },
+    /// It is below the floor, which is shown.
+    Stale {
+        /// The floor now.
+        floor: u32,
+    },
+    /// It is 2^32 - 1, which is never accepted.
+    Max,
+}
+
+impl Floor {
+    ghost use Rattle.zb_counter.specs.Outgoing.{last_counter};
+    ghost use Rattle.zb_counter.specs.Floor.{judge_of};
+
+    /// A floor as a boot finds it: it stands at the stored one, since any number below may have been accepted.
+    pub fn after_boot(stored: u32) -> Floor
+        ensures { result ≡ record { kept = stored; stored = stored } }
+    {
+        Floor {
+            kept: stored,
+            stored,
+        }
+    }
+
+    /// Judges a received number. `block` is how far above the number a new stored floor lies.
+    pub fn judge(&self, counter: u32, block: u32) -> Judge
+        ensures { result ≡ judge_of self.now counter block }
+    {
+        if counter == u32::MAX {
+            return Judge::Max;
+        }
+        if counter < self.kept {
+            return Judge::Stale { floor: self.kept };
+        }
+        if counter < self.stored {
+            return Judge::Fresh { store_to: None };
+        }
+        let store_to = Some(counter.saturating_add(block));
+        Judge::Fresh { store_to }
+    }
+
+    /// Takes a number that was judged fresh, and whose floor is stored: it and those below are refused from now on.
+    pub fn accepted(&mut self, counter: u32)
+        requires below_last { counter < last_counter }
+        requires not_stale { self.old.kept ≤ counter }
+        ensures { self.new ≡ record self.old { kept = counter + 1 } }
+    {
+        self.kept = counter + 1;
+    }
+}
