@@ -1,0 +1,40 @@
+-- What the program may rely on of the objects outside it: sources, sinks and their counts of faults.
+use Rattle.std.specs.Prelude.{ℕ, ◌+◌, ◌-◌, ◌^◌, ◌≤◌, min, List, take, Option, Result, OnErr, Bool, ◌==◌}
+use Rattle.std.specs.List.{list_any}
+use Rattle.std.specs.Io.KnownBytes.{Appends}
+
+-- a count after so many more, which stops at 2^64 - 1, where the u64 of an adapter ends
+abbrev pub risen : ℕ → ℕ → ℕ
+risen count more = min (count + more) (2 ^ 64 - 1)
+
+-- a count rose: it is greater than before, or stands at 2^64 - 1
+abbrev pub Rose : ℕ → ℕ → Type 0
+Rose before now = risen before 1 ≤ now
+
+-- a count of faults never falls, and an `Err` comes only where it rose
+pub record HasCause {T E : Type 0} (before now : ℕ) (result : Result T E) : Type 0 where
+  pub later : before ≤ now
+  pub failed : OnErr result (Rose before now)
+
+-- known bytes grow by some front of the piece
+abbrev pub AppendsFront : Option (List ℕ) → Option (List ℕ) → List ℕ → Type 0
+AppendsFront old new piece = (n : ℕ) × Appends old new (take n piece)
+
+-- whether a number is one of these
+abbrev pub has_number : List ℕ → ℕ → Bool
+has_number numbers number = list_any (λ n. n == number) numbers
+
+-- a source in memory: the bytes to come, the numbers from 1 of the calls that are to fail, and the counts so far
+pub record Supply : Type 0 where
+  pub rest : List ℕ
+  pub fails : List ℕ
+  pub calls : ℕ
+  pub faults : ℕ
+
+-- a sink in memory: what it took, its room, the numbers from 1 of the calls that are to fail, and the counts so far
+pub record Intake : Type 0 where
+  pub taken : List ℕ
+  pub room : ℕ
+  pub fails : List ℕ
+  pub calls : ℕ
+  pub faults : ℕ

@@ -1,0 +1,24 @@
+//! What every crate of the security plane speaks of: addresses, keys, frames, the roles of nodes, a node's
+//! configuration, and the two traits by which the program reads and writes.
+#![tactic(auto)]
+
+pub mod address;
+pub mod fault;
+pub mod frame;
+pub mod key;
+pub mod label;
+pub mod list;
+pub mod node;
+mod numbers;
+pub mod sink;
+pub mod source;
+
+pub use address::{Eui, Short};
+pub use fault::{Failed, NoMemory, OrMemory};
+pub use frame::{Frame, Name};
+pub use key::Key;
+pub use label::{Label, Layer};
+pub use list::List;
+pub use node::{Config, Peer, Role};
+pub use sink::{MemSink, NullSink, Sink};
+pub use source::{MemSource, Source};

@@ -1,0 +1,123 @@
+//! Where the program's output goes: the trait `Sink`, a sink in memory, one that drops what it takes, and an adapter
+//! over any writer.
+ghost use Rattle.std.specs.Prelude.{◌≡◌, ◌↔◌, ◌+◌, ◌<◌, ◌⊎◌, ◌++◌, ◌^◌, ℕ, List, [], Option, None, Some, length, IfOk, OnOk, OnErr, is_err, nat_lt, ◌||◌};
+ghost use Rattle.std.specs.Io.KnownBytes.{Appends};
+ghost use Rattle.zb_base.specs.Outside.{AppendsFront, HasCause, has_number as has, risen};
+
+use crate::numbers::has_number;
+use crate::{Failed, NoMemory};
+use std::alloc::Global;
+use std::io::Write;
+use std::marker::Model;
+
+/// An output that is written from its beginning on.
+///
+/// Its meanings are the bytes that it took, where it tells them, and a count of faults, which never falls.
+pub trait Sink {
+    // The bytes that it took so far, where the sink tells them.
+    ghost taken: { Self → Option (List ℕ) };
+
+    // How many of its calls failed. The count of an adapter stops at 2^64 - 1.
+    ghost faults: { Self → ℕ };
+
+    /// Appends the whole piece. `Failed` comes only where the count of faults rose, and then a prefix of the piece
+    /// was appended.
+    fn write(&mut self, piece: &[u8]) -> Result<(), Failed>
+        ensures whole { OnOk result (Appends (taken self.old) (taken self.new) piece.now) }
+        ensures front { OnErr result (AppendsFront (taken self.old) (taken self.new) piece.now) }
+        ensures cause { HasCause (faults self.old) (faults self.new) result };
+}
+
+/// A sink in memory, some of whose calls fail.
+#[derive(Debug, Drop)]
+pub struct MemSink {
+    bytes: Vec<u8>,
+    room: u32,
+    fails: Vec<u32>,
+    calls: u64,
+    faults: u64,
+}
+
+impl Model for MemSink {
+    ghost use Rattle.std.specs.Prelude.{◌≤◌, vec_len, vec_capacity};
+    ghost use Rattle.zb_base.specs.Outside.{Intake};
+
+    ghost Value = { Intake };
+
+    ghost view = { λ s. record { taken = s.bytes.items; room = s.room; fails = s.fails.items; calls = s.calls; faults = s.faults } };
+
+    ghost invariant = { λ s. (vec_len s.bytes ≤ s.room) × (s.room ≤ vec_capacity s.bytes) };
+}
+
+impl MemSink {
+    /// A sink with room for so many bytes, taken now, whose calls of the numbers in `fails`, counted from 1, are to
+    /// fail.
+    pub fn new(alloc: Global, room: u32, fails: &[u32]) -> Result<MemSink, NoMemory>
+        ensures { IfOk result (λ s. s ≡ record { taken = []; room = room; fails = fails.now; calls = 0; faults = 0 }) }
+    {
+        Ok(MemSink {
+            bytes: Vec::with_capacity(alloc, room as usize)?,
+            room,
+            fails: Vec::from_slice(alloc, fails)?,
+            calls: 0,
+            faults: 0,
+        })
+    }
+
+    /// The bytes that the sink took so far.
+    pub fn taken(&self) -> &[u8]
+        ensures { result.now ≡ self.now.taken }
+    {
+        self.bytes.as_slice()
+    }
+}
+
+impl Sink for MemSink {
+    ghost taken = { λ s. Some s.taken };
+
+    ghost faults = { λ s. s.faults };
+
+    fn write(&mut self, piece: &[u8]) -> Result<(), Failed>
+        ensures whole { OnOk result (Appends (Some self.old.taken) (Some self.new.taken) piece.now) }
+        ensures front { OnErr result (AppendsFront (Some self.old.taken) (Some self.new.taken) piece.now) }
+        ensures cause { HasCause self.old.faults self.new.faults result }
+        // It fails exactly at the listed calls and past its room.
+        ensures listed { is_err result ≡
+            (has self.old.fails (risen self.old.calls 1) || nat_lt self.old.room (length self.old.taken + length piece.now)) }
+        ensures counted { self.new.calls ≡ risen self.old.calls 1 }
+        ensures kept { OnErr result (self.new.taken ≡ self.old.taken) }
+    {
+        self.calls = self.calls.saturating_add(1);
+        if has_number(self.fails.as_slice(), self.calls)
+            || self.room as usize - self.bytes.len() < piece.len()
+        {
+            self.faults = self.faults.saturating_add(1);
+            return Err(Failed);
+        }
+        self.bytes.extend_from_slice(piece).unwrap();
+        Ok(())
+    }
+}
+
+/// A sink that drops what it takes. It tells nothing of content, and never fails.
+#[derive(Clone, Copy, Debug, Default, PartialEq, Eq)]
+pub struct NullSink;
+
+impl NullSink {
+    /// The one sink of this kind.
+    pub fn new() -> NullSink
+        ensures { result ≡ record {} }
+    {
+        NullSink
+    }
+}
+
+impl Sink for NullSink {
+    ghost taken = { λ _. None };
+
+    ghost faults = { λ _. 0 };
+
+    fn write(&mut self, _piece: &[u8]) -> Result<(), Failed> {
+        Ok(())
+    }
+}

@@ -1,0 +1,91 @@
+//! Where the program's input comes from: the trait `Source`, a source in memory, and an adapter over any reader.
+ghost use Rattle.std.specs.Prelude.{◌≡◌, ◌↔◌, ◌+◌, ◌<◌, ◌^◌, ℕ, List, Option, None, Some, min, length, IfOk, is_err};
+ghost use Rattle.std.specs.Io.{ReadsAtMost};
+ghost use Rattle.std.specs.Io.KnownBytes.{ReadConsumes};
+ghost use Rattle.zb_base.specs.Outside.{HasCause, has_number as has, risen};
+
+use crate::numbers::{fill, has_number};
+use crate::{Failed, NoMemory};
+use std::alloc::Global;
+use std::io::Read;
+use std::marker::Model;
+
+/// An input that is read from its beginning to its end.
+///
+/// Its meanings are the bytes still to come, where it tells them, and a count of faults, which never falls.
+pub trait Source {
+    // The bytes still to come, where the source tells them.
+    ghost rest: { Self → Option (List ℕ) };
+
+    // How many of its calls failed. The count of an adapter stops at 2^64 - 1.
+    ghost faults: { Self → ℕ };
+
+    /// Puts the next bytes into the front of `buf` and answers how many. 0 into a buffer that isn't empty is the
+    /// end of the input. `Failed` comes only where the count of faults rose, and leaves the rest as it was.
+    fn read(&mut self, buf: &mut [u8]) -> Result<usize, Failed>
+        ensures bound { ReadsAtMost result buf.new }
+        ensures bytes { ReadConsumes (rest self.old) (rest self.new) result buf.new }
+        ensures cause { HasCause (faults self.old) (faults self.new) result };
+}
+
+/// A source of bytes in memory, some of whose calls fail.
+#[derive(Debug, Drop)]
+pub struct MemSource {
+    bytes: Vec<u8>,
+    at: usize,
+    fails: Vec<u32>,
+    calls: u64,
+    faults: u64,
+}
+
+impl Model for MemSource {
+    ghost use Rattle.std.specs.Prelude.{◌≤◌, drop, vec_len};
+    ghost use Rattle.zb_base.specs.Outside.{Supply};
+
+    ghost Value = { Supply };
+
+    ghost view = { λ s. record { rest = drop s.at s.bytes.items; fails = s.fails.items; calls = s.calls; faults = s.faults } };
+
+    ghost invariant = { λ s. s.at ≤ vec_len s.bytes };
+}
+
+impl MemSource {
+    /// A source of these bytes, whose calls of the numbers in `fails`, counted from 1, are to fail.
+    pub fn new(alloc: Global, bytes: &[u8], fails: &[u32]) -> Result<MemSource, NoMemory>
+        ensures { IfOk result (λ s. s ≡ record { rest = bytes.now; fails = fails.now; calls = 0; faults = 0 }) }
+    {
+        Ok(MemSource {
+            bytes: Vec::from_slice(alloc, bytes)?,
+            at: 0,
+            fails: Vec::from_slice(alloc, fails)?,
+            calls: 0,
+            faults: 0,
+        })
+    }
+}
+
+impl Source for MemSource {
+    ghost rest = { λ s. Some s.rest };
+
+    ghost faults = { λ s. s.faults };
+
+    fn read(&mut self, buf: &mut [u8]) -> Result<usize, Failed>
+        ensures bound { ReadsAtMost result buf.new }
+        ensures bytes { ReadConsumes (Some self.old.rest) (Some self.new.rest) result buf.new }
+        ensures cause { HasCause self.old.faults self.new.faults result }
+        // It fails exactly at the listed calls.
+        ensures listed { is_err result ≡ has self.old.fails (risen self.old.calls 1) }
+        // It gives as much as there is room for.
+        ensures full { IfOk result (λ n. n ≡ min (length buf.old) (length self.old.rest)) }
+        ensures counted { self.new.calls ≡ risen self.old.calls 1 }
+    {
+        self.calls = self.calls.saturating_add(1);
+        if has_number(self.fails.as_slice(), self.calls) {
+            self.faults = self.faults.saturating_add(1);
+            return Err(Failed);
+        }
+        let count = fill(buf, &self.bytes[self.at..]);
+        self.at += count;
+        Ok(count)
+    }
+}
