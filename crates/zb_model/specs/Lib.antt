@@ -1,2 +1,5 @@
 pub mod Data
 pub mod Lines
+pub mod State
+pub mod Fits
+pub mod Record
