@@ -1,0 +1,45 @@
+-- Words and states seen as their bytes.
+use Rattle.std.proofs.Common.{◌≡◌, ℕ, zero, suc, ◌<◌, ◌/◌, ◌^◌, List, [], ◌∷◌, ◌++◌, refl, get_or, bit_xor, arith}
+use Rattle.std.proofs.lemmas.Nat.{xor_shr, xor_mod, be_bytes_4}
+use Rattle.std.specs.Int.{w32, from_be_bytes}
+use Rattle.std.specs.Int.Bits.{xor_zero_l, xor_zero_r}
+use Rattle.zb_aes.specs.Block.{mix_column}
+use Rattle.zb_aes.specs.Bytes.{word_bytes, xored}
+use Rattle.zb_aes.specs.Field.{times}
+
+pub word_bytes-xor : (a b : ℕ) → word_bytes (bit_xor a b) ≡ xored (word_bytes a) (word_bytes b)
+unfolding word_bytes xored
+word_bytes-xor a b =
+    rw (xor_shr a b 24, xor_mod (a / 2 ^ 24) (b / 2 ^ 24) 8, xor_shr a b 16, xor_mod (a / 2 ^ 16) (b / 2 ^ 16) 8,
+        xor_shr a b 8, xor_mod (a / 2 ^ 8) (b / 2 ^ 8) 8, xor_mod a b 8) refl
+
+each_below : (a b c d : ℕ) → a < 256 → b < 256 → c < 256 → d < 256 → (i : ℕ) → get_or (a ∷ b ∷ c ∷ d ∷ []) i 0 < 256
+each_below a b c d p q r s zero = p
+each_below a b c d p q r s (suc zero) = q
+each_below a b c d p q r s (suc (suc zero)) = r
+each_below a b c d p q r s (suc (suc (suc zero))) = s
+each_below a b c d p q r s (suc (suc (suc (suc i)))) = omega arith
+
+pub word_bytes-from_be : (a b c d : ℕ) → a < 256 → b < 256 → c < 256 → d < 256
+    → word_bytes (from_be_bytes w32 (a ∷ b ∷ c ∷ d ∷ [])) ≡ a ∷ b ∷ c ∷ d ∷ []
+unfolding word_bytes
+word_bytes-from_be a b c d p q r s = be_bytes_4 (a ∷ b ∷ c ∷ d ∷ []) _ refl (each_below a b c d p q r s) refl
+
+pub ruleset words = (word_bytes-xor, word_bytes-from_be)
+
+times_2_0 : times 2 0 ≡ 0
+unfolding times
+times_2_0 = refl
+
+times_3_0 : times 3 0 ≡ 0
+unfolding times
+times_3_0 = refl
+
+-- The matrix is linear: a mixed column is the sum of what its bytes add.
+pub mix_column-sum : (a b c d : ℕ)
+    → xored (xored (mix_column a 0 0 0) (mix_column 0 b 0 0)) (xored (mix_column 0 0 c 0) (mix_column 0 0 0 d))
+    ≡ mix_column a b c d
+unfolding xored mix_column
+mix_column-sum a b c d = simp (times_2_0, times_3_0, xor_zero_r, xor_zero_l)
+
+pub ruleset columns = (mix_column-sum)

@@ -1,0 +1,52 @@
+//! A key with its round keys (FIPS 197, 5.2).
+
+ghost use Rattle.std.specs.Prelude.{◌≡◌};
+ghost use Rattle.zb_aes.specs.Block.{enciphered};
+
+use std::marker::Model;
+
+use crate::state::State;
+
+/// The constants of the rounds from 1 on.
+static CONSTANTS: [u8; 10] = [0x01, 0x02, 0x04, 0x08, 0x10, 0x20, 0x40, 0x80, 0x1b, 0x36];
+
+/// A key that was expanded once, for any number of blocks. A contract sees it as its key of 16 bytes.
+#[derive(Drop)]
+pub struct Cipher {
+    keys: [State; 11],
+}
+
+impl Model for Cipher {
+    ghost use Rattle.std.specs.Prelude.{ℕ, List};
+    ghost use Rattle.zb_aes.specs.Columns.{key_at, AreRoundKeys};
+
+    ghost Value = { List ℕ };
+    ghost view = { λ c. key_at c.keys 0 };
+    ghost invariant = { λ c. AreRoundKeys 11 c.keys };
+}
+
+impl Cipher {
+    /// Expands a key.
+    pub fn new(key: &[u8; 16]) -> Cipher
+        ensures { result ≡ key.now }
+    {
+        let first = State::read(key);
+        let mut keys = [first; 11];
+        for i in 0..10 {
+            keys[i + 1] = keys[i].next_key(CONSTANTS[i]);
+        }
+        Cipher { keys }
+    }
+
+    /// Enciphers one block of 16 bytes.
+    pub fn encrypt(&self, block: &[u8; 16]) -> [u8; 16]
+        ensures { result ≡ enciphered self.now block.now }
+    {
+        let mut state = State::read(block).plus(self.keys[0]);
+        for i in 1..10 {
+            let next = state.round(self.keys[i]);
+            state = next;
+        }
+        state.last_round(self.keys[10]).bytes()
+    }
+}

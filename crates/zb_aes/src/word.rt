@@ -1,0 +1,141 @@
+//! Columns of the state as 32-bit words, whose highest byte is the one of row 0.
+
+ghost use Rattle.std.specs.Prelude.{◌≡◌, slice_index, [], ◌∷◌};
+ghost use Rattle.zb_aes.specs.Bytes.{word_bytes, xored};
+ghost use Rattle.zb_aes.specs.Block.{mix_column, turned};
+ghost use Rattle.zb_aes.specs.Columns.{mixed_column_of, substituted_column_of};
+ghost use Rattle.zb_aes.specs.Field.{substitute};
+
+use crate::tables::{FIRST, FOURTH, SECOND, SUBSTITUTION, THIRD};
+
+#[inline(always)]
+#[tactic(auto, using(crate::proofs::Table::substitution_at))]
+fn substituted(byte: u8) -> u8
+    ensures { result ≡ substitute byte }
+{
+    SUBSTITUTION[byte as usize]
+}
+
+// What a byte of each row adds to the column that it is mixed into.
+#[inline(always)]
+#[tactic(auto, using(crate::proofs::Table::first_at))]
+fn first(byte: u8) -> u32
+    ensures { word_bytes result ≡ mix_column (substitute byte) 0 0 0 }
+{
+    FIRST[byte as usize]
+}
+
+#[inline(always)]
+#[tactic(auto, using(crate::proofs::Table::second_at))]
+fn second(byte: u8) -> u32
+    ensures { word_bytes result ≡ mix_column 0 (substitute byte) 0 0 }
+{
+    SECOND[byte as usize]
+}
+
+#[inline(always)]
+#[tactic(auto, using(crate::proofs::Table::third_at))]
+fn third(byte: u8) -> u32
+    ensures { word_bytes result ≡ mix_column 0 0 (substitute byte) 0 }
+{
+    THIRD[byte as usize]
+}
+
+#[inline(always)]
+#[tactic(auto, using(crate::proofs::Table::fourth_at))]
+fn fourth(byte: u8) -> u32
+    ensures { word_bytes result ≡ mix_column 0 0 0 (substitute byte) }
+{
+    FOURTH[byte as usize]
+}
+
+/// The sum of two columns.
+#[inline(always)]
+#[tactic(auto, using(crate::proofs::Words::words))]
+pub fn sum(a: u32, b: u32) -> u32
+    ensures { word_bytes result ≡ xored (word_bytes a) (word_bytes b) }
+{
+    a ^ b
+}
+
+/// A word whose bytes are these, the first of them highest.
+#[inline(always)]
+#[tactic(auto, using(crate::proofs::Words::words))]
+pub fn packed(a: u8, b: u8, c: u8, d: u8) -> u32
+    ensures { word_bytes result ≡ a ∷ b ∷ c ∷ d ∷ [] }
+{
+    u32::from_be_bytes([a, b, c, d])
+}
+
+// The bytes of a word, row by row.
+#[inline(always)]
+#[tactic(auto, unfolding(crate::specs::Bytes::word_bytes))]
+fn row_0(word: u32) -> u8
+    ensures { result ≡ slice_index (word_bytes word) 0 }
+{
+    ((word >> 24) & 0xff) as u8
+}
+
+#[inline(always)]
+#[tactic(auto, unfolding(crate::specs::Bytes::word_bytes))]
+fn row_1(word: u32) -> u8
+    ensures { result ≡ slice_index (word_bytes word) 1 }
+{
+    ((word >> 16) & 0xff) as u8
+}
+
+#[inline(always)]
+#[tactic(auto, unfolding(crate::specs::Bytes::word_bytes))]
+fn row_2(word: u32) -> u8
+    ensures { result ≡ slice_index (word_bytes word) 2 }
+{
+    ((word >> 8) & 0xff) as u8
+}
+
+#[inline(always)]
+#[tactic(auto, unfolding(crate::specs::Bytes::word_bytes))]
+fn row_3(word: u32) -> u8
+    ensures { result ≡ slice_index (word_bytes word) 3 }
+{
+    (word & 0xff) as u8
+}
+
+// The column that four bytes of the rows 0 to 3 become once they are substituted and mixed.
+#[inline(always)]
+#[tactic(auto, using(crate::proofs::Words::columns))]
+fn mixed(a: u8, b: u8, c: u8, d: u8) -> u32
+    ensures { word_bytes result ≡ mix_column (substitute a) (substitute b) (substitute c) (substitute d) }
+{
+    sum(sum(first(a), second(b)), sum(third(c), fourth(d)))
+}
+
+/// A column of a round's new state, from the old columns that its rows 0 to 3 come from, and a word of the round key.
+#[inline(always)]
+pub fn mixed_column(a: u32, b: u32, c: u32, d: u32, key: u32) -> u32
+    ensures { word_bytes result
+        ≡ mixed_column_of (word_bytes a) (word_bytes b) (word_bytes c) (word_bytes d) (word_bytes key) }
+{
+    sum(mixed(row_0(a), row_1(b), row_2(c), row_3(d)), key)
+}
+
+/// The same in the last round, which mixes no columns.
+#[inline(always)]
+pub fn substituted_column(a: u32, b: u32, c: u32, d: u32, key: u32) -> u32
+    ensures { word_bytes result
+        ≡ substituted_column_of (word_bytes a) (word_bytes b) (word_bytes c) (word_bytes d) (word_bytes key) }
+{
+    sum(
+        packed(substituted(row_0(a)), substituted(row_1(b)), substituted(row_2(c)), substituted(row_3(d))),
+        key,
+    )
+}
+
+/// FIPS 197, 5.2: a word of the key, rotated by a byte, substituted, and added to the constant of its round.
+pub fn turned_word(constant: u8, word: u32) -> u32
+    ensures { word_bytes result ≡ turned constant (word_bytes word) }
+{
+    sum(
+        packed(substituted(row_1(word)), substituted(row_2(word)), substituted(row_3(word)), substituted(row_0(word))),
+        packed(constant, 0, 0, 0),
+    )
+}
