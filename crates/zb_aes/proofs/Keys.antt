@@ -36,17 +36,21 @@ pub keys_more : (n : ℕ) (keys : List State) (next : State) → n < 10 → leng
 keys_more n keys next few long before e =
     let other : 0 ≢ n + 1 = omega arith in
     let first : key_at (set keys (n + 1) next) 0 ≡ key_at keys 0 =
-        ap state_bytes (get_or-set_other keys (n + 1) 0 next _ other) in
+    ap state_bytes (get_or-set_other keys (n + 1) 0 next _ other) in
     let below : (i : ℕ) → i < n + 1 → key_at (set keys (n + 1) next) i ≡ round_key (key_at (set keys (n + 1) next) 0) i =
-        λ i h. ap state_bytes (get_or-set_other keys (n + 1) i next _ (omega arith)) ∙ before.each i h
-            ∙ ap (λ k. round_key k i) (sym first) in
+    λ i h. ap state_bytes (get_or-set_other keys (n + 1) i next _ (omega arith)) ∙ before.each i h
+    ∙ ap (λ k. round_key k i) (sym first) in
     let here : key_at (set keys (n + 1) next) (n + 1) ≡ round_key (key_at (set keys (n + 1) next) 0) (n + 1) =
-        ap state_bytes (get_or-set_same keys (n + 1) next _ (omega arith)) ∙ e
-            ∙ ap (λ k. next_key k (key_at keys n)) (constant_at n few)
-            ∙ ap (next_key (round_constant (n + 1))) (before.each n (omega arith))
-            ∙ sym (round_key-more (key_at keys 0) n) ∙ ap (λ k. round_key k (n + 1)) (sym first) in
-    (record { each = below_more (λ i. key_at (set keys (n + 1) next) i ≡ round_key (key_at (set keys (n + 1) next) 0) i)
-        (n + 1) below here }, first)
+    ap state_bytes (get_or-set_same keys (n + 1) next _ (omega arith)) ∙ e
+    ∙ ap (λ k. next_key k (key_at keys n)) (constant_at n few)
+    ∙ ap (next_key (round_constant (n + 1))) (before.each n (omega arith))
+    ∙ sym (round_key-more (key_at keys 0) n) ∙ ap (λ k. round_key k (n + 1)) (sym first) in (
+      record {
+        each = below_more (λ i. key_at (set keys (n + 1) next) i ≡ round_key (key_at (set keys (n + 1) next) 0) i)
+            (n + 1) below here;
+      },
+      first,
+    )
 
 state_after-zero : (key block : List ℕ) → state_after key block 0 ≡ xored block key
 unfolding state_after

@@ -1,5 +1,5 @@
 -- Rounds over four words are rounds over the sixteen bytes. Each lemma takes what the code's words are, in its order.
-use Rattle.std.proofs.Common.{◌≡◌, ℕ, ◌+◌, ◌-◌, ◌<◌, ◌≤◌, List, [], ◌∷◌, ◌++◌, ◌∙◌, refl, sym, ap, get_or, length, map, arith}
+use Rattle.std.proofs.Common.{◌≡◌, ℕ, List, [], ◌∷◌, ◌++◌, ◌∙◌, refl, sym, get_or, length}
 use Rattle.std.proofs.lemmas.List.FromFn.{fill_by_all}
 use Rattle.std.specs.Int.{w32, to_be_bytes}
 use Rattle.zb_aes.specs.Block.{round, last_round, next_key, turned, mix_column, word_of}
@@ -13,23 +13,23 @@ four a b c d = word_bytes a ++ word_bytes b ++ word_bytes c ++ word_bytes d
 
 xored-four : (a b c d j k l m : ℕ) → xored (four a b c d) (four j k l m)
     ≡ xored (word_bytes a) (word_bytes j) ++ xored (word_bytes b) (word_bytes k) ++ xored (word_bytes c) (word_bytes l)
-        ++ xored (word_bytes d) (word_bytes m)
+    ++ xored (word_bytes d) (word_bytes m)
 unfolding xored word_bytes
 xored-four a b c d j k l m = refl
 
 round-four : (a b c d j k l m : ℕ) → round (four j k l m) (four a b c d)
     ≡ mixed_column_of (word_bytes a) (word_bytes b) (word_bytes c) (word_bytes d) (word_bytes j)
-        ++ mixed_column_of (word_bytes b) (word_bytes c) (word_bytes d) (word_bytes a) (word_bytes k)
-        ++ mixed_column_of (word_bytes c) (word_bytes d) (word_bytes a) (word_bytes b) (word_bytes l)
-        ++ mixed_column_of (word_bytes d) (word_bytes a) (word_bytes b) (word_bytes c) (word_bytes m)
+    ++ mixed_column_of (word_bytes b) (word_bytes c) (word_bytes d) (word_bytes a) (word_bytes k)
+    ++ mixed_column_of (word_bytes c) (word_bytes d) (word_bytes a) (word_bytes b) (word_bytes l)
+    ++ mixed_column_of (word_bytes d) (word_bytes a) (word_bytes b) (word_bytes c) (word_bytes m)
 unfolding round word_bytes mix_column xored
 round-four a b c d j k l m = refl
 
 last_round-four : (a b c d j k l m : ℕ) → last_round (four j k l m) (four a b c d)
     ≡ substituted_column_of (word_bytes a) (word_bytes b) (word_bytes c) (word_bytes d) (word_bytes j)
-        ++ substituted_column_of (word_bytes b) (word_bytes c) (word_bytes d) (word_bytes a) (word_bytes k)
-        ++ substituted_column_of (word_bytes c) (word_bytes d) (word_bytes a) (word_bytes b) (word_bytes l)
-        ++ substituted_column_of (word_bytes d) (word_bytes a) (word_bytes b) (word_bytes c) (word_bytes m)
+    ++ substituted_column_of (word_bytes b) (word_bytes c) (word_bytes d) (word_bytes a) (word_bytes k)
+    ++ substituted_column_of (word_bytes c) (word_bytes d) (word_bytes a) (word_bytes b) (word_bytes l)
+    ++ substituted_column_of (word_bytes d) (word_bytes a) (word_bytes b) (word_bytes c) (word_bytes m)
 unfolding last_round word_bytes xored
 last_round-four a b c d j k l m = refl
 
@@ -77,8 +77,8 @@ next_key-built constant a b c d t e f g h o p q r s =
 
 pub turned-word : (constant word : ℕ) → turned constant (word_bytes word)
     ≡ xored (substitute (get_or (word_bytes word) 1 0) ∷ substitute (get_or (word_bytes word) 2 0)
-        ∷ substitute (get_or (word_bytes word) 3 0) ∷ substitute (get_or (word_bytes word) 0 0) ∷ [])
-        (constant ∷ 0 ∷ 0 ∷ 0 ∷ [])
+    ∷ substitute (get_or (word_bytes word) 3 0) ∷ substitute (get_or (word_bytes word) 0 0) ∷ [])
+    (constant ∷ 0 ∷ 0 ∷ 0 ∷ [])
 unfolding word_bytes
 turned-word constant word = refl
 

@@ -13,12 +13,12 @@ state_bytes s = word_bytes s.0 ++ word_bytes s.1 ++ word_bytes s.2 ++ word_bytes
 abbrev pub mixed_column_of : (a b c d key : List ℕ) → List ℕ
 mixed_column_of a b c d key =
     xored (mix_column (substitute (slice_index a 0)) (substitute (slice_index b 1)) (substitute (slice_index c 2))
-        (substitute (slice_index d 3))) key
+    (substitute (slice_index d 3))) key
 
 abbrev pub substituted_column_of : (a b c d key : List ℕ) → List ℕ
 substituted_column_of a b c d key =
     xored (substitute (slice_index a 0) ∷ substitute (slice_index b 1) ∷ substitute (slice_index c 2)
-        ∷ substitute (slice_index d 3) ∷ []) key
+    ∷ substitute (slice_index d 3) ∷ []) key
 
 -- The bytes of key `i` of a list of round keys.
 abbrev pub key_at : List State → ℕ → List ℕ

@@ -3,9 +3,8 @@
 ghost use Rattle.std.specs.Prelude.{◌≡◌};
 ghost use Rattle.zb_aes.specs.Block.{enciphered};
 
-use std::marker::Model;
-
 use crate::state::State;
+use std::marker::Model;
 
 /// The constants of the rounds from 1 on.
 static CONSTANTS: [u8; 10] = [0x01, 0x02, 0x04, 0x08, 0x10, 0x20, 0x40, 0x80, 0x1b, 0x36];
@@ -21,7 +20,9 @@ impl Model for Cipher {
     ghost use Rattle.zb_aes.specs.Columns.{key_at, AreRoundKeys};
 
     ghost Value = { List ℕ };
+
     ghost view = { λ c. key_at c.keys 0 };
+
     ghost invariant = { λ c. AreRoundKeys 11 c.keys };
 }
 

@@ -17,7 +17,12 @@ impl State {
         ensures { state_bytes result ≡ bytes.now }
     {
         let [a, b, c, d, e, f, g, h, i, j, k, l, m, n, o, p] = *bytes;
-        State(packed(a, b, c, d), packed(e, f, g, h), packed(i, j, k, l), packed(m, n, o, p))
+        State(
+            packed(a, b, c, d),
+            packed(e, f, g, h),
+            packed(i, j, k, l),
+            packed(m, n, o, p),
+        )
     }
 
     /// The bytes of the state, column after column.
@@ -36,7 +41,12 @@ impl State {
     pub fn plus(self, key: State) -> State
         ensures { state_bytes result ≡ xored (state_bytes self) (state_bytes key) }
     {
-        State(sum(self.0, key.0), sum(self.1, key.1), sum(self.2, key.2), sum(self.3, key.3))
+        State(
+            sum(self.0, key.0),
+            sum(self.1, key.1),
+            sum(self.2, key.2),
+            sum(self.3, key.3),
+        )
     }
 
     /// A round before the last.

@@ -125,7 +125,12 @@ pub fn substituted_column(a: u32, b: u32, c: u32, d: u32, key: u32) -> u32
         ≡ substituted_column_of (word_bytes a) (word_bytes b) (word_bytes c) (word_bytes d) (word_bytes key) }
 {
     sum(
-        packed(substituted(row_0(a)), substituted(row_1(b)), substituted(row_2(c)), substituted(row_3(d))),
+        packed(
+            substituted(row_0(a)),
+            substituted(row_1(b)),
+            substituted(row_2(c)),
+            substituted(row_3(d)),
+        ),
         key,
     )
 }
@@ -135,7 +140,12 @@ pub fn turned_word(constant: u8, word: u32) -> u32
     ensures { word_bytes result ≡ turned constant (word_bytes word) }
 {
     sum(
-        packed(substituted(row_1(word)), substituted(row_2(word)), substituted(row_3(word)), substituted(row_0(word))),
+        packed(
+            substituted(row_1(word)),
+            substituted(row_2(word)),
+            substituted(row_3(word)),
+            substituted(row_0(word)),
+        ),
         packed(constant, 0, 0, 0),
     )
 }

@@ -8,7 +8,7 @@ loop-i-init c = (keys_one _, c.read-first.ensures, refl)
 pub loop-i-preserved : goal.loop-i-preserved
 loop-i-preserved c =
     let more = keys_more c.loop-i.i c.loop-i.keys c.next_key.result c.loop-i-test.true c.loop-i.invariant.2
-        c.loop-i.invariant.0 c.next_key.ensures in
+    c.loop-i.invariant.0 c.next_key.ensures in
     (more.0, more.1 ∙ c.loop-i.invariant.1, simp length-set c.loop-i.invariant.2)
 
 pub invariant_of-result : goal.invariant_of-result
