@@ -1,0 +1,66 @@
+//! Strings of bytes in hexadecimal digits, read in either case and written in upper case.
+
+ghost use Rattle.std.specs.Prelude.{◌≡◌, [], ◌∷◌, ◌++◌, OnOk};
+ghost use Rattle.std.specs.Option.{option_map};
+ghost use Rattle.hex.specs.Hex.{encode_upper};
+ghost use Rattle.zb_text.specs.Hexadecimal.{fixed_of, bytes_of, bytes_text};
+
+use arrayvec::ArrayVec;
+use std::alloc::AllocError;
+
+/// The bytes that a word of exactly two digits for each of them spells.
+pub fn fixed<const N: usize>(word: &[u8]) -> Option<[u8; N]>
+    ensures { result ≡ fixed_of N word.now }
+{
+    let mut bytes = [0; N];
+    hex::decode_to_slice(word, &mut bytes).ok()?;
+    Some(bytes)
+}
+
+/// The bytes that a word spells, where they are at most `N`: `-` is no bytes, others have two digits each.
+pub fn bytes<const N: usize>(word: &[u8]) -> Option<ArrayVec<u8, N>>
+    ensures { option_map (λ found. found.items) result ≡ bytes_of N word.now }
+{
+    if word == b"-".as_slice() {
+        return Some(ArrayVec::new());
+    }
+    let count = word.len() / 2;
+    if word.is_empty() || count > N {
+        return None;
+    }
+    let mut bytes = [0; N];
+    hex::decode_to_slice(word, &mut bytes[..count]).ok()?;
+    ArrayVec::try_from(&bytes[..count]).ok()
+}
+
+/// Prints bytes in two digits each.
+#[tactic(auto, using(crate::proofs::Digits::encode_upper_more, std::proofs::Common::append_assoc), unfolding(hex::specs::Hex::encode_with))]
+pub fn put_digits(out: &mut Vec<u8>, bytes: &[u8]) -> Result<(), AllocError>
+    ensures { OnOk result (out.new.items ≡ out.old.items ++ encode_upper bytes.now) }
+{
+    for byte in bytes {
+        out.extend_from_slice(&pair(*byte))?;
+    }
+    Ok(())
+}
+
+const DIGITS: [u8; 16] = *b"0123456789ABCDEF";
+
+#[tactic(auto, unfolding(hex::specs::Hex::encode_with))]
+fn pair(byte: u8) -> [u8; 2]
+    ensures { result ≡ encode_upper (byte ∷ []) }
+{
+    [DIGITS[(byte >> 4) as usize], DIGITS[(byte & 15) as usize]]
+}
+
+/// Prints bytes in two digits each, or `-` for no bytes.
+pub fn put_bytes(out: &mut Vec<u8>, bytes: &[u8]) -> Result<(), AllocError>
+    ensures { OnOk result (out.new.items ≡ out.old.items ++ bytes_text bytes.now) }
+{
+    if bytes.is_empty() {
+        out.push(b'-')?;
+    } else {
+        put_digits(out, bytes)?;
+    }
+    Ok(())
+}
