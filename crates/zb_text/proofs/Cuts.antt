@@ -1,12 +1,12 @@
 -- A list of bytes cut at the first of some byte.
-use Rattle.std.proofs.Common.{◌≡◌, ℕ, ◌+◌, ◌-◌, ◌<◌, ◌≤◌, ◌==◌, List, [], ◌∷◌, length, get_or, drop, take, Bool, true, false, cond, Option, Some, None, refl, arith, add-one, ap, sym, ◌∙◌, nat_lt}
+use Rattle.std.proofs.Common.{◌≡◌, ℕ, ◌+◌, ◌-◌, ◌<◌, ◌≤◌, ◌==◌, List, [], ◌∷◌, length, get_or, drop, take, Bool, true, false, cond, Option, Some, None, refl, arith, length-drop, ap, sym, ◌∙◌, nat_lt}
 use Rattle.std.specs.Prelude.{position}
 use Rattle.std.specs.List.{slice_split, position_or_len, before_first, after_first, onto_first}
 use Rattle.std.proofs.lemmas.List.Splits.{slice_split_none, slice_split_first}
 use Rattle.std.proofs.lemmas.List.Sums.{fails_before_first}
 use Rattle.std.proofs.lemmas.Option.{cond_some}
 use Rattle.std.proofs.lemmas.Bool.Decides.{nat_tests}
-use Rattle.std.proofs.lemmas.Grind.{common_steps}
+use Rattle.std.proofs.lemmas.List.{take_all, drop-drop}
 use Rattle.zb_text.specs.Words.{parts, nothing}
 
 none_test : (b : Bool) (x : ℕ) → cond b (Some x) None ≡ None → b ≡ false
@@ -26,7 +26,8 @@ pub cut_some : (c at : ℕ) (xs : List ℕ) → position (λ b. b == c) xs ≡ S
 cut_some c at xs found =
     let here = cond_some (nat_lt (position_or_len (λ b. b == c) xs) (length xs)) (position_or_len (λ b. b == c) xs) at found in
     let within : position_or_len (λ b. b == c) xs < length xs = grind (arith, nat_tests, here.0) in
-    let behind : drop (at + 1) xs ≡ take (length (drop at xs) - 1) (drop 1 (drop at xs)) = grind (arith, common_steps) in
+    let behind : drop (at + 1) xs ≡ take (length (drop at xs) - 1) (drop 1 (drop at xs)) =
+    sym (take_all (length (drop at xs) - 1) (drop 1 (drop at xs)) (omega (arith, length-drop 1 (drop at xs))) ∙ drop-drop 1 at xs) in
     slice_split_first (λ b. b == c) xs 0 within
     ∙ ap (λ (i : ℕ). take i xs ∷ slice_split (λ b. b == c) (drop (i + 1) xs)) here.1
     ∙ ap (λ (rest : List ℕ). take at xs ∷ slice_split (λ b. b == c) rest) behind
