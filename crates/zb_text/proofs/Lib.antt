@@ -1,4 +1,5 @@
 pub mod Cuts
 pub mod Digits
 pub mod LineCuts
+pub mod NameLemmas
 pub mod NumberLemmas

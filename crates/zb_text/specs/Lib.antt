@@ -1,3 +1,5 @@
+pub mod Fields
 pub mod Hexadecimal
 pub mod Numbers
+pub mod Pages
 pub mod Words

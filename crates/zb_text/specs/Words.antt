@@ -42,3 +42,7 @@ Takes view (Some x) after expected = expected ≡ Some (view x, after)
 abbrev pub Shows : {X Y : Type 0} → (X → Y) → Option X → Option Y → Type 0
 Shows view None expected = expected ≡ None
 Shows view (Some x) expected = expected ≡ Some (view x)
+
+-- A word behind another one.
+abbrev pub then : List ℕ → List ℕ
+then word = 32 ∷ word

@@ -5,7 +5,9 @@
 //! feed. Words are separated by one space.
 #![tactic(auto)]
 
+pub mod fields;
 pub mod hexadecimal;
 pub mod lines;
 pub mod numbers;
+pub mod page;
 pub mod words;

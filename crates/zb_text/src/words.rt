@@ -1,7 +1,11 @@
 //! The words of a line.
 
-ghost use Rattle.std.specs.Prelude.{◌≡◌, ◌==◌, ◌<◌, [], ◌∷◌, length, position, Some, IfSome, MatchOption};
-ghost use Rattle.zb_text.specs.Words.{words, left, parts, first_of, nothing, Takes, Shows};
+ghost use Rattle.std.specs.Prelude.{◌≡◌, ◌==◌, ◌<◌, [], ◌∷◌, length, position, IfSome, MatchOption};
+ghost use Rattle.zb_text.specs.Words.{parts};
+
+use crate::{fields, hexadecimal, numbers};
+use arrayvec::ArrayVec;
+use zb_base::{Eui, Key, Name, Short};
 
 /// A reader of the words of one line, from the first to the last.
 #[derive(Drop)]
@@ -11,7 +15,11 @@ pub struct Words<'a> {
 }
 
 impl<'a> Words<'a> {
-    ghost use Rattle.zb_text.specs.Words.{words, left, first_of, nothing, Takes, Shows};
+    ghost use Rattle.std.specs.Prelude.{◌≡◌, Some};
+    ghost use Rattle.zb_text.specs.Fields.{name_of, eui_of, short_of, key_of};
+    ghost use Rattle.zb_text.specs.Hexadecimal.{bytes_of};
+    ghost use Rattle.zb_text.specs.Numbers.{number_of};
+    ghost use Rattle.zb_text.specs.Words.{words, left, first_of, field, nothing, Takes};
 
     /// A reader of all words of a line.
     pub fn new(line: &'a [u8]) -> Words<'a>
@@ -35,6 +43,60 @@ impl<'a> Words<'a> {
                 Some(line)
             }
         }
+    }
+
+    /// Takes a name of 1 to 16 characters of a to z and 0 to 9.
+    pub fn name(&mut self) -> Option<Name>
+        ensures { Takes (λ name. name.bytes) result (left self.new) (field name_of (left self.old)) }
+    {
+        let word = self.word()?;
+        let name = fields::name(word)?;
+        Some(name)
+    }
+
+    /// Takes a decimal number of at most `limit`, without leading zeros.
+    pub fn number(&mut self, limit: u32) -> Option<u32>
+        ensures { Takes (λ number. number) result (left self.new) (field (number_of limit) (left self.old)) }
+    {
+        let word = self.word()?;
+        let number = numbers::number(limit, word)?;
+        Some(number)
+    }
+
+    /// Takes an IEEE address of 16 hexadecimal digits.
+    pub fn eui(&mut self) -> Option<Eui>
+        ensures { Takes (λ eui. eui.0) result (left self.new) (field eui_of (left self.old)) }
+    {
+        let word = self.word()?;
+        let eui = fields::eui(word)?;
+        Some(eui)
+    }
+
+    /// Takes a network address of 4 hexadecimal digits.
+    pub fn short(&mut self) -> Option<Short>
+        ensures { Takes (λ short. short.0) result (left self.new) (field short_of (left self.old)) }
+    {
+        let word = self.word()?;
+        let short = fields::short(word)?;
+        Some(short)
+    }
+
+    /// Takes a key of 32 hexadecimal digits.
+    pub fn key(&mut self) -> Option<Key>
+        ensures { Takes (λ key. key.0) result (left self.new) (field key_of (left self.old)) }
+    {
+        let word = self.word()?;
+        let key = fields::key(word)?;
+        Some(key)
+    }
+
+    /// Takes at most `N` bytes: `-` for none, or two hexadecimal digits each.
+    pub fn bytes<const N: usize>(&mut self) -> Option<ArrayVec<u8, N>>
+        ensures { Takes (λ bytes. bytes.items) result (left self.new) (field (bytes_of N) (left self.old)) }
+    {
+        let word = self.word()?;
+        let bytes = hexadecimal::bytes::<N>(word)?;
+        Some(bytes)
     }
 
     /// Answers Some where no word is left.

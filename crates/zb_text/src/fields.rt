@@ -1,0 +1,85 @@
+//! The words for what a network is made of: names, addresses and keys.
+
+ghost use Rattle.std.specs.Prelude.{◌≡◌, ◌++◌, OnOk};
+ghost use Rattle.std.specs.List.{list_all};
+ghost use Rattle.hex.specs.Hex.{encode_upper};
+ghost use Rattle.zb_text.specs.Fields.{is_name_byte, is_name, name_of, eui_of, eui_text, short_of, short_text, key_of};
+ghost use Rattle.zb_text.specs.Words.{Shows};
+
+use crate::hexadecimal::{fixed, put_digits};
+use std::alloc::AllocError;
+use zb_base::{Eui, Key, Name, Short};
+
+/// The name that a word is: 1 to 16 characters of a to z and 0 to 9.
+#[tactic(auto, using(crate::proofs::NameLemmas::name_is_text))]
+pub fn name(word: &[u8]) -> Option<Name>
+    ensures { Shows (λ name. name.bytes) result (name_of word.now) }
+{
+    if !may_be_name(word) {
+        return None;
+    }
+    let text = str::from_utf8(word).ok()?;
+    let name = Name::from(text).ok()?;
+    Some(name)
+}
+
+fn may_be_name(word: &[u8]) -> bool
+    ensures { result ≡ is_name word.now }
+{
+    1 <= word.len() && word.len() <= 16 && has_name_bytes(word)
+}
+
+fn has_name_bytes(word: &[u8]) -> bool
+    ensures { result ≡ list_all is_name_byte word.now }
+{
+    word.iter()
+        .all(|byte| byte.is_ascii_lowercase() || byte.is_ascii_digit())
+}
+
+/// The IEEE address that a word of 16 hexadecimal digits spells.
+pub fn eui(word: &[u8]) -> Option<Eui>
+    ensures { Shows (λ eui. eui.0) result (eui_of word.now) }
+{
+    let bytes = fixed::<8>(word)?;
+    Some(Eui(u64::from_be_bytes(bytes)))
+}
+
+/// The network address that a word of 4 hexadecimal digits spells.
+pub fn short(word: &[u8]) -> Option<Short>
+    ensures { Shows (λ short. short.0) result (short_of word.now) }
+{
+    let bytes = fixed::<2>(word)?;
+    Some(Short(u16::from_be_bytes(bytes)))
+}
+
+/// The key that a word of 32 hexadecimal digits spells.
+pub fn key(word: &[u8]) -> Option<Key>
+    ensures { Shows (λ key. key.0) result (key_of word.now) }
+{
+    let bytes = fixed::<16>(word)?;
+    Some(Key(bytes))
+}
+
+/// Prints an IEEE address in 16 digits.
+pub fn put_eui(out: &mut Vec<u8>, eui: Eui) -> Result<(), AllocError>
+    ensures { OnOk result (out.new.items ≡ out.old.items ++ eui_text eui.0) }
+{
+    put_digits(out, &eui.0.to_be_bytes())?;
+    Ok(())
+}
+
+/// Prints a network address in 4 digits.
+pub fn put_short(out: &mut Vec<u8>, short: Short) -> Result<(), AllocError>
+    ensures { OnOk result (out.new.items ≡ out.old.items ++ short_text short.0) }
+{
+    put_digits(out, &short.0.to_be_bytes())?;
+    Ok(())
+}
+
+/// Prints a key in 32 digits.
+pub fn put_key(out: &mut Vec<u8>, key: &Key) -> Result<(), AllocError>
+    ensures { OnOk result (out.new.items ≡ out.old.items ++ encode_upper key.now.0) }
+{
+    put_digits(out, &key.0)?;
+    Ok(())
+}

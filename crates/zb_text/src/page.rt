@@ -1,0 +1,91 @@
+//! A page of text that is being printed: its first word, words behind a space each, the ends of lines, and the way
+//! out into a sink. A page grows as its vector does, so no word costs an allocation of its own.
+
+ghost use Rattle.std.specs.Prelude.{◌≡◌, ◌∷◌, ◌++◌, [], decimal, OnOk};
+ghost use Rattle.hex.specs.Hex.{encode_upper};
+ghost use Rattle.zb_text.specs.Fields.{eui_text, short_text};
+ghost use Rattle.zb_text.specs.Hexadecimal.{bytes_text};
+ghost use Rattle.zb_text.specs.Words.{then};
+
+use crate::fields::{put_eui, put_key, put_short};
+use crate::hexadecimal::{put_bytes, put_digits};
+use crate::numbers::put_number;
+use std::alloc::AllocError;
+use zb_base::{Eui, Key, Short};
+
+/// Prints a piece of text as it is.
+pub fn put(out: &mut Vec<u8>, piece: &[u8]) -> Result<(), AllocError>
+    ensures { OnOk result (out.new.items ≡ out.old.items ++ piece.now) }
+{
+    out.extend_from_slice(piece)?;
+    Ok(())
+}
+
+/// Ends a line.
+pub fn end_line(out: &mut Vec<u8>) -> Result<(), AllocError>
+    ensures { OnOk result (out.new.items ≡ out.old.items ++ 10 ∷ []) }
+{
+    out.push(b'\n')?;
+    Ok(())
+}
+
+fn put_space(out: &mut Vec<u8>) -> Result<(), AllocError>
+    ensures { OnOk result (out.new.items ≡ out.old.items ++ 32 ∷ []) }
+{
+    out.push(b' ')?;
+    Ok(())
+}
+
+/// Prints a word behind a space.
+pub fn add_word(out: &mut Vec<u8>, word: &[u8]) -> Result<(), AllocError>
+    ensures { OnOk result (out.new.items ≡ out.old.items ++ then word.now) }
+{
+    put_space(out)?;
+    put(out, word)?;
+    Ok(())
+}
+
+/// Prints a number in decimal digits behind a space.
+pub fn add_number(out: &mut Vec<u8>, number: u32) -> Result<(), AllocError>
+    ensures { OnOk result (out.new.items ≡ out.old.items ++ then (decimal number)) }
+{
+    put_space(out)?;
+    put_number(out, number)?;
+    Ok(())
+}
+
+/// Prints an IEEE address in 16 digits behind a space.
+pub fn add_eui(out: &mut Vec<u8>, eui: Eui) -> Result<(), AllocError>
+    ensures { OnOk result (out.new.items ≡ out.old.items ++ then (eui_text eui.0)) }
+{
+    put_space(out)?;
+    put_eui(out, eui)?;
+    Ok(())
+}
+
+/// Prints a network address in 4 digits behind a space.
+pub fn add_short(out: &mut Vec<u8>, short: Short) -> Result<(), AllocError>
+    ensures { OnOk result (out.new.items ≡ out.old.items ++ then (short_text short.0)) }
+{
+    put_space(out)?;
+    put_short(out, short)?;
+    Ok(())
+}
+
+/// Prints a key in 32 digits behind a space.
+pub fn add_key(out: &mut Vec<u8>, key: &Key) -> Result<(), AllocError>
+    ensures { OnOk result (out.new.items ≡ out.old.items ++ then (encode_upper key.now.0)) }
+{
+    put_space(out)?;
+    put_key(out, key)?;
+    Ok(())
+}
+
+/// Prints bytes in two digits each, or `-` for no bytes, behind a space.
+pub fn add_bytes(out: &mut Vec<u8>, bytes: &[u8]) -> Result<(), AllocError>
+    ensures { OnOk result (out.new.items ≡ out.old.items ++ then (bytes_text bytes.now)) }
+{
+    put_space(out)?;
+    put_bytes(out, bytes)?;
+    Ok(())
+}
