@@ -1,0 +1,15 @@
+//! What may change of a node's stable state, and why an event is refused: the words that tables, hosts, policies and
+//! transcripts share.
+//!
+//! A change stands for one line of a transcript and for one entry in the payload of a commit.
+#![tactic(auto)]
+
+pub mod change;
+pub mod fault;
+pub mod refusal;
+pub mod state;
+
+pub use change::{Change, Changes};
+pub use fault::KeyError;
+pub use refusal::{Place, Refusal};
+pub use state::{Attribute, Rollover, State};
