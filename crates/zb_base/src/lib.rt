@@ -12,6 +12,8 @@ pub mod node;
 mod numbers;
 pub mod sink;
 pub mod source;
+#[cfg(test)]
+mod tests;
 
 pub use address::{Eui, Short};
 pub use fault::{Failed, NoMemory, OrMemory};
@@ -20,5 +22,5 @@ pub use key::Key;
 pub use label::{Label, Layer};
 pub use list::List;
 pub use node::{Config, Peer, Role};
-pub use sink::{MemSink, NullSink, Sink};
-pub use source::{MemSource, Source};
+pub use sink::{MemSink, NullSink, Sink, StdSink};
+pub use source::{MemSource, Source, StdSource};

@@ -29,8 +29,9 @@ pub struct Peer {
 
 /// What one node is configured with.
 ///
-/// The names and both addresses of the peers differ, exactly one peer is the centre, and the blocks are in their
-/// ranges. Each call that takes a `Config` requires this.
+/// The names and both addresses of the peers differ, exactly one peer is the centre, `me` is a place among them, and
+/// the blocks are in their ranges: this is `IsConfig` of `specs/Config.antt`, and each call that takes a `Config`
+/// requires it.
 #[derive(Debug, Drop)]
 pub struct Config {
     /// The place of this node in `peers`.

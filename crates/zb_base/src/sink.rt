@@ -1,6 +1,6 @@
 //! Where the program's output goes: the trait `Sink`, a sink in memory, one that drops what it takes, and an adapter
 //! over any writer.
-ghost use Rattle.std.specs.Prelude.{◌≡◌, ◌↔◌, ◌+◌, ◌<◌, ◌⊎◌, ◌++◌, ◌^◌, ℕ, List, [], Option, None, Some, length, IfOk, OnOk, OnErr, is_err, nat_lt, ◌||◌};
+ghost use Rattle.std.specs.Prelude.{◌≡◌, ◌+◌, ℕ, List, [], Option, None, Some, length, IfOk, OnOk, OnErr, is_err, nat_lt, ◌||◌, if◌then◌else◌};
 ghost use Rattle.std.specs.Io.KnownBytes.{Appends};
 ghost use Rattle.zb_base.specs.Outside.{AppendsFront, HasCause, has_number as has, risen};
 
@@ -120,4 +120,76 @@ impl Sink for NullSink {
     fn write(&mut self, _piece: &[u8]) -> Result<(), Failed> {
         Ok(())
     }
+}
+
+/// A sink over any writer of std, such as standard output. It tells nothing of content, and contracts see it as its
+/// count of faults: one for each call of the writer that failed, or that took none of some bytes.
+#[derive(Debug, Drop)]
+pub struct StdSink<W> {
+    inner: W,
+    faults: u64,
+}
+
+impl<W> Model for StdSink<W> {
+    ghost Value = { ℕ };
+
+    ghost view = { λ s. s.faults };
+}
+
+impl<W> StdSink<W> {
+    /// A sink that writes to this writer.
+    pub fn new(inner: W) -> StdSink<W>
+        ensures { result ≡ 0 }
+    {
+        StdSink { inner, faults: 0 }
+    }
+}
+
+impl<W: Write> StdSink<W> {
+    /// Hands on what the writer still holds back. `Failed` comes only where the count of faults rose.
+    pub fn flush(&mut self) -> Result<(), Failed>
+        ensures { self.new ≡ (if is_err result then risen self.old 1 else self.old) }
+    {
+        match self.inner.flush() {
+            Ok(()) => Ok(()),
+            Err(_) => {
+                self.faults = self.faults.saturating_add(1);
+                Err(Failed)
+            }
+        }
+    }
+}
+
+impl<W: Write> Sink for StdSink<W> {
+    ghost taken = { λ _. None };
+
+    ghost faults = { λ s. s };
+
+    fn write(&mut self, piece: &[u8]) -> Result<(), Failed>
+        ensures whole { OnOk result (Appends None None piece.now) }
+        ensures front { OnErr result (AppendsFront None None piece.now) }
+        ensures cause { HasCause self.old self.new result }
+        // It counts each failed call once, and no other call.
+        ensures counted { self.new ≡ (if is_err result then risen self.old 1 else self.old) }
+    {
+        match write_whole(&mut self.inner, piece) {
+            Ok(()) => Ok(()),
+            Err(Failed) => {
+                self.faults = self.faults.saturating_add(1);
+                Err(Failed)
+            }
+        }
+    }
+}
+
+/// Writes the whole piece, in as many calls as the writer wants.
+fn write_whole<W: Write>(writer: &mut W, piece: &[u8]) -> Result<(), Failed> {
+    let mut rest = piece;
+    while !rest.is_empty() {
+        match writer.write(rest) {
+            Ok(0) | Err(_) => return Err(Failed),
+            Ok(count) => rest = &rest[count..],
+        }
+    }
+    Ok(())
 }

@@ -1,5 +1,5 @@
 //! Where the program's input comes from: the trait `Source`, a source in memory, and an adapter over any reader.
-ghost use Rattle.std.specs.Prelude.{◌≡◌, ◌↔◌, ◌+◌, ◌<◌, ◌^◌, ℕ, List, Option, None, Some, min, length, IfOk, is_err};
+ghost use Rattle.std.specs.Prelude.{◌≡◌, ◌+◌, ℕ, List, Option, None, Some, min, length, IfOk, is_err, if◌then◌else◌};
 ghost use Rattle.std.specs.Io.{ReadsAtMost};
 ghost use Rattle.std.specs.Io.KnownBytes.{ReadConsumes};
 ghost use Rattle.zb_base.specs.Outside.{HasCause, has_number as has, risen};
@@ -61,6 +61,51 @@ impl MemSource {
             calls: 0,
             faults: 0,
         })
+    }
+}
+
+/// A source over any reader of std, such as standard input. It tells nothing of content, and contracts see it as
+/// its count of faults.
+#[derive(Debug, Drop)]
+pub struct StdSource<R> {
+    inner: R,
+    faults: u64,
+}
+
+impl<R> Model for StdSource<R> {
+    ghost Value = { ℕ };
+
+    ghost view = { λ s. s.faults };
+}
+
+impl<R> StdSource<R> {
+    /// A source that reads what this reader gives.
+    pub fn new(inner: R) -> StdSource<R>
+        ensures { result ≡ 0 }
+    {
+        StdSource { inner, faults: 0 }
+    }
+}
+
+impl<R: Read> Source for StdSource<R> {
+    ghost rest = { λ _. None };
+
+    ghost faults = { λ s. s };
+
+    fn read(&mut self, buf: &mut [u8]) -> Result<usize, Failed>
+        ensures bound { ReadsAtMost result buf.new }
+        ensures bytes { ReadConsumes None None result buf.new }
+        ensures cause { HasCause self.old self.new result }
+        // It counts each failed call once, and no other call.
+        ensures counted { self.new ≡ (if is_err result then risen self.old 1 else self.old) }
+    {
+        match self.inner.read(buf) {
+            Ok(count) => Ok(count),
+            Err(_) => {
+                self.faults = self.faults.saturating_add(1);
+                Err(Failed)
+            }
+        }
     }
 }
 
