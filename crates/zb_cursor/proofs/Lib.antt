@@ -1,0 +1,4 @@
+pub mod ReadAgain
+pub mod Times
+pub mod Shorts
+pub mod Outcomes

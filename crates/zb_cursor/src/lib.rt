@@ -1,0 +1,16 @@
+//! Fields of bytes both ways: a `Reader` that takes fields from the front of bytes, and writing at the end of a
+//! frame of 127 bytes. Numbers stand least significant byte first.
+#![tactic(auto)]
+
+mod laws;
+mod reader;
+mod writing;
+
+pub use laws::spelled_is_read;
+pub use reader::Reader;
+pub use writing::{
+    TooLong, put, put_byte, put_eui, put_key, put_number16, put_number32, put_number64, put_short,
+};
+
+#[cfg(test)]
+mod tests;

@@ -1,0 +1,215 @@
+//! Reading fields from the front of bytes.
+ghost use Rattle.std.specs.Prelude.{◌≡◌, ◌+◌, ◌*◌, ◌<◌, ◌≤◌, ◌^◌, ◌++◌, length, IfOk, OnErr, IfSome, is_some};
+ghost use Rattle.std.specs.Int.{w16, w32, w64};
+ghost use Rattle.zb_cursor.specs.Spelling.{byte, number, short, eui, key, optional};
+ghost use Rattle.zb_cursor.specs.Reading.{Gives, GivesBy, byte_at, bytes_at, number_at, short_at, eui_at, key_at, optional_at, times_at};
+ghost use Rattle.std.specs.List.{flat_map, AllByRecursion};
+
+use arrayvec::ArrayVec;
+use zb_base::{Eui, Key, Short};
+
+/// A place in bytes that are read field by field from the front. Each method answers the next field and moves
+/// behind it, or answers `cut` and stays where it was.
+#[derive(Drop)]
+pub struct Reader<'a, E> {
+    /// The bytes that are still to be read.
+    pub rest: &'a [u8],
+    /// The fault that a field gives whose bytes are not all there.
+    pub cut: E,
+}
+
+impl<'a, E: Copy + Drop> Reader<'a, E> {
+    /// One byte.
+    pub fn byte(&mut self) -> Result<u8, E>
+        ensures exact { Gives result self.new.rest.now (byte_at self.old.cut self.old.rest.now) }
+        ensures spelled { IfOk result (λ x. self.old.rest.now ≡ byte x ++ self.new.rest.now) }
+        ensures in_range { IfOk result (λ x. x < 2 ^ 8) }
+        ensures stays { OnErr result (self.new.rest.now ≡ self.old.rest.now) }
+        ensures cut { self.new.cut ≡ self.old.cut }
+    {
+        match self.rest {
+            [] => Err(self.cut),
+            [first, rest @ ..] => {
+                self.rest = rest;
+                Ok(*first)
+            }
+        }
+    }
+
+    /// The next `count` bytes, as they stand.
+    #[tactic(auto, unfolding(crate::specs::Reading::bytes_at))]
+    pub fn bytes(&mut self, count: usize) -> Result<&'a [u8], E>
+        ensures exact { GivesBy (λ xs. xs.now) result self.new.rest.now (bytes_at count self.old.cut self.old.rest.now) }
+        ensures spelled { IfOk result (λ xs. self.old.rest.now ≡ xs.now ++ self.new.rest.now) }
+        ensures length { IfOk result (λ xs. length xs.now ≡ count) }
+        ensures stays { OnErr result (self.new.rest.now ≡ self.old.rest.now) }
+        ensures cut { self.new.cut ≡ self.old.cut }
+    {
+        if self.rest.len() < count {
+            return Err(self.cut);
+        }
+        let (front, rest) = self.rest.split_at(count);
+        self.rest = rest;
+        Ok(front)
+    }
+
+    /// A number of 2 bytes.
+    #[tactic(auto, unfolding(crate::specs::Reading::number_at))]
+    pub fn number16(&mut self) -> Result<u16, E>
+        ensures exact { Gives result self.new.rest.now (number_at w16 self.old.cut self.old.rest.now) }
+        ensures spelled { IfOk result (λ x. self.old.rest.now ≡ number w16 x ++ self.new.rest.now) }
+        ensures in_range { IfOk result (λ x. x < 2 ^ 16) }
+        ensures stays { OnErr result (self.new.rest.now ≡ self.old.rest.now) }
+        ensures cut { self.new.cut ≡ self.old.cut }
+    {
+        if self.rest.len() < 2 {
+            return Err(self.cut);
+        }
+        let (front, rest) = self.rest.split_at(2);
+        self.rest = rest;
+        Ok(u16::from_le_bytes([front[0], front[1]]))
+    }
+
+    /// A number of 4 bytes.
+    #[tactic(auto, unfolding(crate::specs::Reading::number_at))]
+    pub fn number32(&mut self) -> Result<u32, E>
+        ensures exact { Gives result self.new.rest.now (number_at w32 self.old.cut self.old.rest.now) }
+        ensures spelled { IfOk result (λ x. self.old.rest.now ≡ number w32 x ++ self.new.rest.now) }
+        ensures in_range { IfOk result (λ x. x < 2 ^ 32) }
+        ensures stays { OnErr result (self.new.rest.now ≡ self.old.rest.now) }
+        ensures cut { self.new.cut ≡ self.old.cut }
+    {
+        if self.rest.len() < 4 {
+            return Err(self.cut);
+        }
+        let (front, rest) = self.rest.split_at(4);
+        self.rest = rest;
+        Ok(u32::from_le_bytes([front[0], front[1], front[2], front[3]]))
+    }
+
+    /// A number of 8 bytes.
+    #[tactic(auto, unfolding(crate::specs::Reading::number_at))]
+    pub fn number64(&mut self) -> Result<u64, E>
+        ensures exact { Gives result self.new.rest.now (number_at w64 self.old.cut self.old.rest.now) }
+        ensures spelled { IfOk result (λ x. self.old.rest.now ≡ number w64 x ++ self.new.rest.now) }
+        ensures in_range { IfOk result (λ x. x < 2 ^ 64) }
+        ensures stays { OnErr result (self.new.rest.now ≡ self.old.rest.now) }
+        ensures cut { self.new.cut ≡ self.old.cut }
+    {
+        if self.rest.len() < 8 {
+            return Err(self.cut);
+        }
+        let (front, rest) = self.rest.split_at(8);
+        self.rest = rest;
+        Ok(u64::from_le_bytes([
+            front[0], front[1], front[2], front[3], front[4], front[5], front[6], front[7],
+        ]))
+    }
+
+    /// A short address.
+    #[tactic(auto, unfolding(crate::specs::Reading::short_at))]
+    pub fn short(&mut self) -> Result<Short, E>
+        ensures exact { Gives result self.new.rest.now (short_at self.old.cut self.old.rest.now) }
+        ensures spelled { IfOk result (λ x. self.old.rest.now ≡ short x ++ self.new.rest.now) }
+        ensures in_range { IfOk result (λ x. x.0 < 2 ^ 16) }
+        ensures stays { OnErr result (self.new.rest.now ≡ self.old.rest.now) }
+        ensures cut { self.new.cut ≡ self.old.cut }
+    {
+        let number = self.number16()?;
+        Ok(Short(number))
+    }
+
+    /// An IEEE address.
+    #[tactic(auto, unfolding(crate::specs::Reading::eui_at))]
+    pub fn eui(&mut self) -> Result<Eui, E>
+        ensures exact { Gives result self.new.rest.now (eui_at self.old.cut self.old.rest.now) }
+        ensures spelled { IfOk result (λ x. self.old.rest.now ≡ eui x ++ self.new.rest.now) }
+        ensures in_range { IfOk result (λ x. x.0 < 2 ^ 64) }
+        ensures stays { OnErr result (self.new.rest.now ≡ self.old.rest.now) }
+        ensures cut { self.new.cut ≡ self.old.cut }
+    {
+        let number = self.number64()?;
+        Ok(Eui(number))
+    }
+
+    /// A key, in the order of its bytes.
+    #[tactic(auto, unfolding(crate::specs::Reading::key_at))]
+    pub fn key(&mut self) -> Result<Key, E>
+        ensures exact { Gives result self.new.rest.now (key_at self.old.cut self.old.rest.now) }
+        ensures spelled { IfOk result (λ x. self.old.rest.now ≡ key x ++ self.new.rest.now) }
+        ensures in_range { IfOk result (λ x. length x.0 ≡ 16) }
+        ensures stays { OnErr result (self.new.rest.now ≡ self.old.rest.now) }
+        ensures cut { self.new.cut ≡ self.old.cut }
+    {
+        let front = self.bytes(16)?;
+        let mut key = [0; 16];
+        key.copy_from_slice(front);
+        Ok(Key(key))
+    }
+
+    /// One byte, where it is present.
+    pub fn optional_byte(&mut self, present: bool) -> Result<Option<u8>, E>
+        ensures exact { Gives result self.new.rest.now (optional_at present byte_at self.old.cut self.old.rest.now) }
+        ensures spelled { IfOk result (λ o. self.old.rest.now ≡ optional byte o ++ self.new.rest.now) }
+        ensures present { IfOk result (λ o. is_some o ≡ present) }
+        ensures in_range { IfOk result (λ o. IfSome o (λ x. x < 2 ^ 8)) }
+        ensures stays { OnErr result (self.new.rest.now ≡ self.old.rest.now) }
+        ensures cut { self.new.cut ≡ self.old.cut }
+    {
+        if !present {
+            return Ok(None);
+        }
+        let field = self.byte()?;
+        Ok(Some(field))
+    }
+
+    /// A number of 2 bytes, where it is present.
+    pub fn optional_number16(&mut self, present: bool) -> Result<Option<u16>, E>
+        ensures exact { Gives result self.new.rest.now (optional_at present (number_at w16) self.old.cut self.old.rest.now) }
+        ensures spelled { IfOk result (λ o. self.old.rest.now ≡ optional (number w16) o ++ self.new.rest.now) }
+        ensures present { IfOk result (λ o. is_some o ≡ present) }
+        ensures in_range { IfOk result (λ o. IfSome o (λ x. x < 2 ^ 16)) }
+        ensures stays { OnErr result (self.new.rest.now ≡ self.old.rest.now) }
+        ensures cut { self.new.cut ≡ self.old.cut }
+    {
+        if !present {
+            return Ok(None);
+        }
+        let field = self.number16()?;
+        Ok(Some(field))
+    }
+
+    /// An IEEE address, where it is present.
+    pub fn optional_eui(&mut self, present: bool) -> Result<Option<Eui>, E>
+        ensures exact { Gives result self.new.rest.now (optional_at present eui_at self.old.cut self.old.rest.now) }
+        ensures spelled { IfOk result (λ o. self.old.rest.now ≡ optional eui o ++ self.new.rest.now) }
+        ensures present { IfOk result (λ o. is_some o ≡ present) }
+        ensures in_range { IfOk result (λ o. IfSome o (λ x. x.0 < 2 ^ 64)) }
+        ensures stays { OnErr result (self.new.rest.now ≡ self.old.rest.now) }
+        ensures cut { self.new.cut ≡ self.old.cut }
+    {
+        if !present {
+            return Ok(None);
+        }
+        let field = self.eui()?;
+        Ok(Some(field))
+    }
+
+    /// The next `count` short addresses, for which there is room. Where the bytes run out the reader stands behind
+    /// the last address that is whole.
+    pub fn shorts<const N: usize>(&mut self, count: u8) -> Result<ArrayVec<Short, N>, E>
+        requires { length self.old.rest.now ≤ 2 * N + 1 }
+        ensures exact { GivesBy (λ v. v.items) result self.new.rest.now (times_at short_at count self.old.cut self.old.rest.now) }
+        ensures spelled { IfOk result (λ v. self.old.rest.now ≡ flat_map short v.items ++ self.new.rest.now) }
+        ensures number { IfOk result (λ v. length v.items ≡ count) }
+        ensures in_range { IfOk result (λ v. AllByRecursion (λ s. s.0 < 2 ^ 16) v.items) }
+        ensures cut { self.new.cut ≡ self.old.cut }
+    {
+        let mut shorts = ArrayVec::new();
+        for _ in 0..count {
+            let short = self.short()?;
+            shorts.push(short);
+        }
+        Ok(shorts)
+    }
+}

@@ -1,0 +1,88 @@
+//! Writing fields at the end of a frame.
+ghost use Rattle.std.specs.Prelude.{◌≡◌, OnErr};
+ghost use Rattle.std.specs.Int.{w16, w32, w64};
+ghost use Rattle.zb_cursor.specs.Spelling.{byte, number, short, eui, key};
+ghost use Rattle.zb_cursor.specs.Writing.{Appends};
+
+use std::error::Error;
+use std::fmt;
+use zb_base::{Eui, Frame, Key, Short};
+
+/// The bytes have no room in a frame of 127.
+#[derive(Clone, Copy, Debug, PartialEq, Eq)]
+pub struct TooLong;
+
+impl fmt::Display for TooLong {
+    fn fmt<W: fmt::Write>(&self, f: &mut fmt::Formatter<W>) -> fmt::Result {
+        f.write_str("a frame has at most 127 bytes")
+    }
+}
+
+impl Error for TooLong {}
+
+/// Puts the bytes at the end of the frame, or refuses them where they do not fit and leaves the frame as it was.
+pub fn put(out: &mut Frame, piece: &[u8]) -> Result<(), TooLong>
+    ensures appends { Appends out.old.items piece.now out.new.items result }
+    ensures stays { OnErr result (out.new.items ≡ out.old.items) }
+{
+    match out.try_extend_from_slice(piece) {
+        Ok(()) => Ok(()),
+        Err(_) => Err(TooLong),
+    }
+}
+
+/// One byte.
+pub fn put_byte(out: &mut Frame, value: u8) -> Result<(), TooLong>
+    ensures { Appends out.old.items (byte value) out.new.items result }
+{
+    put(out, &[value])?;
+    Ok(())
+}
+
+/// A number of 2 bytes.
+pub fn put_number16(out: &mut Frame, value: u16) -> Result<(), TooLong>
+    ensures { Appends out.old.items (number w16 value) out.new.items result }
+{
+    put(out, &value.to_le_bytes())?;
+    Ok(())
+}
+
+/// A number of 4 bytes.
+pub fn put_number32(out: &mut Frame, value: u32) -> Result<(), TooLong>
+    ensures { Appends out.old.items (number w32 value) out.new.items result }
+{
+    put(out, &value.to_le_bytes())?;
+    Ok(())
+}
+
+/// A number of 8 bytes.
+pub fn put_number64(out: &mut Frame, value: u64) -> Result<(), TooLong>
+    ensures { Appends out.old.items (number w64 value) out.new.items result }
+{
+    put(out, &value.to_le_bytes())?;
+    Ok(())
+}
+
+/// A short address.
+pub fn put_short(out: &mut Frame, value: Short) -> Result<(), TooLong>
+    ensures { Appends out.old.items (short value) out.new.items result }
+{
+    put(out, &value.0.to_le_bytes())?;
+    Ok(())
+}
+
+/// An IEEE address.
+pub fn put_eui(out: &mut Frame, value: Eui) -> Result<(), TooLong>
+    ensures { Appends out.old.items (eui value) out.new.items result }
+{
+    put(out, &value.0.to_le_bytes())?;
+    Ok(())
+}
+
+/// A key, in the order of its bytes.
+pub fn put_key(out: &mut Frame, value: &Key) -> Result<(), TooLong>
+    ensures { Appends out.old.items (key value.now) out.new.items result }
+{
+    put(out, &value.0)?;
+    Ok(())
+}
