@@ -1,6 +1,6 @@
 -- The bytes of records and of journal entries, computed.
-use Rattle.std.specs.Prelude.{◌≡◌, List, [], ◌∷◌, refl}
-use Rattle.zb_model.specs.Data.{Bytes, Device, Nwk, Reserve}
+use Rattle.std.specs.Prelude.{◌≡◌, [], ◌∷◌, refl}
+use Rattle.zb_model.specs.Data.{Device, Nwk, Reserve}
 use Rattle.zb_model.specs.State.{new_node}
 use Rattle.zb_model.specs.Record.{record_of, edit_bytes, payload}
 

@@ -1,6 +1,6 @@
 -- The plain data of the model. A node is named by its EUI, a number below 2^64; a key is its 16 bytes; other
 -- strings of bytes are lists of numbers too.
-use Rattle.std.specs.Prelude.{ℕ, List, Bool}
+use Rattle.std.specs.Prelude.{ℕ, List, Bool, Option}
 
 -- Bytes, each a number below 256.
 abbrev pub Bytes : Type 0
@@ -118,3 +118,35 @@ pub data Reason : Type 0 where
   CounterSpent : Reason
   WrongHash : Reason
   NoFrame : Reason
+
+-- An APS command (05-3474-21, 4.4.11), with its fields in the order in which they are spelled.
+pub data Order : Type 0 where
+  TransportNet : (key : Bytes) (sequence : ℕ) (destination : ℕ) (source : ℕ) → Order
+  TransportApp : (key : Bytes) (partner : ℕ) (initiator : ℕ) → Order
+  TransportLink : (key : Bytes) (destination : ℕ) (source : ℕ) → Order
+  UpdateDevice : (device : ℕ) (short : ℕ) (status : ℕ) → Order
+  RemoveDevice : (target : ℕ) → Order
+  RequestApp : (partner : ℕ) → Order
+  RequestLink : Order
+  SwitchKey : (sequence : ℕ) → Order
+  Tunnel : (destination : ℕ) (inner : Bytes) → Order
+  VerifyKey : (kind : ℕ) (source : ℕ) (hash : Bytes) → Order
+  ConfirmKey : (status : ℕ) (kind : ℕ) (destination : ℕ) → Order
+
+-- What an event asks of one node: its own events, and a delivered frame with the next key of the supply, which the
+-- centre may need.
+pub data Task : Type 0 where
+  SayTo : (to : ℕ) (bytes : Bytes) → Task
+  TellTo : (partner : ℕ) (bytes : Bytes) → Task
+  DoKnock : Task
+  DoRejoin : Task
+  DoTimer : Task
+  AskFor : (partner : ℕ) → Task
+  HasChild : (child : ℕ) (rejoin : Bool) → Task
+  DoProvision : (device : ℕ) (key : Bytes) → Task
+  DoRemove : (device : ℕ) (via : ℕ) → Task
+  DoRoll : (draw : Option Bytes) → Task
+  DoSwitch : Task
+  DoAgain : (device : ℕ) → Task
+  DoShare : (device : ℕ) (partner : ℕ) → Task
+  Received : (bytes : Bytes) (draw : Option Bytes) → Task

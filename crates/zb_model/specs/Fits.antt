@@ -1,9 +1,9 @@
 -- The rules that every stored state keeps, and when a change fits a state: what a rule of the policy never breaks, and
 -- what a journal that is read back may not break.
-use Rattle.std.specs.Prelude.{ℕ, ◌≡◌, Bool, true, false, not, if◌then◌else◌, ◌&&◌, ◌||◌, List, [], ◌∷◌, filter, find, length, Option, Some, None, nat_eq, nat_lt, nat_le, is_some, is_none}
+use Rattle.std.specs.Prelude.{ℕ, ◌≡◌, Bool, true, false, not, if◌then◌else◌, ◌&&◌, ◌||◌, List, [], ◌∷◌, find, length, Option, Some, None, nat_eq, nat_lt, nat_le, is_some, is_none}
 use Rattle.std.specs.List.{list_any, list_all}
-use Rattle.zb_model.specs.Data.{Bytes, Duty, Stage, Fresh, Tier, Nwk, Aps, Trust, Move, Draw, DropNet, DropLink, Install, Active, Row, Pair, Became, Live, Removed, Roll, Told, Untold, Edit, Reserve, Floor, Start, Moved}
-use Rattle.zb_model.specs.State.{SenderFloor, NetKey, LinkKey, PairKey, NodeState, same_key, is_centre, is_provisional, is_unverified, has_net, is_link, is_live_of, names_two, net_of, active_row, live_nets, is_live, pair_of, stored_limit, sender_floor, applied}
+use Rattle.zb_model.specs.Data.{Bytes, Duty, Stage, Fresh, Nwk, Aps, Move, Draw, DropNet, DropLink, Install, Active, Row, Pair, Became, Live, Removed, Roll, Told, Untold, Edit, Reserve, Floor, Start, Moved}
+use Rattle.zb_model.specs.State.{SenderFloor, NetKey, LinkKey, PairKey, NodeState, same_key, is_centre, is_provisional, is_unverified, has_net, is_link, net_of, active_row, live_nets, is_live, pair_of, stored_limit, sender_floor, applied}
 
 -- How many rows there may be: 256 network keys, 1,024 link keys at the centre and 64 elsewhere, 256 pairs, 64 senders
 -- with a floor under one network key.

@@ -3,3 +3,12 @@ pub mod Lines
 pub mod State
 pub mod Fits
 pub mod Record
+pub mod Tools
+pub mod Frames
+pub mod Rules
+pub mod OwnEvents
+pub mod Judging
+pub mod Commands
+pub mod Answer
+pub mod Readings
+pub mod Play

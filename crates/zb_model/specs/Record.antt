@@ -1,8 +1,7 @@
 -- The bytes that a node's disk keeps: the record of a state, version 3, and the payload of a journal entry. Numbers and
 -- EUIs are least significant byte first. Layout: this project's own.
-use Rattle.std.specs.Prelude.{ℕ, suc, ◌+◌, Bool, true, false, if◌then◌else◌, List, [], ◌∷◌, ◌++◌, filter, length, Option, Some, None, flat_map}
+use Rattle.std.specs.Prelude.{ℕ, ◌+◌, Bool, true, false, if◌then◌else◌, List, [], ◌∷◌, ◌++◌, filter, length, Option, Some, None, flat_map}
 use Rattle.std.specs.Int.{to_le_bytes, w16, w32, w64}
-use Rattle.std.specs.List.{list_any}
 use Rattle.zb_model.specs.Data.{Bytes, Duty, Centre, Router, Device, Tier, Nwk, Aps, Stage, Fresh, Knocked, Joined, Offered, Confirmed, Rejoining, Gone, Trust, Provisional, Unverified, Verified, Move, Draw, DropNet, DropLink, Install, Active, Row, Pair, Became, Live, Removed, Roll, Told, Untold, Edit, Reserve, Floor, Start, Moved}
 use Rattle.zb_model.specs.State.{SenderFloor, NetKey, LinkKey, PairKey, NodeState, same_key, live_nets}
 

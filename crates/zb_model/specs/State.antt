@@ -1,7 +1,7 @@
 -- The state of one node: what it keeps over a reset, and beside it the next counters and the floors in memory.
 -- Everything that a line of a transcript does to it is here. Each change is safe by itself: limits and floors never
 -- fall, a key that has a row gets no second one. Where a change fits the state (`Fits`), it does just what it says.
-use Rattle.std.specs.Prelude.{ℕ, ◌+◌, min, max, Bool, true, false, not, if◌then◌else◌, ◌&&◌, ◌||◌, List, [], ◌∷◌, ◌++◌, map, filter, find, reverse, Option, Some, None, nat_eq, nat_lt, nat_le, is_some, bytes_eq}
+use Rattle.std.specs.Prelude.{ℕ, ◌+◌, min, max, Bool, true, false, not, if◌then◌else◌, ◌&&◌, ◌||◌, List, [], ◌∷◌, ◌++◌, map, filter, find, reverse, Option, Some, None, nat_eq, nat_lt, bytes_eq}
 use Rattle.std.specs.List.{list_any}
 use Rattle.zb_model.specs.Data.{Bytes, Duty, Centre, Router, Device, Tier, Nwk, Aps, Stage, Fresh, Knocked, Joined, Gone, Trust, Provisional, Unverified, Verified, Sealing, Move, Draw, DropNet, DropLink, Install, Active, Row, Pair, Became, Live, Removed, Roll, Told, Untold, Edit, Reserve, Floor, Start, Moved}
 

@@ -1,0 +1,302 @@
+-- The answer of one node to one event: the rule that holds, and then its counters. What it says is determined, so it is a
+-- function; where only the policy is meant, the counters are a parameter (`Counting`).
+use Rattle.std.specs.Prelude.{ℕ, ◌+◌, min, Bool, true, false, not, if◌then◌else◌, ◌&&◌, ◌||◌, List, [], ◌∷◌, ◌++◌, filter, find, Option, Some, None, nat_eq, nat_le, flat_map, option_map, option_to_list}
+use Rattle.std.specs.List.{list_any}
+use Rattle.zb_model.specs.Data.{Bytes, Tier, Nwk, Aps, ForTransport, ForData, Sealing, Move, Active, Row, Became, Edit, Reserve, Floor, Start, Moved, Spot, AtNwk, AtAps, AtEvent, Reason, Malformed, Policy, Tunnel, Task, Received}
+use Rattle.zb_model.specs.State.{most, NetKey, LinkKey, NodeState, same_key, is_link, net_of, active_row, next_counter, stored_limit}
+use Rattle.zb_model.specs.Fits.{net_stored, link_stored}
+use Rattle.zb_model.specs.Record.{stage_byte, trust_byte}
+use Rattle.zb_model.specs.Tools.{Tools, NwkSight, ApsSight, ApsAuxiliary, OrderSight, Known, Unknown, Broken, LeaveSight, Leave, Other, NoCommand}
+use Rattle.zb_model.specs.Frames.{low_byte, plain_frame, secured_frame, leave_frame, nwk_header, nwk_term, aps_term, sealed_command, clear_command, data_front, data_control, sealed_data, leave_payload}
+use Rattle.zb_model.specs.Rules.{Body, Saying, Clear, Secret, Tunnelled, Telling, Leaving, Relayed, Sending, Outcome, Stop, Does, Plan, Setting, spent}
+use Rattle.zb_model.specs.OwnEvents.{own}
+use Rattle.zb_model.specs.Judging.{Verdict, Not, Good, Carrier, judge_nwk, payload_of, Unsealed, judge_aps}
+use Rattle.zb_model.specs.Commands.{Heard, take_order, take_leave}
+
+-- The plan of a delivered frame
+
+abbrev pub stopped_at : List Sealing → Spot → Reason → Plan
+stopped_at accepts spot reason = record { accepts = accepts; spot = spot; outcome = Stop reason }
+
+abbrev pub comes_to : List Sealing → Spot → Outcome → Plan
+comes_to accepts spot outcome = record { accepts = accepts; spot = spot; outcome = outcome }
+
+-- a NWK command: a Leave, or none that is taken
+abbrev pub nwk_command : Setting → Sealing → LeaveSight → Plan
+nwk_command c term (Leave options) = comes_to (term ∷ []) AtNwk (take_leave c term options)
+nwk_command c term Other = stopped_at (term ∷ []) AtNwk Policy
+nwk_command c term NoCommand = stopped_at (term ∷ []) AtNwk Malformed
+
+abbrev pub source_or : ℕ → Option Sealing → ℕ
+source_or other None = other
+source_or other (Some t) = t.source
+
+abbrev pub heard_clear : Option Sealing → Heard
+heard_clear nwk = record { sender = source_or 18446744073709551616 nwk; label = None; row = None; nwk_source = option_map (λ (t : Sealing). t.source) nwk }
+
+abbrev pub heard_sealed : Option Sealing → ApsAuxiliary → Unsealed → Heard
+heard_sealed nwk aux u = record { sender = u.term.source; label = Some aux.label; row = Some u.row; nwk_source = option_map (λ (t : Sealing). t.source) nwk }
+
+-- an APS command: one that is known by its rule; an unknown one is not taken, and other bytes are none
+abbrev pub aps_command : Tools → Setting → NodeState → Option Bytes → List Sealing → Heard → OrderSight → Plan
+aps_command tools c s draw accepts m (Known order) = comes_to accepts AtAps (take_order tools c s draw m order)
+aps_command tools c s draw accepts m Unknown = stopped_at accepts AtAps Policy
+aps_command tools c s draw accepts m Broken = stopped_at accepts AtAps Malformed
+
+-- Data and acknowledgements are done with once they are accepted; what they say is for the application.
+abbrev pub clear_part : Tools → Setting → NodeState → Option Bytes → Option Sealing → ApsSight → Plan
+clear_part tools c s draw nwk a =
+    if a.is_command then aps_command tools c s draw (option_to_list nwk) (heard_clear nwk) (tools.read_order a.body)
+    else comes_to (option_to_list nwk) AtAps (Does [] None)
+
+abbrev pub sealed_part : Tools → Setting → NodeState → Option Bytes → Option Sealing → ApsSight → ApsAuxiliary → Verdict Unsealed → Plan
+sealed_part tools c s draw nwk a aux (Not spot reason) = stopped_at (option_to_list nwk) spot reason
+sealed_part tools c s draw nwk a aux (Good u) =
+    if a.is_command then aps_command tools c s draw (option_to_list nwk ++ u.term ∷ []) (heard_sealed nwk aux u) (tools.read_order u.term.content)
+    else comes_to (option_to_list nwk ++ u.term ∷ []) AtAps (Does [] None)
+
+abbrev pub by_security : Tools → Setting → NodeState → Option Bytes → NwkSight → Option Sealing → ApsSight → Option ApsAuxiliary → Plan
+by_security tools c s draw f nwk a None = clear_part tools c s draw nwk a
+by_security tools c s draw f nwk a (Some aux) = sealed_part tools c s draw nwk a aux (judge_aps tools c s f (payload_of f nwk) aux)
+
+abbrev pub aps_part : Tools → Setting → NodeState → Option Bytes → NwkSight → Option Sealing → Option ApsSight → Plan
+aps_part tools c s draw f nwk None = stopped_at (option_to_list nwk) AtAps Malformed
+aps_part tools c s draw f nwk (Some a) = by_security tools c s draw f nwk a a.auxiliary
+
+abbrev pub net_part : Tools → Setting → NodeState → Option Bytes → NwkSight → Option Sealing → Plan
+net_part tools c s draw f None = aps_part tools c s draw f None (tools.read_aps f.body)
+net_part tools c s draw f (Some term) =
+    if f.is_command then nwk_command c term (tools.read_leave term.content)
+    else aps_part tools c s draw f (Some term) (tools.read_aps term.content)
+
+abbrev pub received_as : Tools → Setting → NodeState → Option Bytes → Verdict Carrier → Plan
+received_as tools c s draw (Not spot reason) = stopped_at [] spot reason
+received_as tools c s draw (Good k) = net_part tools c s draw k.sight k.term
+
+unfoldable pub plan_of : Tools → Setting → NodeState → Task → Plan
+plan_of tools c s (Received bytes draw) = received_as tools c s draw (judge_nwk tools c s bytes)
+plan_of tools c s task = comes_to [] AtEvent (own tools c s task)
+
+-- Which counters an answer takes: those of its frames; a limit that is reserved, at a layer; the floor stored for the term
+-- accepted at a layer; the first counter of the key that becomes active.
+pub record Counting : Type 0 where
+  pub counter : Tier → ℕ
+  pub reserve : Tier → Option ℕ
+  pub floor : Tier → Option ℕ
+  pub start : Option ℕ
+
+-- What goes out
+
+abbrev pub has_aps_seal : Body → Bool
+has_aps_seal (Secret label key order) = true
+has_aps_seal (Tunnelled device key order) = true
+has_aps_seal (Telling key bytes) = true
+has_aps_seal _ = false
+
+-- The layers at which a frame is sealed.
+abbrev pub seals_at : Tier → Option Sending → Bool
+seals_at layer None = false
+seals_at Nwk (Some send) = send.secured
+seals_at Aps (Some send) = has_aps_seal send.body
+
+-- The APS part: what is sealed in it, its bytes, and the frame control that carries it.
+pub record Part : Type 0 where
+  pub control : ℕ
+  pub seals : List Sealing
+  pub bytes : Bytes
+
+abbrev pub sealed_into : Tools → Sealing → Part
+sealed_into tools t = record { control = secured_frame; seals = t ∷ []; bytes = tools.wire t }
+
+abbrev pub in_clear : Bytes → Part
+in_clear bytes = record { control = secured_frame; seals = []; bytes = bytes }
+
+abbrev pub tunnel_of : Tools → ℕ → ℕ → Sealing → Part
+tunnel_of tools nwk device t = record { control = secured_frame; seals = t ∷ []; bytes = clear_command ∷ low_byte nwk ∷ tools.spelled (Tunnel device (tools.wire t)) }
+
+unfoldable pub part_of : Tools → ℕ → ℕ → ℕ → ℕ → Body → Part
+part_of tools me to nwk aps (Saying bytes) = in_clear (data_front (data_control to) ++ low_byte nwk ∷ bytes)
+part_of tools me to nwk aps (Clear control order) = in_clear (control ∷ low_byte nwk ∷ tools.spelled order)
+part_of tools me to nwk aps (Secret label key order) = sealed_into tools (aps_term sealed_command label key me aps (tools.spelled order))
+part_of tools me to nwk aps (Tunnelled device key order) = tunnel_of tools nwk device (aps_term sealed_command ForTransport key me aps (tools.spelled order))
+part_of tools me to nwk aps (Telling key bytes) = sealed_into tools (aps_term (data_front sealed_data) ForData key me aps bytes)
+part_of tools me to nwk aps Leaving = record { control = leave_frame; seals = []; bytes = leave_payload }
+part_of tools me to nwk aps (Relayed bytes) = in_clear bytes
+
+pub record Outgoing : Type 0 where
+  pub seals : List Sealing
+  pub frame : Option Bytes
+
+abbrev pub nothing_out : Outgoing
+nothing_out = record { seals = []; frame = None }
+
+-- sealed under the active row, APS before NWK
+abbrev pub secured_out : Tools → Setting → ℕ → ℕ → NetKey → Part → Outgoing
+secured_out tools c to nwk row part = let t = nwk_term part.control to c.me.short c.me.eui row.key row.sequence nwk part.bytes in record { seals = part.seals ++ t ∷ []; frame = Some (tools.wire t) }
+
+abbrev pub plain_out : Setting → ℕ → Part → Outgoing
+plain_out c to part = record { seals = part.seals; frame = Some (nwk_header plain_frame to c.me.short 0 ++ part.bytes) }
+
+abbrev pub framed : Tools → Setting → ℕ → ℕ → Bool → Option NetKey → Part → Outgoing
+framed tools c to nwk false row part = plain_out c to part
+framed tools c to nwk true None part = nothing_out
+framed tools c to nwk true (Some row) part = secured_out tools c to nwk row part
+
+-- A node never seals without a counter: at NWK its active row is started and not at its end, at APS the counter isn't.
+-- The rules have refused before wherever this would not hold.
+abbrev pub row_is_started : Option NetKey → Bool
+row_is_started None = false
+row_is_started (Some r) = r.started
+
+unfoldable pub may_seal : NodeState → Option Sending → Bool
+may_seal s send =
+    (not (seals_at Nwk send) || (row_is_started (active_row s) && not (spent Nwk s)))
+    && (not (seals_at Aps send) || not (spent Aps s))
+
+abbrev pub sent : Tools → Setting → NodeState → Counting → Option Sending → Outgoing
+sent tools c s k None = nothing_out
+sent tools c s k (Some send) =
+    framed tools c send.to (k.counter Nwk) send.secured (active_row s) (part_of tools c.me.eui send.to (k.counter Nwk) (k.counter Aps) send.body)
+
+unfoldable pub out_of : Tools → Setting → NodeState → Counting → Option Sending → Outgoing
+out_of tools c s k send = if may_seal s send then sent tools c s k send else nothing_out
+
+-- What is stored
+
+-- A change that leaves a thing as it is gives no line.
+abbrev pub is_active_key : Option Bytes → Bytes → Bool
+is_active_key None key = false
+is_active_key (Some active) key = same_key active key
+
+abbrev pub changes : NodeState → Move → Bool
+changes s (Row partner key trust) = not (list_any (λ (r : LinkKey). is_link partner key r && (r.live && nat_eq (trust_byte r.trust) (trust_byte trust))) s.links)
+changes s (Active key) = not (is_active_key s.active key)
+changes s (Became stage) = not (nat_eq (stage_byte s.stage) (stage_byte stage))
+changes s _ = true
+
+abbrev pub is_started_key : NodeState → Bytes → Bool
+is_started_key s key = row_is_started (net_of key s)
+
+-- the first counter of a key stands right behind the change that makes it active
+abbrev pub start_edit : Bytes → Option ℕ → List Edit
+start_edit key None = []
+start_edit key (Some value) = Start key value ∷ []
+
+abbrev pub move_edits : Counting → Move → List Edit
+move_edits k (Active key) = Moved (Active key) ∷ start_edit key k.start
+move_edits k move = Moved move ∷ []
+
+abbrev pub reserve_edit : Counting → Tier → List Edit
+reserve_edit k layer = option_to_list (option_map (Reserve layer) (k.reserve layer))
+
+abbrev pub floor_edit : Counting → Sealing → List Edit
+floor_edit k t = option_to_list (option_map (Floor t.layer t.base t.source) (k.floor t.layer))
+
+abbrev pub moves_of : Outcome → List Move
+moves_of (Stop reason) = []
+moves_of (Does moves sending) = moves
+
+abbrev pub sending_of : Outcome → Option Sending
+sending_of (Stop reason) = None
+sending_of (Does moves sending) = sending
+
+abbrev pub refusal_of : Plan → Option Reason
+refusal_of p = reason_of p.outcome
+  where
+    reason_of : Outcome → Option Reason
+    reason_of (Stop reason) = Some reason
+    reason_of (Does moves sending) = None
+
+-- in the order of the lines: reserves, floors, and the rule's own changes
+unfoldable pub edits_of : NodeState → Counting → Plan → List Edit
+edits_of s k p =
+    (reserve_edit k Nwk ++ reserve_edit k Aps)
+    ++ (flat_map (floor_edit k) p.accepts ++ flat_map (move_edits k) (filter (changes s) (moves_of p.outcome)))
+
+-- The whole answer: the changes that are stored, the terms accepted, a refusal, the terms sealed, the frame.
+pub record Answer : Type 0 where
+  pub edits : List Edit
+  pub accepts : List Sealing
+  pub spot : Spot
+  pub refusal : Option Reason
+  pub seals : List Sealing
+  pub frame : Option Bytes
+
+unfoldable pub answer_by : Tools → Setting → NodeState → Counting → Plan → Answer
+answer_by tools c s k p = let out = out_of tools c s k (sending_of p.outcome) in record {
+  edits = edits_of s k p;
+  accepts = p.accepts;
+  spot = p.spot;
+  refusal = refusal_of p;
+  seals = out.seals;
+  frame = out.frame;
+}
+
+-- The counters that a node takes
+
+-- A limit is reserved where the frame is sealed at the layer and the counter has reached its limit: a block of its own.
+unfoldable pub reserve_of : Setting → NodeState → Option Sending → Tier → Option ℕ
+reserve_of c s send layer =
+    if seals_at layer send && (may_seal s send && nat_eq (next_counter layer s) (stored_limit layer s))
+    then Some (min (next_counter layer s + c.me.out_block) most) else None
+
+-- The stored floor of a term's sender under its key.
+unfoldable pub stored_floor : Sealing → NodeState → ℕ
+stored_floor t s = stored_at t.layer
+  where
+    stored_at : Tier → ℕ
+    stored_at Nwk = net_stored t.source (net_of t.base s)
+    stored_at Aps = link_stored (find (is_link t.source t.base) s.links)
+
+-- A floor is stored where the accepted counter isn't below the stored one: a block above it.
+abbrev pub floor_for : Setting → NodeState → Sealing → Option ℕ
+floor_for c s t = if nat_le (stored_floor t s) t.counter then Some (min (t.counter + c.me.in_block) most) else None
+
+abbrev pub same_tier : Tier → Tier → Bool
+same_tier Nwk Nwk = true
+same_tier Aps Aps = true
+same_tier _ _ = false
+
+unfoldable pub floor_of : Setting → NodeState → List Sealing → Tier → Option ℕ
+floor_of c s [] layer = None
+floor_of c s (t ∷ ts) layer = if same_tier t.layer layer then floor_for c s t else floor_of c s ts layer
+
+-- A key that becomes active for the first time starts at 0 where the counter has passed half of its range, else where the
+-- counter stands.
+abbrev pub half : ℕ
+half = 2147483648
+
+abbrev pub first_counter : NodeState → ℕ
+first_counter s = if nat_le half (next_counter Nwk s) then 0 else next_counter Nwk s
+
+abbrev pub activated : NodeState → List Move → Option Bytes
+activated s [] = None
+activated s (Active key ∷ moves) = Some key
+activated s (_ ∷ moves) = activated s moves
+
+abbrev pub start_for : NodeState → Option Bytes → Option ℕ
+start_for s None = None
+start_for s (Some key) = if is_started_key s key then None else Some (first_counter s)
+
+unfoldable pub counting_of : Setting → NodeState → Plan → Counting
+counting_of c s p = record {
+  counter = λ layer. next_counter layer s;
+  reserve = reserve_of c s (sending_of p.outcome);
+  floor = floor_of c s p.accepts;
+  start = start_for s (activated s (filter (changes s) (moves_of p.outcome)));
+}
+
+unfoldable pub answer : Tools → Setting → NodeState → Task → Answer
+answer tools c s task = let p = plan_of tools c s task in answer_by tools c s (counting_of c s p) p
+
+-- The state after an answer that was stored and handed out.
+unfoldable pub answered : Answer → NodeState → NodeState
+answered a s = sealed_all a.seals (accepted_all a.accepts (Rattle.zb_model.specs.State.applied_all a.edits s))
+  where
+    accepted_all : List Sealing → NodeState → NodeState
+    accepted_all [] s = s
+    accepted_all (t ∷ ts) s = accepted_all ts (Rattle.zb_model.specs.State.accepted t s)
+
+    sealed_all : List Sealing → NodeState → NodeState
+    sealed_all [] s = s
+    sealed_all (t ∷ ts) s = sealed_all ts (Rattle.zb_model.specs.State.sealed t s)

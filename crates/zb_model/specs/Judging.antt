@@ -1,0 +1,134 @@
+-- How a delivered frame is judged: its NWK layer, then its APS part. Each reason is tried in its order; the first that
+-- holds is the answer. A layer that passes gives the term that was accepted.
+use Rattle.std.specs.Prelude.{ℕ, Bool, true, false, not, if◌then◌else◌, ◌&&◌, ◌||◌, List, [], ◌∷◌, filter, find, reverse, length, Option, Some, None, nat_eq, nat_lt, nat_le, is_some}
+use Rattle.zb_model.specs.Data.{Bytes, Duty, Centre, Router, Device, Stage, Fresh, Knocked, Joined, Offered, Confirmed, Rejoining, Gone, Purpose, Station, Sealing, Spot, AtNwk, AtAps, Reason, Malformed, NotForMe, Unsecured, NoKey, CounterMax, Stale, BadMic, NotMember, RowsFull, Task}
+use Rattle.zb_model.specs.State.{most, SenderFloor, NetKey, LinkKey, NodeState, is_centre, is_live_of, usable_of, sender_floor, is_live, is_known}
+use Rattle.zb_model.specs.Fits.{most_senders}
+use Rattle.zb_model.specs.Tools.{Tools, NwkSight, NwkAuxiliary, ApsSight, ApsAuxiliary}
+use Rattle.zb_model.specs.Rules.{Setting, station_at, is_declared, waits_for_key}
+
+-- What judging finds: a reason, at a layer, or something good. Tests are chained as in the rules.
+pub data Verdict (A : Type 0) : Type 0 where
+  Not : (spot : Spot) (reason : Reason) → Verdict A
+  Good : (it : A) → Verdict A
+
+unfoldable pub reject : {A : Type 0} → Bool → Spot → Reason → Verdict A → Verdict A
+reject bad spot reason rest = if bad then Not spot reason else rest
+
+unfoldable pub need : {A B : Type 0} → Option A → Spot → Reason → (A → Verdict B) → Verdict B
+need None spot reason rest = Not spot reason
+need (Some a) spot reason rest = rest a
+
+-- The NWK layer
+
+-- Frames are for a node by its short address, or for all (FFFF), for all that listen (FFFD), and for routers (FFFC).
+abbrev pub hears : Setting → ℕ → Bool
+hears c to = nat_eq to c.me.short || (nat_eq to 0xffff || (nat_eq to 0xfffd || (nat_eq to 0xfffc && routes c.me.duty)))
+  where
+    routes : Duty → Bool
+    routes Device = false
+    routes _ = true
+
+-- An unsecured frame passes only as the carrier of a command that is sealed under a transport key, and only in a router or
+-- device that waits for the network key.
+abbrev pub is_transport : Purpose → Bool
+is_transport Rattle.zb_model.specs.Data.Purpose.ForTransport = true
+is_transport _ = false
+
+abbrev pub sealed_for_transport : Option ApsSight → Bool
+sealed_for_transport None = false
+sealed_for_transport (Some a) = a.is_command && labelled a.auxiliary
+  where
+    labelled : Option ApsAuxiliary → Bool
+    labelled None = false
+    labelled (Some x) = is_transport x.label
+
+abbrev pub may_pass_unsecured : Tools → Setting → NodeState → NwkSight → Bool
+may_pass_unsecured tools c s f =
+    not (is_centre c.me.duty) && (waits_for_key s.stage && (not f.is_command && sealed_for_transport (tools.read_aps f.body)))
+
+-- a floor has to be stored for a source, and there are floors of 64 others
+abbrev pub senders_full : ℕ → ℕ → NetKey → Bool
+senders_full source counter row =
+    nat_le (sender_floor source row).stored counter && nat_le most_senders (length (filter (λ (f : SenderFloor). not (nat_eq f.sender source)) row.floors))
+
+-- a frame under the row of its key sequence
+unfoldable pub judge_net : Tools → Setting → NodeState → Bytes → NwkAuxiliary → Verdict Sealing
+judge_net tools c s bytes aux =
+    need (usable_of s aux.sequence) AtNwk NoKey (λ row.
+    reject (nat_le most aux.counter) AtNwk CounterMax (
+    reject (nat_lt aux.counter (sender_floor aux.source row).kept) AtNwk (Stale (sender_floor aux.source row).kept) (
+    need (tools.open_nwk bytes row.key) AtNwk BadMic (λ term.
+    reject (not (is_declared c aux.source)) AtNwk NotMember (
+    reject (is_centre c.me.duty && (is_known s aux.source && not (is_live s aux.source))) AtNwk NotMember (
+    reject (senders_full aux.source aux.counter row) AtNwk RowsFull (
+    Good term)))))))
+
+-- What stands at the NWK layer once it passed: the sight of the frame, and the accepted term where it is secured.
+pub record Carrier : Type 0 where
+  pub sight : NwkSight
+  pub term : Option Sealing
+
+abbrev pub carrier : NwkSight → Verdict Sealing → Verdict Carrier
+carrier f (Not spot reason) = Not spot reason
+carrier f (Good term) = Good (record { sight = f; term = Some term })
+
+abbrev pub judge_security : Tools → Setting → NodeState → Bytes → NwkSight → Option NwkAuxiliary → Verdict Carrier
+judge_security tools c s bytes f None =
+    reject (not (may_pass_unsecured tools c s f)) AtNwk Unsecured (Good (record { sight = f; term = None }))
+judge_security tools c s bytes f (Some aux) = carrier f (judge_net tools c s bytes aux)
+
+unfoldable pub judge_nwk : Tools → Setting → NodeState → Bytes → Verdict Carrier
+judge_nwk tools c s bytes =
+    need (tools.read_nwk bytes) AtNwk Malformed (λ f.
+    reject (nat_eq f.source c.me.short || not (hears c f.destination)) AtNwk NotForMe (
+    judge_security tools c s bytes f f.auxiliary))
+
+-- the payload of the frame: what the term opens to, or what stands there in clear
+abbrev pub payload_of : NwkSight → Option Sealing → Bytes
+payload_of f None = f.body
+payload_of f (Some term) = term.content
+
+-- The APS part
+
+-- The candidates for a source: its live link rows, the one of the greatest place first.
+unfoldable pub candidates : NodeState → ℕ → List LinkKey
+candidates s source = filter (is_live_of source) (reverse s.links)
+
+abbrev pub opens_with : Tools → Bytes → ℕ → LinkKey → Bool
+opens_with tools bytes source row = is_some (tools.open_aps bytes row.key source)
+
+-- the first candidate that opens the frame, else the first
+abbrev pub chosen : Option LinkKey → List LinkKey → Option LinkKey
+chosen (Some row) rows = Some row
+chosen None [] = None
+chosen None (row ∷ rows) = Some row
+
+abbrev pub chosen_row : Tools → Bytes → ℕ → List LinkKey → Option LinkKey
+chosen_row tools bytes source rows = chosen (find (opens_with tools bytes source) rows) rows
+
+-- the source of a sealed APS part: its own, or the declared node of the frame's short source address
+abbrev pub aps_source : Setting → NwkSight → ApsAuxiliary → Option ℕ
+aps_source c f aux = own_or aux.source
+  where
+    declared_at : Option Station → Option ℕ
+    declared_at None = None
+    declared_at (Some p) = Some p.eui
+
+    own_or : Option ℕ → Option ℕ
+    own_or (Some eui) = Some eui
+    own_or None = declared_at (station_at c.stations f.source)
+
+-- An accepted APS part: its term and the row that opened it.
+pub record Unsealed : Type 0 where
+  pub term : Sealing
+  pub row : LinkKey
+
+unfoldable pub judge_aps : Tools → Setting → NodeState → NwkSight → Bytes → ApsAuxiliary → Verdict Unsealed
+judge_aps tools c s f bytes aux =
+    need (aps_source c f aux) AtAps NoKey (λ source.
+    need (chosen_row tools bytes source (candidates s source)) AtAps NoKey (λ row.
+    reject (nat_le most aux.counter) AtAps CounterMax (
+    reject (nat_lt aux.counter row.kept) AtAps (Stale row.kept) (
+    need (tools.open_aps bytes row.key source) AtAps BadMic (λ term.
+    Good (record { term = term; row = row }))))))

@@ -1,0 +1,126 @@
+-- What a list of transcript lines says. Each reading is a fold over the lines, so what a list says is changed by the lines
+-- that follow it one by one.
+use Rattle.std.specs.Prelude.{ℕ, ◌+◌, Bool, true, false, not, if◌then◌else◌, ◌&&◌, ◌||◌, List, [], ◌∷◌, ◌++◌, fold, Option, Some, None, nat_eq}
+use Rattle.zb_model.specs.Data.{Bytes, nobody, Device, Tier, Nwk, Aps, Station, Draw, Floor, Moved}
+use Rattle.zb_model.specs.Lines.{LogLine, Declared, GivenNet, GivenLink, Counter, Changed, Commit, Accept, Refuse, Seal, Forge, Send, Inject, Stopped, DownReset, DownDisk, Boot, Dump, End}
+use Rattle.zb_model.specs.State.{NodeState, new_node, same_key, applied, sealed, accepted, after_boot, with_given_net, with_given_link, with_declared}
+
+-- whose line it is; nobody's are those of forged and injected frames and the end line
+unfoldable pub speaker : LogLine → ℕ
+speaker (Declared p) = p.eui
+speaker (GivenNet n key sequence) = n
+speaker (GivenLink n partner key) = n
+speaker (Counter n layer limit) = n
+speaker (Changed e n edit) = n
+speaker (Commit e n) = n
+speaker (Accept e n t) = n
+speaker (Refuse e n spot reason) = n
+speaker (Seal e n t) = n
+speaker (Forge e t) = nobody
+speaker (Send e n frame bytes) = nobody
+speaker (Inject e frame bytes) = nobody
+speaker (Stopped e n) = n
+speaker (DownReset e n) = n
+speaker (DownDisk e n) = n
+speaker (Boot e n) = n
+speaker (Dump e n bytes) = n
+speaker (End events seals accepts refusals ideal private) = nobody
+
+-- what a node's own line does to its state
+unfoldable pub after : LogLine → NodeState → NodeState
+after (Declared p) s = record s { duty = p.duty }
+after (GivenNet n key sequence) s = with_given_net key sequence s
+after (GivenLink n partner key) s = with_given_link partner key s
+after (Counter n layer limit) s = with_declared layer limit s
+after (Changed e n edit) s = applied edit s
+after (Accept e n t) s = accepted t s
+after (Seal e n t) s = sealed t s
+after (Boot e n) s = after_boot s
+after _ s = s
+
+unfoldable pub heard_line : ℕ → NodeState → LogLine → NodeState
+heard_line n s l = if nat_eq (speaker l) n then after l s else s
+
+-- the state of a node after the lines
+unfoldable pub state_of : List LogLine → ℕ → NodeState
+state_of h n = fold (heard_line n) (new_node Device) h
+
+-- whether a node has power: it starts with it, and a boot gives it again
+abbrev pub power : LogLine → Bool → Bool
+power (Stopped e n) up = false
+power (DownReset e n) up = false
+power (DownDisk e n) up = false
+power (Boot e n) up = true
+power _ up = up
+
+abbrev pub power_line : ℕ → Bool → LogLine → Bool
+power_line n up l = if nat_eq (speaker l) n then power l up else up
+
+unfoldable pub is_up : List LogLine → ℕ → Bool
+is_up h n = fold (power_line n) true h
+
+-- the frames on the air, in the order of their numbers from 1
+abbrev pub air_line : List Bytes → LogLine → List Bytes
+air_line frames (Send e n frame bytes) = frames ++ bytes ∷ []
+air_line frames (Inject e frame bytes) = frames ++ bytes ∷ []
+air_line frames _ = frames
+
+unfoldable pub air : List LogLine → List Bytes
+air h = fold air_line [] h
+
+-- how many draws are used, and how many commits a node made
+abbrev pub draw_line : ℕ → LogLine → ℕ
+draw_line n (Changed e c (Moved (Draw key))) = n + 1
+draw_line n _ = n
+
+unfoldable pub draws_used : List LogLine → ℕ
+draws_used h = fold draw_line 0 h
+
+abbrev pub commit_line : ℕ → ℕ → LogLine → ℕ
+commit_line node n (Commit e by) = if nat_eq by node then n + 1 else n
+commit_line node n _ = n
+
+unfoldable pub commits_of : List LogLine → ℕ → ℕ
+commits_of h node = fold (commit_line node) 0 h
+
+-- A slot of floors: a receiver, a layer, a base key and a source. `stored` is the greatest floor line; `kept` is one more
+-- than the last accepted counter since the receiver's last boot, and a boot takes it back to `stored`.
+pub record Slot : Type 0 where
+  pub receiver : ℕ
+  pub layer : Tier
+  pub base : Bytes
+  pub source : ℕ
+
+pub record Floors : Type 0 where
+  pub kept : ℕ
+  pub stored : ℕ
+
+abbrev pub alike_tier : Tier → Tier → Bool
+alike_tier Nwk Nwk = true
+alike_tier Aps Aps = true
+alike_tier _ _ = false
+
+unfoldable pub is_slot : Slot → ℕ → Tier → Bytes → ℕ → Bool
+is_slot x receiver layer base source =
+    nat_eq x.receiver receiver && (alike_tier x.layer layer && (same_key x.base base && nat_eq x.source source))
+
+abbrev pub raised : ℕ → ℕ → ℕ
+raised a b = Rattle.std.specs.Prelude.max a b
+
+abbrev pub floors_after : Slot → Floors → LogLine → Floors
+floors_after x f (Changed e n (Floor layer base source value)) =
+    if is_slot x n layer base source then record f { stored = raised f.stored value } else f
+floors_after x f (Accept e n t) = if is_slot x n t.layer t.base t.source then record f { kept = t.counter + 1 } else f
+floors_after x f (Boot e n) = if nat_eq x.receiver n then record f { kept = f.stored } else f
+floors_after x f _ = f
+
+unfoldable pub floors : List LogLine → Slot → Floors
+floors h x = fold (floors_after x) (record { kept = 0; stored = 0 }) h
+
+-- the declared nodes, in order
+abbrev pub station_line : List Station → LogLine → List Station
+station_line stations (Declared p) = stations ++ p ∷ []
+station_line stations _ = stations
+
+unfoldable pub stations_of : List LogLine → List Station
+stations_of h = fold station_line [] h

@@ -1,0 +1,169 @@
+-- How a rule of the policy is written: a chain of refusals, in the order in which they are tried, and then one effect,
+-- which is the changes that it makes and what it sends.
+use Rattle.std.specs.Prelude.{ℕ, Bool, true, false, not, if◌then◌else◌, ◌&&◌, ◌||◌, List, [], ◌∷◌, map, filter, find, length, Option, Some, None, nat_eq, nat_le, is_some}
+use Rattle.std.specs.List.{list_any}
+use Rattle.zb_model.specs.Data.{Bytes, Duty, Router, Tier, Nwk, Aps, Stage, Knocked, Joined, Offered, Confirmed, Rejoining, Purpose, Station, Sealing, Move, DropNet, DropLink, Spot, Reason, Order}
+use Rattle.zb_model.specs.State.{most, NetKey, LinkKey, NodeState, same_key, is_centre, is_live_of, has_net, next_counter, live_nets}
+use Rattle.zb_model.specs.Fits.{most_nets, most_links, most_pairs}
+
+-- What a node sends: application data, not sealed at APS; an APS command that isn't sealed, sealed under a link key, or
+-- sealed inside a Tunnel to a device; application data under a key of two devices; a Leave; the frame of a Tunnel.
+pub data Body : Type 0 where
+  Saying : (bytes : Bytes) → Body
+  Clear : (control : ℕ) (order : Order) → Body
+  Secret : (label : Purpose) (key : Bytes) (order : Order) → Body
+  Tunnelled : (device : ℕ) (key : Bytes) (order : Order) → Body
+  Telling : (key : Bytes) (bytes : Bytes) → Body
+  Leaving : Body
+  Relayed : (bytes : Bytes) → Body
+
+pub record Sending : Type 0 where
+  pub to : ℕ
+  pub secured : Bool
+  pub body : Body
+
+pub data Outcome : Type 0 where
+  Stop : (reason : Reason) → Outcome
+  Does : (moves : List Move) (sending : Option Sending) → Outcome
+
+-- What an event comes to: the terms that were accepted, NWK before APS, and an outcome; a refusal is shown at `spot`.
+pub record Plan : Type 0 where
+  pub accepts : List Sealing
+  pub spot : Spot
+  pub outcome : Outcome
+
+-- What a node knows of the network: itself, and the declared nodes.
+pub record Setting : Type 0 where
+  pub me : Station
+  pub stations : List Station
+
+-- The steps of a rule: refused where the test holds; refused where nothing is there; one of two.
+unfoldable pub unless : Bool → Reason → Outcome → Outcome
+unless bad reason rest = if bad then Stop reason else rest
+
+unfoldable pub given : {A : Type 0} → Option A → Reason → (A → Outcome) → Outcome
+given None reason rest = Stop reason
+given (Some a) reason rest = rest a
+
+unfoldable pub choose : Bool → Outcome → Outcome → Outcome
+choose test yes_ no_ = if test then yes_ else no_
+
+abbrev pub sends : ℕ → Bool → Body → Option Sending
+sends to secured body = Some (record { to = to; secured = secured; body = body })
+
+-- Who is declared
+
+abbrev pub is_device_or_router : Duty → Bool
+is_device_or_router duty = not (is_centre duty)
+
+abbrev pub is_router : Duty → Bool
+is_router Router = true
+is_router _ = false
+
+unfoldable pub station_of : List Station → ℕ → Option Station
+station_of stations eui = find (λ (p : Station). nat_eq p.eui eui) stations
+
+unfoldable pub station_at : List Station → ℕ → Option Station
+station_at stations short = find (λ (p : Station). nat_eq p.short short) stations
+
+-- no node has this short address in place of a node that isn't declared; no rule sends to it
+abbrev pub eui_or : ℕ → Option Station → ℕ
+eui_or other None = other
+eui_or other (Some p) = p.eui
+
+abbrev pub short_or : ℕ → Option Station → ℕ
+short_or other None = other
+short_or other (Some p) = p.short
+
+unfoldable pub centre_of : List Station → ℕ
+centre_of stations = eui_or 18446744073709551616 (find (λ (p : Station). is_centre p.duty) stations)
+
+-- the declared short of a node that is declared
+unfoldable pub short_of : Setting → ℕ → ℕ
+short_of c eui = short_or 0xffff (station_of c.stations eui)
+
+abbrev pub is_declared : Setting → ℕ → Bool
+is_declared c eui = is_some (station_of c.stations eui)
+
+abbrev pub duty_or : Duty → Option Station → Duty
+duty_or other None = other
+duty_or other (Some p) = p.duty
+
+abbrev pub acts_as_router : Setting → ℕ → Bool
+acts_as_router c eui = is_some (find (λ (p : Station). nat_eq p.eui eui && is_router p.duty) c.stations)
+
+abbrev pub from_centre : Setting → ℕ → Bool
+from_centre c source = nat_eq source (centre_of c.stations)
+
+-- Tests on the state
+
+-- the counter of the layer stands at its end
+unfoldable pub spent : Tier → NodeState → Bool
+spent layer s = nat_le most (next_counter layer s)
+
+unfoldable pub both_spent : NodeState → Bool
+both_spent s = spent Nwk s || spent Aps s
+
+abbrev pub in_rejoining : Stage → Bool
+in_rejoining Rejoining = true
+in_rejoining _ = false
+
+abbrev pub in_confirmed : Stage → Bool
+in_confirmed Confirmed = true
+in_confirmed _ = false
+
+abbrev pub has_joined : Stage → Bool
+has_joined Joined = true
+has_joined Offered = true
+has_joined Confirmed = true
+has_joined _ = false
+
+-- a network key that is taken now becomes active at once
+abbrev pub waits_for_key : Stage → Bool
+waits_for_key Knocked = true
+waits_for_key Rejoining = true
+waits_for_key _ = false
+
+abbrev pub nets_full : NodeState → Bool
+nets_full s = nat_le most_nets (length s.nets)
+
+abbrev pub links_full : NodeState → Bool
+links_full s = nat_le (most_links s.duty) (length s.links)
+
+abbrev pub pairs_full : NodeState → Bool
+pairs_full s = nat_le most_pairs (length s.pairs)
+
+-- the next key of the supply, unless a row of the node has it already (a schedule never draws such a key)
+abbrev pub unless_held : NodeState → Option Bytes → Option Bytes
+unless_held s None = None
+unless_held s (Some key) = if has_net key s.nets || list_any (λ (r : LinkKey). same_key r.key key) s.links then None else Some key
+
+-- Changes that several rules make
+
+abbrev pub drop_link : LinkKey → Move
+drop_link r = DropLink r.partner r.key
+
+-- every live row of a partner is dropped
+unfoldable pub drop_partner : NodeState → ℕ → List Move
+drop_partner s partner = map drop_link (filter (is_live_of partner) s.links)
+
+-- every live row of a partner but that with the key
+unfoldable pub drop_others : NodeState → ℕ → Bytes → List Move
+drop_others s partner key = map drop_link (filter (λ (r : LinkKey). is_live_of partner r && not (same_key r.key key)) s.links)
+
+abbrev pub drop_row : Option LinkKey → List Move
+drop_row None = []
+drop_row (Some r) = drop_link r ∷ []
+
+-- Two network keys are live at most: before a third comes, the one that isn't active is dropped, or the first of them
+-- where none is.
+abbrev pub is_active : Option Bytes → NetKey → Bool
+is_active None r = false
+is_active (Some key) r = same_key r.key key
+
+abbrev pub first_drop : List NetKey → List Move
+first_drop [] = []
+first_drop (r ∷ rs) = DropNet r.key ∷ []
+
+unfoldable pub drop_old : NodeState → List Move
+drop_old s = if nat_le 2 (length (live_nets s)) then first_drop (filter (λ (r : NetKey). not (is_active s.active r)) (live_nets s)) else []

@@ -1,0 +1,57 @@
+-- What the policy takes from below, as one record: sealing and opening, hashing, and how frames and commands are read and
+-- spelled. The rules use these as they are; no law looks inside.
+use Rattle.std.specs.Prelude.{ℕ, Bool, Option}
+use Rattle.zb_model.specs.Data.{Bytes, Purpose, Sealing, Order}
+
+-- What a NWK frame shows before it is opened: whether it is a command, its short addresses, its auxiliary header where
+-- it is secured (frame counter, source EUI, key sequence), and its payload where it isn't.
+pub record NwkAuxiliary : Type 0 where
+  pub counter : ℕ
+  pub source : ℕ
+  pub sequence : ℕ
+
+pub record NwkSight : Type 0 where
+  pub is_command : Bool
+  pub destination : ℕ
+  pub source : ℕ
+  pub auxiliary : Option NwkAuxiliary
+  pub body : Bytes
+
+-- What an APS frame shows: whether it is a command (else data or an acknowledgement), its auxiliary header where it is
+-- secured (label, frame counter, source EUI if it stands there), and its payload where it isn't.
+pub record ApsAuxiliary : Type 0 where
+  pub label : Purpose
+  pub counter : ℕ
+  pub source : Option ℕ
+
+pub record ApsSight : Type 0 where
+  pub is_command : Bool
+  pub auxiliary : Option ApsAuxiliary
+  pub body : Bytes
+
+-- What bytes are as an APS command: one that is known; one whose identifier or key type isn't; or none.
+pub data OrderSight : Type 0 where
+  Known : (order : Order) → OrderSight
+  Unknown : OrderSight
+  Broken : OrderSight
+
+-- What bytes are as a NWK command: a Leave with its options; a command of another identifier; or none.
+pub data LeaveSight : Type 0 where
+  Leave : (options : ℕ) → LeaveSight
+  Other : LeaveSight
+  NoCommand : LeaveSight
+
+pub record Tools : Type 0 where
+  -- the frame of a sealed term
+  pub wire : Sealing → Bytes
+  -- the proof of a link key that Verify-Key shows
+  pub verify_hash : Bytes → Bytes
+  -- a NWK frame, and what it opens to under a base key
+  pub read_nwk : Bytes → Option NwkSight
+  pub open_nwk : Bytes → Bytes → Option Sealing
+  -- an APS frame, and what it opens to under a base key, with the source that it may leave out
+  pub read_aps : Bytes → Option ApsSight
+  pub open_aps : Bytes → Bytes → ℕ → Option Sealing
+  pub read_order : Bytes → OrderSight
+  pub spelled : Order → Bytes
+  pub read_leave : Bytes → LeaveSight
