@@ -3,3 +3,4 @@ pub mod Digits
 pub mod LineCuts
 pub mod NameLemmas
 pub mod NumberLemmas
+pub mod ReadAgain

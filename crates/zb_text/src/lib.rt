@@ -7,6 +7,7 @@
 
 pub mod fields;
 pub mod hexadecimal;
+pub mod laws;
 pub mod lines;
 pub mod numbers;
 pub mod page;

@@ -1,7 +1,9 @@
 //! A page of text that is being printed: its first word, words behind a space each, the ends of lines, and the way
 //! out into a sink. A page grows as its vector does, so no word costs an allocation of its own.
 
-ghost use Rattle.std.specs.Prelude.{◌≡◌, ◌∷◌, ◌++◌, [], decimal, OnOk};
+ghost use Rattle.std.specs.Prelude.{◌≡◌, ◌∷◌, ◌++◌, [], decimal, OnOk, OnErr};
+ghost use Rattle.std.specs.Io.KnownBytes.{Appends};
+ghost use Rattle.zb_base.specs.Outside.{AppendsFront, HasCause};
 ghost use Rattle.hex.specs.Hex.{encode_upper};
 ghost use Rattle.zb_text.specs.Fields.{eui_text, short_text};
 ghost use Rattle.zb_text.specs.Hexadecimal.{bytes_text};
@@ -11,7 +13,7 @@ use crate::fields::{put_eui, put_key, put_short};
 use crate::hexadecimal::{put_bytes, put_digits};
 use crate::numbers::put_number;
 use std::alloc::AllocError;
-use zb_base::{Eui, Key, Short};
+use zb_base::{Eui, Failed, Key, Short, Sink};
 
 /// Prints a piece of text as it is.
 pub fn put(out: &mut Vec<u8>, piece: &[u8]) -> Result<(), AllocError>
@@ -87,5 +89,16 @@ pub fn add_bytes(out: &mut Vec<u8>, bytes: &[u8]) -> Result<(), AllocError>
 {
     put_space(out)?;
     put_bytes(out, bytes)?;
+    Ok(())
+}
+
+/// Hands a page out into a sink, and empties it. After `Failed` the page is as it was.
+pub fn hand_out<W: Sink>(page: &mut Vec<u8>, out: &mut W) -> Result<(), Failed>
+    ensures whole { OnOk result (Appends (W.taken out.old) (W.taken out.new) page.old.items × (page.new.items ≡ [])) }
+    ensures front { OnErr result (AppendsFront (W.taken out.old) (W.taken out.new) page.old.items × (page.new.items ≡ page.old.items)) }
+    ensures cause { HasCause (W.faults out.old) (W.faults out.new) result }
+{
+    out.write(page.as_slice())?;
+    page.clear();
     Ok(())
 }

@@ -1,0 +1,69 @@
+//! What is printed reads as itself: laws of the definitions, each on a function that does nothing.
+
+ghost use Rattle.std.specs.Prelude.{◌≡◌, ◌^◌, ◌<◌, ◌≤◌, ℕ, List, ◌∷◌, length, decimal, Some, true};
+ghost use Rattle.std.specs.List.{AllByRecursion};
+ghost use Rattle.std.specs.Str.Lines.{lines};
+ghost use Rattle.hex.specs.Hex.{encode_upper, IsBytes};
+ghost use Rattle.zb_text.specs.Fields.{is_name, name_of, eui_of, eui_text, short_of, short_text};
+ghost use Rattle.zb_text.specs.Hexadecimal.{fixed_of, bytes_of, bytes_text};
+ghost use Rattle.zb_text.specs.Numbers.{number_of};
+ghost use Rattle.zb_text.specs.Pages.{IsWord, IsLine, line_of_words, page};
+ghost use Rattle.zb_text.specs.Words.{words};
+
+/// The lines of a page of lines are those lines.
+#[tactic(auto, using(crate::proofs::ReadAgain::lines_again))]
+pub fn printed_lines_read()
+    ensures { (texts : List (List ℕ)) → AllByRecursion IsLine texts → lines (page texts) ≡ texts }
+{}
+
+/// The words of a line of words are those words, and words make a line.
+#[tactic(auto, using(crate::proofs::ReadAgain::words_again, crate::proofs::ReadAgain::lines_of_words))]
+pub fn printed_words_read()
+    ensures reads { (word : List ℕ) (more : List (List ℕ)) → IsWord word → AllByRecursion IsWord more
+        → words (Some (line_of_words (word ∷ more))) ≡ word ∷ more }
+    ensures line { (texts : List (List ℕ)) → AllByRecursion IsWord texts → IsLine (line_of_words texts) }
+{}
+
+/// A number reads as itself, and is a word.
+#[tactic(auto, using(crate::proofs::ReadAgain::number_again, crate::proofs::ReadAgain::decimal_words))]
+pub fn printed_number_reads()
+    ensures reads { (limit number : ℕ) → number ≤ limit → number < 2 ^ 64 → number_of limit (decimal number) ≡ Some number }
+    ensures word { (number : ℕ) → number < 2 ^ 64 → IsWord (decimal number) }
+{}
+
+/// A name reads as itself, and is a word.
+#[tactic(auto, using(crate::proofs::ReadAgain::name_again, crate::proofs::ReadAgain::name_words))]
+pub fn printed_name_reads()
+    ensures reads { (name : List ℕ) → is_name name ≡ true → name_of name ≡ Some name }
+    ensures word { (name : List ℕ) → is_name name ≡ true → IsWord name }
+{}
+
+/// An IEEE address reads as itself, and is a word.
+#[tactic(auto, using(crate::proofs::ReadAgain::eui_again, crate::proofs::ReadAgain::eui_words))]
+pub fn printed_eui_reads()
+    ensures reads { (eui : ℕ) → eui < 2 ^ 64 → eui_of (eui_text eui) ≡ Some eui }
+    ensures word { (eui : ℕ) → IsWord (eui_text eui) }
+{}
+
+/// A network address reads as itself, and is a word.
+#[tactic(auto, using(crate::proofs::ReadAgain::short_again, crate::proofs::ReadAgain::short_words))]
+pub fn printed_short_reads()
+    ensures reads { (short : ℕ) → short < 2 ^ 16 → short_of (short_text short) ≡ Some short }
+    ensures word { (short : ℕ) → IsWord (short_text short) }
+{}
+
+/// As many bytes as the word has room for, as those of a key, read as themselves, and are a word.
+#[tactic(auto, using(crate::proofs::ReadAgain::fixed_again, crate::proofs::ReadAgain::digit_words))]
+pub fn printed_digits_read()
+    ensures reads { (bytes : List ℕ) (count : ℕ) → length bytes ≡ count → IsBytes bytes
+        → fixed_of count (encode_upper bytes) ≡ Some bytes }
+    ensures word { (bytes : List ℕ) → IsBytes bytes → IsWord (encode_upper bytes) }
+{}
+
+/// Any bytes, none included, read as themselves, and are a word.
+#[tactic(auto, using(crate::proofs::ReadAgain::bytes_again, crate::proofs::ReadAgain::byte_words))]
+pub fn printed_bytes_read()
+    ensures reads { (limit : ℕ) (bytes : List ℕ) → length bytes ≤ limit → IsBytes bytes
+        → bytes_of limit (bytes_text bytes) ≡ Some bytes }
+    ensures word { (bytes : List ℕ) → IsBytes bytes → IsWord (bytes_text bytes) }
+{}
