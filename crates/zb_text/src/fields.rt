@@ -1,8 +1,8 @@
 //! The words for what a network is made of: names, addresses and keys.
 
-ghost use Rattle.std.specs.Prelude.{◌≡◌, ◌++◌, OnOk};
+ghost use Rattle.std.specs.Prelude.{◌≡◌, ◌<◌, ◌^◌, ◌++◌, length, OnOk, IfSome, IsTrue};
 ghost use Rattle.std.specs.List.{list_all};
-ghost use Rattle.hex.specs.Hex.{encode_upper};
+ghost use Rattle.hex.specs.Hex.{encode_upper, IsBytes};
 ghost use Rattle.zb_text.specs.Fields.{is_name_byte, is_name, name_of, eui_of, eui_text, short_of, short_text, key_of};
 ghost use Rattle.zb_text.specs.Words.{Shows};
 
@@ -13,7 +13,8 @@ use zb_base::{Eui, Key, Name, Short};
 /// The name that a word is: 1 to 16 characters of a to z and 0 to 9.
 #[tactic(auto, using(crate::proofs::NameLemmas::name_is_text))]
 pub fn name(word: &[u8]) -> Option<Name>
-    ensures { Shows (λ name. name.bytes) result (name_of word.now) }
+    ensures value { Shows (λ name. name.bytes) result (name_of word.now) }
+    ensures fits { IfSome result (λ name. IsTrue (is_name name.bytes)) }
 {
     if !may_be_name(word) {
         return None;
@@ -38,7 +39,8 @@ fn has_name_bytes(word: &[u8]) -> bool
 
 /// The IEEE address that a word of 16 hexadecimal digits spells.
 pub fn eui(word: &[u8]) -> Option<Eui>
-    ensures { Shows (λ eui. eui.0) result (eui_of word.now) }
+    ensures value { Shows (λ eui. eui.0) result (eui_of word.now) }
+    ensures fits { IfSome result (λ eui. eui.0 < 2 ^ 64) }
 {
     let bytes = fixed::<8>(word)?;
     Some(Eui(u64::from_be_bytes(bytes)))
@@ -46,7 +48,8 @@ pub fn eui(word: &[u8]) -> Option<Eui>
 
 /// The network address that a word of 4 hexadecimal digits spells.
 pub fn short(word: &[u8]) -> Option<Short>
-    ensures { Shows (λ short. short.0) result (short_of word.now) }
+    ensures value { Shows (λ short. short.0) result (short_of word.now) }
+    ensures fits { IfSome result (λ short. short.0 < 2 ^ 16) }
 {
     let bytes = fixed::<2>(word)?;
     Some(Short(u16::from_be_bytes(bytes)))
@@ -54,7 +57,8 @@ pub fn short(word: &[u8]) -> Option<Short>
 
 /// The key that a word of 32 hexadecimal digits spells.
 pub fn key(word: &[u8]) -> Option<Key>
-    ensures { Shows (λ key. key.0) result (key_of word.now) }
+    ensures value { Shows (λ key. key.0) result (key_of word.now) }
+    ensures fits { IfSome result (λ key. (length key.0 ≡ 16) × IsBytes key.0) }
 {
     let bytes = fixed::<16>(word)?;
     Some(Key(bytes))

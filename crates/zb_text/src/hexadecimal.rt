@@ -1,8 +1,8 @@
 //! Strings of bytes in hexadecimal digits, read in either case and written in upper case.
 
-ghost use Rattle.std.specs.Prelude.{◌≡◌, [], ◌∷◌, ◌++◌, OnOk};
+ghost use Rattle.std.specs.Prelude.{◌≡◌, ◌≤◌, [], ◌∷◌, ◌++◌, length, OnOk, IfSome};
 ghost use Rattle.std.specs.Option.{option_map};
-ghost use Rattle.hex.specs.Hex.{encode_upper};
+ghost use Rattle.hex.specs.Hex.{encode_upper, IsBytes};
 ghost use Rattle.zb_text.specs.Hexadecimal.{fixed_of, bytes_of, bytes_text};
 
 use arrayvec::ArrayVec;
@@ -10,16 +10,24 @@ use std::alloc::AllocError;
 
 /// The bytes that a word of exactly two digits for each of them spells.
 pub fn fixed<const N: usize>(word: &[u8]) -> Option<[u8; N]>
-    ensures { result ≡ fixed_of N word.now }
+    ensures value { result ≡ fixed_of N word.now }
+    ensures fits { IfSome result (λ bytes. (length bytes ≡ N) × IsBytes bytes) }
 {
     let mut bytes = [0; N];
     hex::decode_to_slice(word, &mut bytes).ok()?;
+    known_bytes(&bytes);
     Some(bytes)
 }
 
+// Says of bytes what their type does: they are below 256.
+fn known_bytes(bytes: &[u8])
+    ensures { IsBytes bytes.now }
+{}
+
 /// The bytes that a word spells, where they are at most `N`: `-` is no bytes, others have two digits each.
 pub fn bytes<const N: usize>(word: &[u8]) -> Option<ArrayVec<u8, N>>
-    ensures { option_map (λ found. found.items) result ≡ bytes_of N word.now }
+    ensures value { option_map (λ found. found.items) result ≡ bytes_of N word.now }
+    ensures fits { IfSome result (λ found. (length found.items ≤ N) × IsBytes found.items) }
 {
     if word == b"-".as_slice() {
         return Some(ArrayVec::new());
@@ -30,7 +38,9 @@ pub fn bytes<const N: usize>(word: &[u8]) -> Option<ArrayVec<u8, N>>
     }
     let mut bytes = [0; N];
     hex::decode_to_slice(word, &mut bytes[..count]).ok()?;
-    ArrayVec::try_from(&bytes[..count]).ok()
+    let found = ArrayVec::try_from(&bytes[..count]).ok()?;
+    known_bytes(found.as_slice());
+    Some(found)
 }
 
 /// Prints bytes in two digits each.

@@ -1,6 +1,6 @@
 //! Decimal numbers: words without leading zeros.
 
-ghost use Rattle.std.specs.Prelude.{◌≡◌, ◌++◌, ◌^◌, ◌<◌, decimal, OnOk};
+ghost use Rattle.std.specs.Prelude.{◌≡◌, ◌++◌, ◌^◌, ◌≤◌, decimal, OnOk, IfSome};
 ghost use Rattle.zb_text.specs.Numbers.{digits_after, is_ill_begun, number_of, up_to};
 
 use itoa::Buffer;
@@ -9,7 +9,8 @@ use std::alloc::AllocError;
 /// The number that a word spells in decimal digits without leading zeros, where that is at most `limit`.
 #[tactic(auto, using(crate::proofs::NumberLemmas::digit_read, crate::proofs::NumberLemmas::digit_none, crate::proofs::NumberLemmas::digit_over))]
 pub fn number(limit: u32, word: &[u8]) -> Option<u32>
-    ensures { result ≡ number_of limit word.now }
+    ensures value { result ≡ number_of limit word.now }
+    ensures fits { IfSome result (λ number. number ≤ limit) }
 {
     if is_badly_begun(word) {
         return None;

@@ -15,8 +15,9 @@ pub struct Words<'a> {
 }
 
 impl<'a> Words<'a> {
-    ghost use Rattle.std.specs.Prelude.{◌≡◌, Some};
-    ghost use Rattle.zb_text.specs.Fields.{name_of, eui_of, short_of, key_of};
+    ghost use Rattle.std.specs.Prelude.{◌≡◌, ◌<◌, ◌≤◌, ◌^◌, length, Some, IfSome, IsTrue};
+    ghost use Rattle.hex.specs.Hex.{IsBytes};
+    ghost use Rattle.zb_text.specs.Fields.{is_name, name_of, eui_of, short_of, key_of};
     ghost use Rattle.zb_text.specs.Hexadecimal.{bytes_of};
     ghost use Rattle.zb_text.specs.Numbers.{number_of};
     ghost use Rattle.zb_text.specs.Words.{words, left, first_of, field, nothing, Takes};
@@ -47,7 +48,8 @@ impl<'a> Words<'a> {
 
     /// Takes a name of 1 to 16 characters of a to z and 0 to 9.
     pub fn name(&mut self) -> Option<Name>
-        ensures { Takes (λ name. name.bytes) result (left self.new) (field name_of (left self.old)) }
+        ensures value { Takes (λ name. name.bytes) result (left self.new) (field name_of (left self.old)) }
+        ensures fits { IfSome result (λ name. IsTrue (is_name name.bytes)) }
     {
         let word = self.word()?;
         let name = fields::name(word)?;
@@ -56,7 +58,8 @@ impl<'a> Words<'a> {
 
     /// Takes a decimal number of at most `limit`, without leading zeros.
     pub fn number(&mut self, limit: u32) -> Option<u32>
-        ensures { Takes (λ number. number) result (left self.new) (field (number_of limit) (left self.old)) }
+        ensures value { Takes (λ number. number) result (left self.new) (field (number_of limit) (left self.old)) }
+        ensures fits { IfSome result (λ number. number ≤ limit) }
     {
         let word = self.word()?;
         let number = numbers::number(limit, word)?;
@@ -65,7 +68,8 @@ impl<'a> Words<'a> {
 
     /// Takes an IEEE address of 16 hexadecimal digits.
     pub fn eui(&mut self) -> Option<Eui>
-        ensures { Takes (λ eui. eui.0) result (left self.new) (field eui_of (left self.old)) }
+        ensures value { Takes (λ eui. eui.0) result (left self.new) (field eui_of (left self.old)) }
+        ensures fits { IfSome result (λ eui. eui.0 < 2 ^ 64) }
     {
         let word = self.word()?;
         let eui = fields::eui(word)?;
@@ -74,7 +78,8 @@ impl<'a> Words<'a> {
 
     /// Takes a network address of 4 hexadecimal digits.
     pub fn short(&mut self) -> Option<Short>
-        ensures { Takes (λ short. short.0) result (left self.new) (field short_of (left self.old)) }
+        ensures value { Takes (λ short. short.0) result (left self.new) (field short_of (left self.old)) }
+        ensures fits { IfSome result (λ short. short.0 < 2 ^ 16) }
     {
         let word = self.word()?;
         let short = fields::short(word)?;
@@ -83,7 +88,8 @@ impl<'a> Words<'a> {
 
     /// Takes a key of 32 hexadecimal digits.
     pub fn key(&mut self) -> Option<Key>
-        ensures { Takes (λ key. key.0) result (left self.new) (field key_of (left self.old)) }
+        ensures value { Takes (λ key. key.0) result (left self.new) (field key_of (left self.old)) }
+        ensures fits { IfSome result (λ key. (length key.0 ≡ 16) × IsBytes key.0) }
     {
         let word = self.word()?;
         let key = fields::key(word)?;
@@ -92,7 +98,8 @@ impl<'a> Words<'a> {
 
     /// Takes at most `N` bytes: `-` for none, or two hexadecimal digits each.
     pub fn bytes<const N: usize>(&mut self) -> Option<ArrayVec<u8, N>>
-        ensures { Takes (λ bytes. bytes.items) result (left self.new) (field (bytes_of N) (left self.old)) }
+        ensures value { Takes (λ bytes. bytes.items) result (left self.new) (field (bytes_of N) (left self.old)) }
+        ensures fits { IfSome result (λ bytes. (length bytes.items ≤ N) × IsBytes bytes.items) }
     {
         let word = self.word()?;
         let bytes = hexadecimal::bytes::<N>(word)?;
