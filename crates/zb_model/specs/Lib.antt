@@ -12,3 +12,4 @@ pub mod Commands
 pub mod Answer
 pub mod Readings
 pub mod Play
+pub mod FirstPath
