@@ -1,5 +1,5 @@
 -- The transcript of the first path is lawful, counts each counter once, and is fresh, for every schedule.
-use Rattle.std.proofs.Common.{◌≡◌, ℕ, ◌+◌, ◌<◌, ◌≤◌, ◌^◌, List, [], ◌∷◌, ◌++◌, length, map, take, drop, Option, None, Some, refl, sym, ap, ◌∙◌, subst, append_assoc, append-nil, nat_eq, Bool, true, false, if◌then◌else◌, arith, ◌⊎◌, inl, inr}
+use Rattle.std.proofs.Common.{◌≡◌, ℕ, ◌+◌, ◌<◌, ◌≤◌, ◌^◌, List, [], ◌∷◌, ◌++◌, length, map, take, drop, Option, None, Some, refl, sym, ap, ◌∙◌, subst, append_assoc, append-nil, nat_eq, Bool, if◌then◌else◌, arith, inl, inr}
 use Rattle.std.specs.Prelude.{fold, find}
 use Rattle.std.specs.List.{flat_map, AllByRecursion}
 use Rattle.std.specs.Int.{w32, w64, to_le_bytes, from_le_bytes}
@@ -8,7 +8,7 @@ use Rattle.std.proofs.lemmas.Nat.{from_le_bytes-to_le_bytes_4, from_le_bytes-to_
 use Rattle.std.proofs.lemmas.Bool.Decides.{eqb_tells}
 use Rattle.std.proofs.lemmas.Bool.{cases_Bool}
 use Rattle.zb_model.specs.Data.{Bytes, Sealing}
-use Rattle.zb_model.specs.Lines.{LogLine, Declared, Seal, Send}
+use Rattle.zb_model.specs.Lines.{LogLine, Declared}
 use Rattle.zb_model.specs.FirstPath.{HeldKey, Holder, Saying, Plan, Stamp, Lawful, Fresh, Counted, CountedAfter, Distinct, HaveAddresses, AnswersOf, AnswersBy, AnswersEach, network_control, next, next_after, stamps, stamps_in, stamp_of, nonce_of, given, start, sealed_and_sent, said, holder_named, reply_of, reply_by, reply, replies, before_end, transcript, end_of, tally}
 
 -- Lawful
@@ -26,16 +26,20 @@ answers-by wire h number saying (Some holder) = answers-of wire h number saying 
 answers-each : (wire : Sealing → Bytes) (holders : List Holder) (h : List LogLine) (number : ℕ) (sayings : List Saying)
     → AnswersEach wire holders h number sayings (replies wire holders h number sayings)
 answers-each wire holders h number [] = refl
-answers-each wire holders h number (saying ∷ more) =
-    (reply wire holders h number saying, replies wire holders (h ++ reply wire holders h number saying) (number + 1) more, refl,
-    answers-by wire h number saying (holder_named saying.name holders),
-    answers-each wire holders (h ++ reply wire holders h number saying) (number + 1) more)
+answers-each wire holders h number (saying ∷ more) = (
+  reply wire holders h number saying,
+  replies wire holders (h ++ reply wire holders h number saying) (number + 1) more,
+  refl,
+  answers-by wire h number saying (holder_named saying.name holders),
+  answers-each wire holders (h ++ reply wire holders h number saying) (number + 1) more,
+)
 
 pub lawful : (wire : Sealing → Bytes) (plan : Plan) → Lawful wire plan (transcript wire plan)
 lawful wire plan = record {
-    groups = replies wire plan.holders (start plan.holders) 1 plan.sayings;
-    answers = answers-each wire plan.holders (start plan.holders) 1 plan.sayings;
-    whole = refl }
+  groups = replies wire plan.holders (start plan.holders) 1 plan.sayings;
+  answers = answers-each wire plan.holders (start plan.holders) 1 plan.sayings;
+  whole = refl;
+}
 
 -- Counted
 
@@ -56,12 +60,12 @@ counted-given : (h : List LogLine) (holders : List Holder) → CountedAfter h (f
 counted-given h [] = tt
 counted-given h (holder ∷ more) =
     counted-append h (given holder holder.net) (flat_map (λ (holder : Holder). given holder holder.net) more)
-        (counted-one_given h holder holder.net) (counted-given (h ++ given holder holder.net) more)
+    (counted-one_given h holder holder.net) (counted-given (h ++ given holder holder.net) more)
 
 counted-start : (holders : List Holder) → CountedAfter [] (start holders)
 counted-start holders =
     counted-append [] (map (λ (holder : Holder). Declared holder.station) holders) (flat_map (λ (holder : Holder). given holder holder.net) holders)
-        (counted-declared [] holders) (counted-given (map (λ (holder : Holder). Declared holder.station) holders) holders)
+    (counted-declared [] holders) (counted-given (map (λ (holder : Holder). Declared holder.station) holders) holders)
 
 counted-reply_of : (wire : Sealing → Bytes) (h : List LogLine) (number : ℕ) (saying : Saying) (holder : Holder) (net : Option HeldKey)
     → CountedAfter h (reply_of wire h number saying holder net)
@@ -78,15 +82,15 @@ counted-replies : (wire : Sealing → Bytes) (holders : List Holder) (h : List L
 counted-replies wire holders h number [] = tt
 counted-replies wire holders h number (saying ∷ more) =
     counted-append h (reply wire holders h number saying) (replies wire holders (h ++ reply wire holders h number saying) (number + 1) more)
-        (counted-reply_by wire h number saying (holder_named saying.name holders))
-        (counted-replies wire holders (h ++ reply wire holders h number saying) (number + 1) more)
+    (counted-reply_by wire h number saying (holder_named saying.name holders))
+    (counted-replies wire holders (h ++ reply wire holders h number saying) (number + 1) more)
 
 pub counted : (wire : Sealing → Bytes) (plan : Plan) → Counted (transcript wire plan)
 counted wire plan =
     counted-append [] (before_end wire plan) (end_of (length plan.sayings) (tally (before_end wire plan)) ∷ [])
-        (counted-append [] (start plan.holders) (replies wire plan.holders (start plan.holders) 1 plan.sayings)
-            (counted-start plan.holders) (counted-replies wire plan.holders (start plan.holders) 1 plan.sayings))
-        (tt, tt)
+    (counted-append [] (start plan.holders) (replies wire plan.holders (start plan.holders) 1 plan.sayings)
+    (counted-start plan.holders) (counted-replies wire plan.holders (start plan.holders) 1 plan.sayings))
+    (tt, tt)
 
 -- Fresh
 
@@ -152,9 +156,10 @@ inv-plain h g number none same inv =
     let all : stamps (h ++ g) ≡ stamps h = flat_map-append stamps_in h g ∙ ap (λ l. stamps h ++ l) none ∙ append-nil (stamps h) in
     let grows : (eui : ℕ) → next h eui ≤ next (h ++ g) eui = λ eui. let e : next (h ++ g) eui ≡ next h eui = same eui in omega arith in
     record {
-        distinct = subst Distinct (sym all) inv.distinct;
-        below = subst (AllByRecursion (Below (h ++ g))) (sym all) (all-map (Below h) (Below (h ++ g)) (below-later h g grows) (stamps h) inv.below);
-        small = λ eui. let e : next (h ++ g) eui ≡ next h eui = same eui in let s : next h eui < number = inv.small eui in omega arith }
+      distinct = subst Distinct (sym all) inv.distinct;
+      below = subst (AllByRecursion (Below (h ++ g))) (sym all) (all-map (Below h) (Below (h ++ g)) (below-later h g grows) (stamps h) inv.below);
+      small = λ eui. let e : next (h ++ g) eui ≡ next h eui = same eui in let s : next h eui < number = inv.small eui in omega arith;
+    }
 
 -- what a seal makes of the next counters
 next-sealed : (wire : Sealing → Bytes) (h : List LogLine) (number node eui : ℕ) (sealing : Sealing)
@@ -163,26 +168,28 @@ next-sealed wire h number node eui sealing = next-append h (sealed_and_sent wire
 
 next-sealed_grows : (wire : Sealing → Bytes) (h : List LogLine) (number node : ℕ) (sealing : Sealing) → sealing.counter ≡ next h node
     → (eui : ℕ) → (next h eui ≤ next (h ++ sealed_and_sent wire h number node sealing) eui)
-        × (next (h ++ sealed_and_sent wire h number node sealing) eui ≤ next h eui + 1)
+    × (next (h ++ sealed_and_sent wire h number node sealing) eui ≤ next h eui + 1)
 next-sealed_grows wire h number node sealing counter eui =
     let e = next-sealed wire h number node eui sealing in
     elim (eqb_tells node eui) [
-      inl same ↦
-        let now : next (h ++ sealed_and_sent wire h number node sealing) eui ≡ sealing.counter + 1 =
-            e ∙ ap (λ b. if b then sealing.counter + 1 else next h eui) same.0 in
-        let there : next h node ≡ next h eui = ap (next h) same.1 in
-        (omega arith, omega arith)
-    | inr other ↦
-        let now : next (h ++ sealed_and_sent wire h number node sealing) eui ≡ next h eui =
-            e ∙ ap (λ b. if b then sealing.counter + 1 else next h eui) other.0 in
-        (omega arith, omega arith) ]
+      | inl same ↦
+          let now : next (h ++ sealed_and_sent wire h number node sealing) eui ≡ sealing.counter + 1 =
+          e ∙ ap (λ b. if b then sealing.counter + 1 else next h eui) same.0 in
+          let there : next h node ≡ next h eui = ap (next h) same.1 in
+          (omega arith, omega arith)
+      | inr other ↦
+          let now : next (h ++ sealed_and_sent wire h number node sealing) eui ≡ next h eui =
+          e ∙ ap (λ b. if b then sealing.counter + 1 else next h eui) other.0 in
+          (omega arith, omega arith)
+    ]
 
 next-sealed_own : (wire : Sealing → Bytes) (h : List LogLine) (number node : ℕ) (sealing : Sealing)
     → next (h ++ sealed_and_sent wire h number node sealing) node ≡ sealing.counter + 1
 next-sealed_own wire h number node sealing =
     elim (eqb_tells node node) [
-      inl same ↦ next-sealed wire h number node node sealing ∙ ap (λ b. if b then sealing.counter + 1 else next h node) same.0
-    | inr other ↦ absurd (other.1 refl) ]
+      | inl same ↦ next-sealed wire h number node node sealing ∙ ap (λ b. if b then sealing.counter + 1 else next h node) same.0
+      | inr other ↦ absurd (other.1 refl)
+    ]
 
 inv-sealed : (wire : Sealing → Bytes) (h : List LogLine) (number node : ℕ) (sealing : Sealing) → node < 2 ^ 64 → number ≤ 2 ^ 32
     → nonce_of sealing ≡ nonce_bytes node (next h node) → sealing.counter ≡ next h node
@@ -193,18 +200,19 @@ inv-sealed wire h number node sealing address few nonce counter inv =
     let grows : (eui : ℕ) → next h eui ≤ next (h ++ g) eui = λ eui. (next-sealed_grows wire h number node sealing counter eui).0 in
     let own : next (h ++ g) node ≡ sealing.counter + 1 = next-sealed_own wire h number node sealing in
     let new : AllByRecursion (λ stamp. stamp ≡ stamp_of sealing → ⊥) (stamps h) =
-        all-map (Below h) (λ stamp. stamp ≡ stamp_of sealing → ⊥)
-            (λ stamp b e. clash h number node stamp inv.small few address b (ap (λ (s : Stamp). s.nonce) e ∙ nonce)) (stamps h) inv.below in
+    all-map (Below h) (λ stamp. stamp ≡ stamp_of sealing → ⊥)
+    (λ stamp b e. clash h number node stamp inv.small few address b (ap (λ (s : Stamp). s.nonce) e ∙ nonce)) (stamps h) inv.below in
     let last : Below (h ++ g) (stamp_of sealing) =
-        record { eui = node; counter = next h node; nonce = nonce; address = address; used = omega arith } in
+    record { eui = node; counter = next h node; nonce = nonce; address = address; used = omega arith } in
     record {
-        distinct = subst Distinct (sym all) (distinct-more (stamps h) (stamp_of sealing) inv.distinct new);
-        below = subst (AllByRecursion (Below (h ++ g))) (sym all)
-            (all-more (Below (h ++ g)) (stamps h) (stamp_of sealing)
-                (all-map (Below h) (Below (h ++ g)) (below-later h g grows) (stamps h) inv.below) last);
-        small = λ eui.
-            let s : next h eui < number = inv.small eui in
-            let m : next (h ++ g) eui ≤ next h eui + 1 = (next-sealed_grows wire h number node sealing counter eui).1 in omega arith }
+      distinct = subst Distinct (sym all) (distinct-more (stamps h) (stamp_of sealing) inv.distinct new);
+      below = subst (AllByRecursion (Below (h ++ g))) (sym all)
+          (all-more (Below (h ++ g)) (stamps h) (stamp_of sealing)
+          (all-map (Below h) (Below (h ++ g)) (below-later h g grows) (stamps h) inv.below) last);
+      small = λ eui.
+          let s : next h eui < number = inv.small eui in
+          let m : next (h ++ g) eui ≤ next h eui + 1 = (next-sealed_grows wire h number node sealing counter eui).1 in omega arith;
+    }
 
 inv-reply_of : (wire : Sealing → Bytes) (h : List LogLine) (number : ℕ) (saying : Saying) (holder : Holder) (net : Option HeldKey)
     → holder.station.eui < 2 ^ 64 → number ≤ 2 ^ 32 → Inv h number → Inv (h ++ reply_of wire h number saying holder net) (number + 1)
@@ -227,8 +235,9 @@ found-all : {X : Type 0} (P : X → Type 0) (test : X → Bool) (xs : List X) �
 found-all P test [] all x e = absurd (cc)
 found-all P test (y ∷ ys) all x e =
     elim (cases_Bool (test y)) [
-      inl passes ↦ subst P (some_same y x (sym (ap (λ b. if b then Some y else find test ys) passes) ∙ e)) all.0
-    | inr fails ↦ found-all P test ys all.1 x (sym (ap (λ b. if b then Some y else find test ys) fails) ∙ e) ]
+      | inl passes ↦ subst P (some_same y x (sym (ap (λ b. if b then Some y else find test ys) passes) ∙ e)) all.0
+      | inr fails ↦ found-all P test ys all.1 x (sym (ap (λ b. if b then Some y else find test ys) fails) ∙ e)
+    ]
 
 inv-replies : (wire : Sealing → Bytes) (holders : List Holder) (h : List LogLine) (number : ℕ) (sayings : List Saying)
     → HaveAddresses holders → number + length sayings ≤ 2 ^ 32 → Inv h number
@@ -237,10 +246,10 @@ inv-replies wire holders h number [] addresses few inv = subst Distinct (ap stam
 inv-replies wire holders h number (saying ∷ more) addresses few inv =
     let g = reply wire holders h number saying in
     let kept : Inv (h ++ g) (number + 1) =
-        inv-reply_by wire h number saying (holder_named saying.name holders)
-            (λ found e. found-all (λ (holder : Holder). holder.station.eui < 2 ^ 64) _ holders addresses found e) (omega arith) inv in
+    inv-reply_by wire h number saying (holder_named saying.name holders)
+    (λ found e. found-all (λ (holder : Holder). holder.station.eui < 2 ^ 64) _ holders addresses found e) (omega arith) inv in
     subst Distinct (ap stamps (append_assoc h g (replies wire holders (h ++ g) (number + 1) more)))
-        (inv-replies wire holders (h ++ g) (number + 1) more addresses (omega arith) kept)
+    (inv-replies wire holders (h ++ g) (number + 1) more addresses (omega arith) kept)
 
 stamps-declared : (holders : List Holder) → stamps (map (λ (holder : Holder). Declared holder.station) holders) ≡ []
 stamps-declared [] = refl
@@ -286,14 +295,15 @@ next-start holders eui =
 
 inv-start : (holders : List Holder) → Inv (start holders) 1
 inv-start holders = record {
-    distinct = subst Distinct (sym (stamps-start holders)) tt;
-    below = subst (AllByRecursion (Below (start holders))) (sym (stamps-start holders)) tt;
-    small = λ eui. let e : next (start holders) eui ≡ 0 = next-start holders eui in omega arith }
+  distinct = subst Distinct (sym (stamps-start holders)) tt;
+  below = subst (AllByRecursion (Below (start holders))) (sym (stamps-start holders)) tt;
+  small = λ eui. let e : next (start holders) eui ≡ 0 = next-start holders eui in omega arith;
+}
 
 pub fresh : (wire : Sealing → Bytes) (plan : Plan) → HaveAddresses plan.holders → length plan.sayings < 2 ^ 32 → Fresh (transcript wire plan)
 fresh wire plan addresses few =
     let last = end_of (length plan.sayings) (tally (before_end wire plan)) ∷ [] in
     let all : stamps (transcript wire plan) ≡ stamps (before_end wire plan) =
-        flat_map-append stamps_in (before_end wire plan) last ∙ append-nil (stamps (before_end wire plan)) in
+    flat_map-append stamps_in (before_end wire plan) last ∙ append-nil (stamps (before_end wire plan)) in
     subst Distinct (sym all)
-        (inv-replies wire plan.holders (start plan.holders) 1 plan.sayings addresses (omega arith) (inv-start plan.holders))
+    (inv-replies wire plan.holders (start plan.holders) 1 plan.sayings addresses (omega arith) (inv-start plan.holders))

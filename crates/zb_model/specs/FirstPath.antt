@@ -1,7 +1,7 @@
 -- The transcript of a schedule that declares nodes and network keys and lets nodes send bytes, with outgoing counters
 -- in memory: no store, no delivery. Every line follows from the schedule alone, given `wire`, which tells the bytes of
 -- a sealed frame on the air.
-use Rattle.std.specs.Prelude.{◌≡◌, ℕ, ◌+◌, ◌%◌, ◌^◌, ◌<◌, nat_eq, nat_lt, if◌then◌else◌, Bool, true, ⊤, List, [], ◌∷◌, ◌++◌, length, map, fold, find, Option, Some, None, bytes_eq}
+use Rattle.std.specs.Prelude.{◌≡◌, ℕ, ◌+◌, ◌%◌, ◌^◌, ◌<◌, nat_eq, nat_lt, if◌then◌else◌, true, ⊤, List, [], ◌∷◌, ◌++◌, length, map, fold, find, Option, Some, None, bytes_eq}
 use Rattle.std.specs.List.{flat_map, AllByRecursion}
 use Rattle.std.specs.Int.{w16, w32, w64, to_le_bytes}
 use Rattle.zb_model.specs.Data.{Bytes, Nwk, ForNetwork, Station, Sealing, AtEvent, NoKey}
@@ -79,9 +79,15 @@ network_control = 0x2d
 
 abbrev pub said : Holder → HeldKey → ℕ → Saying → Sealing
 said holder held counter saying = record {
-    layer = Nwk; base = held.key; label = ForNetwork; source = holder.station.eui; counter = counter; control = network_control;
-    header = network_header saying.to holder.station.short (counter % 256) network_control counter holder.station.eui held.sequence;
-    content = data_frame saying.to (counter % 256) saying.payload }
+  layer = Nwk;
+  base = held.key;
+  label = ForNetwork;
+  source = holder.station.eui;
+  counter = counter;
+  control = network_control;
+  header = network_header saying.to holder.station.short (counter % 256) network_control counter holder.station.eui held.sequence;
+  content = data_frame saying.to (counter % 256) saying.payload;
+}
 
 -- The lines of a schedule, for some bytes on the air
 
