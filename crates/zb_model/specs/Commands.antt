@@ -3,7 +3,7 @@
 use Rattle.std.specs.Prelude.{ℕ, ◌+◌, ◌%◌, ◌/◌, Bool, true, false, not, if◌then◌else◌, ◌&&◌, ◌||◌, List, [], ◌∷◌, ◌++◌, find, Option, Some, None, nat_eq, nat_lt, nat_le, is_some, is_none}
 use Rattle.zb_model.specs.Data.{Bytes, Nwk, Stage, Joined, Offered, Confirmed, Gone, Unverified, Verified, Purpose, ForData, ForNetwork, ForTransport, ForLoad, Sealing, Move, Draw, Install, Active, Row, Pair, Became, NoKey, NotMember, WrongState, KeyOld, KeysFull, RowsFull, KeyInUse, NoDraw, CounterSpent, WrongHash, Policy, Order, TransportNet, TransportApp, TransportLink, UpdateDevice, RemoveDevice, RequestApp, RequestLink, SwitchKey, Tunnel, VerifyKey, ConfirmKey}
 use Rattle.zb_model.specs.State.{NetKey, LinkKey, PairKey, NodeState, same_key, is_centre, is_verified, is_live_of, has_net, has_link, active_row, live_of, current, offered, is_live, other_user, pair_of}
-use Rattle.zb_model.specs.Tools.{Tools}
+use Rattle.zb_model.specs.Tools.{Tools, verify_hash}
 use Rattle.zb_model.specs.Rules.{Secret, Tunnelled, Leaving, Relayed, Outcome, Stop, Does, Setting, unless, given, choose, sends, centre_of, short_of, is_declared, acts_as_router, from_centre, is_router, spent, both_spent, in_rejoining, waits_for_key, nets_full, links_full, pairs_full, unless_held, drop_row, drop_partner, drop_old}
 
 -- A command as it came. `sender` is the source of the sealed layer: that of the APS term where the command was sealed,
@@ -239,7 +239,7 @@ send_confirm c device key moves =
 
 abbrev pub proves : Tools → Bytes → Option LinkKey → Bool
 proves tools hash None = false
-proves tools hash (Some r) = same_key (tools.verify_hash r.key) hash
+proves tools hash (Some r) = same_key (verify_hash tools r.key) hash
 
 abbrev pub verified_current : NodeState → ℕ → Option LinkKey
 verified_current s device = only (current s device)

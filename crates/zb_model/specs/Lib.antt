@@ -13,3 +13,5 @@ pub mod Answer
 pub mod Readings
 pub mod Play
 pub mod FirstPath
+pub mod Secrets
+pub mod Transcript

@@ -3,7 +3,7 @@
 use Rattle.std.specs.Prelude.{ℕ, ◌+◌, ◌%◌, min, Bool, true, false, not, if◌then◌else◌, ◌&&◌, ◌||◌, List, [], ◌∷◌, ◌++◌, filter, Option, Some, None, nat_eq, is_some, find, fold}
 use Rattle.zb_model.specs.Data.{Bytes, Nwk, Aps, Stage, Knocked, Joined, Offered, Rejoining, Provisional, ForData, ForTransport, ForLoad, Move, Draw, Install, Active, Row, Became, Live, Removed, Roll, Told, Untold, NoKey, NotMember, WrongState, KeysFull, RowsFull, KeyInUse, NoDraw, CounterSpent, Policy, TransportNet, TransportApp, UpdateDevice, RemoveDevice, RequestApp, RequestLink, SwitchKey, VerifyKey, Task, SayTo, TellTo, DoKnock, DoRejoin, DoTimer, AskFor, HasChild, DoProvision, DoRemove, DoRoll, DoSwitch, DoAgain, DoShare}
 use Rattle.zb_model.specs.State.{NetKey, LinkKey, NodeState, is_centre, is_live_of, has_link, active_row, usable_active, newest, current, offered, is_live, is_told, code_row, other_user, pair_of}
-use Rattle.zb_model.specs.Tools.{Tools}
+use Rattle.zb_model.specs.Tools.{Tools, verify_hash}
 use Rattle.zb_model.specs.Frames.{clear_command, clear_broadcast, to_all}
 use Rattle.zb_model.specs.Rules.{Saying, Clear, Secret, Telling, Leaving, Sending, Outcome, Stop, Does, Setting, unless, given, choose, sends, centre_of, short_of, spent, both_spent, in_rejoining, in_confirmed, has_joined, nets_full, links_full, unless_held, drop_partner, drop_others, drop_old}
 
@@ -43,7 +43,7 @@ unfoldable pub verify_key : Tools → Setting → NodeState → Outcome
 verify_key tools c s =
     given (offered s (centre_of c.stations)) NoKey (λ row.
     unless (spent Nwk s) CounterSpent (
-    Does [] (sends 0 true (Clear clear_command (VerifyKey 4 c.me.eui (tools.verify_hash row.key))))))
+    Does [] (sends 0 true (Clear clear_command (VerifyKey 4 c.me.eui (verify_hash tools row.key))))))
 
 abbrev pub timer_in : Stage → Tools → Setting → NodeState → Outcome
 timer_in Joined tools c s = request_key c s

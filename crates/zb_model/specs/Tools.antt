@@ -1,7 +1,7 @@
 -- What the policy takes from below, as one record: sealing and opening, hashing, and how frames and commands are read and
 -- spelled. The rules use these as they are; no law looks inside.
 use Rattle.std.specs.Prelude.{ℕ, Bool, Option}
-use Rattle.zb_model.specs.Data.{Bytes, Purpose, Sealing, Order}
+use Rattle.zb_model.specs.Data.{Bytes, Purpose, ForData, ForNetwork, ForTransport, ForLoad, Sealing, Order}
 
 -- What a NWK frame shows before it is opened: whether it is a command, its short addresses, its auxiliary header where
 -- it is secured (frame counter, source EUI, key sequence), and its payload where it isn't.
@@ -44,8 +44,8 @@ pub data LeaveSight : Type 0 where
 pub record Tools : Type 0 where
   -- the frame of a sealed term
   pub wire : Sealing → Bytes
-  -- the proof of a link key that Verify-Key shows
-  pub verify_hash : Bytes → Bytes
+  -- the keyed hash of a key over one byte: 00 gives its transport key, 02 its load key, 03 what Verify-Key shows of it
+  pub keyed : Bytes → ℕ → Bytes
   -- a NWK frame, and what it opens to under a base key
   pub read_nwk : Bytes → Option NwkSight
   pub open_nwk : Bytes → Bytes → Option Sealing
@@ -55,3 +55,14 @@ pub record Tools : Type 0 where
   pub read_order : Bytes → OrderSight
   pub spelled : Order → Bytes
   pub read_leave : Bytes → LeaveSight
+
+-- The key under which a base key seals with a label (05-3474-21, 4.5.3): itself for data and network, else derived.
+unfoldable pub sealing_key : Tools → Purpose → Bytes → Bytes
+sealing_key tools ForData key = key
+sealing_key tools ForNetwork key = key
+sealing_key tools ForTransport key = tools.keyed key 0
+sealing_key tools ForLoad key = tools.keyed key 2
+
+-- The proof of a link key that Verify-Key shows.
+abbrev pub verify_hash : Tools → Bytes → Bytes
+verify_hash tools key = tools.keyed key 3
