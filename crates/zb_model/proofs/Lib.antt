@@ -1,2 +1,5 @@
 mod Bytes
 pub mod FirstPathLaws
+mod Toy
+mod Terms
+mod Rows
