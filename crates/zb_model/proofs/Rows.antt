@@ -33,3 +33,5 @@ mod CounterGoesOn
 mod ApplicationKeys
 mod PairRemoved
 mod DataIsNoCommand
+mod MadeForOne
+mod MadeForTwo

@@ -4,7 +4,7 @@ use Rattle.std.specs.Prelude.{ℕ, ◌+◌, ◌-◌, ◌*◌, ◌/◌, ◌%◌, 
 use Prim.Native.String.{String}
 use Rattle.zb_model.specs.Data.{Bytes, Purpose, ForData, ForNetwork, ForTransport, ForLoad, Tier, Nwk, Aps, Sealing, Order, TransportNet, TransportApp, TransportLink, UpdateDevice, RemoveDevice, RequestApp, RequestLink, SwitchKey, Tunnel, VerifyKey, ConfirmKey}
 use Rattle.zb_model.specs.State.{same_key}
-use Rattle.zb_model.specs.Record.{two_bytes, four_bytes, eight_bytes}
+use Rattle.zb_model.specs.Record.{two_bytes, eight_bytes}
 use Rattle.zb_model.specs.Tools.{Tools, NwkSight, NwkAuxiliary, ApsSight, ApsAuxiliary, OrderSight, Known, Unknown, Broken, LeaveSight, Leave, Other, NoCommand}
 
 -- hexadecimal digits as bytes

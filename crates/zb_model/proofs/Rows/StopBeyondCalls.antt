@@ -1,8 +1,8 @@
 -- A stop behind more device calls than a journal entry makes does not fall.
-use Rattle.std.specs.Prelude.{◌≡◌, true, false, List, [], ◌∷◌, Some, None, refl}
-use Rattle.zb_model.specs.Data.{Duty, Stage, Reason, Nwk, Aps, ForData, ForNetwork, ForTransport, ForLoad, Provisional, Unverified, Verified, Station, Draw, DropNet, DropLink, Install, Active, Row, Pair, Became, Live, Removed, Roll, Told, Untold, Reserve, Floor, Start, Moved, AtNwk, AtAps, AtEvent, SayTo, TellTo, DoKnock, DoRejoin, DoTimer, AskFor, HasChild, DoProvision, DoRemove, DoSwitch, DoAgain, DoShare}
-use Rattle.zb_model.specs.Lines.{LogLine, Declared, GivenNet, GivenLink, Counter, Changed, Commit, Accept, Refuse, Seal, Forge, Send, Inject, Stopped, DownReset, DownDisk, Boot, Dump, End}
-use Rattle.zb_model.specs.Play.{World, Member, Own, RollOver, Deliver, Reset, PowerOn, ShowRecord, ArmStop, ArmFail, InjectBytes, ForgeNet, ForgeNetAps, ForgeOpen, start, disk_of, with_disk, stands, leaves_both, stored_lines, told_lines, group_of, cut_of, setting_of, supply, task_step, forged_net, forged_both, forged_open, step, groups}
+use Rattle.std.specs.Prelude.{◌≡◌, true, List, [], ◌∷◌, Some, None, refl}
+use Rattle.zb_model.specs.Data.{Duty, Reason, Nwk, ForNetwork, Station, Reserve, AtEvent, SayTo}
+use Rattle.zb_model.specs.Lines.{LogLine, Declared, GivenNet, Changed, Commit, Refuse, Seal, Send, End}
+use Rattle.zb_model.specs.Play.{World, Own, PowerOn, ArmStop, start, disk_of, with_disk, stands, leaves_both, stored_lines, told_lines, group_of, cut_of, setting_of, supply, task_step, forged_net, forged_both, forged_open, step, groups}
 use Rattle.zb_model.specs.Transcript.{end_line, run_lines, transcript}
 use Rattle.zb_model.specs.Answer.{plan_of, part_of, may_seal, out_of, edits_of, answer_by, reserve_of, stored_floor, floor_of, counting_of, answer, answered}
 use Rattle.zb_model.specs.Commands.{take_net_key, take_row, take_link_key, take_app_key, take_switch, take_confirm, take_remove, take_tunnel, take_update, take_request, take_app_request, take_verify, take_order, take_leave}
