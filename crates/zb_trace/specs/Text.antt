@@ -1,0 +1,253 @@
+-- The text of a line: words, separated by one space each and ended by a line feed.
+use Rattle.std.specs.Prelude.{◌≡◌, ◌<◌, ◌≤◌, ◌⊎◌, ℕ, List, [], ◌∷◌, ◌++◌, length, codes, decimal, Bool, true, false}
+use Rattle.std.specs.List.{flat_map}
+use Rattle.hex.specs.Hex.{encode_upper, IsBytes}
+use Rattle.zb_base.specs.declared.node.Role.{Role}
+use Rattle.zb_base.specs.declared.node.Role.TheVariants as role
+use Rattle.zb_base.specs.declared.label.Layer.{Layer}
+use Rattle.zb_base.specs.declared.label.Layer.TheVariants as layer
+use Rattle.zb_base.specs.declared.label.Label.{Label}
+use Rattle.zb_base.specs.declared.label.Label.TheVariants as label
+use Rattle.zb_change.specs.declared.state.State.{State}
+use Rattle.zb_change.specs.declared.state.State.TheVariants as state
+use Rattle.zb_change.specs.declared.state.Attribute.{Attribute}
+use Rattle.zb_change.specs.declared.state.Attribute.TheVariants as attribute
+use Rattle.zb_change.specs.declared.state.Rollover.{Rollover}
+use Rattle.zb_change.specs.declared.state.Rollover.TheVariants as rollover
+use Rattle.zb_change.specs.declared.refusal.Place.{Place}
+use Rattle.zb_change.specs.declared.refusal.Place.TheVariants as place
+use Rattle.zb_change.specs.declared.refusal.Refusal.{Refusal}
+use Rattle.zb_change.specs.declared.refusal.Refusal.TheVariants as refusal
+use Rattle.zb_seal.specs.declared.term.Term.{Term}
+use Rattle.zb_text.specs.Fields.{is_name, eui_text, short_text}
+use Rattle.zb_text.specs.Hexadecimal.{bytes_text}
+use Rattle.zb_text.specs.Words.{then}
+use Rattle.zb_trace.specs.declared.line.Line.{Line}
+use Rattle.zb_trace.specs.declared.line.Line.TheVariants as line
+
+-- The words that a line is made of.
+pub data Word : Type 0 where
+  -- a word that stands so in the line
+  Fixed : (text : List ℕ) → Word
+  -- one of some words
+  Chosen : (among : List (List ℕ)) (text : List ℕ) → Word
+  -- a number in decimal digits, at most `limit`
+  Number : (limit : ℕ) (number : ℕ) → Word
+  -- a node's name, and one in whose place `-` may stand
+  Called : (name : List ℕ) → Word
+  CalledOrNobody : (name : List ℕ) → Word
+  -- an IEEE address in 16 hexadecimal digits, a network address in 4, a key in 32, a byte in 2
+  Address : (eui : ℕ) → Word
+  ShortAddress : (short : ℕ) → Word
+  Secret : (key : List ℕ) → Word
+  Octet : (byte : ℕ) → Word
+  -- at most `limit` bytes in two hexadecimal digits each, or `-` for no bytes; and the same without a limit
+  Octets : (limit : ℕ) (bytes : List ℕ) → Word
+  AllOctets : (bytes : List ℕ) → Word
+
+abbrev pub spelled : Word → List ℕ
+spelled (Fixed text) = text
+spelled (Chosen among text) = text
+spelled (Number limit number) = decimal number
+spelled (Called name) = name
+spelled (CalledOrNobody name) = name
+spelled (Address eui) = eui_text eui
+spelled (ShortAddress short) = short_text short
+spelled (Secret key) = encode_upper key
+spelled (Octet byte) = encode_upper (byte ∷ [])
+spelled (Octets limit bytes) = bytes_text bytes
+spelled (AllOctets bytes) = bytes_text bytes
+
+-- Which words may stand in a line: names are names, and the values of the program's types are in their ranges.
+abbrev pub MayStand : Word → Type 0
+MayStand (Fixed text) = Unit {0}
+MayStand (Chosen among text) = Unit {0}
+MayStand (Number limit number) = number ≤ limit
+MayStand (Called name) = is_name name ≡ true
+MayStand (CalledOrNobody name) = (is_name name ≡ true) ⊎ (name ≡ codes "-")
+MayStand (Address eui) = eui < 18446744073709551616
+MayStand (ShortAddress short) = short < 65536
+MayStand (Secret key) = IsBytes key × (length key ≡ 16)
+MayStand (Octet byte) = byte < 256
+MayStand (Octets limit bytes) = IsBytes bytes × (length bytes ≤ limit)
+MayStand (AllOctets bytes) = IsBytes bytes
+
+-- The words behind a first one.
+abbrev pub trailing : List Word → List ℕ
+trailing words = flat_map (λ word. then (spelled word)) words
+
+-- A line of words, with its line feed.
+abbrev pub line_of : List Word → List ℕ
+line_of [] = 10 ∷ []
+line_of (word ∷ more) = spelled word ++ (trailing more ++ 10 ∷ [])
+
+-- The beginning of a line: the number of its event, its kind, and where it speaks of a node the node's name.
+abbrev pub opening : ℕ → List ℕ → List ℕ
+opening event kind = decimal event ++ then kind
+
+abbrev pub opening_of : ℕ → List ℕ → List ℕ → List ℕ
+opening_of event kind node = opening event kind ++ then node
+
+-- What is chosen from lists of words
+
+abbrev pub role_text : Role → List ℕ
+role_text role.Centre = codes "centre"
+role_text role.Router = codes "router"
+role_text role.Device = codes "device"
+
+abbrev pub layer_text : Layer → List ℕ
+layer_text layer.Nwk = codes "nwk"
+layer_text layer.Aps = codes "aps"
+
+abbrev pub label_text : Label → List ℕ
+label_text label.Data = codes "data"
+label_text label.Network = codes "network"
+label_text label.Transport = codes "transport"
+label_text label.Load = codes "load"
+
+abbrev pub attribute_text : Attribute → List ℕ
+attribute_text attribute.Provisional = codes "provisional"
+attribute_text attribute.Unverified = codes "unverified"
+attribute_text attribute.Verified = codes "verified"
+
+abbrev pub state_text : State → List ℕ
+state_text state.Fresh = codes "fresh"
+state_text state.Knocked = codes "knocked"
+state_text state.Joined = codes "joined"
+state_text state.Offered = codes "offered"
+state_text state.Confirmed = codes "confirmed"
+state_text state.Rejoining = codes "rejoining"
+state_text state.Gone = codes "gone"
+
+abbrev pub rollover_text : Rollover → List ℕ
+rollover_text rollover.Sending = codes "sending"
+rollover_text rollover.Idle = codes "idle"
+
+abbrev pub place_text : Place → List ℕ
+place_text place.Nwk = codes "nwk"
+place_text place.Aps = codes "aps"
+place_text place.Event = codes "event"
+
+abbrev pub answer_text : Bool → List ℕ
+answer_text true = codes "yes"
+answer_text false = codes "no"
+
+abbrev pub roles : List (List ℕ)
+roles = codes "centre" ∷ codes "router" ∷ codes "device" ∷ []
+
+abbrev pub layers : List (List ℕ)
+layers = codes "nwk" ∷ codes "aps" ∷ []
+
+abbrev pub labels : List (List ℕ)
+labels = codes "data" ∷ codes "network" ∷ codes "transport" ∷ codes "load" ∷ []
+
+abbrev pub attributes : List (List ℕ)
+attributes = codes "provisional" ∷ codes "unverified" ∷ codes "verified" ∷ []
+
+abbrev pub states : List (List ℕ)
+states = codes "fresh" ∷ codes "knocked" ∷ codes "joined" ∷ codes "offered" ∷ codes "confirmed" ∷ codes "rejoining" ∷ codes "gone" ∷ []
+
+abbrev pub rollovers : List (List ℕ)
+rollovers = codes "sending" ∷ codes "idle" ∷ []
+
+abbrev pub places : List (List ℕ)
+places = codes "nwk" ∷ codes "aps" ∷ codes "event" ∷ []
+
+abbrev pub answers : List (List ℕ)
+answers = codes "yes" ∷ codes "no" ∷ []
+
+-- The words of a line's parts
+
+-- a counter, a limit, the number of an event or a frame
+abbrev pub counted : ℕ → Word
+counted number = Number 4294967295 number
+
+-- the sequence number of a network key
+abbrev pub sequenced : ℕ → Word
+sequenced number = Number 255 number
+
+-- a sealed layer: which key, the nonce, what is authenticated, what is encrypted
+unfoldable pub term_words : Term → List Word
+term_words t =
+    Chosen layers (layer_text t.layer) ∷ Chosen labels (label_text t.label) ∷ Secret t.base.0 ∷ Address t.source.0
+    ∷ counted t.counter ∷ Octet t.control ∷ Octets 127 t.header.items ∷ Octets 127 t.content.items ∷ []
+
+-- where and why an event was refused
+abbrev pub reason : Place → List ℕ → List Word
+reason at text = Chosen places (place_text at) ∷ Fixed text ∷ []
+
+unfoldable pub refusal_words : Refusal → List Word
+refusal_words (refusal.Down at) = reason at (codes "down")
+refusal_words (refusal.Malformed at) = reason at (codes "malformed")
+refusal_words (refusal.NotForMe at) = reason at (codes "not-for-me")
+refusal_words (refusal.Unsecured at) = reason at (codes "unsecured")
+refusal_words (refusal.NoKey at) = reason at (codes "no-key")
+refusal_words (refusal.CounterMax at) = reason at (codes "counter-max")
+refusal_words (refusal.Stale at floor) = Chosen places (place_text at) ∷ Fixed (codes "stale") ∷ counted floor ∷ []
+refusal_words (refusal.BadMic at) = reason at (codes "bad-mic")
+refusal_words (refusal.Policy at) = reason at (codes "policy")
+refusal_words (refusal.NotMember at) = reason at (codes "not-member")
+refusal_words (refusal.WrongState at) = reason at (codes "wrong-state")
+refusal_words (refusal.KeyOld at row) = Chosen places (place_text at) ∷ Fixed (codes "key-old") ∷ counted row ∷ []
+refusal_words (refusal.KeysFull at) = reason at (codes "keys-full")
+refusal_words (refusal.RowsFull at) = reason at (codes "rows-full")
+refusal_words (refusal.KeyInUse at partner) = Chosen places (place_text at) ∷ Fixed (codes "key-in-use") ∷ Address partner.0 ∷ []
+refusal_words (refusal.NoDraw at) = reason at (codes "no-draw")
+refusal_words (refusal.CounterSpent at) = reason at (codes "counter-spent")
+refusal_words (refusal.WrongHash at) = reason at (codes "wrong-hash")
+refusal_words (refusal.NoFrame at) = reason at (codes "no-frame")
+
+-- the beginning of a line: the number of its event and its kind, and the node that it speaks of
+abbrev pub begun : ℕ → List ℕ → List Word → List Word
+begun event kind more = counted event ∷ Fixed kind ∷ more
+
+abbrev pub begun_of : ℕ → List ℕ → List ℕ → List Word → List Word
+begun_of event kind node more = counted event ∷ Fixed kind ∷ Called node ∷ more
+
+-- The words of each line.
+abbrev pub words : Line → List Word
+words (line.Node name r eui short out_block in_block) =
+    begun_of 0 (codes "node") name.bytes (Chosen roles (role_text r) ∷ Address eui.0 ∷ ShortAddress short.0 ∷ counted out_block ∷ counted in_block ∷ [])
+words (line.GivenNet node key sequence) = begun_of 0 (codes "given") node.bytes (Fixed (codes "net") ∷ Secret key.0 ∷ sequenced sequence ∷ [])
+words (line.GivenLink node partner key) = begun_of 0 (codes "given") node.bytes (Fixed (codes "link") ∷ Address partner.0 ∷ Secret key.0 ∷ [])
+words (line.Counter node l limit) = begun_of 0 (codes "counter") node.bytes (Chosen layers (layer_text l) ∷ counted limit ∷ [])
+words (line.Reserve event node l limit) = begun_of event (codes "reserve") node.bytes (Chosen layers (layer_text l) ∷ counted limit ∷ [])
+words (line.Floor event node l key sender value) =
+    begun_of event (codes "floor") node.bytes (Chosen layers (layer_text l) ∷ Secret key.0 ∷ Address sender.0 ∷ counted value ∷ [])
+words (line.Draw event key) = begun event (codes "draw") (Secret key.0 ∷ [])
+words (line.DropNet event node key) = begun_of event (codes "drop") node.bytes (Fixed (codes "net") ∷ Secret key.0 ∷ [])
+words (line.DropLink event node partner key) = begun_of event (codes "drop") node.bytes (Fixed (codes "link") ∷ Address partner.0 ∷ Secret key.0 ∷ [])
+words (line.Install event node key sequence) = begun_of event (codes "install") node.bytes (Secret key.0 ∷ sequenced sequence ∷ [])
+words (line.Active event node key) = begun_of event (codes "active") node.bytes (Secret key.0 ∷ [])
+words (line.Start event node key value) = begun_of event (codes "start") node.bytes (Secret key.0 ∷ counted value ∷ [])
+words (line.Row event node partner key a) =
+    begun_of event (codes "row") node.bytes (Address partner.0 ∷ Secret key.0 ∷ Chosen attributes (attribute_text a) ∷ [])
+words (line.Pair event node first second key) = begun_of event (codes "pair") node.bytes (Address first.0 ∷ Address second.0 ∷ Secret key.0 ∷ [])
+words (line.State event node s) = begun_of event (codes "state") node.bytes (Chosen states (state_text s) ∷ [])
+words (line.Live event device) = begun event (codes "live") (Address device.0 ∷ [])
+words (line.Removed event device) = begun event (codes "removed") (Address device.0 ∷ [])
+words (line.Roll event node r) = begun_of event (codes "roll") node.bytes (Chosen rollovers (rollover_text r) ∷ [])
+words (line.Told event device) = begun event (codes "told") (Address device.0 ∷ [])
+words (line.Untold event device) = begun event (codes "untold") (Address device.0 ∷ [])
+words (line.Commit event node) = begun_of event (codes "commit") node.bytes []
+words (line.Accept event node t) = begun_of event (codes "accept") node.bytes (term_words t)
+words (line.Refuse event node r) = begun_of event (codes "refuse") node.bytes (refusal_words r)
+words (line.Seal event node t) = begun_of event (codes "seal") node.bytes (term_words t)
+words (line.Forge event t) = begun event (codes "forge") (term_words t)
+words (line.Send event node frame bytes) = begun event (codes "send") (CalledOrNobody node.bytes ∷ counted frame ∷ Octets 127 bytes.items ∷ [])
+words (line.Inject event frame bytes) = begun event (codes "inject") (counted frame ∷ Octets 127 bytes.items ∷ [])
+words (line.Stopped event node) = begun_of event (codes "stopped") node.bytes []
+words (line.DownReset event node) = begun_of event (codes "down") node.bytes (Fixed (codes "reset") ∷ [])
+words (line.DownDisk event node) = begun_of event (codes "down") node.bytes (Fixed (codes "disk") ∷ [])
+words (line.Boot event node) = begun_of event (codes "boot") node.bytes []
+words (line.Dump event node bytes) = begun_of event (codes "dump") node.bytes (AllOctets bytes ∷ [])
+words (line.End events seals accepts refusals ideal private) =
+    Fixed (codes "end") ∷ counted events ∷ counted seals ∷ counted accepts ∷ counted refusals
+    ∷ Chosen answers (answer_text ideal) ∷ Chosen answers (answer_text private) ∷ []
+
+-- The text of a line, and of lines.
+unfoldable pub text : Line → List ℕ
+text l = line_of (words l)
+
+abbrev pub texts : List Line → List ℕ
+texts lines = flat_map text lines
