@@ -1,0 +1,106 @@
+-- The calls of a disk in memory meet what the trait says of them.
+use Rattle.std.proofs.Common.{◌≡◌, inl, inr, ℕ, ◌+◌, ◌-◌, ◌≤◌, ◌<◌, List, length, get_or, replicate, Bool, true, false, nat_le, nat_lt, nat_eq, ◌==◌, if◌then◌else◌, IsTrue, cond, Result, Ok, Err, refl, sym, ◌∙◌, ap, subst, arith}
+use Rattle.std.proofs.lemmas.Bool.{false≢true, le-leb, eqb-true}
+use Rattle.std.proofs.lemmas.Bool.Decides.{nat_tests}
+use Rattle.zb_base.specs.Outside.{risen, HasCause}
+use Rattle.zb_disk.specs.declared.memory.Arming.{Arming}
+use Rattle.zb_disk.specs.declared.memory.Arming.TheVariants.{Unarmed, Stop, Fail, Stopped}
+use Rattle.zb_disk.specs.View.{Torn, Follows, Opens, Only, IsSame}
+use Rattle.zb_disk.specs.Calls.{IsForetold, IsCounted, IsWrite, IsSync, Elapses}
+use Rattle.zb_disk.specs.Memory.{Medium, IsImage, refuses, after_call, is_stopped, counted, stored, synced, memory_tells, memory_view}
+use Rattle.zb_disk.specs.MemoryLaws.{image_seen}
+use Rattle.zb_disk.proofs.Lists.{overwrite_spread}
+use Rattle.zb_disk.proofs.Images.{stored_is, torn_from, torn_to, one_image, lowered}
+
+later_stop : (calls k : ℕ) (t : Bool) → (calls == 0) ≡ t → refuses (if t then Stopped else Stop (calls - 1)) k ≡ nat_le calls (k + 1)
+later_stop calls k true none = sym (le-leb calls (k + 1) (omega (arith, eqb-true calls 0 none)))
+later_stop calls k false some = grind (arith, nat_tests)
+
+later_refusals : (a : Arming) (k : ℕ) → refuses (after_call a) k ≡ refuses a (k + 1)
+later_refusals Unarmed k = refl
+later_refusals (Stop calls) k = later_stop calls k (calls == 0) refl
+later_refusals (Fail call) k = grind (arith, nat_tests)
+later_refusals Stopped k = refl
+
+on_after : (a : Arming) → refuses a 0 ≡ false → is_stopped (after_call a) ≡ false
+on_after Unarmed goes = refl
+on_after (Stop calls) goes = grind (arith, nat_tests)
+on_after (Fail call) goes = refl
+on_after Stopped goes = absurd (false≢true (sym goes))
+
+elapses : (old new : Medium) → Elapses memory_tells (memory_view old) (memory_view new)
+elapses old new = record { later = omega arith; nothing_else = λ t c before left. inr left; kept = λ told. absurd (false≢true told) }
+
+-- a call that went through
+counted_ok : {E : Type 0} (m new : Medium) → refuses m.arming 0 ≡ false → m.faults ≤ (counted m).faults → new.arming ≡ (counted m).arming → new.calls ≡ (counted m).calls → new.faults ≡ (counted m).faults
+    → IsCounted {T = Unit {0}} {E = E} memory_tells (memory_view m) (memory_view new) (Ok tt)
+unfolding counted
+counted_ok m new goes later arming calls faults = record {
+  calls = calls;
+  cause = record { later = omega arith; failed = tt };
+  time = elapses m new;
+  foretold = λ told. record {
+    refusal = sym goes;
+    later = λ k. ap (λ a. refuses a k) arming ∙ later_refusals m.arming k;
+    on = ap is_stopped arming ∙ on_after m.arming goes;
+  };
+}
+
+-- a call that was refused
+counted_err : {E : Type 0} (m : Medium) (e : E) → refuses m.arming 0 ≡ true → m.faults ≤ (counted m).faults → IsCounted {T = Unit {0}} {E = E} memory_tells (memory_view m) (memory_view (counted m)) (Err e)
+unfolding counted
+counted_err m e refused later = record {
+  calls = refl;
+  cause = record { later = later; failed = subst (λ b. risen m.faults 1 ≤ cond b (risen m.faults 1) m.faults) (sym refused) (omega arith) };
+  time = elapses m (counted m);
+  foretold = λ told. record { refusal = sym refused; later = λ k. later_refusals m.arming k; on = tt };
+}
+
+torn_same : (at n : ℕ) (c : List ℕ) → Torn at n c c
+torn_same at n c = record { before = λ m until within. refl; after = λ m from. refl; no_shorter = omega arith }
+
+pub write_ok : {E : Type 0} (m : Medium) (at : ℕ) (piece : List ℕ) → refuses m.arming 0 ≡ false → m.faults ≤ (counted m).faults
+    → IsWrite {T = Unit {0}} {E = E} memory_tells at piece (memory_view m) (memory_view (stored (counted m) at piece)) (Ok tt)
+unfolding counted stored
+write_ok m at piece goes later = record {
+  written = λ told. overwrite_spread m.bytes piece at;
+  torn = torn_from at (length piece) (counted m) (stored (counted m) at piece) (stored_is (counted m) at piece);
+  opens = torn_to at (length piece) (counted m) (stored (counted m) at piece) (stored_is (counted m) at piece);
+  refused = tt;
+  counted = counted_ok m (stored (counted m) at piece) goes later refl refl refl;
+}
+
+pub write_err : {E : Type 0} (m : Medium) (at : ℕ) (piece : List ℕ) (e : E) → refuses m.arming 0 ≡ true → m.faults ≤ (counted m).faults
+    → IsWrite {T = Unit {0}} {E = E} memory_tells at piece (memory_view m) (memory_view (counted m)) (Err e)
+unfolding counted
+write_err m at piece e refused later = record {
+  written = tt;
+  torn = λ c image. (c, image, torn_same at (length piece) c);
+  opens = tt;
+  refused = λ told. record { seen = refl; images = λ c image. image; images_kept = λ c image. image };
+  counted = counted_err m e refused later;
+}
+
+pub sync_ok : {E : Type 0} (m : Medium) → refuses m.arming 0 ≡ false → m.faults ≤ (counted m).faults
+    → IsSync {T = Unit {0}} {E = E} memory_tells (memory_view m) (memory_view (synced (counted m))) (Ok tt)
+unfolding counted synced
+sync_ok m goes later =
+    let only = one_image m.bytes (replicate (length m.written) false) (lowered (length m.written)) in
+    record {
+      durable = only;
+      seen = refl;
+      images = λ c image. subst (λ (l : List ℕ). IsImage m.bytes m.written m.grown l) (sym (only c image)) (image_seen m.bytes m.written m.grown);
+      images_kept = tt;
+      counted = counted_ok m (synced (counted m)) goes later refl refl refl;
+    }
+
+pub sync_err : {E : Type 0} (m : Medium) (e : E) → refuses m.arming 0 ≡ true → m.faults ≤ (counted m).faults
+    → IsSync {T = Unit {0}} {E = E} memory_tells (memory_view m) (memory_view (counted m)) (Err e)
+unfolding counted
+sync_err m e refused later = record {
+  durable = tt;
+  seen = refl;
+  images = λ c image. image;
+  images_kept = λ c image. image;
+  counted = counted_err m e refused later;
+}

@@ -1,0 +1,45 @@
+-- What the calls of a disk do to it.
+use Rattle.std.specs.Prelude.{ℕ, ◌+◌, ◌≤◌, ◌≡◌, ◌⊎◌, List, length, Bool, false, IsTrue, Result, OnOk, OnErr, IfOk, is_err}
+use Rattle.zb_base.specs.Outside.{risen, HasCause}
+use Rattle.zb_disk.specs.View.{Telling, View, window, overwrite, Torn, Follows, Opens, Only, IsSame, IsStill}
+
+-- Time goes on: a crash since t might have left what it might have left before, or what it may leave now.
+pub record Elapses (tells : Telling) (old new : View) : Type 0 where
+  pub later : old.moment ≤ new.moment
+  pub nothing_else : (t : ℕ) (c : List ℕ) → t ≤ old.moment → new.since t c → old.since t c ⊎ new.images c
+  pub kept : IsTrue tells.past → (t : ℕ) (c : List ℕ) → t ≤ old.moment → old.since t c → new.since t c
+
+-- the call was refused exactly where that was told, and the calls after it will be as was told
+pub record IsForetold {T E : Type 0} (old new : View) (result : Result T E) : Type 0 where
+  pub refusal : is_err result ≡ old.refuses 0
+  pub later : (k : ℕ) → new.refuses k ≡ old.refuses (k + 1)
+  pub on : OnOk result (new.off ≡ false)
+
+-- what holds of each call that writes or syncs
+pub record IsCounted {T E : Type 0} (tells : Telling) (old new : View) (result : Result T E) : Type 0 where
+  pub calls : new.calls ≡ risen old.calls 1
+  pub cause : HasCause old.faults new.faults result
+  pub time : Elapses tells old new
+  pub foretold : IsTrue tells.refusals → IsForetold old new result
+
+-- what holds of each call that reads
+pub record IsRead {T E : Type 0} (tells : Telling) (old new : View) (result : Result T E) : Type 0 where
+  pub still : IsStill old new
+  pub cause : HasCause old.faults new.faults result
+  pub refusal : IsTrue tells.refusals → is_err result ≡ old.off
+
+-- a write: at Ok the bytes are read, and exactly the images torn there may be left; where it failed, no others
+pub record IsWrite {T E : Type 0} (tells : Telling) (at : ℕ) (bytes : List ℕ) (old new : View) (result : Result T E) : Type 0 where
+  pub written : OnOk result (IsTrue tells.content → new.seen ≡ overwrite old.seen at bytes)
+  pub torn : Follows (Torn at (length bytes)) old.images new.images
+  pub opens : OnOk result (Opens (Torn at (length bytes)) old.images new.images)
+  pub refused : OnErr result (IsTrue tells.steady → IsSame old new)
+  pub counted : IsCounted tells old new result
+
+-- a sync: at Ok what is read is the one image; where it failed, no image has changed
+pub record IsSync {T E : Type 0} (tells : Telling) (old new : View) (result : Result T E) : Type 0 where
+  pub durable : OnOk result (Only new.seen new.images)
+  pub seen : new.seen ≡ old.seen
+  pub images : (c : List ℕ) → new.images c → old.images c
+  pub images_kept : OnErr result ((c : List ℕ) → old.images c → new.images c)
+  pub counted : IsCounted tells old new result

@@ -1,0 +1,5 @@
+pub mod View
+pub mod Calls
+pub mod Memory
+pub mod MemoryInside
+pub mod MemoryLaws

@@ -1,0 +1,140 @@
+-- A disk in memory: what it reads, which bytes were written since the last sync, and what is armed.
+use Rattle.std.specs.Prelude.{ℕ, ◌+◌, ◌-◌, ◌%◌, ◌≤◌, ◌<◌, ◌≡◌, ◌==◌, ◌&&◌, ◌||◌, List, [], ◌∷◌, ◌++◌, length, get_or, replicate, take, drop, Bool, true, false, nat_le, nat_lt, if◌then◌else◌}
+use Rattle.std.specs.List.{list_any}
+use Rattle.zb_base.specs.Outside.{risen}
+use Rattle.zb_disk.specs.declared.memory.Arming.{Arming}
+use Rattle.zb_disk.specs.declared.memory.Arming.TheVariants.{Unarmed, Stop, Fail, Stopped}
+use Rattle.zb_disk.specs.declared.runs.Run.{Run}
+use Rattle.zb_disk.specs.View.{View, Telling}
+
+-- a disk in memory
+pub record Medium : Type 0 where
+  -- the bytes that it reads
+  pub bytes : List ℕ
+  -- which of them were written since the last sync
+  pub written : List Bool
+  -- how many of them lie past the end that the last sync left
+  pub grown : ℕ
+  pub arming : Arming
+  -- the bytes that a stop leaves in place of what was written and not synced
+  pub torn : List ℕ
+  pub calls : ℕ
+  pub faults : ℕ
+
+-- whether the write or sync of that number from now on, the next one being 0, is refused
+abbrev pub refuses : Arming → ℕ → Bool
+refuses Unarmed k = false
+refuses (Stop calls) k = nat_le calls k
+refuses (Fail call) k = k + 1 == call
+refuses Stopped k = true
+
+-- what is armed after one more write or sync
+abbrev pub after_call : Arming → Arming
+after_call Unarmed = Unarmed
+after_call (Stop calls) = if calls == 0 then Stopped else Stop (calls - 1)
+after_call (Fail call) = Fail (call - 1)
+after_call Stopped = Stopped
+
+abbrev pub is_stopped : Arming → Bool
+is_stopped Unarmed = false
+is_stopped (Stop calls) = false
+is_stopped (Fail call) = false
+is_stopped Stopped = true
+
+-- a new arming, which a stopped disk doesn't take
+abbrev pub armed : Arming → Arming → Arming
+armed old new = if is_stopped old then old else new
+
+-- what a crash may leave: each written byte and the part past the old end may be anything, all others stand
+pub record IsImage (bytes : List ℕ) (written : List Bool) (grown : ℕ) (c : List ℕ) : Type 0 where
+  pub no_shorter : length bytes ≤ length c + grown
+  pub no_longer : length c ≤ length bytes
+  pub others : (k : ℕ) → k + grown < length bytes → get_or written k false ≡ false → get_or c k 0 ≡ get_or bytes k 0
+
+-- each longest run of written bytes becomes the pattern, repeated from the first byte of the run; the phase is the
+-- number of bytes of the run that came before
+abbrev pub tear : List ℕ → ℕ → List ℕ → List Bool → List ℕ
+tear pattern phase [] written = []
+tear pattern phase (b ∷ bytes) [] = b ∷ bytes
+tear pattern phase (b ∷ bytes) (w ∷ written) =
+    if w then get_or pattern (phase % length pattern) 0 ∷ tear pattern (phase + 1) bytes written else b ∷ tear pattern 0 bytes written
+
+-- the bytes that a stop leaves: torn where there is a pattern
+abbrev pub torn_by : List ℕ → List ℕ → List Bool → List ℕ
+torn_by pattern bytes written = if nat_lt 0 (length pattern) then tear pattern 0 bytes written else bytes
+
+-- the bytes that read after the power came back
+abbrev pub settled : Medium → List ℕ
+settled m = if is_stopped m.arming then torn_by m.torn m.bytes m.written else m.bytes
+
+-- a list filled up to a length
+abbrev pub spread : {A : Type 0} → List A → ℕ → A → List A
+spread xs n filling = xs ++ replicate (n - length xs) filling
+
+-- a list with a piece put over it from a place on
+abbrev pub patch : {A : Type 0} → List A → ℕ → List A → List A
+patch xs start piece = take start xs ++ piece ++ drop (start + length piece) xs
+
+-- a write or a sync was asked for
+unfoldable pub counted : Medium → Medium
+counted m = record m {
+  arming = after_call m.arming;
+  calls = risen m.calls 1;
+  faults = if refuses m.arming 0 then risen m.faults 1 else m.faults;
+}
+
+-- a piece was written
+unfoldable pub stored : Medium → ℕ → List ℕ → Medium
+stored m at piece = record m {
+  bytes = patch (spread m.bytes (at + length piece) 0) at piece;
+  written = patch (spread m.written (at + length piece) false) at (replicate (length piece) true);
+  grown = m.grown + (at + length piece - length m.bytes);
+}
+
+-- all is synced
+unfoldable pub synced : Medium → Medium
+synced m = record m { written = replicate (length m.written) false; grown = 0 }
+
+-- the power came back
+unfoldable pub powered : Medium → Medium
+powered m = record m {
+  bytes = settled m;
+  written = replicate (length m.written) false;
+  grown = 0;
+  arming = if is_stopped m.arming then Unarmed else m.arming;
+}
+
+-- a new disk of these bytes
+abbrev pub fresh : List ℕ → Medium
+fresh bytes = record {
+  bytes = bytes;
+  written = replicate (length bytes) false;
+  grown = 0;
+  arming = Unarmed;
+  torn = [];
+  calls = 0;
+  faults = 0;
+}
+
+-- it tells all but its past moments
+abbrev pub memory_tells : Telling
+memory_tells = record { content = true; steady = true; past = false; refusals = true }
+
+abbrev pub memory_view : Medium → View
+memory_view m = record {
+  seen = m.bytes;
+  images = IsImage m.bytes m.written m.grown;
+  calls = m.calls;
+  faults = m.faults;
+  off = is_stopped m.arming;
+  refuses = refuses m.arming;
+  moment = 0;
+  since = λ t. IsImage m.bytes m.written m.grown;
+}
+
+abbrev pub is_within : ℕ → Run → Bool
+is_within k run = nat_le run.start k && nat_lt k run.end
+
+-- each written byte is in one of the runs
+unfoldable pub Covers : List Run → List Bool → Type 0
+Covers runs written = (k : ℕ) → get_or written k false ≡ true → list_any (is_within k) runs ≡ true

@@ -1,0 +1,336 @@
+//! A disk in memory, whose calls can be made to fail and whose writes can be torn.
+ghost use Rattle.std.specs.Prelude.{if◌then◌else◌, ◌-◌, replicate, ◌≡◌, ◌+◌, ◌≤◌, ◌<◌, ◌++◌, [], ◌∷◌, ℕ, length, take, IfOk, IsTrue, slice_index, vec_len, vec_capacity};
+ghost use Rattle.zb_disk.specs.View.{overwrite, window, IsUnsynced};
+ghost use Rattle.zb_base.specs.Outside.{risen};
+ghost use Rattle.zb_disk.specs.Memory.{Medium, refuses, after_call, is_stopped, armed, tear, torn_by, counted, stored, synced, powered, fresh, memory_tells, memory_view};
+ghost use Rattle.zb_disk.specs.MemoryLaws.{image_seen};
+
+use crate::Disk;
+use crate::runs::{Run, lower_all, mark, note, overlay, put};
+use arrayvec::ArrayVec;
+use std::alloc::Global;
+use std::marker::Model;
+use zb_base::{Failed, NoMemory};
+
+/// The bytes of a disk.
+const SIZE: usize = 131_072;
+
+/// How many runs of written bytes are told apart between two syncs.
+const RUNS: usize = 1_024;
+
+/// Which calls a memory disk is going to refuse.
+#[derive(Clone, Copy, Debug, PartialEq, Eq)]
+pub enum Arming {
+    /// None.
+    Unarmed,
+    /// After so many further writes and syncs the next one, and every call after it.
+    Stop {
+        /// How many writes and syncs go through first.
+        calls: u8,
+    },
+    /// The write or sync of that number, counted from 1, alone. None has the number 0.
+    Fail {
+        /// The number.
+        call: u8,
+    },
+    /// Every call, until the power comes back.
+    Stopped,
+}
+
+// Counts one write or sync, and answers whether it is refused.
+fn is_refused(arming: &mut Arming) -> bool
+    ensures refused { result ≡ refuses arming.old 0 }
+    ensures after { arming.new ≡ after_call arming.old }
+{
+    match *arming {
+        Arming::Unarmed => false,
+        Arming::Stop { calls: 0 } => {
+            *arming = Arming::Stopped;
+            true
+        }
+        Arming::Stop { calls } => {
+            *arming = Arming::Stop { calls: calls - 1 };
+            false
+        }
+        Arming::Fail { call } => {
+            *arming = Arming::Fail {
+                call: call.saturating_sub(1),
+            };
+            call == 1
+        }
+        Arming::Stopped => true,
+    }
+}
+
+// Arms a disk that isn't stopped.
+fn arm(arming: &mut Arming, next: Arming)
+    ensures { arming.new ≡ armed arming.old next }
+{
+    if *arming != Arming::Stopped {
+        *arming = next;
+    }
+}
+
+/// A disk in memory. Its room is taken when it is made, and its other calls take no memory.
+///
+/// It tells what it reads and its images, that a refused call leaves all as it was, and which calls it will refuse. It
+/// tells nothing of past moments.
+#[derive(Drop)]
+pub struct MemDisk {
+    // What is read, and of each byte whether it was written since the last sync.
+    bytes: Vec<u8>,
+    written: Vec<bool>,
+    // The runs that have all bytes written since the last sync.
+    runs: Vec<Run>,
+    // How many bytes lie past the end that the last sync left.
+    grown: usize,
+    arming: Arming,
+    torn: ArrayVec<u8, 32>,
+    calls: u64,
+    faults: u64,
+}
+
+impl Model for MemDisk {
+    ghost use Rattle.zb_disk.specs.Memory.{Medium};
+
+    ghost Value = { Medium };
+
+    ghost use Rattle.zb_disk.specs.MemoryInside.{medium_of, IsMemDisk};
+
+    ghost view = { medium_of };
+
+    ghost invariant = { IsMemDisk };
+}
+
+impl MemDisk {
+    /// A disk of these bytes, which are its one image. Nothing is armed.
+    pub fn new(alloc: Global, bytes: &[u8]) -> Result<MemDisk, NoMemory>
+        requires { length bytes.now ≤ 131072 }
+        ensures { IfOk result (λ d. d ≡ fresh bytes.now) }
+    {
+        let mut content = Vec::with_capacity(alloc, SIZE)?;
+        content.extend_from_slice(bytes)?;
+        let mut written = Vec::with_capacity(alloc, SIZE)?;
+        written.resize(bytes.len(), false)?;
+        Ok(MemDisk {
+            bytes: content,
+            written,
+            runs: Vec::with_capacity(alloc, RUNS)?,
+            grown: 0,
+            arming: Arming::Unarmed,
+            torn: ArrayVec::new(),
+            calls: 0,
+            faults: 0,
+        })
+    }
+
+    /// The bytes that the disk reads.
+    pub fn bytes(&self) -> &[u8]
+        ensures { result.now ≡ self.now.bytes }
+    {
+        self.bytes.as_slice()
+    }
+
+    /// Whether a stop has fired and the power isn't back.
+    pub fn is_off(&self) -> bool
+        ensures { result ≡ is_stopped self.now.arming }
+    {
+        match self.arming {
+            Arming::Unarmed | Arming::Stop { .. } | Arming::Fail { .. } => false,
+            Arming::Stopped => true,
+        }
+    }
+
+    /// Arms a stop: after so many further writes and syncs the next one is refused, and so is every call after it until
+    /// `power_on`. The runs of bytes that were written and not synced then become `torn`, repeated. An earlier arming
+    /// is replaced. A stopped disk stays as it is.
+    pub fn arm_stop(&mut self, calls: u8, torn: ArrayVec<u8, 32>)
+        ensures { self.new ≡ record self.old {
+          arming = armed self.old.arming (Arming.Stop calls);
+          torn = (if is_stopped self.old.arming then self.old.torn else torn.items);
+        } }
+    {
+        if self.arming != Arming::Stopped {
+            self.arming = Arming::Stop { calls };
+            self.torn = torn;
+        }
+    }
+
+    /// Arms a failure: the write or sync of that number, counted from now and from 1, is refused alone. An earlier
+    /// arming is replaced. A stopped disk stays as it is.
+    pub fn arm_fail(&mut self, call: u8)
+        ensures { self.new ≡ record self.old { arming = armed self.old.arming (Arming.Fail call) } }
+    {
+        arm(&mut self.arming, Arming::Fail { call });
+    }
+
+    /// Takes an arming back. A stopped disk stays as it is.
+    pub fn disarm(&mut self)
+        ensures { self.new ≡ record self.old { arming = armed self.old.arming Arming.Unarmed } }
+    {
+        arm(&mut self.arming, Arming::Unarmed);
+    }
+
+    /// Ends a stop or the state after a failed call. After a stop with `torn`, each longest run of bytes that were
+    /// written and not synced becomes `torn`, repeated from the first byte of the run. Then what reads is the one image.
+    pub fn power_on(&mut self)
+        ensures after { self.new ≡ powered self.old }
+        ensures one_of_the_images { (memory_view self.old).images self.new.bytes }
+
+        // Where exactly one byte is unsynced, it becomes the first of `torn`.
+        ensures one_byte { (at : ℕ) → IsUnsynced at 1 (memory_view self.old) → at < length self.old.bytes
+            → IsTrue (is_stopped self.old.arming) → 0 < length self.old.torn
+            → self.new.bytes ≡ overwrite self.old.bytes at (slice_index self.old.torn 0 ∷ []) }
+    {
+        if !self.is_off() {
+            self.settle();
+            return;
+        }
+        tear_all(&mut self.bytes, &self.written, self.torn.as_slice());
+        self.arming = Arming::Unarmed;
+        self.settle();
+    }
+
+    // Counts a write or a sync, and answers whether it is refused.
+    #[tactic(auto, unfolding(crate::specs::Memory::counted))]
+    fn refuses_call(&mut self) -> bool
+        ensures refused { result ≡ refuses self.old.arming 0 }
+        ensures after { self.new ≡ counted self.old }
+        ensures later { self.old.faults ≤ self.new.faults }
+    {
+        self.calls = self.calls.saturating_add(1);
+        let refused = is_refused(&mut self.arming);
+        if refused {
+            self.faults = self.faults.saturating_add(1);
+        }
+        refused
+    }
+
+    // Counts a read, and answers whether it is refused.
+    fn refuses_read(&mut self) -> bool
+        ensures refused { result ≡ is_stopped self.old.arming }
+        ensures after { self.new ≡ record self.old {
+          faults = (if is_stopped self.old.arming then risen self.old.faults 1 else self.old.faults);
+        } }
+        ensures later { self.old.faults ≤ self.new.faults }
+    {
+        let refused = self.is_off();
+        if refused {
+            self.faults = self.faults.saturating_add(1);
+        }
+        refused
+    }
+
+    // Writes a piece.
+    #[tactic(auto, unfolding(crate::specs::Memory::stored))]
+    fn store(&mut self, start: usize, piece: &[u8])
+        requires { start + length piece.now ≤ 131072 }
+        ensures { self.new ≡ stored self.old start piece.now }
+    {
+        let end = start + piece.len();
+        self.grown += end.saturating_sub(self.bytes.len());
+        put(&mut self.bytes, start, piece);
+        mark(&mut self.written, start, end);
+        note(&mut self.runs, start, end);
+    }
+
+    // Makes what is read the one image.
+    #[tactic(auto, unfolding(crate::specs::Memory::synced))]
+    fn settle(&mut self)
+        ensures { self.new ≡ synced self.old }
+    {
+        lower_all(&mut self.written, &self.runs);
+        self.runs.clear();
+        self.grown = 0;
+    }
+}
+
+impl Disk for MemDisk {
+    ghost tells = { memory_tells };
+
+    ghost state = { memory_view };
+
+    ghost reads_image = { λ m told. image_seen m.bytes m.written m.grown };
+
+    ghost counts_now = { λ m t c before now. now };
+
+    ghost only_now = { λ m c left. left };
+
+    fn size(&mut self) -> Result<u64, Failed> {
+        if self.refuses_read() {
+            return Err(Failed);
+        }
+        Ok(self.bytes.len() as u64)
+    }
+
+    fn read(&mut self, at: u64, buf: &mut [u8]) -> Result<(), Failed> {
+        if self.refuses_read() {
+            return Err(Failed);
+        }
+        copy_window(&self.bytes, at, buf);
+        Ok(())
+    }
+
+    fn write(&mut self, at: u64, bytes: &[u8]) -> Result<(), Failed> {
+        if self.refuses_call() {
+            return Err(Failed);
+        }
+        self.store(at as usize, bytes);
+        Ok(())
+    }
+
+    fn sync(&mut self) -> Result<(), Failed> {
+        if self.refuses_call() {
+            return Err(Failed);
+        }
+        self.settle();
+        Ok(())
+    }
+}
+
+// Copies the bytes from a place on into the buffer, with 00 past the end.
+fn copy_window(bytes: &[u8], at: u64, buf: &mut [u8])
+    ensures { buf.new ≡ window bytes.now at (length buf.old) }
+{
+    let start = at.min(bytes.len() as u64) as usize;
+    let count = buf.len().min(bytes.len() - start);
+    overlay(buf, 0, &bytes[start..start + count]);
+    blank(buf, count);
+}
+
+// Puts 00 into the buffer from a place on.
+fn blank(buf: &mut [u8], from: usize)
+    requires { from ≤ length buf.old }
+    ensures { buf.new ≡ take from buf.old ++ replicate (length buf.old - from) 0 }
+{
+    buf[from..].fill(0);
+}
+
+// Each longest run of written bytes becomes the pattern, repeated, if there is one.
+fn tear_all(bytes: &mut Vec<u8>, written: &[bool], pattern: &[u8])
+    requires { length written.now ≡ length bytes.old.items }
+    ensures after { bytes.new.items ≡ torn_by pattern.now bytes.old.items written.now }
+    ensures size { vec_len bytes.new ≡ vec_len bytes.old }
+    ensures room { vec_capacity bytes.new ≡ vec_capacity bytes.old }
+{
+    if !pattern.is_empty() {
+        tear_runs(bytes, written, pattern);
+    }
+}
+
+// Each longest run of written bytes becomes the pattern, repeated.
+fn tear_runs(bytes: &mut [u8], written: &[bool], pattern: &[u8])
+    requires flags { length written.now ≡ length bytes.old }
+    requires some { 0 < length pattern.now }
+    ensures { bytes.new ≡ tear pattern.now 0 bytes.old written.now }
+{
+    let mut phase = 0;
+    for (i, &torn) in written.iter().enumerate() {
+        if torn {
+            bytes[i] = pattern[phase % pattern.len()];
+            phase += 1;
+        } else {
+            phase = 0;
+        }
+    }
+}
