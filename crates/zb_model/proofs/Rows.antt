@@ -1,3 +1,4 @@
+-- Whole runs, computed with the toy tools: each agrees line by line with the run that was worked out for it.
 mod JoinUnderCentre
 mod TwoFrames
 mod FiveFrames
@@ -33,5 +34,5 @@ mod CounterGoesOn
 mod ApplicationKeys
 mod PairRemoved
 mod DataIsNoCommand
-mod MadeForOne
 mod MadeForTwo
+mod MadeForEight

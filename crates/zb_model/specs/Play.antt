@@ -6,8 +6,9 @@ use Rattle.zb_model.specs.Lines.{LogLine, Declared, GivenNet, GivenLink, Counter
 use Rattle.zb_model.specs.Record.{record_of}
 use Rattle.zb_model.specs.Tools.{Tools, LeaveSight, Leave, Other, NoCommand}
 use Rattle.zb_model.specs.Frames.{plain_frame, secured_frame, leave_frame, nwk_header, nwk_term, aps_term, sealed_command}
-use Rattle.zb_model.specs.Rules.{Setting, centre_of, station_of}
-use Rattle.zb_model.specs.Answer.{Answer, answer}
+use Rattle.zb_model.specs.Rules.{Setting, Plan, centre_of, station_of}
+use Rattle.zb_model.specs.State.{NodeState}
+use Rattle.zb_model.specs.Answer.{Answer, Counting, answer_by, plan_of, counting_of}
 use Rattle.zb_model.specs.Readings.{state_of, is_up, air, draws_used, commits_of}
 
 -- The schedule
@@ -225,14 +226,22 @@ setting_of w n = record { me = station_or (station_of (stations w) n); stations 
 unfoldable pub supply : World → List LogLine → Option Bytes
 supply w h = slice_get w.draws (draws_used h)
 
-unfoldable pub task_step : Tools → World → List LogLine → List Disk → ℕ → ℕ → Task → Step
-task_step tools w h disks number n task =
-    if is_up h n then answer_step h disks number n (answer tools (setting_of w n) (state_of h n) task)
+-- How the counters of an answer are chosen: `counting_of` in a transcript.
+abbrev pub Counts : Type 0
+Counts = Setting → NodeState → Plan → Counting
+
+abbrev pub answer_counted : Tools → Counts → Setting → NodeState → Plan → Answer
+answer_counted tools counts c s p = answer_by tools c s (counts c s p) p
+
+unfoldable pub task_step : Tools → Counts → World → List LogLine → List Disk → ℕ → ℕ → Task → Step
+task_step tools counts w h disks number n task =
+    if is_up h n
+    then answer_step h disks number n (answer_counted tools counts (setting_of w n) (state_of h n) (plan_of tools (setting_of w n) (state_of h n) task))
     else refused_step disks number n Down
 
-abbrev pub deliver_step : Tools → World → List LogLine → List Disk → ℕ → ℕ → Option Bytes → Step
-deliver_step tools w h disks number n None = refused_step disks number n (if is_up h n then NoFrame else Down)
-deliver_step tools w h disks number n (Some bytes) = task_step tools w h disks number n (Received bytes (supply w h))
+abbrev pub deliver_step : Tools → Counts → World → List LogLine → List Disk → ℕ → ℕ → Option Bytes → Step
+deliver_step tools counts w h disks number n None = refused_step disks number n (if is_up h n then NoFrame else Down)
+deliver_step tools counts w h disks number n (Some bytes) = task_step tools counts w h disks number n (Received bytes (supply w h))
 
 -- the frame of a number from 1
 abbrev pub frame_at : List LogLine → ℕ → Option Bytes
@@ -259,26 +268,29 @@ forged_both tools h number inner t = forged h number (inner ∷ t ∷ []) (tools
 unfoldable pub forged_open : Tools → List LogLine → ℕ → ℕ → ℕ → Sealing → List LogLine
 forged_open tools h number to from inner = forged h number (inner ∷ []) (nwk_header plain_frame to from 0 ++ tools.wire inner)
 
-unfoldable pub step : Tools → World → List LogLine → List Disk → ℕ → Act → Step
-step tools w h disks number (Own n task) = task_step tools w h disks number n task
-step tools w h disks number (RollOver n) = task_step tools w h disks number n (DoRoll (supply w h))
-step tools w h disks number (Deliver frame n) = deliver_step tools w h disks number n (frame_at h frame)
-step tools w h disks number (Reset n) =
+unfoldable pub step_by : Tools → Counts → World → List LogLine → List Disk → ℕ → Act → Step
+step_by tools counts w h disks number (Own n task) = task_step tools counts w h disks number n task
+step_by tools counts w h disks number (RollOver n) = task_step tools counts w h disks number n (DoRoll (supply w h))
+step_by tools counts w h disks number (Deliver frame n) = deliver_step tools counts w h disks number n (frame_at h frame)
+step_by tools counts w h disks number (Reset n) =
     if is_up h n then record { lines = DownReset number n ∷ []; disks = disks } else refused_step disks number n Down
-step tools w h disks number (PowerOn n) = if is_up h n then refused_step disks number n WrongState else boot_step disks number n
-step tools w h disks number (ShowRecord n) = record { lines = Dump number n (record_of (state_of h n)) ∷ []; disks = disks }
-step tools w h disks number (ArmStop n calls torn) =
+step_by tools counts w h disks number (PowerOn n) = if is_up h n then refused_step disks number n WrongState else boot_step disks number n
+step_by tools counts w h disks number (ShowRecord n) = record { lines = Dump number n (record_of (state_of h n)) ∷ []; disks = disks }
+step_by tools counts w h disks number (ArmStop n calls torn) =
     record { lines = []; disks = with_disk disks n (record { armed = StopAfter calls torn; both_open = (disk_of disks n).both_open }) }
-step tools w h disks number (ArmFail n call) =
+step_by tools counts w h disks number (ArmFail n call) =
     record { lines = []; disks = with_disk disks n (record { armed = FailAt call; both_open = (disk_of disks n).both_open }) }
-step tools w h disks number (InjectBytes bytes) = record { lines = Inject number (length (air h) + 1) bytes ∷ []; disks = disks }
-step tools w h disks number (ForgeNet to from source key sequence counter content) =
+step_by tools counts w h disks number (InjectBytes bytes) = record { lines = Inject number (length (air h) + 1) bytes ∷ []; disks = disks }
+step_by tools counts w h disks number (ForgeNet to from source key sequence counter content) =
     record { lines = forged_net tools h number (nwk_term (forged_control tools content) to from source key sequence counter content); disks = disks }
-step tools w h disks number (ForgeNetAps to from source key sequence counter label base aps_counter command) =
+step_by tools counts w h disks number (ForgeNetAps to from source key sequence counter label base aps_counter command) =
     let inner = aps_term sealed_command label base source aps_counter command in
     record { lines = forged_both tools h number inner (nwk_term secured_frame to from source key sequence counter (tools.wire inner)); disks = disks }
-step tools w h disks number (ForgeOpen to from source label base aps_counter command) =
+step_by tools counts w h disks number (ForgeOpen to from source label base aps_counter command) =
     record { lines = forged_open tools h number to from (aps_term sealed_command label base source aps_counter command); disks = disks }
+
+unfoldable pub step : Tools → World → List LogLine → List Disk → ℕ → Act → Step
+step tools w h disks number act = step_by tools counting_of w h disks number act
 
 -- All groups of a schedule's events, from an event's number on.
 unfoldable pub groups : Tools → World → List LogLine → List Disk → ℕ → List Act → List LogLine
