@@ -1,0 +1,5 @@
+pub mod Arrays
+pub mod Chains
+pub mod Streams
+pub mod Openings
+pub mod Sealings

@@ -1,0 +1,45 @@
+//! Blocks of 16 bytes.
+
+ghost use Rattle.std.specs.Prelude.{◌≡◌, ◌+◌, ◌≤◌, ◌++◌, ◌∷◌, length, take, replicate};
+ghost use Rattle.std.specs.Int.{w16, to_be_bytes};
+ghost use Rattle.zb_aes.specs.Bytes.{xored};
+
+/// The first 16 bytes of a text, filled up with zeros.
+pub fn block_of(bytes: &[u8]) -> [u8; 16]
+    ensures { result ≡ take 16 (bytes.now ++ replicate 16 0) }
+{
+    let count = bytes.len().min(16);
+    let mut block = [0; 16];
+    block[..count].copy_from_slice(&bytes[..count]);
+    block
+}
+
+/// The sum of two blocks.
+pub fn sum(a: &[u8; 16], b: &[u8; 16]) -> [u8; 16]
+    ensures { result ≡ xored a.now b.now }
+{
+    let mut sum = [0; 16];
+    for i in 0..16 {
+        sum[i] = a[i] ^ b[i];
+    }
+    sum
+}
+
+/// Adds a block to a piece of text that is no longer.
+pub fn add(piece: &mut [u8], block: &[u8; 16])
+    requires { length piece.old ≤ 16 }
+    ensures { piece.new ≡ xored piece.old block.now }
+{
+    for i in 0..piece.len() {
+        piece[i] ^= block[i];
+    }
+}
+
+/// A block with flags, nonce and a number, its high byte first.
+pub fn numbered(flags: u8, nonce: &[u8; 13], number: u16) -> [u8; 16]
+    ensures { result ≡ flags ∷ nonce.now ++ to_be_bytes w16 number }
+{
+    let [a, b, c, d, e, f, g, h, i, j, k, l, m] = *nonce;
+    let [high, low] = number.to_be_bytes();
+    [flags, a, b, c, d, e, f, g, h, i, j, k, l, m, high, low]
+}

@@ -1,0 +1,95 @@
+//! Opening: the text becomes its message only where its code is right.
+
+ghost use Rattle.std.specs.Prelude.{◌≡◌, ◌<◌, ◌≤◌, length, Some, None, OnOk, OnErr};
+ghost use Rattle.std.specs.Str.{bytes_eq};
+ghost use Rattle.zb_ccm.specs.Ccm.{code, opens};
+
+use crate::BadMic;
+use crate::chaining::code_of;
+use crate::keystream::crypt;
+use zb_aes::Cipher;
+
+/// Up to this length a text is opened in a copy, so that one that doesn't open is deciphered once.
+pub const COPIED: usize = 128;
+
+// Whether `mic` is the code of the message.
+fn is_code(
+    cipher: &Cipher,
+    nonce: &[u8; 13],
+    associated: &[u8],
+    message: &[u8],
+    mic: &[u8; 4],
+) -> bool
+    requires associated_fits { length associated.now < 65280 }
+    requires message_fits { length message.now < 65280 }
+    ensures { result ≡ bytes_eq (code cipher.now nonce.now associated.now message.now 4) mic.now }
+{
+    let code = code_of(cipher, nonce, associated, message, 4);
+    code[..4] == mic[..]
+}
+
+// Opens a text by way of a copy.
+fn open_through(
+    cipher: &Cipher,
+    nonce: &[u8; 13],
+    associated: &[u8],
+    text: &mut [u8],
+    mic: &[u8; 4],
+    copy: &mut [u8],
+) -> Result<(), BadMic>
+    requires associated_fits { length associated.now < 65280 }
+    requires text_fits { length text.old < 65280 }
+    requires same_length { length copy.old ≡ length text.old }
+    ensures opened { OnOk result (opens cipher.now nonce.now associated.now text.old mic.now ≡ Some text.new) }
+    ensures refused { OnErr result (opens cipher.now nonce.now associated.now text.old mic.now ≡ None) }
+    ensures kept { OnErr result (text.new ≡ text.old) }
+{
+    copy.copy_from_slice(text);
+    crypt(cipher, nonce, copy);
+    if !is_code(cipher, nonce, associated, copy, mic) {
+        return Err(BadMic);
+    }
+    text.copy_from_slice(copy);
+    Ok(())
+}
+
+/// Opens a text that fits a copy.
+pub fn open_copy(
+    cipher: &Cipher,
+    nonce: &[u8; 13],
+    associated: &[u8],
+    text: &mut [u8],
+    mic: &[u8; 4],
+) -> Result<(), BadMic>
+    requires associated_fits { length associated.now < 65280 }
+    requires text_fits { length text.old ≤ COPIED }
+    ensures opened { OnOk result (opens cipher.now nonce.now associated.now text.old mic.now ≡ Some text.new) }
+    ensures refused { OnErr result (opens cipher.now nonce.now associated.now text.old mic.now ≡ None) }
+    ensures kept { OnErr result (text.new ≡ text.old) }
+{
+    let mut copy = [0; COPIED];
+    let len = text.len();
+    open_through(cipher, nonce, associated, text, mic, &mut copy[..len])
+}
+
+/// Opens a text of any length. One that doesn't open is enciphered again.
+pub fn open_in_place(
+    cipher: &Cipher,
+    nonce: &[u8; 13],
+    associated: &[u8],
+    text: &mut [u8],
+    mic: &[u8; 4],
+) -> Result<(), BadMic>
+    requires associated_fits { length associated.now < 65280 }
+    requires text_fits { length text.old < 65280 }
+    ensures opened { OnOk result (opens cipher.now nonce.now associated.now text.old mic.now ≡ Some text.new) }
+    ensures refused { OnErr result (opens cipher.now nonce.now associated.now text.old mic.now ≡ None) }
+    ensures kept { OnErr result (text.new ≡ text.old) }
+{
+    crypt(cipher, nonce, text);
+    if !is_code(cipher, nonce, associated, text, mic) {
+        crypt(cipher, nonce, text);
+        return Err(BadMic);
+    }
+    Ok(())
+}
