@@ -1,24 +1,30 @@
--- How a reading goes on bytes, whatever bytes follow: they run out, are wrong, or give a field.
-use Rattle.std.proofs.Common.{◌≡◌, ℕ, zero, suc, ◌-◌, ◌<◌, Bool, true, false, ltb, List, [], ◌∷◌, ◌++◌, length, take, drop, Some, None, Ok, Err, refl, sym, ap, ◌∙◌, append_assoc, arith, inl, inr, length-append}
-use Rattle.std.specs.Prelude.{replicate}
-use Rattle.std.specs.Int.{Width, w16, w64, byte_len, from_le_bytes}
+-- How a reading ends on bytes, whatever follows them: they run out, are wrong, or spell a field.
+use Rattle.std.proofs.Common.{◌≡◌, ℕ, zero, suc, ◌+◌, ◌-◌, ◌^◌, ◌<◌, Bool, true, false, ltb, List, [], ◌∷◌, ◌++◌, length, get_or, take, drop, Option, Some, None, Result, Ok, Err, refl, sym, ap, subst, ◌∙◌, append_assoc, arith, inl, inr, length-append}
+use Rattle.std.specs.Prelude.{replicate, is_some, IfSome}
+use Rattle.std.specs.List.{flat_map, AllByRecursion}
+use Rattle.std.specs.Int.{Width, w16, w32, w64, byte_len, from_le_bytes, to_le_bytes}
 use Rattle.std.proofs.lemmas.Bool.{cases_lt, le-ltb, lt-ltb}
-use Rattle.std.proofs.lemmas.List.{append-nil, take_at, drop_at, take-append-le, drop-append-le, length-replicate}
-use Rattle.zb_cursor.specs.Reading.{Reading, ◌>>=◌, give, byte_at, bytes_at, number_at, short_at, eui_at, key_at, optional_at, times_at}
+use Rattle.std.proofs.lemmas.List.{append-nil, take-append-le, drop-append-le, take-append-drop, length-replicate, length-take, get_or-drop, get_or-take, get_or_past}
+use Rattle.std.proofs.lemmas.List.Concat.{flat_map-cons}
+use Rattle.std.proofs.lemmas.Nat.{le_bytes_2, le_bytes_4, le_bytes_8}
+use Rattle.zb_base.specs.declared.address.Eui.{Eui}
+use Rattle.zb_base.specs.declared.address.Short.{Short}
+use Rattle.zb_cursor.specs.Spelling.{byte, number, short, eui, key, optional}
+use Rattle.zb_cursor.specs.Reading.{Reading, follow, ◌>>=◌, give, byte_at, bytes_at, number_at, short_at, eui_at, key_at, optional_at, times_at}
 
-pub data Outcome {E A : Type 0} (read : Reading E A) (bytes : List ℕ) : Type 0 where
-  -- some more bytes make a field of them
-  RunsOut : (more : List ℕ) (x : A) → ((cut : E) → read cut bytes ≡ Err cut) → ((cut : E) (tail : List ℕ) → read cut ((bytes ++ more) ++ tail) ≡ Ok (x, tail)) → Outcome read bytes
-  -- no more bytes make a field of them
-  IsWrong : (e : E) → ((cut : E) (more : List ℕ) → read cut (bytes ++ more) ≡ Err e) → Outcome read bytes
-  -- the field is there
-  IsRead : (x : A) (rest : List ℕ) → ((cut : E) (more : List ℕ) → read cut (bytes ++ more) ≡ Ok (x, rest ++ more)) → Outcome read bytes
+pub data Outcome {E A : Type 0} (read : Reading E A) (Spelt : List ℕ → A → Type 0) (Wrong : List ℕ → E → Type 0) (bytes : List ℕ) : Type 0 where
+  -- with some more bytes they spell a field
+  RunsOut : (more : List ℕ) (x : A) → ((cut : E) → read cut bytes ≡ Err cut) → Spelt (bytes ++ more) x → Outcome read Spelt Wrong bytes
+  -- with no more bytes they spell a field
+  IsWrong : (e : E) → ((cut : E) (more : List ℕ) → read cut (bytes ++ more) ≡ Err e) → Wrong bytes e → Outcome read Spelt Wrong bytes
+  -- they begin with a field
+  IsRead : (x : A) (text rest : List ℕ) → bytes ≡ text ++ rest → Spelt text x → ((cut : E) (more : List ℕ) → read cut (bytes ++ more) ≡ Ok (x, rest ++ more)) → Outcome read Spelt Wrong bytes
 
--- some bytes that are read, to the last
-pub record HasText {E A : Type 0} (read : Reading E A) : Type 0 where
+-- some bytes spell a field
+pub record HasText {A : Type 0} (Spelt : List ℕ → A → Type 0) : Type 0 where
   pub text : List ℕ
   pub value : A
-  pub again : (cut : E) (tail : List ℕ) → read cut (text ++ tail) ≡ Ok (value, tail)
+  pub spelt : Spelt text value
 
 -- what holds whatever follows holds where nothing does
 pub read_now : {E A : Type 0} (read : Reading E A) (cut : E) (bytes rest : List ℕ) (x : A) → ((more : List ℕ) → read cut (bytes ++ more) ≡ Ok (x, rest ++ more)) → read cut bytes ≡ Ok (x, rest)
@@ -27,48 +33,83 @@ read_now read cut bytes rest x h = ap (read cut) (sym (append-nil bytes)) ∙ h 
 pub wrong_now : {E A : Type 0} (read : Reading E A) (cut e : E) (bytes : List ℕ) → ((more : List ℕ) → read cut (bytes ++ more) ≡ Err e) → read cut bytes ≡ Err e
 wrong_now read cut e bytes h = ap (read cut) (sym (append-nil bytes)) ∙ h []
 
-regroup : (bytes more text tail : List ℕ) → (bytes ++ (more ++ text)) ++ tail ≡ (bytes ++ more) ++ (text ++ tail)
-regroup bytes more text tail = simp append_assoc
+-- ---- bytes
 
-pub give_outcome : {E A : Type 0} (x : A) (bytes : List ℕ) → Outcome {E = E} (give x) bytes
-give_outcome x bytes = IsRead x bytes (λ cut more. refl)
+abbrev pub IsBytes : List ℕ → Type 0
+IsBytes bytes = (i : ℕ) → get_or bytes i 0 < 256
 
-pub give_text : {E A : Type 0} (x : A) → HasText {E = E} (give x)
-give_text x = record { text = []; value = x; again = λ cut tail. refl }
+pub IsBytes-drop : (n : ℕ) (bytes : List ℕ) → IsBytes bytes → IsBytes (drop n bytes)
+IsBytes-drop n bytes h i = rw get_or-drop (h (n + i))
 
-pub then_outcome : {E A B : Type 0} (first : Reading E A) (next : A → Reading E B)
-    → ((bytes : List ℕ) → Outcome first bytes) → ((x : A) (bytes : List ℕ) → Outcome (next x) bytes) → ((x : A) → HasText (next x))
-    → (bytes : List ℕ) → Outcome (first >>= next) bytes
-then_outcome first next one two text bytes =
-    elim (one bytes) [
-      | RunsOut more x short again ↦
-          let t = text x in
+pub IsBytes-take : (n : ℕ) (bytes : List ℕ) → IsBytes bytes → IsBytes (take n bytes)
+IsBytes-take n bytes h i =
+    elim (cases_lt i n) [
+      | inl lt ↦ rw (get_or-take n bytes i 0 lt) (h i)
+      | inr le ↦ rw (get_or_past (take n bytes) i 0 (omega (arith, length-take n bytes))) (omega arith)
+    ]
+
+pub IsBytes-rest : (text rest bytes : List ℕ) → bytes ≡ text ++ rest → IsBytes bytes → IsBytes rest
+IsBytes-rest [] rest bytes parts h = subst IsBytes parts h
+IsBytes-rest (b ∷ text) rest bytes parts h = IsBytes-rest text rest (text ++ rest) refl (λ i. subst IsBytes parts h (suc i))
+
+zeros_are_bytes : (n : ℕ) → IsBytes (replicate n 0)
+zeros_are_bytes zero i = omega arith
+zeros_are_bytes (suc n) zero = omega arith
+zeros_are_bytes (suc n) (suc i) = zeros_are_bytes n i
+
+IsBytes-append : (xs ys : List ℕ) → IsBytes xs → IsBytes ys → IsBytes (xs ++ ys)
+IsBytes-append [] ys h k i = k i
+IsBytes-append (x ∷ xs) ys h k zero = h 0
+IsBytes-append (x ∷ xs) ys h k (suc i) = IsBytes-append xs ys (λ j. h (suc j)) k i
+
+-- ---- one reading behind another
+
+pub give_outcome : {E A : Type 0} (Spelt : List ℕ → A → Type 0) (Wrong : List ℕ → E → Type 0) (x : A) (bytes : List ℕ) → Spelt [] x → Outcome (give x) Spelt Wrong bytes
+give_outcome Spelt Wrong x bytes spelt = IsRead x [] bytes refl spelt (λ cut more. refl)
+
+pub then_outcome : {E A B : Type 0} (first : Reading E A) (next : A → Reading E B) (One : List ℕ → A → Type 0) (Spelt : List ℕ → B → Type 0) (Wrong : List ℕ → E → Type 0) (bytes : List ℕ)
+    → IsBytes bytes
+    → Outcome first One Wrong bytes
+    → ((x : A) (text : List ℕ) → One text x → (rest : List ℕ) → IsBytes rest → Outcome (next x) (λ t y. Spelt (text ++ t) y) (λ r e. Wrong (text ++ r) e) rest)
+    → ((x : A) (text : List ℕ) → One text x → HasText (λ t y. Spelt (text ++ t) y))
+    → Outcome (first >>= next) Spelt Wrong bytes
+then_outcome {E} {A} {B} first next One Spelt Wrong bytes fits one two text_of =
+    elim one [
+      | RunsOut more x short spelt ↦
+          let t = text_of x (bytes ++ more) spelt in
           RunsOut (more ++ t.text) t.value (λ cut. rw (short cut) refl)
-          (λ cut tail. rw (regroup bytes more t.text tail, again cut (t.text ++ tail)) (t.again cut tail))
-      | IsWrong e h ↦ IsWrong e (λ cut more. rw (h cut more) refl)
-      | IsRead x rest h ↦
-          elim (two x rest) [
-            | RunsOut more y short again ↦
+          (subst (λ (b : List ℕ). Spelt b t.value) (append_assoc bytes more t.text) t.spelt)
+      | IsWrong e h wrong ↦ IsWrong e (λ cut more. rw (h cut more) refl) wrong
+      | IsRead x text rest parts spelt h ↦
+          elim (two x text spelt rest (IsBytes-rest text rest bytes parts fits)) [
+            | RunsOut more y short two_spelt ↦
                 RunsOut more y (λ cut. rw (read_now first cut bytes rest x (h cut)) (short cut))
-                (λ cut tail. rw (append_assoc bytes more tail, h cut (more ++ tail), ← append_assoc rest more tail) (again cut tail))
-            | IsWrong e wrong ↦ IsWrong e (λ cut more. rw (h cut more) (wrong cut more))
-            | IsRead y end reads ↦ IsRead y end (λ cut more. rw (h cut more) (reads cut more))
+                (subst (λ (b : List ℕ). Spelt b y) (sym (append_assoc text rest more) ∙ ap (λ (b : List ℕ). b ++ more) (sym parts)) two_spelt)
+            | IsWrong e wrong fault ↦
+                IsWrong e (λ cut more. rw (h cut more) (wrong cut more)) (subst (λ (b : List ℕ). Wrong b e) (sym parts) fault)
+            | IsRead y text2 end parts2 two_spelt reads ↦
+                IsRead y (text ++ text2) end (parts ∙ ap (λ (b : List ℕ). text ++ b) parts2 ∙ sym (append_assoc text text2 end)) two_spelt
+                (λ cut more. rw (h cut more) (reads cut more))
           ]
     ]
 
-pub then_text : {E A B : Type 0} (first : Reading E A) (next : A → Reading E B) → HasText first → ((x : A) → HasText (next x)) → HasText (first >>= next)
-then_text first next one two =
-    let t = two one.value in
-    record { text = one.text ++ t.text; value = t.value; again = λ cut tail. rw (append_assoc one.text t.text tail, one.again cut (t.text ++ tail)) (t.again cut tail) }
+pub then_text : {A B : Type 0} (One : List ℕ → A → Type 0) (Spelt : List ℕ → B → Type 0) → HasText One → ((x : A) (text : List ℕ) → One text x → HasText (λ t y. Spelt (text ++ t) y)) → HasText Spelt
+then_text One Spelt one two =
+    let t = two one.value one.text one.spelt in
+    record { text = one.text ++ t.text; value = t.value; spelt = t.spelt }
 
 -- ---- fields
 
-pub byte_outcome : {E : Type 0} (bytes : List ℕ) → Outcome {E = E} byte_at bytes
-byte_outcome [] = RunsOut (0 ∷ []) 0 (λ cut. refl) (λ cut tail. refl)
-byte_outcome (b ∷ rest) = IsRead b rest (λ cut more. refl)
+-- the text is the spelling of a value that fits
+abbrev pub Field : {A : Type 0} → (A → List ℕ) → (A → Type 0) → List ℕ → A → Type 0
+Field spell Fits text x = (text ≡ spell x) × Fits x
 
-pub byte_text : {E : Type 0} → HasText {E = E} byte_at
-byte_text = record { text = 0 ∷ []; value = 0; again = λ cut tail. refl }
+pub byte_outcome : {E : Type 0} (Wrong : List ℕ → E → Type 0) (bytes : List ℕ) → IsBytes bytes → Outcome byte_at (Field byte (λ b. b < 2 ^ 8)) Wrong bytes
+byte_outcome Wrong [] fits = RunsOut (0 ∷ []) 0 (λ cut. refl) (refl, omega arith)
+byte_outcome Wrong (b ∷ rest) fits = IsRead b (b ∷ []) rest refl (refl, fits 0) (λ cut more. refl)
+
+pub byte_text : HasText (Field byte (λ b. b < 2 ^ 8))
+byte_text = record { text = 0 ∷ []; value = 0; spelt = (refl, omega arith) }
 
 filled : ℕ → List ℕ → List ℕ
 filled n bytes = replicate (n - length bytes) 0
@@ -77,36 +118,35 @@ length-filled : (n : ℕ) (bytes : List ℕ) → length bytes < n → length (by
 unfolding filled
 length-filled n bytes lt = omega (arith, length-append bytes (replicate (n - length bytes) 0), length-replicate {A = ℕ} (n - length bytes) 0)
 
-pub bytes_outcome : {E : Type 0} (n : ℕ) (bytes : List ℕ) → Outcome {E = E} (bytes_at n) bytes
+filled_are_bytes : (n : ℕ) (bytes : List ℕ) → IsBytes bytes → IsBytes (bytes ++ filled n bytes)
+unfolding filled
+filled_are_bytes n bytes fits = IsBytes-append bytes (replicate (n - length bytes) 0) fits (zeros_are_bytes (n - length bytes))
+
+-- n bytes
+abbrev pub IsRow : ℕ → List ℕ → List ℕ → Type 0
+IsRow n text xs = (text ≡ xs) × (length xs ≡ n) × IsBytes xs
+
+pub bytes_outcome : {E : Type 0} (Wrong : List ℕ → E → Type 0) (n : ℕ) (bytes : List ℕ) → IsBytes bytes → Outcome (bytes_at n) (IsRow n) Wrong bytes
 unfolding bytes_at
-bytes_outcome n bytes =
+bytes_outcome Wrong n bytes fits =
     elim (cases_lt (length bytes) n) [
       | inl lt ↦
-          let len = length-filled n bytes lt in
-          let whole = bytes ++ filled n bytes in
-          RunsOut (filled n bytes) whole (λ cut. rw (lt-ltb _ _ lt) refl)
-          (λ cut tail.
-          let long : ltb (length (whole ++ tail)) n ≡ false = le-ltb _ _ (omega (arith, len, length-append whole tail)) in
-          rw (long, take_at whole tail n len, drop_at whole tail n len) refl)
+          RunsOut (filled n bytes) (bytes ++ filled n bytes) (λ cut. rw (lt-ltb _ _ lt) refl) (refl, length-filled n bytes lt, filled_are_bytes n bytes fits)
       | inr le ↦
-          IsRead (take n bytes) (drop n bytes)
+          IsRead (take n bytes) (take n bytes) (drop n bytes) (sym (take-append-drop n bytes)) (refl, omega (arith, length-take n bytes), IsBytes-take n bytes fits)
           (λ cut more.
           let long : ltb (length (bytes ++ more)) n ≡ false = le-ltb _ _ (omega (arith, length-append bytes more)) in
           rw (long, take-append-le n bytes more le, drop-append-le n bytes more le) refl)
     ]
 
-pub bytes_text : {E : Type 0} (n : ℕ) → HasText {E = E} (bytes_at n)
-unfolding bytes_at
-bytes_text n =
-    let zeros = replicate n 0 in
-    let len : length zeros ≡ n = length-replicate {A = ℕ} n 0 in
-    record {
-      text = zeros;
-      value = zeros;
-      again = λ cut tail.
-          let long : ltb (length (zeros ++ tail)) n ≡ false = le-ltb _ _ (omega (arith, len, length-append zeros tail)) in
-          rw (long, take_at zeros tail n len, drop_at zeros tail n len) refl;
-    }
+pub bytes_text : (n : ℕ) → HasText (IsRow n)
+bytes_text n = record { text = replicate n 0; value = replicate n 0; spelt = (refl, length-replicate {A = ℕ} n 0, zeros_are_bytes n) }
+
+-- a reading that is another one, seen otherwise
+pub same_outcome : {E A : Type 0} (read other : Reading E A) (Spelt : List ℕ → A → Type 0) (Wrong : List ℕ → E → Type 0) → ((cut : E) (bytes : List ℕ) → read cut bytes ≡ other cut bytes) → (bytes : List ℕ) → Outcome other Spelt Wrong bytes → Outcome read Spelt Wrong bytes
+same_outcome read other Spelt Wrong same bytes (RunsOut more x short spelt) = RunsOut more x (λ cut. same cut bytes ∙ short cut) spelt
+same_outcome read other Spelt Wrong same bytes (IsWrong e h wrong) = IsWrong e (λ cut more. same cut (bytes ++ more) ∙ h cut more) wrong
+same_outcome read other Spelt Wrong same bytes (IsRead x text rest parts spelt h) = IsRead x text rest parts spelt (λ cut more. same cut (bytes ++ more) ∙ h cut more)
 
 -- a number is read from its bytes
 number_from_bytes : {E : Type 0} (w : Width) (cut : E) (bytes : List ℕ) → number_at w cut bytes ≡ (bytes_at (byte_len w) >>= λ xs. give (from_le_bytes w xs)) cut bytes
@@ -117,65 +157,119 @@ number_from_bytes w cut bytes =
       | inr le ↦ rw (le-ltb _ _ le) refl
     ]
 
-pub same_outcome : {E A : Type 0} (read other : Reading E A) → ((cut : E) (bytes : List ℕ) → read cut bytes ≡ other cut bytes) → (bytes : List ℕ) → Outcome other bytes → Outcome read bytes
-same_outcome read other same bytes (RunsOut more x short again) = RunsOut more x (λ cut. same cut bytes ∙ short cut) (λ cut tail. same cut ((bytes ++ more) ++ tail) ∙ again cut tail)
-same_outcome read other same bytes (IsWrong e h) = IsWrong e (λ cut more. same cut (bytes ++ more) ∙ h cut more)
-same_outcome read other same bytes (IsRead x rest h) = IsRead x rest (λ cut more. same cut (bytes ++ more) ∙ h cut more)
+-- a width, and the bytes that spell a number of it
+pub record IsNumber (w : Width) (limit : ℕ) : Type 0 where
+  pub back : (xs : List ℕ) → length xs ≡ byte_len w → IsBytes xs → xs ≡ to_le_bytes w (from_le_bytes w xs)
+  pub below : (xs : List ℕ) → IsBytes xs → from_le_bytes w xs < limit
 
-pub same_text : {E A : Type 0} (read other : Reading E A) → ((cut : E) (bytes : List ℕ) → read cut bytes ≡ other cut bytes) → HasText other → HasText read
-same_text read other same t = record { text = t.text; value = t.value; again = λ cut tail. same cut (t.text ++ tail) ∙ t.again cut tail }
+pub number16 : IsNumber w16 (2 ^ 16)
+number16 = record { back = λ xs len fits. sym (le_bytes_2 xs _ len fits refl); below = λ xs fits. omega (arith, fits 0, fits 1) }
 
-pub number_outcome : {E : Type 0} (w : Width) (bytes : List ℕ) → Outcome {E = E} (number_at w) bytes
-number_outcome w bytes =
-    same_outcome (number_at w) (bytes_at (byte_len w) >>= λ xs. give (from_le_bytes w xs)) (number_from_bytes w) bytes
-    (then_outcome (bytes_at (byte_len w)) (λ xs. give (from_le_bytes w xs)) (bytes_outcome (byte_len w)) (λ xs. give_outcome (from_le_bytes w xs)) (λ xs. give_text (from_le_bytes w xs)) bytes)
+pub number32 : IsNumber w32 (2 ^ 32)
+number32 = record { back = λ xs len fits. sym (le_bytes_4 xs _ len fits refl); below = λ xs fits. omega (arith, fits 0, fits 1, fits 2, fits 3) }
 
-pub number_text : {E : Type 0} (w : Width) → HasText {E = E} (number_at w)
-number_text w =
-    same_text (number_at w) (bytes_at (byte_len w) >>= λ xs. give (from_le_bytes w xs)) (number_from_bytes w)
-    (then_text (bytes_at (byte_len w)) (λ xs. give (from_le_bytes w xs)) (bytes_text (byte_len w)) (λ xs. give_text (from_le_bytes w xs)))
+pub number64 : IsNumber w64 (2 ^ 64)
+number64 = record { back = λ xs len fits. sym (le_bytes_8 xs _ len fits refl); below = λ xs fits. omega (arith, fits 0, fits 1, fits 2, fits 3, fits 4, fits 5, fits 6, fits 7) }
 
-pub short_outcome : {E : Type 0} (bytes : List ℕ) → Outcome {E = E} short_at bytes
+-- a number in a wrapper, as an address is
+wrapped : {A : Type 0} (w : Width) (limit : ℕ) (is : IsNumber w limit) (wrap : ℕ → A) (Spelt : List ℕ → A → Type 0) → ((n : ℕ) → n < limit → Spelt (number w n) (wrap n)) → (text xs : List ℕ) → IsRow (byte_len w) text xs → Spelt (text ++ []) (wrap (from_le_bytes w xs))
+wrapped w limit is wrap Spelt spelt text xs row =
+    let same : number w (from_le_bytes w xs) ≡ text ++ [] = sym (is.back xs row.1 row.2) ∙ sym row.0 ∙ sym (append-nil text) in
+    subst (λ (t : List ℕ). Spelt t (wrap (from_le_bytes w xs))) same (spelt (from_le_bytes w xs) (is.below xs row.2))
+
+wrapped_outcome : {E A : Type 0} (Wrong : List ℕ → E → Type 0) (w : Width) (limit : ℕ) (is : IsNumber w limit) (wrap : ℕ → A) (Spelt : List ℕ → A → Type 0) → ((n : ℕ) → n < limit → Spelt (number w n) (wrap n))
+    → (bytes : List ℕ) → IsBytes bytes → Outcome (bytes_at (byte_len w) >>= λ xs. give (wrap (from_le_bytes w xs))) Spelt Wrong bytes
+wrapped_outcome Wrong w limit is wrap Spelt spelt bytes fits =
+    then_outcome (bytes_at (byte_len w)) (λ xs. give (wrap (from_le_bytes w xs))) (IsRow (byte_len w)) Spelt Wrong bytes fits (bytes_outcome Wrong (byte_len w) bytes fits)
+    (λ xs text row rest rest_fits. give_outcome (λ t y. Spelt (text ++ t) y) (λ r e. Wrong (text ++ r) e) (wrap (from_le_bytes w xs)) rest (wrapped w limit is wrap Spelt spelt text xs row))
+    (λ xs text row. record { text = []; value = wrap (from_le_bytes w xs); spelt = wrapped w limit is wrap Spelt spelt text xs row })
+
+pub number_outcome : {E : Type 0} (Wrong : List ℕ → E → Type 0) (w : Width) (limit : ℕ) (is : IsNumber w limit) (bytes : List ℕ) → IsBytes bytes → Outcome (number_at w) (Field (number w) (λ n. n < limit)) Wrong bytes
+number_outcome Wrong w limit is bytes fits =
+    same_outcome (number_at w) (bytes_at (byte_len w) >>= λ xs. give (from_le_bytes w xs)) (Field (number w) (λ n. n < limit)) Wrong (number_from_bytes w) bytes
+    (wrapped_outcome Wrong w limit is (λ n. n) (Field (number w) (λ n. n < limit)) (λ n lt. (refl, lt)) bytes fits)
+
+pub number_text : (w : Width) (limit : ℕ) → 0 < limit → HasText (Field (number w) (λ n. n < limit))
+number_text w limit some = record { text = number w 0; value = 0; spelt = (refl, some) }
+
+follow_map : {E A B C : Type 0} (r : Result (A × List ℕ) E) (f : A → B) (g : B → C) → follow (follow r (λ x rest. Ok (f x, rest))) (λ y rest. Ok (g y, rest)) ≡ follow r (λ x rest. Ok (g (f x), rest))
+follow_map (Ok x) f g = refl
+follow_map (Err e) f g = refl
+
+short_from_bytes : {E : Type 0} (cut : E) (bytes : List ℕ) → short_at cut bytes ≡ (bytes_at 2 >>= λ xs. give {A = Short} (record { 0 = from_le_bytes w16 xs })) cut bytes
 unfolding short_at
-short_outcome bytes = then_outcome (number_at w16) (λ n. give (record { 0 = n })) (number_outcome w16) (λ n. give_outcome (record { 0 = n })) (λ n. give_text (record { 0 = n })) bytes
+short_from_bytes cut bytes = rw (number_from_bytes w16 cut bytes) (follow_map {B = ℕ} {C = Short} (bytes_at 2 cut bytes) (from_le_bytes w16) (λ n. record { 0 = n }))
 
-pub short_text : {E : Type 0} → HasText {E = E} short_at
-unfolding short_at
-short_text = then_text (number_at w16) (λ n. give (record { 0 = n })) (number_text w16) (λ n. give_text (record { 0 = n }))
+pub short_outcome : {E : Type 0} (Wrong : List ℕ → E → Type 0) (bytes : List ℕ) → IsBytes bytes → Outcome short_at (Field short (λ s. s.0 < 2 ^ 16)) Wrong bytes
+short_outcome Wrong bytes fits =
+    same_outcome short_at (bytes_at 2 >>= λ xs. give (record { 0 = from_le_bytes w16 xs })) (Field short (λ s. s.0 < 2 ^ 16)) Wrong short_from_bytes bytes
+    (wrapped_outcome Wrong w16 (2 ^ 16) number16 (λ n. record { 0 = n }) (Field short (λ s. s.0 < 2 ^ 16)) (λ n lt. (refl, lt)) bytes fits)
 
-pub eui_outcome : {E : Type 0} (bytes : List ℕ) → Outcome {E = E} eui_at bytes
+pub short_text : HasText (Field short (λ s. s.0 < 2 ^ 16))
+short_text = record { text = number w16 0; value = record { 0 = 0 }; spelt = (refl, omega arith) }
+
+eui_from_bytes : {E : Type 0} (cut : E) (bytes : List ℕ) → eui_at cut bytes ≡ (bytes_at 8 >>= λ xs. give {A = Eui} (record { 0 = from_le_bytes w64 xs })) cut bytes
 unfolding eui_at
-eui_outcome bytes = then_outcome (number_at w64) (λ n. give (record { 0 = n })) (number_outcome w64) (λ n. give_outcome (record { 0 = n })) (λ n. give_text (record { 0 = n })) bytes
+eui_from_bytes cut bytes = rw (number_from_bytes w64 cut bytes) (follow_map {B = ℕ} {C = Eui} (bytes_at 8 cut bytes) (from_le_bytes w64) (λ n. record { 0 = n }))
 
-pub eui_text : {E : Type 0} → HasText {E = E} eui_at
-unfolding eui_at
-eui_text = then_text (number_at w64) (λ n. give (record { 0 = n })) (number_text w64) (λ n. give_text (record { 0 = n }))
+pub eui_outcome : {E : Type 0} (Wrong : List ℕ → E → Type 0) (bytes : List ℕ) → IsBytes bytes → Outcome eui_at (Field eui (λ e. e.0 < 2 ^ 64)) Wrong bytes
+eui_outcome Wrong bytes fits =
+    same_outcome eui_at (bytes_at 8 >>= λ xs. give (record { 0 = from_le_bytes w64 xs })) (Field eui (λ e. e.0 < 2 ^ 64)) Wrong eui_from_bytes bytes
+    (wrapped_outcome Wrong w64 (2 ^ 64) number64 (λ n. record { 0 = n }) (Field eui (λ e. e.0 < 2 ^ 64)) (λ n lt. (refl, lt)) bytes fits)
 
-pub key_outcome : {E : Type 0} (bytes : List ℕ) → Outcome {E = E} key_at bytes
+pub eui_text : HasText (Field eui (λ e. e.0 < 2 ^ 64))
+eui_text = record { text = number w64 0; value = record { 0 = 0 }; spelt = (refl, omega arith) }
+
+pub key_outcome : {E : Type 0} (Wrong : List ℕ → E → Type 0) (bytes : List ℕ) → IsBytes bytes → Outcome key_at (Field key (λ k. length k.0 ≡ 16)) Wrong bytes
 unfolding key_at
-key_outcome bytes = then_outcome (bytes_at 16) (λ xs. give (record { 0 = xs })) (bytes_outcome 16) (λ xs. give_outcome (record { 0 = xs })) (λ xs. give_text (record { 0 = xs })) bytes
+key_outcome Wrong bytes fits =
+    then_outcome (bytes_at 16) (λ xs. give (record { 0 = xs })) (IsRow 16) (Field key (λ k. length k.0 ≡ 16)) Wrong bytes fits (bytes_outcome Wrong 16 bytes fits)
+    (λ xs text row rest rest_fits. give_outcome (λ t y. Field key (λ k. length k.0 ≡ 16) (text ++ t) y) (λ r e. Wrong (text ++ r) e) (record { 0 = xs }) rest (append-nil text ∙ row.0, row.1))
+    (λ xs text row. record { text = []; value = record { 0 = xs }; spelt = (append-nil text ∙ row.0, row.1) })
 
-pub key_text : {E : Type 0} → HasText {E = E} key_at
-unfolding key_at
-key_text = then_text (bytes_at 16) (λ xs. give (record { 0 = xs })) (bytes_text 16) (λ xs. give_text (record { 0 = xs }))
+pub key_text : HasText (Field key (λ k. length k.0 ≡ 16))
+key_text = record { text = replicate 16 0; value = record { 0 = replicate 16 0 }; spelt = (refl, refl) }
 
-pub optional_outcome : {E A : Type 0} (read : Reading E A) → ((bytes : List ℕ) → Outcome read bytes) → (present : Bool) (bytes : List ℕ) → Outcome (optional_at present read) bytes
-optional_outcome read one false bytes = IsRead None bytes (λ cut more. refl)
-optional_outcome read one true bytes = then_outcome read (λ x. give (Some x)) one (λ x. give_outcome (Some x)) (λ x. give_text (Some x)) bytes
+-- a field that is there exactly where it is to be
+abbrev pub OptionalField : {A : Type 0} → Bool → (A → List ℕ) → (A → Type 0) → List ℕ → Option A → Type 0
+OptionalField present spell Fits text o = (text ≡ optional spell o) × (is_some o ≡ present) × IfSome o Fits
 
-pub optional_text : {E A : Type 0} (read : Reading E A) → HasText read → (present : Bool) → HasText (optional_at present read)
-optional_text read one false = record { text = []; value = None; again = λ cut tail. refl }
-optional_text read one true = then_text read (λ x. give (Some x)) one (λ x. give_text (Some x))
+pub optional_outcome : {E A : Type 0} (Wrong : List ℕ → E → Type 0) (spell : A → List ℕ) (Fits : A → Type 0) (read : Reading E A) (present : Bool) (bytes : List ℕ) → Outcome read (Field spell Fits) Wrong bytes
+    → Outcome (optional_at present read) (OptionalField present spell Fits) Wrong bytes
+optional_outcome Wrong spell Fits read false bytes one = IsRead None [] bytes refl (refl, refl, tt) (λ cut more. refl)
+optional_outcome Wrong spell Fits read true bytes (RunsOut more x short spelt) = RunsOut more (Some x) (λ cut. rw (short cut) refl) (spelt.0, refl, spelt.1)
+optional_outcome Wrong spell Fits read true bytes (IsWrong e h wrong) = IsWrong e (λ cut more. rw (h cut more) refl) wrong
+optional_outcome Wrong spell Fits read true bytes (IsRead x text rest parts spelt h) = IsRead (Some x) text rest parts (spelt.0, refl, spelt.1) (λ cut more. rw (h cut more) refl)
 
-pub times_text : {E A : Type 0} (read : Reading E A) → HasText read → (n : ℕ) → HasText (times_at read n)
+pub optional_text : {A : Type 0} (spell : A → List ℕ) (Fits : A → Type 0) (present : Bool) → HasText (Field spell Fits) → HasText (OptionalField present spell Fits)
+optional_text spell Fits false one = record { text = []; value = None; spelt = (refl, refl, tt) }
+optional_text spell Fits true one = record { text = one.text; value = Some one.value; spelt = (one.spelt.0, refl, one.spelt.1) }
+
+-- so many fields
+abbrev pub Fields : {A : Type 0} → ℕ → (A → List ℕ) → (A → Type 0) → List ℕ → List A → Type 0
+Fields n spell Fits text xs = (text ≡ flat_map spell xs) × (length xs ≡ n) × AllByRecursion Fits xs
+
+one_more : {A : Type 0} (spell : A → List ℕ) (Fits : A → Type 0) (n : ℕ) (x : A) (xs : List A) (t0 t1 : List ℕ) → Field spell Fits t0 x → Fields n spell Fits t1 xs → Fields (suc n) spell Fits (t0 ++ (t1 ++ [])) (x ∷ xs)
+one_more spell Fits n x xs t0 t1 one many = (ap (λ (t : List ℕ). t0 ++ t) (append-nil t1) ∙ rw (one.0, many.0) (sym (flat_map-cons spell x xs)), ap suc many.1, (one.1, many.2))
+
+pub times_text : {A : Type 0} (spell : A → List ℕ) (Fits : A → Type 0) → HasText (Field spell Fits) → (n : ℕ) → HasText (Fields n spell Fits)
+times_text spell Fits one zero = record { text = []; value = []; spelt = (refl, refl, tt) }
+times_text spell Fits one (suc n) =
+    let t = times_text spell Fits one n in
+    record { text = one.text ++ (t.text ++ []); value = one.value ∷ t.value; spelt = one_more spell Fits n one.value t.value one.text t.text one.spelt t.spelt }
+
+pub times_outcome : {E A : Type 0} (spell : A → List ℕ) (Fits : A → Type 0) (read : Reading E A)
+    → ((Wrong : List ℕ → E → Type 0) (bytes : List ℕ) → IsBytes bytes → Outcome read (Field spell Fits) Wrong bytes) → HasText (Field spell Fits)
+    → (n : ℕ) (Wrong : List ℕ → E → Type 0) (bytes : List ℕ) → IsBytes bytes → Outcome (times_at read n) (Fields n spell Fits) Wrong bytes
 unfolding times_at
-times_text read one zero = give_text []
-times_text read one (suc n) = then_text read (λ x. times_at read n >>= λ xs. give (x ∷ xs)) one (λ x. then_text (times_at read n) (λ xs. give (x ∷ xs)) (times_text read one n) (λ xs. give_text (x ∷ xs)))
-
-pub times_outcome : {E A : Type 0} (read : Reading E A) → ((bytes : List ℕ) → Outcome read bytes) → HasText read → (n : ℕ) (bytes : List ℕ) → Outcome (times_at read n) bytes
-unfolding times_at
-times_outcome read one text zero bytes = give_outcome [] bytes
-times_outcome read one text (suc n) bytes =
-    then_outcome read (λ x. times_at read n >>= λ xs. give (x ∷ xs)) one
-    (λ x. then_outcome (times_at read n) (λ xs. give (x ∷ xs)) (times_outcome read one text n) (λ xs. give_outcome (x ∷ xs)) (λ xs. give_text (x ∷ xs)))
-    (λ x. then_text (times_at read n) (λ xs. give (x ∷ xs)) (times_text read text n) (λ xs. give_text (x ∷ xs))) bytes
+times_outcome spell Fits read one text zero Wrong bytes fits = IsRead [] [] bytes refl (refl, refl, tt) (λ cut more. refl)
+times_outcome spell Fits read one text (suc n) Wrong bytes fits =
+    then_outcome read (λ x. times_at read n >>= λ xs. give (x ∷ xs)) (Field spell Fits) (Fields (suc n) spell Fits) Wrong bytes fits (one Wrong bytes fits)
+    (λ x t0 s0 rest rest_fits.
+    then_outcome (times_at read n) (λ xs. give (x ∷ xs)) (Fields n spell Fits) (λ t y. Fields (suc n) spell Fits (t0 ++ t) y) (λ r e. Wrong (t0 ++ r) e) rest rest_fits
+    (times_outcome spell Fits read one text n (λ r e. Wrong (t0 ++ r) e) rest rest_fits)
+    (λ xs t1 s1 end end_fits. give_outcome (λ t y. Fields (suc n) spell Fits (t0 ++ (t1 ++ t)) y) (λ r e. Wrong (t0 ++ (t1 ++ r)) e) (x ∷ xs) end (one_more spell Fits n x xs t0 t1 s0 s1))
+    (λ xs t1 s1. record { text = []; value = x ∷ xs; spelt = one_more spell Fits n x xs t0 t1 s0 s1 }))
+    (λ x t0 s0.
+    let t = times_text spell Fits text n in
+    record { text = t.text ++ []; value = x ∷ t.value; spelt = one_more spell Fits n x t.value t0 t.text s0 t.spelt })

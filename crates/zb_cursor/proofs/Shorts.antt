@@ -1,10 +1,10 @@
 -- What the loop that reads short addresses keeps.
-use Rattle.std.proofs.Common.{◌≡◌, ℕ, ◌+◌, ◌-◌, ◌*◌, ◌^◌, ◌<◌, List, [], ◌∷◌, ◌++◌, length, Ok, sym, ap, ◌∙◌, append_assoc, arith, length-append}
+use Rattle.std.proofs.Common.{◌≡◌, ℕ, ◌+◌, ◌-◌, ◌*◌, ◌^◌, ◌<◌, ◌≤◌, List, [], ◌∷◌, ◌++◌, length, take, Ok, refl, sym, ap, ◌∙◌, append_assoc, arith, length-append}
 use Rattle.std.specs.List.{flat_map, AllByRecursion}
 use Rattle.zb_base.specs.declared.address.Short.{Short}
 use Rattle.zb_cursor.specs.Spelling.{short}
 use Rattle.zb_cursor.specs.Reading.{short_at, times_at}
-use Rattle.std.proofs.lemmas.List.{append-nil}
+use Rattle.std.proofs.lemmas.List.{append-nil, length-take}
 use Rattle.std.proofs.lemmas.List.Concat.{flat_map-cons}
 use Rattle.std.proofs.lemmas.Grind.{flat_map-append}
 use Rattle.zb_cursor.proofs.Times.{with_front, goes_on}
@@ -37,3 +37,18 @@ more cut count i bytes here next rest after shorts x so_far lt read spelled in_r
       used = omega (arith, so_far.used, ap (length {A = ℕ}) spelled, length-append (short x) after);
       same_cut = same ∙ so_far.same_cut;
     }
+
+-- ---- writing
+
+pub record PutSoFar (old : List ℕ) (shorts : List Short) (i : ℕ) (new : List ℕ) : Type 0 where
+  pub text : new ≡ old ++ flat_map short (take i shorts)
+  pub fits : length new ≤ 127
+
+pub length-shorts : (shorts : List Short) → length (flat_map short shorts) ≡ 2 * length shorts
+length-shorts [] = refl
+length-shorts (s ∷ shorts) = omega (arith, ap (length {A = ℕ}) (flat_map-cons short s shorts), length-append (short s) (flat_map short shorts), length-shorts shorts)
+
+-- an address that does not fit leaves no room for all of them
+pub put_none : (old : List ℕ) (shorts : List Short) (i : ℕ) (now : List ℕ) → PutSoFar old shorts i now → i < length shorts → 127 < length now + 2 → 127 < length old + length (flat_map short shorts)
+put_none old shorts i now so_far lt long =
+    omega (arith, ap (length {A = ℕ}) so_far.text, length-append old (flat_map short (take i shorts)), length-shorts (take i shorts), length-take i shorts, length-shorts shorts)

@@ -1,5 +1,5 @@
 -- Reading fields from the front of bytes. A reading is handed the fault that a missing byte gives.
-use Rattle.std.specs.Prelude.{◌≡◌, ℕ, zero, suc, Bool, true, false, List, [], ◌∷◌, length, take, drop, Option, Some, None, Result, Ok, Err, nat_lt, if◌then◌else◌}
+use Rattle.std.specs.Prelude.{◌≡◌, ℕ, zero, suc, ◌-◌, Bool, true, false, List, [], ◌∷◌, length, take, drop, Option, Some, None, Result, Ok, Err, nat_lt, if◌then◌else◌}
 use Rattle.std.specs.Int.{Width, w16, w64, byte_len, from_le_bytes}
 use Rattle.zb_base.specs.declared.address.Eui.{Eui}
 use Rattle.zb_base.specs.declared.address.Short.{Short}
@@ -19,6 +19,10 @@ infixl 10 ◌>>=◌
 abbrev pub ◌>>=◌ : {E A B : Type 0} → Reading E A → (A → Reading E B) → Reading E B
 (first >>= next) cut bytes = follow (first cut bytes) (λ x rest. next x cut rest)
 
+infixl 10 ◌>>◌
+abbrev pub ◌>>◌ : {E A B : Type 0} → Reading E A → Reading E B → Reading E B
+(first >> next) cut bytes = follow (first cut bytes) (λ x rest. next cut rest)
+
 -- no byte is read
 abbrev pub give : {E A : Type 0} → A → Reading E A
 give x cut bytes = Ok (x, bytes)
@@ -30,6 +34,14 @@ insist test fault cut bytes = if test then Ok (tt, bytes) else Err fault
 abbrev pub byte_at : {E : Type 0} → Reading E ℕ
 byte_at cut [] = Err cut
 byte_at cut (b ∷ rest) = Ok (b, rest)
+
+-- all bytes that are left
+abbrev pub all_at : {E : Type 0} → Reading E (List ℕ)
+all_at cut bytes = Ok (bytes, [])
+
+-- all bytes that are left: a body, and behind it a message integrity code of 4 bytes
+unfoldable pub body_and_mic_at : {E : Type 0} → Reading E (List ℕ × List ℕ)
+body_and_mic_at cut bytes = if nat_lt (length bytes) 4 then Err cut else Ok ((take (length bytes - 4) bytes, drop (length bytes - 4) bytes), [])
 
 -- the next n bytes
 unfoldable pub bytes_at : {E : Type 0} → ℕ → Reading E (List ℕ)

@@ -2,14 +2,17 @@
 //! frame of 127 bytes. Numbers stand least significant byte first.
 #![tactic(auto)]
 
+mod bits;
 mod laws;
 mod reader;
 mod writing;
 
+pub use bits::has_bit;
 pub use laws::spelled_is_read;
 pub use reader::Reader;
 pub use writing::{
-    TooLong, put, put_byte, put_eui, put_key, put_number16, put_number32, put_number64, put_short,
+    TooLong, frame_from, put, put_byte, put_eui, put_key, put_number16, put_number32, put_number64,
+    put_optional_byte, put_optional_eui, put_optional_number16, put_short, put_shorts,
 };
 
 #[cfg(test)]

@@ -1,12 +1,13 @@
 //! Reading fields from the front of bytes.
-ghost use Rattle.std.specs.Prelude.{◌≡◌, ◌+◌, ◌*◌, ◌<◌, ◌≤◌, ◌^◌, ◌++◌, length, IfOk, OnErr, IfSome, is_some};
+ghost use Rattle.std.specs.Prelude.{◌≡◌, [], ◌+◌, ◌*◌, ◌<◌, ◌≤◌, ◌^◌, ◌++◌, length, IfOk, OnOk, OnErr, IfSome, is_some};
 ghost use Rattle.std.specs.Int.{w16, w32, w64};
 ghost use Rattle.zb_cursor.specs.Spelling.{byte, number, short, eui, key, optional};
-ghost use Rattle.zb_cursor.specs.Reading.{Gives, GivesBy, byte_at, bytes_at, number_at, short_at, eui_at, key_at, optional_at, times_at};
+ghost use Rattle.zb_cursor.specs.Reading.{Gives, GivesBy, byte_at, body_and_mic_at, bytes_at, number_at, short_at, eui_at, key_at, optional_at, times_at};
 ghost use Rattle.std.specs.List.{flat_map, AllByRecursion};
 
+use crate::writing::frame_from;
 use arrayvec::ArrayVec;
-use zb_base::{Eui, Key, Short};
+use zb_base::{Eui, Frame, Key, Short};
 
 /// A place in bytes that are read field by field from the front. Each method answers the next field and moves
 /// behind it, or answers `cut` and stays where it was.
@@ -25,6 +26,7 @@ impl<'a, E: Copy + Drop> Reader<'a, E> {
         ensures spelled { IfOk result (λ x. self.old.rest.now ≡ byte x ++ self.new.rest.now) }
         ensures in_range { IfOk result (λ x. x < 2 ^ 8) }
         ensures stays { OnErr result (self.new.rest.now ≡ self.old.rest.now) }
+        ensures used { OnOk result (length self.new.rest.now + 1 ≡ length self.old.rest.now) }
         ensures cut { self.new.cut ≡ self.old.cut }
     {
         match self.rest {
@@ -43,6 +45,7 @@ impl<'a, E: Copy + Drop> Reader<'a, E> {
         ensures spelled { IfOk result (λ xs. self.old.rest.now ≡ xs.now ++ self.new.rest.now) }
         ensures length { IfOk result (λ xs. length xs.now ≡ count) }
         ensures stays { OnErr result (self.new.rest.now ≡ self.old.rest.now) }
+        ensures used { OnOk result (length self.new.rest.now + count ≡ length self.old.rest.now) }
         ensures cut { self.new.cut ≡ self.old.cut }
     {
         if self.rest.len() < count {
@@ -53,6 +56,37 @@ impl<'a, E: Copy + Drop> Reader<'a, E> {
         Ok(front)
     }
 
+    /// All bytes that are left.
+    pub fn all(&mut self) -> &'a [u8]
+        ensures spelled { result.now ≡ self.old.rest.now }
+        ensures nothing { self.new.rest.now ≡ [] }
+        ensures cut { self.new.cut ≡ self.old.cut }
+    {
+        let rest = self.rest;
+        self.rest = &[];
+        rest
+    }
+
+    /// All bytes that are left: a body, and behind it a message integrity code of 4 bytes.
+    #[tactic(auto, unfolding(crate::specs::Reading::body_and_mic_at))]
+    pub fn body_and_mic(&mut self) -> Result<(Frame, [u8; 4]), E>
+        requires { length self.old.rest.now ≤ 127 }
+        ensures exact { GivesBy (λ x. (x.0.items, x.1)) result self.new.rest.now (body_and_mic_at self.old.cut self.old.rest.now) }
+        ensures spelled { IfOk result (λ x. self.old.rest.now ≡ x.0.items ++ x.1) }
+        ensures mic { IfOk result (λ x. length x.1 ≡ 4) }
+        ensures stays { OnErr result (self.new.rest.now ≡ self.old.rest.now) }
+        ensures cut { self.new.cut ≡ self.old.cut }
+    {
+        if self.rest.len() < 4 {
+            return Err(self.cut);
+        }
+        let (body, mic) = self.rest.split_at(self.rest.len() - 4);
+        let mut code = [0; 4];
+        code.copy_from_slice(mic);
+        self.rest = &[];
+        Ok((frame_from(body), code))
+    }
+
     /// A number of 2 bytes.
     #[tactic(auto, unfolding(crate::specs::Reading::number_at))]
     pub fn number16(&mut self) -> Result<u16, E>
@@ -60,6 +94,7 @@ impl<'a, E: Copy + Drop> Reader<'a, E> {
         ensures spelled { IfOk result (λ x. self.old.rest.now ≡ number w16 x ++ self.new.rest.now) }
         ensures in_range { IfOk result (λ x. x < 2 ^ 16) }
         ensures stays { OnErr result (self.new.rest.now ≡ self.old.rest.now) }
+        ensures used { OnOk result (length self.new.rest.now + 2 ≡ length self.old.rest.now) }
         ensures cut { self.new.cut ≡ self.old.cut }
     {
         if self.rest.len() < 2 {
@@ -77,6 +112,7 @@ impl<'a, E: Copy + Drop> Reader<'a, E> {
         ensures spelled { IfOk result (λ x. self.old.rest.now ≡ number w32 x ++ self.new.rest.now) }
         ensures in_range { IfOk result (λ x. x < 2 ^ 32) }
         ensures stays { OnErr result (self.new.rest.now ≡ self.old.rest.now) }
+        ensures used { OnOk result (length self.new.rest.now + 4 ≡ length self.old.rest.now) }
         ensures cut { self.new.cut ≡ self.old.cut }
     {
         if self.rest.len() < 4 {
@@ -94,6 +130,7 @@ impl<'a, E: Copy + Drop> Reader<'a, E> {
         ensures spelled { IfOk result (λ x. self.old.rest.now ≡ number w64 x ++ self.new.rest.now) }
         ensures in_range { IfOk result (λ x. x < 2 ^ 64) }
         ensures stays { OnErr result (self.new.rest.now ≡ self.old.rest.now) }
+        ensures used { OnOk result (length self.new.rest.now + 8 ≡ length self.old.rest.now) }
         ensures cut { self.new.cut ≡ self.old.cut }
     {
         if self.rest.len() < 8 {
@@ -113,6 +150,7 @@ impl<'a, E: Copy + Drop> Reader<'a, E> {
         ensures spelled { IfOk result (λ x. self.old.rest.now ≡ short x ++ self.new.rest.now) }
         ensures in_range { IfOk result (λ x. x.0 < 2 ^ 16) }
         ensures stays { OnErr result (self.new.rest.now ≡ self.old.rest.now) }
+        ensures used { OnOk result (length self.new.rest.now + 2 ≡ length self.old.rest.now) }
         ensures cut { self.new.cut ≡ self.old.cut }
     {
         let number = self.number16()?;
@@ -126,6 +164,7 @@ impl<'a, E: Copy + Drop> Reader<'a, E> {
         ensures spelled { IfOk result (λ x. self.old.rest.now ≡ eui x ++ self.new.rest.now) }
         ensures in_range { IfOk result (λ x. x.0 < 2 ^ 64) }
         ensures stays { OnErr result (self.new.rest.now ≡ self.old.rest.now) }
+        ensures used { OnOk result (length self.new.rest.now + 8 ≡ length self.old.rest.now) }
         ensures cut { self.new.cut ≡ self.old.cut }
     {
         let number = self.number64()?;
@@ -139,6 +178,7 @@ impl<'a, E: Copy + Drop> Reader<'a, E> {
         ensures spelled { IfOk result (λ x. self.old.rest.now ≡ key x ++ self.new.rest.now) }
         ensures in_range { IfOk result (λ x. length x.0 ≡ 16) }
         ensures stays { OnErr result (self.new.rest.now ≡ self.old.rest.now) }
+        ensures used { OnOk result (length self.new.rest.now + 16 ≡ length self.old.rest.now) }
         ensures cut { self.new.cut ≡ self.old.cut }
     {
         let front = self.bytes(16)?;
@@ -154,6 +194,7 @@ impl<'a, E: Copy + Drop> Reader<'a, E> {
         ensures present { IfOk result (λ o. is_some o ≡ present) }
         ensures in_range { IfOk result (λ o. IfSome o (λ x. x < 2 ^ 8)) }
         ensures stays { OnErr result (self.new.rest.now ≡ self.old.rest.now) }
+        ensures shorter { length self.new.rest.now ≤ length self.old.rest.now }
         ensures cut { self.new.cut ≡ self.old.cut }
     {
         if !present {
@@ -170,6 +211,7 @@ impl<'a, E: Copy + Drop> Reader<'a, E> {
         ensures present { IfOk result (λ o. is_some o ≡ present) }
         ensures in_range { IfOk result (λ o. IfSome o (λ x. x < 2 ^ 16)) }
         ensures stays { OnErr result (self.new.rest.now ≡ self.old.rest.now) }
+        ensures shorter { length self.new.rest.now ≤ length self.old.rest.now }
         ensures cut { self.new.cut ≡ self.old.cut }
     {
         if !present {
@@ -186,6 +228,7 @@ impl<'a, E: Copy + Drop> Reader<'a, E> {
         ensures present { IfOk result (λ o. is_some o ≡ present) }
         ensures in_range { IfOk result (λ o. IfSome o (λ x. x.0 < 2 ^ 64)) }
         ensures stays { OnErr result (self.new.rest.now ≡ self.old.rest.now) }
+        ensures shorter { length self.new.rest.now ≤ length self.old.rest.now }
         ensures cut { self.new.cut ≡ self.old.cut }
     {
         if !present {
@@ -203,6 +246,7 @@ impl<'a, E: Copy + Drop> Reader<'a, E> {
         ensures spelled { IfOk result (λ v. self.old.rest.now ≡ flat_map short v.items ++ self.new.rest.now) }
         ensures number { IfOk result (λ v. length v.items ≡ count) }
         ensures in_range { IfOk result (λ v. AllByRecursion (λ s. s.0 < 2 ^ 16) v.items) }
+        ensures shorter { length self.new.rest.now ≤ length self.old.rest.now }
         ensures cut { self.new.cut ≡ self.old.cut }
     {
         let mut shorts = ArrayVec::new();

@@ -1,9 +1,11 @@
 //! Writing fields at the end of a frame.
-ghost use Rattle.std.specs.Prelude.{◌≡◌, OnErr};
+ghost use Rattle.std.specs.Prelude.{◌≡◌, ◌≤◌, length, OnErr};
+ghost use Rattle.std.specs.List.{flat_map};
 ghost use Rattle.std.specs.Int.{w16, w32, w64};
-ghost use Rattle.zb_cursor.specs.Spelling.{byte, number, short, eui, key};
+ghost use Rattle.zb_cursor.specs.Spelling.{byte, number, short, eui, key, optional};
 ghost use Rattle.zb_cursor.specs.Writing.{Appends};
 
+use arrayvec::ArrayVec;
 use std::error::Error;
 use std::fmt;
 use zb_base::{Eui, Frame, Key, Short};
@@ -29,6 +31,16 @@ pub fn put(out: &mut Frame, piece: &[u8]) -> Result<(), TooLong>
         Ok(()) => Ok(()),
         Err(_) => Err(TooLong),
     }
+}
+
+/// The frame of these bytes.
+pub fn frame_from(bytes: &[u8]) -> Frame
+    requires { length bytes.now ≤ 127 }
+    ensures { result.items ≡ bytes.now }
+{
+    let mut frame = ArrayVec::new();
+    let _ = put(&mut frame, bytes);
+    frame
 }
 
 /// One byte.
@@ -84,5 +96,49 @@ pub fn put_key(out: &mut Frame, value: &Key) -> Result<(), TooLong>
     ensures { Appends out.old.items (key value.now) out.new.items result }
 {
     put(out, &value.0)?;
+    Ok(())
+}
+
+/// The field, where there is one.
+pub fn put_optional_byte(out: &mut Frame, value: Option<u8>) -> Result<(), TooLong>
+    ensures { Appends out.old.items (optional byte value) out.new.items result }
+{
+    match value {
+        None => put(out, &[])?,
+        Some(field) => put_byte(out, field)?,
+    }
+    Ok(())
+}
+
+/// The field, where there is one.
+pub fn put_optional_number16(out: &mut Frame, value: Option<u16>) -> Result<(), TooLong>
+    ensures { Appends out.old.items (optional (number w16) value) out.new.items result }
+{
+    match value {
+        None => put(out, &[])?,
+        Some(field) => put_number16(out, field)?,
+    }
+    Ok(())
+}
+
+/// The field, where there is one.
+pub fn put_optional_eui(out: &mut Frame, value: Option<Eui>) -> Result<(), TooLong>
+    ensures { Appends out.old.items (optional eui value) out.new.items result }
+{
+    match value {
+        None => put(out, &[])?,
+        Some(field) => put_eui(out, field)?,
+    }
+    Ok(())
+}
+
+/// The addresses one after the other. Where they do not all fit, some of them may stand.
+pub fn put_shorts(out: &mut Frame, shorts: &[Short]) -> Result<(), TooLong>
+    ensures { Appends out.old.items (flat_map short shorts.now) out.new.items result }
+{
+    put(out, &[])?;
+    for address in shorts {
+        put_short(out, *address)?;
+    }
     Ok(())
 }
