@@ -1,5 +1,5 @@
 -- How a reading ends on bytes, whatever follows them: they run out, are wrong, or spell a field.
-use Rattle.std.proofs.Common.{◌≡◌, ℕ, zero, suc, ◌+◌, ◌-◌, ◌^◌, ◌<◌, Bool, true, false, ltb, List, [], ◌∷◌, ◌++◌, length, get_or, take, drop, Option, Some, None, Result, Ok, Err, refl, sym, ap, subst, ◌∙◌, append_assoc, arith, inl, inr, length-append}
+use Rattle.std.proofs.Common.{◌≡◌, ℕ, zero, suc, ◌+◌, ◌-◌, ◌^◌, ◌<◌, Bool, true, false, ltb, List, [], ◌∷◌, ◌++◌, length, take, drop, Option, Some, None, Result, Ok, Err, refl, sym, ap, subst, ◌∙◌, append_assoc, arith, inl, inr, length-append}
 use Rattle.std.specs.Prelude.{replicate, is_some, IfSome}
 use Rattle.std.specs.List.{flat_map, AllByRecursion}
 use Rattle.std.specs.Int.{Width, w16, w32, w64, byte_len, from_le_bytes, to_le_bytes}
@@ -9,7 +9,7 @@ use Rattle.std.proofs.lemmas.List.Concat.{flat_map-cons}
 use Rattle.std.proofs.lemmas.Nat.{le_bytes_2, le_bytes_4, le_bytes_8}
 use Rattle.zb_base.specs.declared.address.Eui.{Eui}
 use Rattle.zb_base.specs.declared.address.Short.{Short}
-use Rattle.zb_cursor.specs.Spelling.{byte, number, short, eui, key, optional}
+use Rattle.zb_cursor.specs.Spelling.{IsBytes, byte, number, short, eui, key, optional}
 use Rattle.zb_cursor.specs.Reading.{Reading, follow, ◌>>=◌, give, byte_at, bytes_at, number_at, short_at, eui_at, key_at, optional_at, times_at}
 
 pub data Outcome {E A : Type 0} (read : Reading E A) (Spelt : List ℕ → A → Type 0) (Wrong : List ℕ → E → Type 0) (bytes : List ℕ) : Type 0 where
@@ -34,9 +34,6 @@ pub wrong_now : {E A : Type 0} (read : Reading E A) (cut e : E) (bytes : List �
 wrong_now read cut e bytes h = ap (read cut) (sym (append-nil bytes)) ∙ h []
 
 -- ---- bytes
-
-abbrev pub IsBytes : List ℕ → Type 0
-IsBytes bytes = (i : ℕ) → get_or bytes i 0 < 256
 
 pub IsBytes-drop : (n : ℕ) (bytes : List ℕ) → IsBytes bytes → IsBytes (drop n bytes)
 IsBytes-drop n bytes h i = rw get_or-drop (h (n + i))
@@ -273,3 +270,49 @@ times_outcome spell Fits read one text (suc n) Wrong bytes fits =
     (λ x t0 s0.
     let t = times_text spell Fits text n in
     record { text = t.text ++ []; value = x ∷ t.value; spelt = one_more spell Fits n x t.value t0 t.text s0 t.spelt })
+
+-- ---- readings whose endings are known on all bytes
+
+pub record Ends {E A : Type 0} (read : Reading E A) (Spelt : List ℕ → A → Type 0) (Wrong : List ℕ → E → Type 0) : Type 0 where
+  pub outcome : (bytes : List ℕ) → IsBytes bytes → Outcome read Spelt Wrong bytes
+  pub text : HasText Spelt
+
+pub then_ends : {E A B : Type 0} {first : Reading E A} {next : A → Reading E B} {One : List ℕ → A → Type 0} {Spelt : List ℕ → B → Type 0} {Wrong : List ℕ → E → Type 0}
+    → Ends first One Wrong → ((x : A) (text : List ℕ) → One text x → Ends (next x) (λ t y. Spelt (text ++ t) y) (λ r e. Wrong (text ++ r) e)) → Ends (first >>= next) Spelt Wrong
+then_ends {first = first} {next = next} {One = One} {Spelt = Spelt} {Wrong = Wrong} one two =
+    record {
+      outcome = λ bytes fits. then_outcome first next One Spelt Wrong bytes fits (one.outcome bytes fits) (λ x text spelt rest rest_fits. (two x text spelt).outcome rest rest_fits) (λ x text spelt. (two x text spelt).text);
+      text = then_text One Spelt one.text (λ x text spelt. (two x text spelt).text);
+    }
+
+pub give_ends : {E A : Type 0} {Spelt : List ℕ → A → Type 0} {Wrong : List ℕ → E → Type 0} (x : A) → Spelt [] x → Ends (give x) Spelt Wrong
+give_ends {Spelt = Spelt} {Wrong = Wrong} x spelt = record { outcome = λ bytes fits. give_outcome Spelt Wrong x bytes spelt; text = record { text = []; value = x; spelt = spelt } }
+
+module _ {E : Type 0} {Wrong : List ℕ → E → Type 0} where
+  pub byte_ends : Ends byte_at (Field byte (λ b. b < 2 ^ 8)) Wrong
+  byte_ends = record { outcome = byte_outcome Wrong; text = byte_text }
+
+  pub number16_ends : Ends (number_at w16) (Field (number w16) (λ n. n < 2 ^ 16)) Wrong
+  number16_ends = record { outcome = number_outcome Wrong w16 (2 ^ 16) number16; text = number_text w16 (2 ^ 16) (omega arith) }
+
+  pub number32_ends : Ends (number_at w32) (Field (number w32) (λ n. n < 2 ^ 32)) Wrong
+  number32_ends = record { outcome = number_outcome Wrong w32 (2 ^ 32) number32; text = number_text w32 (2 ^ 32) (omega arith) }
+
+  pub short_ends : Ends short_at (Field short (λ s. s.0 < 2 ^ 16)) Wrong
+  short_ends = record { outcome = short_outcome Wrong; text = short_text }
+
+  pub eui_ends : Ends eui_at (Field eui (λ e. e.0 < 2 ^ 64)) Wrong
+  eui_ends = record { outcome = eui_outcome Wrong; text = eui_text }
+
+  pub key_ends : Ends key_at (Field key (λ k. length k.0 ≡ 16)) Wrong
+  key_ends = record { outcome = key_outcome Wrong; text = key_text }
+
+  pub row_ends : (n : ℕ) → Ends (bytes_at n) (IsRow n) Wrong
+  row_ends n = record { outcome = bytes_outcome Wrong n; text = bytes_text n }
+
+  pub optional_ends : {A : Type 0} {spell : A → List ℕ} {Fits : A → Type 0} {read : Reading E A} (present : Bool) → Ends read (Field spell Fits) Wrong → Ends (optional_at present read) (OptionalField present spell Fits) Wrong
+  optional_ends {spell = spell} {Fits = Fits} {read = read} present one =
+      record { outcome = λ bytes fits. optional_outcome Wrong spell Fits read present bytes (one.outcome bytes fits); text = optional_text spell Fits present one.text }
+
+  pub shorts_ends : (n : ℕ) → Ends (times_at short_at n) (Fields n short (λ s. s.0 < 2 ^ 16)) Wrong
+  shorts_ends n = record { outcome = times_outcome short (λ s. s.0 < 2 ^ 16) short_at short_outcome short_text n Wrong; text = times_text short (λ s. s.0 < 2 ^ 16) short_text n }

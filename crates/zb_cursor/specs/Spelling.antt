@@ -1,5 +1,5 @@
 -- How a field is spelled as bytes. A field of several bytes stands least significant byte first (05-3474-21, 1.2.1.3).
-use Rattle.std.specs.Prelude.{ℕ, List, [], ◌∷◌, Option, Some, None, Bool, ◌==◌}
+use Rattle.std.specs.Prelude.{ℕ, List, [], ◌∷◌, Option, Some, None, Bool, ◌==◌, ◌<◌, ◌^◌, slice_index}
 use Rattle.std.specs.Int.{Width, w16, w64, to_le_bytes, bit_at}
 use Rattle.zb_base.specs.declared.address.Eui.{Eui}
 use Rattle.zb_base.specs.declared.address.Short.{Short}
@@ -30,3 +30,7 @@ optional spell (Some x) = spell x
 -- whether a bit of a control field is 1, counted from the lowest, which is 0
 abbrev pub bit : ℕ → ℕ → Bool
 bit n place = bit_at n place == 1
+
+-- each of them is a byte
+abbrev pub IsBytes : List ℕ → Type 0
+IsBytes bytes = (i : ℕ) → slice_index bytes i < 2 ^ 8

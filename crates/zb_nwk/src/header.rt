@@ -1,0 +1,202 @@
+//! The NWK header.
+ghost use Rattle.std.specs.Prelude.{◌≡◌, ◌+◌, ◌≤◌, ◌^◌, ◌<◌, ◌++◌, length, IfOk, OnOk, IfSome, IsTrue, ◌↔◌, is_some};
+ghost use Rattle.std.specs.Int.{w16};
+ghost use Rattle.zb_cursor.specs.Spelling.{number, short, optional, bit};
+ghost use Rattle.zb_cursor.specs.Reading.{Gives, optional_at};
+ghost use Rattle.zb_cursor.specs.Writing.{Appends};
+ghost use Rattle.zb_nwk.specs.Spelling.{route, addresses, header};
+ghost use Rattle.zb_nwk.specs.Shape.{IsControl, IsHeader, RouteInRange, HeaderInRange};
+ghost use Rattle.zb_nwk.specs.Reading.{control_at, route_at, fields_at, header_at};
+
+use crate::fault::NwkError;
+use arrayvec::ArrayVec;
+use zb_base::{Eui, Frame, Short};
+use zb_cursor::{
+    Reader, TooLong, has_bit, put, put_byte, put_number16, put_optional_byte, put_optional_eui,
+    put_short, put_shorts,
+};
+
+/// A source route (05-3474-21, 3.3.1.9): the relays that the frame passes, and the place of the next one among them.
+#[derive(Debug, Drop, PartialEq, Eq)]
+pub struct Route {
+    pub index: u8,
+    pub relays: ArrayVec<Short, 60>,
+}
+
+/// The header of a NWK frame (05-3474-21, 3.3.1). The control word says which of the last four fields are there.
+#[derive(Debug, Drop, PartialEq, Eq)]
+pub struct NwkHeader {
+    /// Bits 0 and 1: frame type; 2 to 5: version; 6 and 7: discover route; 8: multicast; 9: security; 10: source
+    /// route; 11: destination IEEE; 12: source IEEE; 13: end device initiator; the others are free.
+    pub control: u16,
+    pub destination: Short,
+    pub source: Short,
+    pub radius: u8,
+    pub sequence: u8,
+    pub destination_eui: Option<Eui>,
+    pub source_eui: Option<Eui>,
+    pub multicast: Option<u8>,
+    pub route: Option<Route>,
+}
+
+impl NwkHeader {
+    /// Whether the reader takes the type and the version, and the options are those that the control word tells.
+    pub fn shape_ok(&self) -> bool
+        ensures { IsTrue result ↔ IsHeader self.now }
+    {
+        self.control & 3 < 2
+            && (self.control >> 2) & 15 == 2
+            && self.destination_eui.is_some() == has_bit(self.control, 11)
+            && self.source_eui.is_some() == has_bit(self.control, 12)
+            && self.multicast.is_some() == has_bit(self.control, 8)
+            && self.route.is_some() == has_bit(self.control, 10)
+    }
+}
+
+/// The control word of a data or command frame of version 2.
+#[tactic(auto, unfolding(crate::specs::Reading::control_at))]
+fn read_control(reader: &mut Reader<NwkError>) -> Result<u16, NwkError>
+    ensures exact { Gives result reader.new.rest.now (control_at reader.old.cut reader.old.rest.now) }
+    ensures spelled { IfOk result (λ x. reader.old.rest.now ≡ number w16 x ++ reader.new.rest.now) }
+    ensures shaped { IfOk result (λ x. IsControl x) }
+    ensures in_range { IfOk result (λ x. x < 2 ^ 16) }
+    ensures used { OnOk result (length reader.new.rest.now + 2 ≡ length reader.old.rest.now) }
+    ensures shorter { length reader.new.rest.now ≤ length reader.old.rest.now }
+    ensures cut { reader.new.cut ≡ reader.old.cut }
+{
+    let control = reader.number16()?;
+    let kind = (control & 3) as u8;
+    if kind >= 2 {
+        return Err(NwkError::FrameType { found: kind });
+    }
+    let version = ((control >> 2) & 15) as u8;
+    if version != 2 {
+        return Err(NwkError::Version { found: version });
+    }
+    Ok(control)
+}
+
+#[tactic(auto, unfolding(crate::specs::Reading::route_at))]
+fn read_route(reader: &mut Reader<NwkError>) -> Result<Route, NwkError>
+    requires { length reader.old.rest.now ≤ 123 }
+    ensures exact { Gives result reader.new.rest.now (route_at reader.old.cut reader.old.rest.now) }
+    ensures spelled { IfOk result (λ x. reader.old.rest.now ≡ route x ++ reader.new.rest.now) }
+    ensures in_range { IfOk result (λ x. RouteInRange x) }
+    ensures shorter { length reader.new.rest.now ≤ length reader.old.rest.now }
+    ensures cut { reader.new.cut ≡ reader.old.cut }
+{
+    let number = reader.byte()?;
+    let index = reader.byte()?;
+    let relays = reader.shorts(number)?;
+    Ok(Route { index, relays })
+}
+
+fn read_optional_route(
+    reader: &mut Reader<NwkError>,
+    present: bool,
+) -> Result<Option<Route>, NwkError>
+    requires { length reader.old.rest.now ≤ 123 }
+    ensures exact { Gives result reader.new.rest.now (optional_at present route_at reader.old.cut reader.old.rest.now) }
+    ensures spelled { IfOk result (λ x. reader.old.rest.now ≡ optional route x ++ reader.new.rest.now) }
+    ensures present { IfOk result (λ x. is_some x ≡ present) }
+    ensures in_range { IfOk result (λ x. IfSome x RouteInRange) }
+    ensures shorter { length reader.new.rest.now ≤ length reader.old.rest.now }
+    ensures cut { reader.new.cut ≡ reader.old.cut }
+{
+    if !present {
+        return Ok(None);
+    }
+    let route = read_route(reader)?;
+    Ok(Some(route))
+}
+
+/// The fields behind a control word.
+#[tactic(auto, unfolding(crate::specs::Reading::fields_at))]
+fn read_fields(reader: &mut Reader<NwkError>, control: u16) -> Result<NwkHeader, NwkError>
+    requires room { length reader.old.rest.now ≤ 125 }
+    requires shaped { IsControl control }
+    ensures exact { Gives result reader.new.rest.now (fields_at control reader.old.cut reader.old.rest.now) }
+    ensures spelled { IfOk result (λ x. number w16 control ++ reader.old.rest.now ≡ header x ++ reader.new.rest.now) }
+    ensures shaped { IfOk result (λ x. IsHeader x) }
+    ensures in_range { IfOk result (λ x. HeaderInRange x) }
+    ensures control { IfOk result (λ x. x.control ≡ control) }
+    ensures shorter { length reader.new.rest.now ≤ length reader.old.rest.now }
+    ensures cut { reader.new.cut ≡ reader.old.cut }
+{
+    let destination = reader.short()?;
+    let source = reader.short()?;
+    let radius = reader.byte()?;
+    let sequence = reader.byte()?;
+    let destination_eui = reader.optional_eui(has_bit(control, 11))?;
+    let source_eui = reader.optional_eui(has_bit(control, 12))?;
+    let multicast = reader.optional_byte(has_bit(control, 8))?;
+    let route = read_optional_route(reader, has_bit(control, 10))?;
+    Ok(NwkHeader {
+        control,
+        destination,
+        source,
+        radius,
+        sequence,
+        destination_eui,
+        source_eui,
+        multicast,
+        route,
+    })
+}
+
+#[tactic(auto, unfolding(crate::specs::Reading::header_at))]
+pub(crate) fn read_header(reader: &mut Reader<NwkError>) -> Result<NwkHeader, NwkError>
+    requires { length reader.old.rest.now ≤ 127 }
+    ensures exact { Gives result reader.new.rest.now (header_at reader.old.cut reader.old.rest.now) }
+    ensures spelled { IfOk result (λ x. reader.old.rest.now ≡ header x ++ reader.new.rest.now) }
+    ensures shaped { IfOk result (λ x. IsHeader x) }
+    ensures in_range { IfOk result (λ x. HeaderInRange x) }
+    ensures shorter { length reader.new.rest.now ≤ length reader.old.rest.now }
+    ensures cut { reader.new.cut ≡ reader.old.cut }
+{
+    let control = read_control(reader)?;
+    let header = read_fields(reader, control)?;
+    Ok(header)
+}
+
+fn put_route(out: &mut Frame, value: &Route) -> Result<(), TooLong>
+    ensures { Appends out.old.items (route value.now) out.new.items result }
+{
+    put_byte(out, value.relays.len() as u8)?;
+    put_byte(out, value.index)?;
+    put_shorts(out, &value.relays)?;
+    Ok(())
+}
+
+fn put_optional_route(out: &mut Frame, value: &Option<Route>) -> Result<(), TooLong>
+    ensures { Appends out.old.items (optional route value.now) out.new.items result }
+{
+    match value {
+        None => put(out, &[])?,
+        Some(route) => put_route(out, route)?,
+    }
+    Ok(())
+}
+
+/// The fields that each header has.
+fn put_addresses(out: &mut Frame, value: &NwkHeader) -> Result<(), TooLong>
+    ensures { Appends out.old.items (addresses value.now) out.new.items result }
+{
+    put_number16(out, value.control)?;
+    put_short(out, value.destination)?;
+    put_short(out, value.source)?;
+    put_byte(out, value.radius)?;
+    put_byte(out, value.sequence)?;
+    Ok(())
+}
+
+pub(crate) fn put_header(out: &mut Frame, value: &NwkHeader) -> Result<(), TooLong>
+    ensures { Appends out.old.items (header value.now) out.new.items result }
+{
+    put_addresses(out, value)?;
+    put_optional_eui(out, value.destination_eui)?;
+    put_optional_eui(out, value.source_eui)?;
+    put_optional_byte(out, value.multicast)?;
+    put_optional_route(out, &value.route)?;
+    Ok(())
+}

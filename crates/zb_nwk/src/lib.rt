@@ -1,0 +1,16 @@
+//! NWK frames both ways (05-3474-21, 3.3.1 and 4.5.1): a frame of at most 127 bytes as a value, the reader with the
+//! first fault of other bytes, and the writer of the one spelling of a value.
+#![tactic(auto)]
+
+mod auxiliary;
+mod fault;
+mod frame;
+mod header;
+mod laws;
+
+pub use auxiliary::NwkAux;
+pub use fault::NwkError;
+pub use frame::{NwkFrame, read, write};
+pub use header::{NwkHeader, Route};
+pub use laws::round_trips;
+pub use zb_cursor::TooLong;
