@@ -3,7 +3,7 @@
 use Rattle.std.specs.Prelude.{ℕ, ◌+◌, min, Bool, true, false, not, if◌then◌else◌, ◌&&◌, ◌||◌, List, [], ◌∷◌, ◌++◌, filter, find, Option, Some, None, nat_eq, nat_le, flat_map, option_map, option_to_list}
 use Rattle.std.specs.List.{list_any}
 use Rattle.zb_model.specs.Data.{Bytes, Tier, Nwk, Aps, ForTransport, ForData, Sealing, Move, Active, Row, Became, Edit, Reserve, Floor, Start, Moved, Spot, AtNwk, AtAps, AtEvent, Reason, Malformed, Policy, Tunnel, Task, Received}
-use Rattle.zb_model.specs.State.{most, NetKey, LinkKey, NodeState, same_key, is_link, net_of, active_row, next_counter, stored_limit}
+use Rattle.zb_model.specs.State.{most, NetKey, LinkKey, NodeState, same_key, is_link, net_of, active_row, next_counter, stored_limit, applied_all, accepted, sealed}
 use Rattle.zb_model.specs.Fits.{net_stored, link_stored}
 use Rattle.zb_model.specs.Record.{stage_byte, trust_byte}
 use Rattle.zb_model.specs.Tools.{Tools, NwkSight, ApsSight, ApsAuxiliary, OrderSight, Known, Unknown, Broken, LeaveSight, Leave, Other, NoCommand}
@@ -200,12 +200,12 @@ abbrev pub sending_of : Outcome → Option Sending
 sending_of (Stop reason) = None
 sending_of (Does moves sending) = sending
 
+abbrev pub reason_of : Outcome → Option Reason
+reason_of (Stop reason) = Some reason
+reason_of (Does moves sending) = None
+
 abbrev pub refusal_of : Plan → Option Reason
 refusal_of p = reason_of p.outcome
-  where
-    reason_of : Outcome → Option Reason
-    reason_of (Stop reason) = Some reason
-    reason_of (Does moves sending) = None
 
 -- in the order of the lines: reserves, floors, and the rule's own changes
 unfoldable pub edits_of : NodeState → Counting → Plan → List Edit
@@ -241,12 +241,12 @@ reserve_of c s send layer =
     then Some (min (next_counter layer s + c.me.out_block) most) else None
 
 -- The stored floor of a term's sender under its key.
+abbrev pub stored_at : Tier → Sealing → NodeState → ℕ
+stored_at Nwk t s = net_stored t.source (net_of t.base s)
+stored_at Aps t s = link_stored (find (is_link t.source t.base) s.links)
+
 unfoldable pub stored_floor : Sealing → NodeState → ℕ
-stored_floor t s = stored_at t.layer
-  where
-    stored_at : Tier → ℕ
-    stored_at Nwk = net_stored t.source (net_of t.base s)
-    stored_at Aps = link_stored (find (is_link t.source t.base) s.links)
+stored_floor t s = stored_at t.layer t s
 
 -- A floor is stored where the accepted counter isn't below the stored one: a block above it.
 abbrev pub floor_for : Setting → NodeState → Sealing → Option ℕ
@@ -290,13 +290,13 @@ unfoldable pub answer : Tools → Setting → NodeState → Task → Answer
 answer tools c s task = let p = plan_of tools c s task in answer_by tools c s (counting_of c s p) p
 
 -- The state after an answer that was stored and handed out.
-unfoldable pub answered : Answer → NodeState → NodeState
-answered a s = sealed_all a.seals (accepted_all a.accepts (Rattle.zb_model.specs.State.applied_all a.edits s))
-  where
-    accepted_all : List Sealing → NodeState → NodeState
-    accepted_all [] s = s
-    accepted_all (t ∷ ts) s = accepted_all ts (Rattle.zb_model.specs.State.accepted t s)
+abbrev pub accepted_all : List Sealing → NodeState → NodeState
+accepted_all [] s = s
+accepted_all (t ∷ ts) s = accepted_all ts (accepted t s)
 
-    sealed_all : List Sealing → NodeState → NodeState
-    sealed_all [] s = s
-    sealed_all (t ∷ ts) s = sealed_all ts (Rattle.zb_model.specs.State.sealed t s)
+abbrev pub sealed_all : List Sealing → NodeState → NodeState
+sealed_all [] s = s
+sealed_all (t ∷ ts) s = sealed_all ts (sealed t s)
+
+unfoldable pub answered : Answer → NodeState → NodeState
+answered a s = sealed_all a.seals (accepted_all a.accepts (applied_all a.edits s))

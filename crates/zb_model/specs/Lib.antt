@@ -15,3 +15,4 @@ pub mod Play
 pub mod FirstPath
 pub mod Secrets
 pub mod Transcript
+pub mod Claims

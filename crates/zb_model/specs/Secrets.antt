@@ -38,20 +38,20 @@ key_of_sight Broken = None
 abbrev pub is_command_header : Bytes → Bool
 is_command_header header = nat_eq (get_or header 0 0 % 4) 1
 
+abbrev pub unsealed_key : Tools → ApsSight → Option ApsAuxiliary → Option Bytes
+unsealed_key tools a None = if a.is_command then key_of_sight (tools.read_order a.body) else None
+unsealed_key tools a (Some aux) = None
+
 abbrev pub clear_key : Tools → Option ApsSight → Option Bytes
 clear_key tools None = None
-clear_key tools (Some a) = unsealed_key a.auxiliary
-  where
-    unsealed_key : Option ApsAuxiliary → Option Bytes
-    unsealed_key None = if a.is_command then key_of_sight (tools.read_order a.body) else None
-    unsealed_key (Some aux) = None
+clear_key tools (Some a) = unsealed_key tools a a.auxiliary
+
+abbrev pub carried_at : Tier → Tools → Sealing → Option Bytes
+carried_at Aps tools t = if is_command_header t.header then key_of_sight (tools.read_order t.content) else None
+carried_at Nwk tools t = clear_key tools (tools.read_aps t.content)
 
 unfoldable pub carried : Tools → Sealing → Option Bytes
-carried tools t = carried_at t.layer
-  where
-    carried_at : Tier → Option Bytes
-    carried_at Aps = if is_command_header t.header then key_of_sight (tools.read_order t.content) else None
-    carried_at Nwk = clear_key tools (tools.read_aps t.content)
+carried tools t = carried_at t.layer tools t
 
 -- the terms of seal and forge lines
 abbrev pub terms_in : LogLine → List Sealing

@@ -305,12 +305,12 @@ abbrev pub next_at : ℕ → NetKey → NetKey
 next_at next r = record r { next = next }
 
 -- a term was sealed: the counter goes on from it
+abbrev pub sealed_at : Tier → Sealing → NodeState → NodeState
+sealed_at Nwk t s = record s { nets = at_net t.base (next_at (t.counter + 1)) s.nets }
+sealed_at Aps t s = record s { aps_next = t.counter + 1 }
+
 unfoldable pub sealed : Sealing → NodeState → NodeState
-sealed t s = sealed_at t.layer
-  where
-    sealed_at : Tier → NodeState
-    sealed_at Nwk = record s { nets = at_net t.base (next_at (t.counter + 1)) s.nets }
-    sealed_at Aps = record s { aps_next = t.counter + 1 }
+sealed t s = sealed_at t.layer t s
 
 -- the next counter of the layer is used
 unfoldable pub counted : Tier → NodeState → NodeState
@@ -372,9 +372,9 @@ unfoldable pub with_given_link : ℕ → Bytes → NodeState → NodeState
 with_given_link partner key s = record s { links = with_link partner key Provisional false s.links }
 
 abbrev pub declared_at : ℕ → NetKey → NetKey
-declared_at value r = if r.started then record r { limit = value; next = value } else r
+declared_at value r = if r.started then record r { limit = max r.limit value; next = max r.next value } else r
 
 -- the stored outgoing limit at the start
 unfoldable pub with_declared : Tier → ℕ → NodeState → NodeState
 with_declared Nwk value s = record s { declared = value; nets = map (declared_at value) s.nets }
-with_declared Aps value s = record s { aps_limit = value; aps_next = value }
+with_declared Aps value s = record s { aps_limit = max s.aps_limit value; aps_next = max s.aps_next value }

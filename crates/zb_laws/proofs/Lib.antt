@@ -1,0 +1,4 @@
+mod Basics
+mod Nets
+mod Counters
+mod FreshLines
