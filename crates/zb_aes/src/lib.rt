@@ -5,6 +5,7 @@
 
 ghost use Rattle.std.specs.Prelude.{◌≡◌};
 ghost use Rattle.zb_aes.specs.Block.{enciphered};
+ghost use Rattle.zb_aes.specs.Bytes.{xored};
 
 pub use schedule::Cipher;
 
@@ -20,4 +21,15 @@ pub fn encrypt(key: &[u8; 16], block: &[u8; 16]) -> [u8; 16]
     ensures { result ≡ enciphered key.now block.now }
 {
     Cipher::new(key).encrypt(block)
+}
+
+/// The sum of two blocks, byte by byte.
+pub fn sum(a: &[u8; 16], b: &[u8; 16]) -> [u8; 16]
+    ensures { result ≡ xored a.now b.now }
+{
+    let mut sum = [0; 16];
+    for i in 0..16 {
+        sum[i] = a[i] ^ b[i];
+    }
+    sum
 }

@@ -14,17 +14,6 @@ pub fn block_of(bytes: &[u8]) -> [u8; 16]
     block
 }
 
-/// The sum of two blocks.
-pub fn sum(a: &[u8; 16], b: &[u8; 16]) -> [u8; 16]
-    ensures { result ≡ xored a.now b.now }
-{
-    let mut sum = [0; 16];
-    for i in 0..16 {
-        sum[i] = a[i] ^ b[i];
-    }
-    sum
-}
-
 /// Adds a block to a piece of text that is no longer.
 pub fn add(piece: &mut [u8], block: &[u8; 16])
     requires { length piece.old ≤ 16 }

@@ -4,9 +4,9 @@ ghost use Rattle.std.specs.Prelude.{◌≡◌, ◌≤◌, ◌<◌, length, take}
 ghost use Rattle.zb_ccm.specs.Blocks.{block_at, blocks_of, chain};
 ghost use Rattle.zb_ccm.specs.Ccm.{code, counted, flags};
 
-use crate::blocks::{block_of, numbered, sum};
+use crate::blocks::{block_of, numbered};
 use crate::keystream::stream_block_of;
-use zb_aes::Cipher;
+use zb_aes::{Cipher, sum};
 
 // Chains the blocks of the bytes to a value.
 fn chained_bytes(cipher: &Cipher, start: [u8; 16], bytes: &[u8]) -> [u8; 16]

@@ -1,5 +1,5 @@
 use Rattle.std.proofs.Common.{◌≡◌, ℕ, ◌<◌, get_or, length, bit_xor}
-use Rattle.zb_ccm.proofs.blocks.sum.Given as goal
+use Rattle.zb_aes.proofs.sum.Given as goal
 
 abbrev pub invariant-loop-i : goal.invariant-loop-i
 invariant-loop-i l = record {

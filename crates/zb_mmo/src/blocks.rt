@@ -1,0 +1,69 @@
+//! The blocks of a padded message, one after the other.
+
+ghost use Rattle.std.specs.Prelude.{◌≡◌, ◌+◌, ◌-◌, ◌*◌, ◌%◌, ◌<◌, ◌≤◌, ◌∷◌, ◌++◌, length, take, replicate};
+ghost use Rattle.std.specs.Int.{w16, to_be_bytes};
+ghost use Rattle.zb_mmo.specs.Hash.{blocks_of, mixed, mixed_all, padding, zeros};
+
+use zb_aes::{encrypt, sum};
+
+/// The value after a block.
+pub fn mix(value: &[u8; 16], block: &[u8; 16]) -> [u8; 16]
+    ensures { result ≡ mixed value.now block.now }
+{
+    sum(&encrypt(value, block), block)
+}
+
+// Fewer than 16 bytes, with the bit that begins the padding, filled up with zeros.
+fn marked(bytes: &[u8]) -> [u8; 16]
+    requires { length bytes.now < 16 }
+    ensures { result ≡ bytes.now ++ 0x80 ∷ replicate (15 - length bytes.now) 0 }
+{
+    let mut block = [0; 16];
+    block[..bytes.len()].copy_from_slice(bytes);
+    block[bytes.len()] = 0x80;
+    block
+}
+
+// A block that ends with a number of bits.
+fn ended(block: &[u8; 16], bits: u16) -> [u8; 16]
+    ensures { result ≡ take 14 block.now ++ to_be_bytes w16 bits }
+{
+    let [a, b, c, d, e, f, g, h, i, j, k, l, m, n, _, _] = *block;
+    let [high, low] = bits.to_be_bytes();
+    [a, b, c, d, e, f, g, h, i, j, k, l, m, n, high, low]
+}
+
+// The value after the bytes that fill no block and the padding.
+fn padded_end(value: &[u8; 16], bytes: &[u8], bits: u16) -> [u8; 16]
+    requires { length bytes.now < 16 }
+    ensures { result ≡ mixed_all value.now
+        (blocks_of (bytes.now ++ (0x80 ∷ replicate (zeros (length bytes.now)) 0 ++ to_be_bytes w16 bits))) }
+{
+    let block = marked(bytes);
+    if bytes.len() < 14 {
+        mix(value, &ended(&block, bits))
+    } else {
+        mix(&mix(value, &block), &ended(&[0; 16], bits))
+    }
+}
+
+/// The value after the end of a message and its padding, where `before` bytes in whole blocks led to `value`.
+pub fn finished(value: [u8; 16], before: usize, bytes: &[u8]) -> [u8; 16]
+    requires whole { before % 16 ≡ 0 }
+    requires fits { before + length bytes.now ≤ 8191 }
+    ensures { result ≡ mixed_all value (blocks_of (bytes.now ++ padding (before + length bytes.now))) }
+{
+    let mut value = value;
+    let count = bytes.len() / 16;
+    for i in 0..count {
+        let mut block = [0; 16];
+        block.copy_from_slice(&bytes[16 * i..16 * i + 16]);
+        let next = mix(&value, &block);
+        value = next;
+    }
+    padded_end(
+        &value,
+        &bytes[16 * count..],
+        (8 * (before + bytes.len())) as u16,
+    )
+}
