@@ -2,6 +2,8 @@
 use Rattle.std.specs.Prelude.{Bool, true, false, List, map}
 use Rattle.zb_base.specs.declared.label.Layer.{Layer}
 use Rattle.zb_base.specs.declared.label.Layer.TheVariants as layer
+use Rattle.zb_base.specs.declared.node.Role.{Role}
+use Rattle.zb_base.specs.declared.node.Role.TheVariants as role
 use Rattle.zb_change.specs.declared.state.State.{State}
 use Rattle.zb_change.specs.declared.state.State.TheVariants as state
 use Rattle.zb_change.specs.declared.state.Attribute.{Attribute}
@@ -19,6 +21,11 @@ use Rattle.zb_model.specs.Data as model
 abbrev pub tier : Layer → model.Tier
 tier layer.Nwk = model.Nwk
 tier layer.Aps = model.Aps
+
+abbrev pub duty : Role → model.Duty
+duty role.Centre = model.Centre
+duty role.Router = model.Router
+duty role.Device = model.Device
 
 abbrev pub stage : State → model.Stage
 stage state.Fresh = model.Fresh

@@ -1,0 +1,5 @@
+pub mod Mapping
+pub mod SenderLemmas
+pub mod ShownLemmas
+pub mod StateLemmas
+pub mod RuleLemmas

@@ -1,0 +1,187 @@
+-- The rules for records stand where rows change only in what they do not speak of.
+use Rattle.std.proofs.Common.{◌≡◌, ℕ, ◌+◌, ◌<◌, ◌≤◌, List, [], ◌∷◌, ◌++◌, length, map, filter, refl, sym, ap, ◌∙◌, arith, Bool, true, false, not, if◌then◌else◌, ◌&&◌, ◌||◌, Option, Some, None, subst, max, min}
+use Rattle.std.specs.Prelude.{find, nat_le, nat_lt, nat_eq}
+use Rattle.std.specs.List.{list_any, list_all}
+use Rattle.std.proofs.lemmas.List.{length-map, map-append}
+use Rattle.zb_model.specs.Data.{Bytes, Tier, Nwk, Aps, Move, Draw, DropNet, DropLink, Install, Active, Row, Pair, Became, Live, Removed, Roll, Told, Untold, Edit, Reserve, Floor, Start, Moved}
+use Rattle.zb_model.specs.State.{NodeState, SenderFloor, NetKey, LinkKey, PairKey, same_key, net_of, live_nets, shown, shown_net, applied, applied_all, at_net, has_net, reserved, started_at, dropped_net, net_floor, new_net, of_active, is_told, most}
+use Rattle.zb_model.specs.Fits.{keeps_rules, rows_have_room, keys_differ, at_most_two_live, active_is_live, partners_agree, links_are_marked, floors_are_kept, limits_are_started, duty_is_kept, pairs_are_kept, senders_ascend, most_senders, row_is_live, all_apart, fits, all_fit, may_change}
+use Rattle.zb_keys.proofs.Mapping.{list_any-map}
+use Rattle.zb_keys.proofs.ShownLemmas.{filter-map, shown_twice}
+use Rattle.zb_keys.proofs.StateLemmas.{both, Rules, rules_of, rules_back}
+
+abbrev pub floors_rule : NetKey → Bool
+floors_rule r = nat_le (length r.floors) most_senders && (list_all (λ (f : SenderFloor). nat_lt 0 f.stored) r.floors && senders_ascend r.floors)
+
+abbrev pub limit_rule : NetKey → Bool
+limit_rule r = r.started || nat_eq r.limit 0
+
+pub any_same : {X : Type 0} (p q : X → Bool) → ((x : X) → p x ≡ q x) → (xs : List X) → list_any p xs ≡ list_any q xs
+any_same p q each [] = refl
+any_same p q each (x ∷ xs) = ap (λ b. b || list_any p xs) (each x) ∙ ap (λ b. q x || b) (any_same p q each xs)
+
+pub filter_same_tests : {X : Type 0} (p q : X → Bool) → ((x : X) → p x ≡ q x) → (xs : List X) → filter p xs ≡ filter q xs
+filter_same_tests p q each [] = refl
+filter_same_tests p q each (x ∷ xs) =
+    ap (λ b. if b then x ∷ filter p xs else filter p xs) (each x) ∙ ap (λ l. if q x then x ∷ l else l) (filter_same_tests p q each xs)
+
+pub apart_map : {X : Type 0} (alike : X → X → Bool) (g : X → X) → ((a b : X) → alike (g a) (g b) ≡ alike a b) → (xs : List X) → all_apart alike (map g xs) ≡ all_apart alike xs
+apart_map alike g each [] = refl
+apart_map alike g each (x ∷ xs) =
+    let first : list_any (alike (g x)) (map g xs) ≡ list_any (alike x) xs = list_any-map (alike (g x)) g xs ∙ any_same (λ y. alike (g x) (g y)) (alike x) (λ y. each x y) xs in
+    ap (λ b. not b && all_apart alike (map g xs)) first ∙ ap (λ b. not (list_any (alike x) xs) && b) (apart_map alike g each xs)
+
+pub all_map : {X : Type 0} (p : X → Bool) (g : X → X) → ((x : X) → p x ≡ true → p (g x) ≡ true) → (xs : List X) → list_all p xs ≡ true → list_all p (map g xs) ≡ true
+all_map p g each [] e = refl
+all_map p g each (x ∷ xs) e =
+    let parts = both (p x) (list_all p xs) e in
+    rw (each x parts.0) (all_map p g each xs parts.1)
+
+-- a change of network rows of which the rules say nothing
+pub record Mild (g : NetKey → NetKey) : Type 0 where
+  pub key : (r : NetKey) → (g r).key ≡ r.key
+  pub live : (r : NetKey) → (g r).live ≡ r.live
+  pub limit : (r : NetKey) → limit_rule r ≡ true → limit_rule (g r) ≡ true
+  pub floors : (r : NetKey) → floors_rule r ≡ true → floors_rule (g r) ≡ true
+
+found_live : (g : NetKey → NetKey) → Mild g → (key : Bytes) (nets : List NetKey) → row_is_live (find (λ (r : NetKey). same_key r.key key) (map g nets)) ≡ row_is_live (find (λ (r : NetKey). same_key r.key key) nets)
+found_live g mild key [] = refl
+found_live g mild key (r ∷ rs) =
+    ap (λ k. row_is_live (if same_key k key then Some (g r) else find (λ (x : NetKey). same_key x.key key) (map g rs))) (mild.key r)
+    ∙ at_test (same_key r.key key) (found_live g mild key rs)
+  where
+    at_test : (b : Bool) → row_is_live (find (λ (x : NetKey). same_key x.key key) (map g rs)) ≡ row_is_live (find (λ (x : NetKey). same_key x.key key) rs)
+      → row_is_live (if b then Some (g r) else find (λ (x : NetKey). same_key x.key key) (map g rs)) ≡ row_is_live (if b then Some r else find (λ (x : NetKey). same_key x.key key) rs)
+    at_test true e = mild.live r
+    at_test false e = e
+
+still_active : (g : NetKey → NetKey) → Mild g → (s : NodeState) (active : Option Bytes) → s.active ≡ active → active_is_live s ≡ true → active_is_live (record s { nets = map g s.nets }) ≡ true
+unfolding active_is_live
+still_active g mild s None none kept = rw none refl
+still_active g mild s (Some key) is kept = rw is (found_live g mild key s.nets ∙ rw is at kept)
+
+pub kept_by_map : (g : NetKey → NetKey) → Mild g → (s : NodeState) → keeps_rules s ≡ true → keeps_rules (record s { nets = map g s.nets }) ≡ true
+unfolding rows_have_room keys_differ at_most_two_live partners_agree links_are_marked floors_are_kept limits_are_started duty_is_kept pairs_are_kept
+kept_by_map g mild s kept =
+    let r = rules_of s kept in
+    let alike : (a b : NetKey) → same_key (g a).key (g b).key ≡ same_key a.key b.key = λ a b. ap (λ k. same_key k (g b).key) (mild.key a) ∙ ap (same_key a.key) (mild.key b) in
+    let keys : all_apart (λ (a b : NetKey). same_key a.key b.key) (map g s.nets) ≡ all_apart (λ (a b : NetKey). same_key a.key b.key) s.nets = apart_map (λ (a b : NetKey). same_key a.key b.key) g alike s.nets in
+    let lives : length (filter (λ (x : NetKey). x.live) (map g s.nets)) ≡ length (live_nets s) =
+        ap (length {A = NetKey}) (filter-map (λ (x : NetKey). x.live) g s.nets) ∙ length-map (filter (λ (x : NetKey). (g x).live) s.nets) g
+        ∙ ap (length {A = NetKey}) (filter_same_tests (λ (x : NetKey). (g x).live) (λ (x : NetKey). x.live) mild.live s.nets) in
+    let now : NodeState = record s { nets = map g s.nets } in
+    rules_back now (record {
+      room = rw (length-map s.nets g) r.room;
+      keys = ap (λ b. b && all_apart (λ (a b : LinkKey). same_key a.key b.key) s.links) keys ∙ r.keys;
+      two = ap (λ n. nat_le n 2) lives ∙ r.two;
+      active = still_active g mild s s.active refl r.active;
+      partners = r.partners; marks = r.marks;
+      floors = all_map floors_rule g mild.floors s.nets r.floors;
+      limits = all_map limit_rule g mild.limit s.nets r.limits;
+      duty_kept = r.duty_kept; pairs_kept = r.pairs_kept })
+
+shown_is_mild : Mild shown_net
+shown_is_mild = record {
+    key = λ r. refl; live = λ r. refl; limit = λ r e. e;
+    floors = λ r e. at_test r r.live e }
+  where
+    at_test : (r : NetKey) (b : Bool) → floors_rule r ≡ true → floors_rule (record r { live = b; floors = if b then r.floors else [] }) ≡ true
+    at_test r true e = e
+    at_test r false e = refl
+
+pub rules_shown : (s : NodeState) → keeps_rules s ≡ true → keeps_rules (shown s) ≡ true
+unfolding shown
+rules_shown s kept = kept_by_map shown_net shown_is_mild s kept
+
+-- What is shown after a change does not depend on floors that were not shown before.
+again_at : (key : Bytes) (f : NetKey → NetKey) → ((r : NetKey) → shown_net (f (shown_net r)) ≡ shown_net (f r)) → (nets : List NetKey) → map shown_net (at_net key f (map shown_net nets)) ≡ map shown_net (at_net key f nets)
+again_at key f each [] = refl
+again_at key f each (r ∷ rs) =
+    ap (λ l. shown_net (if same_key r.key key then f (shown_net r) else shown_net r) ∷ l) (again_at key f each rs)
+    ∙ ap (λ x. x ∷ map shown_net (at_net key f rs)) (at_test (same_key r.key key) r.live)
+  where
+    twice : (b : Bool) → record r { live = b; floors = if b then (if b then r.floors else []) else [] } ≡ record r { live = b; floors = if b then r.floors else [] }
+    twice true = refl
+    twice false = refl
+    at_test : (b live : Bool) → shown_net (if b then f (shown_net r) else shown_net r) ≡ shown_net (if b then f r else r)
+    at_test true live = each r
+    at_test false live = twice r.live
+
+floor_again : (sender value : ℕ) (r : NetKey) → shown_net (net_floor sender value (shown_net r)) ≡ shown_net (net_floor sender value r)
+floor_again sender value r = by_live r.live
+  where
+    by_live : (b : Bool) → shown_net (net_floor sender value (shown_net (record r { live = b }))) ≡ shown_net (net_floor sender value (record r { live = b }))
+    by_live true = refl
+    by_live false = refl
+
+reserved_again : (limit : ℕ) (r : NetKey) → shown_net (reserved limit (shown_net r)) ≡ shown_net (reserved limit r)
+reserved_again limit r = by_live r.live
+  where
+    by_live : (b : Bool) → shown_net (reserved limit (shown_net (record r { live = b }))) ≡ shown_net (reserved limit (record r { live = b }))
+    by_live true = refl
+    by_live false = refl
+
+started_again : (value : ℕ) (r : NetKey) → shown_net (started_at value (shown_net r)) ≡ shown_net (started_at value r)
+started_again value r = by_live r.live
+  where
+    by_live : (b : Bool) → shown_net (started_at value (shown_net (record r { live = b }))) ≡ shown_net (started_at value (record r { live = b }))
+    by_live true = refl
+    by_live false = refl
+
+installed_again : (key : Bytes) (sequence : ℕ) (nets : List NetKey) → map shown_net (if has_net key (map shown_net nets) then map shown_net nets else map shown_net nets ++ new_net key sequence ∷ []) ≡ map shown_net (if has_net key nets then nets else nets ++ new_net key sequence ∷ [])
+installed_again key sequence nets =
+    ap (λ b. map shown_net (if b then map shown_net nets else map shown_net nets ++ new_net key sequence ∷ [])) (list_any-map (λ (r : NetKey). same_key r.key key) shown_net nets)
+    ∙ at_test (has_net key nets)
+  where
+    at_test : (b : Bool) → map shown_net (if b then map shown_net nets else map shown_net nets ++ new_net key sequence ∷ []) ≡ map shown_net (if b then nets else nets ++ new_net key sequence ∷ [])
+    at_test true = shown_twice nets
+    at_test false = map-append shown_net (map shown_net nets) (new_net key sequence ∷ []) ∙ ap (λ l. l ++ new_net key sequence ∷ []) (shown_twice nets) ∙ sym (map-append shown_net nets (new_net key sequence ∷ []))
+
+active_again : (limit : ℕ) (active : Option Bytes) (nets : List NetKey) → map shown_net (of_active (reserved limit) active (map shown_net nets)) ≡ map shown_net (of_active (reserved limit) active nets)
+active_again limit None nets = shown_twice nets
+active_again limit (Some key) nets = again_at key (reserved limit) (reserved_again limit) nets
+
+pub shown_applied : (e : Edit) (s : NodeState) → shown (applied e (shown s)) ≡ shown (applied e s)
+unfolding shown applied is_told
+shown_applied (Reserve Nwk limit) s = ap (λ l. record s { nets = l }) (active_again limit s.active s.nets)
+shown_applied (Reserve Aps limit) s = ap (λ l. record s { nets = l; aps_limit = max s.aps_limit (min limit most) }) (shown_twice s.nets)
+shown_applied (Floor Nwk key sender value) s = ap (λ l. record s { nets = l }) (again_at key (net_floor sender value) (floor_again sender value) s.nets)
+shown_applied (Floor Aps key sender value) s = ap (λ l. record (applied (Floor Aps key sender value) s) { nets = l }) (shown_twice s.nets)
+shown_applied (Start key value) s = ap (λ l. record s { nets = l }) (again_at key (started_at value) (started_again value) s.nets)
+shown_applied (Moved (Draw key)) s = ap (λ l. record s { nets = l }) (shown_twice s.nets)
+shown_applied (Moved (DropNet key)) s = ap (λ l. record s { nets = l }) (again_at key dropped_net (λ r. refl) s.nets)
+shown_applied (Moved (DropLink partner key)) s = ap (λ l. record (applied (Moved (DropLink partner key)) s) { nets = l }) (shown_twice s.nets)
+shown_applied (Moved (Install key sequence)) s = ap (λ l. record s { nets = l }) (installed_again key sequence s.nets)
+shown_applied (Moved (Active key)) s = ap (λ l. record (applied (Moved (Active key)) s) { nets = l }) (shown_twice s.nets)
+shown_applied (Moved (Row partner key trust)) s = ap (λ l. record (applied (Moved (Row partner key trust)) s) { nets = l }) (shown_twice s.nets)
+shown_applied (Moved (Pair first second key)) s = ap (λ l. record (applied (Moved (Pair first second key)) s) { nets = l }) (shown_twice s.nets)
+shown_applied (Moved (Became stage)) s = ap (λ l. record (applied (Moved (Became stage)) s) { nets = l }) (shown_twice s.nets)
+shown_applied (Moved (Live device)) s = ap (λ l. record (applied (Moved (Live device)) s) { nets = l }) (shown_twice s.nets)
+shown_applied (Moved (Removed device)) s = ap (λ l. record (applied (Moved (Removed device)) s) { nets = l }) (shown_twice s.nets)
+shown_applied (Moved (Roll sending)) s = ap (λ l. record (applied (Moved (Roll sending)) s) { nets = l }) (shown_twice s.nets)
+shown_applied (Moved (Told device)) s = ap (λ l. record (applied (Moved (Told device)) s) { nets = l }) (shown_twice s.nets)
+shown_applied (Moved (Untold device)) s = ap (λ l. record (applied (Moved (Untold device)) s) { nets = l }) (shown_twice s.nets)
+
+-- A change that fits leaves the rules.
+move_kept : (m : Move) (s : NodeState) → fits (Moved m) s ≡ true → keeps_rules (shown s) ≡ true → keeps_rules (shown (applied (Moved m) s)) ≡ true
+unfolding fits applied
+move_kept (Draw key) s fit kept = kept
+move_kept (DropNet key) s fit kept = rules_shown _ (both (may_change (Moved (DropNet key)) s) _ fit).1
+move_kept (DropLink partner key) s fit kept = rules_shown _ (both (may_change (Moved (DropLink partner key)) s) _ fit).1
+move_kept (Install key sequence) s fit kept = rules_shown _ (both (may_change (Moved (Install key sequence)) s) _ fit).1
+move_kept (Active key) s fit kept = rules_shown _ (both (may_change (Moved (Active key)) s) _ fit).1
+move_kept (Row partner key trust) s fit kept = rules_shown _ (both (may_change (Moved (Row partner key trust)) s) _ fit).1
+move_kept (Pair first second key) s fit kept = rules_shown _ (both (may_change (Moved (Pair first second key)) s) _ fit).1
+move_kept (Became stage) s fit kept = rules_shown _ (both (may_change (Moved (Became stage)) s) _ fit).1
+move_kept (Live device) s fit kept = rules_shown _ (both (may_change (Moved (Live device)) s) _ fit).1
+move_kept (Removed device) s fit kept = rules_shown _ (both (may_change (Moved (Removed device)) s) _ fit).1
+move_kept (Roll sending) s fit kept = rules_shown _ (both (may_change (Moved (Roll sending)) s) _ fit).1
+move_kept (Told device) s fit kept = rules_shown _ (both (may_change (Moved (Told device)) s) _ fit).1
+move_kept (Untold device) s fit kept = rules_shown _ (both (may_change (Moved (Untold device)) s) _ fit).1
+
+pub fits_kept : (e : Edit) (s : NodeState) → fits e s ≡ true → keeps_rules (shown s) ≡ true → keeps_rules (shown (applied e s)) ≡ true
+unfolding fits
+fits_kept (Reserve layer limit) s fit kept = rules_shown _ (both (may_change (Reserve layer limit) s) _ fit).1
+fits_kept (Floor layer key sender value) s fit kept = rules_shown _ (both (may_change (Floor layer key sender value) s) _ fit).1
+fits_kept (Start key value) s fit kept = rules_shown _ (both (may_change (Start key value) s) _ fit).1
+fits_kept (Moved m) s fit kept = move_kept m s fit kept

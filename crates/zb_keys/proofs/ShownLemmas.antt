@@ -1,0 +1,87 @@
+-- What tables show of a state after a change: they keep no floors of dropped network keys.
+use Rattle.std.proofs.Common.{◌≡◌, ℕ, ◌+◌, ◌<◌, ◌≤◌, List, [], ◌∷◌, ◌++◌, length, map, filter, refl, sym, ap, ◌∙◌, arith, Bool, true, false, not, if◌then◌else◌, length-append, cond, Option, Some, None, max, min}
+use Rattle.std.specs.Prelude.{bytes_eq}
+use Rattle.std.specs.List.{list_any}
+use Rattle.std.proofs.lemmas.List.{map-append, length-map}
+use Rattle.zb_model.specs.Data.{Bytes}
+use Rattle.zb_model.specs.State.{NetKey, LinkKey, PairKey, at_net, has_net, same_key, shown_net, reserved, started_at, dropped_net, net_floor, new_net, of_active}
+use Rattle.zb_keys.specs.declared.net.NetRow.{NetRow}
+use Rattle.zb_keys.specs.Rows.{net_key}
+use Rattle.zb_keys.specs.Senders.{live_floor}
+use Rattle.zb_keys.proofs.Mapping.{list_any-map}
+
+-- a change of one key's row
+pub shown_at : (key : Bytes) (f g : NetKey → NetKey) → ((r : NetKey) → shown_net r ≡ r → shown_net (f r) ≡ g r) → (nets : List NetKey) → map shown_net nets ≡ nets → map shown_net (at_net key f nets) ≡ at_net key g nets
+shown_at key f g each [] e = refl
+shown_at key f g each (r ∷ rs) e =
+    let head : shown_net r ≡ r = cc in
+    let tail : map shown_net rs ≡ rs = cc in
+    let here : shown_net (if same_key r.key key then f r else r) ≡ (if same_key r.key key then g r else r) = at_test (same_key r.key key) head in
+    let there = shown_at key f g each rs tail in
+    cc
+  where
+    at_test : (b : Bool) → shown_net r ≡ r → shown_net (if b then f r else r) ≡ (if b then g r else r)
+    at_test true head = each r head
+    at_test false head = head
+
+pub shown_reserved : (key : Bytes) (limit : ℕ) (nets : List NetKey) → map shown_net nets ≡ nets → map shown_net (at_net key (reserved limit) nets) ≡ at_net key (reserved limit) nets
+shown_reserved key limit nets e = shown_at key (reserved limit) (reserved limit) (λ r same. ap (reserved limit) same) nets e
+
+pub shown_started : (key : Bytes) (value : ℕ) (nets : List NetKey) → map shown_net nets ≡ nets → map shown_net (at_net key (started_at value) nets) ≡ at_net key (started_at value) nets
+shown_started key value nets e = shown_at key (started_at value) (started_at value) (λ r same. ap (started_at value) same) nets e
+
+pub shown_dropped : (key : Bytes) (nets : List NetKey) → map shown_net nets ≡ nets → map shown_net (at_net key dropped_net nets) ≡ at_net key (λ r. shown_net (dropped_net r)) nets
+shown_dropped key nets e = shown_at key dropped_net (λ r. shown_net (dropped_net r)) (λ r same. refl) nets e
+
+shown_floor : (sender value : ℕ) (r : NetKey) → shown_net r ≡ r → shown_net (net_floor sender value r) ≡ live_floor sender value r
+shown_floor sender value r same = by_live r.live refl
+  where
+    by_live : (b : Bool) → r.live ≡ b → shown_net (net_floor sender value r) ≡ live_floor sender value r
+    by_live true live = rw live refl
+    by_live false dead = rw dead (rw dead at same)
+
+pub shown_stored : (key : Bytes) (sender value : ℕ) (nets : List NetKey) → map shown_net nets ≡ nets → map shown_net (at_net key (net_floor sender value) nets) ≡ at_net key (live_floor sender value) nets
+shown_stored key sender value nets e = shown_at key (net_floor sender value) (live_floor sender value) (shown_floor sender value) nets e
+
+-- a new key, where there is none, and where there is one
+pub installed_new : (rows : List NetRow) (row : NetRow) (key : Bytes) (sequence : ℕ) → list_any (λ (r : NetRow). same_key (net_key r).key key) rows ≡ false → net_key row ≡ new_net key sequence → map shown_net (map net_key rows) ≡ map net_key rows
+    → map net_key (rows ++ row ∷ []) ≡ map shown_net (if has_net key (map net_key rows) then map net_key rows else map net_key rows ++ new_net key sequence ∷ [])
+installed_new rows row key sequence none is e =
+    let absent : has_net key (map net_key rows) ≡ false = list_any-map (λ (r : NetKey). same_key r.key key) net_key rows ∙ none in
+    rw absent (map-append net_key rows (row ∷ [])
+      ∙ ap (λ z. map net_key rows ++ z ∷ []) is
+      ∙ ap (λ l. l ++ new_net key sequence ∷ []) (sym e)
+      ∙ sym (map-append shown_net (map net_key rows) (new_net key sequence ∷ [])))
+
+pub installed_same : (rows : List NetRow) (key : Bytes) (sequence : ℕ) → list_any (λ (r : NetRow). same_key (net_key r).key key) rows ≡ true → map shown_net (map net_key rows) ≡ map net_key rows
+    → map net_key rows ≡ map shown_net (if has_net key (map net_key rows) then map net_key rows else map net_key rows ++ new_net key sequence ∷ [])
+installed_same rows key sequence some e =
+    let present : has_net key (map net_key rows) ≡ true = list_any-map (λ (r : NetKey). same_key r.key key) net_key rows ∙ some in
+    rw present (sym e)
+
+pub installed_room : (rows : List NetRow) (key : Bytes) (sequence room : ℕ) → list_any (λ (r : NetRow). same_key (net_key r).key key) rows ≡ false
+    → length (if has_net key (map net_key rows) then map net_key rows else map net_key rows ++ new_net key sequence ∷ []) ≤ room → length rows < room
+installed_room rows key sequence room none fits =
+    let absent : has_net key (map net_key rows) ≡ false = list_any-map (λ (r : NetKey). same_key r.key key) net_key rows ∙ none in
+    let long : length (map net_key rows ++ new_net key sequence ∷ []) ≤ room = rw absent at fits in
+    omega (arith, length-append (map net_key rows) (new_net key sequence ∷ []), length-map rows net_key)
+
+pub filter-map : {X Y : Type 0} (p : Y → Bool) (view : X → Y) (xs : List X) → filter p (map view xs) ≡ map view (filter (λ x. p (view x)) xs)
+filter-map p view [] = refl
+filter-map p view (x ∷ xs) = at_test (p (view x)) (filter-map p view xs)
+  where
+    at_test : (b : Bool) → filter p (map view xs) ≡ map view (filter (λ y. p (view y)) xs)
+      → (if b then view x ∷ filter p (map view xs) else filter p (map view xs)) ≡ map view (if b then x ∷ filter (λ y. p (view y)) xs else filter (λ y. p (view y)) xs)
+    at_test true e = ap (λ l. view x ∷ l) e
+    at_test false e = e
+
+pub shown_twice : (nets : List NetKey) → map shown_net (map shown_net nets) ≡ map shown_net nets
+shown_twice [] = refl
+shown_twice (r ∷ rs) = ap (λ x. x ∷ map shown_net (map shown_net rs)) (again r) ∙ ap (λ l. shown_net r ∷ l) (shown_twice rs)
+  where
+    again : (r : NetKey) → shown_net (shown_net r) ≡ shown_net r
+    again r = by_live r.live
+      where
+        by_live : (b : Bool) → record r { live = b; floors = if b then (if b then r.floors else []) else [] } ≡ record r { live = b; floors = if b then r.floors else [] }
+        by_live true = refl
+        by_live false = refl

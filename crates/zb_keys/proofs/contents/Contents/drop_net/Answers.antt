@@ -1,0 +1,13 @@
+use Rattle.std.proofs.Common.{rules, ◌≡◌, ◌∙◌, sym, ap, arith, map, refl, length, ◌<◌, ◌≤◌}
+use Rattle.std.specs.Prelude.{vec_len, vec_capacity}
+use Rattle.zb_model.specs.State.{NodeState, at_net, applied, shown, shown_net, dropped_net, reserved, started_at}
+use Rattle.zb_keys.specs.Rows.{net_key, link_key, pair_key}
+use Rattle.zb_keys.specs.Senders.{live_floor}
+use Rattle.zb_keys.specs.Tables.{state_of, active_bytes, Becomes}
+use Rattle.zb_keys.proofs.StateLemmas.{becomes_nets, dropped_state}
+use Rattle.zb_keys.proofs.contents.Contents.drop_net.Goals as goal
+
+pub returns : goal.returns
+returns c = becomes_nets _ c.args.self.now c.drop_net.new.rows (c.drop_net.auto.rows ∙ c.deref_mut.ensures.len)
+    (dropped_state (state_of c.args.self.now) c.args.key.now.0 (map net_key c.drop_net.new.rows) c.requires
+      (c.drop_net.ensures ∙ ap (λ l. at_net c.args.key.now.0 (λ r. shown_net (dropped_net r)) (map net_key l)) c.deref_mut.ensures.value))

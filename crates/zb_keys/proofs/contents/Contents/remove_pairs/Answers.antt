@@ -1,0 +1,20 @@
+use Rattle.std.proofs.Common.{rules, ◌≡◌, ◌∙◌, sym, ap, arith, map, refl, length, ◌<◌, ◌≤◌, subst, ◌&&◌, true, false, Bool}
+use Rattle.std.specs.Prelude.{vec_len, vec_capacity}
+use Rattle.std.specs.List.{list_any}
+use Rattle.zb_change.specs.Changes.{trust}
+use Rattle.zb_model.specs.State.{NodeState, at_net, at_link, applied, shown, shown_net, same_key, is_link, is_live_of, names_two, revived}
+use Rattle.zb_keys.specs.declared.net.NetRow.{NetRow}
+use Rattle.zb_keys.specs.declared.link.LinkRow.{LinkRow}
+use Rattle.zb_keys.specs.declared.pair.Pair as program
+use Rattle.zb_keys.specs.Rows.{net_key, link_key, pair_key}
+use Rattle.zb_keys.specs.Tables.{state_of, active_bytes, Becomes}
+use Rattle.std.proofs.Common.{not}
+use Rattle.zb_model.specs.State.{PairKey, names}
+use Rattle.zb_keys.proofs.ShownLemmas.{filter-map}
+use Rattle.zb_keys.proofs.StateLemmas.{removed_state}
+use Rattle.zb_keys.proofs.contents.Contents.remove_pairs.Goals as goal
+
+pub returns : goal.returns
+returns c = record {
+    state = removed_state (state_of c.args.self.now) c.args.device.0 _ c.requires (ap (map pair_key) c.drop_pairs.ensures.kept ∙ sym (filter-map (λ (p : PairKey). not (names c.args.device.0 p)) pair_key c.args.self.now.pairs.items));
+    role = refl; nets_room = search rules; links_room = search rules; pairs_room = search rules }

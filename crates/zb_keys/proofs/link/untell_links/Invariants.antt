@@ -1,0 +1,9 @@
+use Rattle.std.proofs.Common.{if◌then◌else◌, false}
+use Rattle.zb_model.specs.State.{LinkKey, is_link, is_live_of, dropped_link, link_floor, revived, told_as}
+use Rattle.zb_change.specs.Changes.{trust}
+use Rattle.zb_keys.specs.Rows.{link_key}
+use Rattle.zb_keys.proofs.Mapping.{Mapped}
+use Rattle.zb_keys.proofs.link.untell_links.Given as goal
+
+abbrev pub invariant-loop-row : goal.invariant-loop-row
+invariant-loop-row l = Mapped link_key (λ (r : LinkKey). told_as false r) l.row-index l.initial.rows l.rows

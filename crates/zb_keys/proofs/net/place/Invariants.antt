@@ -1,0 +1,8 @@
+use Rattle.std.proofs.Common.{◌≡◌, ℕ, ◌++◌, map, take, drop}
+use Rattle.zb_model.specs.State.{floor_stored}
+use Rattle.zb_keys.specs.Rows.{heard_floor}
+use Rattle.zb_keys.proofs.SenderLemmas.{Passed}
+use Rattle.zb_keys.proofs.net.place.Given as goal
+
+abbrev pub invariant-loop-i : goal.invariant-loop-i
+invariant-loop-i l = Passed l.floors l.sender.0 l.i

@@ -1,0 +1,40 @@
+-- What the tables of a node hold, as the model's state of a node, and what they keep of themselves.
+use Rattle.std.specs.Prelude.{◌≡◌, ℕ, ◌≤◌, true, map, Option, Some, None, vec_capacity}
+use Rattle.zb_base.specs.declared.key.Key.{Key}
+use Rattle.zb_change.specs.Changes.{duty, stage, is_sending}
+use Rattle.zb_keys.specs.declared.contents.Contents.{Contents}
+use Rattle.zb_keys.specs.Rows.{net_key, link_key, pair_key}
+use Rattle.zb_model.specs.Data.{Bytes}
+use Rattle.zb_model.specs.State.{NodeState, shown_net}
+use Rattle.zb_model.specs.Fits.{keeps_rules, most_nets, most_links, most_pairs}
+
+abbrev pub active_bytes : Option Key → Option Bytes
+active_bytes None = None
+active_bytes (Some key) = Some key.0
+
+abbrev pub state_of : Contents → NodeState
+state_of a = record {
+    duty = duty a.role; stage = stage a.state; declared = a.declared; aps_limit = a.aps_limit; aps_next = a.aps_next;
+    sending = is_sending a.rolling; nets = map net_key a.nets.items; active = active_bytes a.active;
+    links = map link_key a.links.items; pairs = map pair_key a.pairs.items }
+
+-- a dropped network key keeps no floors
+abbrev pub Forgets : NodeState → Type 0
+Forgets s = map shown_net s.nets ≡ s.nets
+
+-- What holds of the contents of tables at all times: the rules for records, no floors of dropped network keys, and room
+-- for all rows that there may be.
+pub record IsSound (a : Contents) : Type 0 where
+  pub rules : keeps_rules (state_of a) ≡ true
+  pub forgets : Forgets (state_of a)
+  pub nets_room : most_nets ≤ vec_capacity a.nets
+  pub links_room : most_links (duty a.role) ≤ vec_capacity a.links
+  pub pairs_room : most_pairs ≤ vec_capacity a.pairs
+
+-- The contents have that state now, and no less room than before.
+pub record Becomes (now : NodeState) (old new : Contents) : Type 0 where
+  pub state : state_of new ≡ now
+  pub role : new.role ≡ old.role
+  pub nets_room : vec_capacity old.nets ≤ vec_capacity new.nets
+  pub links_room : vec_capacity old.links ≤ vec_capacity new.links
+  pub pairs_room : vec_capacity old.pairs ≤ vec_capacity new.pairs

@@ -1,0 +1,14 @@
+//! The tables of a node: its network keys with their floors, its link keys, its counters and, at the centre, the keys
+//! of pairs of devices.
+#![tactic(auto)]
+
+mod contents;
+mod link;
+mod net;
+mod pair;
+mod tables;
+
+pub use link::LinkRow;
+pub use net::{NetRow, SenderFloor};
+pub use pair::Pair;
+pub use tables::Tables;

@@ -1,0 +1,231 @@
+//! Rows of network keys.
+ghost use Rattle.std.specs.Prelude.{◌≡◌, ◌+◌, ◌<◌, ◌≤◌, [], ◌∷◌, ◌++◌, ℕ, List, length, map, take, drop, min, if◌then◌else◌, nat_eq, All, IsTrue, IsFalse};
+ghost use Rattle.std.specs.List.{list_any};
+ghost use Rattle.zb_keys.specs.Rows.{net_key, heard_floor};
+ghost use Rattle.zb_model.specs.State.{most, at_net, new_net, same_key, reserved, started_at, dropped_net, shown_net, next_at, net_floor, net_kept, floor_stored, floor_kept};
+ghost use Rattle.zb_keys.specs.Senders.{IsPlace, IsAbsent, HasRoom, live_floor};
+
+use arrayvec::ArrayVec;
+use zb_base::{Eui, Key};
+
+/// The floor of one sender under a network key.
+#[derive(Clone, Copy, Debug, Default, PartialEq, Eq)]
+pub struct SenderFloor {
+    /// Whose frames.
+    pub sender: Eui,
+    /// The least counter that is taken now.
+    pub kept: u32,
+    /// The least counter that is taken after a boot. It is stored, and never 0.
+    pub stored: u32,
+}
+
+/// The floors under one network key, by ascending sender.
+pub(crate) type Senders = ArrayVec<SenderFloor, 64>;
+
+/// A network key. A row is never taken away: a dropped key is refused when it comes again.
+#[derive(Debug, Drop)]
+pub struct NetRow {
+    /// The key.
+    pub key: Key,
+    /// Its sequence number, by which a frame names it.
+    pub sequence: u8,
+    /// Whether it is in use.
+    pub live: bool,
+    /// Whether it was ever the active one.
+    pub started: bool,
+    /// Its outgoing counters below this one are reserved.
+    pub limit: u32,
+    /// The outgoing counter of the next frame under it.
+    pub(crate) next: u32,
+    /// The floors under it, none once the key is dropped.
+    pub(crate) floors: Senders,
+}
+
+impl NetRow {
+    /// A key that was just installed.
+    pub(crate) fn installed(key: Key, sequence: u8) -> NetRow
+        ensures { net_key result ≡ new_net key.0 sequence }
+    {
+        NetRow {
+            key,
+            sequence,
+            live: true,
+            started: false,
+            limit: 0,
+            next: 0,
+            floors: ArrayVec::new(),
+        }
+    }
+
+    /// Drops the row and forgets its floors, if it has that key.
+    pub(crate) fn drop_at(&mut self, key: &Key)
+        ensures { net_key self.new ≡ (if same_key (net_key self.old).key key.now.0 then shown_net (dropped_net (net_key self.old)) else net_key self.old) }
+    {
+        if self.key == *key {
+            self.live = false;
+            self.floors.clear();
+        }
+    }
+
+    /// Reserves outgoing counters up to a limit, if the row has that key. A limit never falls.
+    pub(crate) fn reserve_at(&mut self, key: &Key, limit: u32)
+        ensures { net_key self.new ≡ (if same_key (net_key self.old).key key.now.0 then reserved limit (net_key self.old) else net_key self.old) }
+    {
+        if self.key == *key {
+            self.started = true;
+            self.limit = self.limit.max(limit);
+        }
+    }
+
+    /// Begins counting at a value, if the row has that key.
+    pub(crate) fn start_at(&mut self, key: &Key, value: u32)
+        ensures { net_key self.new ≡ (if same_key (net_key self.old).key key.now.0 then started_at value (net_key self.old) else net_key self.old) }
+    {
+        if self.key == *key {
+            self.started = true;
+            self.limit = self.limit.max(value);
+            self.next = self.next.max(value);
+        }
+    }
+
+    /// Uses the next outgoing counter, if the row has that key. It ends at the greatest number.
+    pub(crate) fn count_at(&mut self, key: &Key)
+        ensures { net_key self.new ≡ (if same_key (net_key self.old).key key.now.0 then next_at (min ((net_key self.old).next + 1) most) (net_key self.old) else net_key self.old) }
+    {
+        if self.key == *key {
+            self.next = self.next.saturating_add(1);
+        }
+    }
+
+    /// Stores a sender's floor, if the row has that key and is in use.
+    pub(crate) fn store_at(&mut self, key: &Key, sender: Eui, value: u32)
+        requires { HasRoom (if same_key (net_key self.old).key key.now.0 then live_floor sender.0 value (net_key self.old) else net_key self.old) }
+        ensures { net_key self.new ≡ (if same_key (net_key self.old).key key.now.0 then live_floor sender.0 value (net_key self.old) else net_key self.old) }
+    {
+        if self.key == *key && self.live {
+            store(&mut self.floors, sender, value);
+        }
+    }
+
+    /// Keeps what was accepted of a sender.
+    pub(crate) fn hear(&mut self, sender: Eui, kept: u32)
+        ensures { net_key self.new ≡ net_kept sender.0 kept (net_key self.old) }
+    {
+        hear(&mut self.floors, sender, kept);
+    }
+}
+
+/// The place of a sender's floor among those by ascending sender: that of the first sender that isn't below it.
+fn place(floors: &[SenderFloor], sender: Eui) -> usize
+    ensures { IsPlace floors.now sender.0 result }
+{
+    for (i, floor) in floors.iter().enumerate() {
+        if floor.sender.0 >= sender.0 {
+            return i;
+        }
+    }
+    floors.len()
+}
+
+/// Stores a sender's floor. A stored floor never falls.
+fn store(floors: &mut Senders, sender: Eui, value: u32)
+    requires { length (floor_stored sender.0 value (map heard_floor floors.old.items)) ≤ 64 }
+    ensures { map heard_floor floors.new.items ≡ floor_stored sender.0 value (map heard_floor floors.old.items) }
+{
+    let at = place(floors.as_slice(), sender);
+    if !raise(floors.as_mut_slice(), at, sender, value) {
+        let floor = SenderFloor {
+            sender,
+            kept: 0,
+            stored: value,
+        };
+        floors.insert(at, floor);
+    }
+}
+
+/// Raises the floor at the sender's place, if it is of that sender.
+fn raise(floors: &mut [SenderFloor], at: usize, sender: Eui, value: u32) -> bool
+    requires { IsPlace floors.old sender.0 at }
+    ensures raised { IsTrue result → map heard_floor floors.new ≡ floor_stored sender.0 value (map heard_floor floors.old) }
+    ensures absent { IsFalse result → (floors.new ≡ floors.old) × IsAbsent floors.old sender.0 at }
+{
+    if at < floors.len() && floors[at].sender.0 == sender.0 {
+        floors[at].stored = floors[at].stored.max(value);
+        true
+    } else {
+        false
+    }
+}
+
+/// Keeps what was accepted of a sender, where a floor of it was stored.
+fn hear(floors: &mut [SenderFloor], sender: Eui, kept: u32)
+    ensures { map heard_floor floors.new ≡ floor_kept sender.0 kept (map heard_floor floors.old) }
+{
+    for floor in floors.iter_mut() {
+        floor.hear(sender, kept);
+    }
+}
+
+impl SenderFloor {
+    /// Keeps what was accepted, if the floor is of that sender.
+    fn hear(&mut self, sender: Eui, kept: u32)
+        ensures { heard_floor self.new ≡ (if nat_eq (heard_floor self.old).sender sender.0 then record (heard_floor self.old) { kept = kept } else heard_floor self.old) }
+    {
+        if self.sender == sender {
+            self.kept = kept;
+        }
+    }
+}
+
+/// Drops the row of a key and forgets its floors.
+pub(crate) fn drop_net(rows: &mut [NetRow], key: &Key)
+    ensures { map net_key rows.new ≡ at_net key.now.0 (λ r. shown_net (dropped_net r)) (map net_key rows.old) }
+{
+    for row in rows.iter_mut() {
+        row.drop_at(key);
+    }
+}
+
+/// Reserves outgoing counters of a key.
+pub(crate) fn reserve_net(rows: &mut [NetRow], key: &Key, limit: u32)
+    ensures { map net_key rows.new ≡ at_net key.now.0 (reserved limit) (map net_key rows.old) }
+{
+    for row in rows.iter_mut() {
+        row.reserve_at(key, limit);
+    }
+}
+
+/// Begins counting under a key.
+pub(crate) fn start_net(rows: &mut [NetRow], key: &Key, value: u32)
+    ensures { map net_key rows.new ≡ at_net key.now.0 (started_at value) (map net_key rows.old) }
+{
+    for row in rows.iter_mut() {
+        row.start_at(key, value);
+    }
+}
+
+/// Uses the next outgoing counter of a key.
+pub(crate) fn count_net(rows: &mut [NetRow], key: &Key)
+    ensures { map net_key rows.new ≡ at_net key.now.0 (λ r. next_at (min (r.next + 1) most) r) (map net_key rows.old) }
+{
+    for row in rows.iter_mut() {
+        row.count_at(key);
+    }
+}
+
+/// Stores a sender's floor under a key.
+pub(crate) fn store_net(rows: &mut [NetRow], key: &Key, sender: Eui, value: u32)
+    requires { All HasRoom (at_net key.now.0 (live_floor sender.0 value) (map net_key rows.old)) }
+    ensures { map net_key rows.new ≡ at_net key.now.0 (live_floor sender.0 value) (map net_key rows.old) }
+{
+    for row in rows.iter_mut() {
+        row.store_at(key, sender, value);
+    }
+}
+
+/// Whether there is a row of that key, in use or dropped.
+pub(crate) fn has_key(rows: &[NetRow], key: &Key) -> bool
+    ensures { result ≡ list_any (λ r. same_key (net_key r).key key.now.0) rows.now }
+{
+    rows.iter().any(|row| row.key == *key)
+}

@@ -1,0 +1,77 @@
+//! The tables of a node.
+use crate::contents::Contents;
+use crate::{LinkRow, NetRow, Pair};
+use std::alloc::Global;
+use std::marker::Model;
+use zb_base::{NoMemory, Role};
+use zb_change::{Changes, Rollover, State};
+
+/// What a node keeps: its network keys with their floors, its link keys, its counters and, at the centre, the keys of
+/// pairs of devices. All room is taken when the tables are made.
+#[derive(Debug, Drop)]
+pub struct Tables {
+    pub(crate) contents: Contents,
+}
+
+impl Model for Tables {
+    ghost use Rattle.zb_model.specs.State.{NodeState};
+
+    ghost Value = { NodeState };
+
+    ghost use Rattle.zb_keys.specs.Tables.{state_of, IsSound};
+
+    ghost view = { λ t. state_of t.contents };
+
+    ghost invariant = { λ t. IsSound t.contents };
+}
+
+impl Tables {
+    ghost use Rattle.std.specs.Prelude.{◌≡◌, true, map, IfOk};
+    ghost use Rattle.zb_change.specs.Changes.{duty, stage, is_sending, edits};
+    ghost use Rattle.zb_model.specs.State.{new_node, shown, applied_all};
+    ghost use Rattle.zb_model.specs.Fits.{AllFit, keeps_rules};
+    ghost use Rattle.zb_keys.specs.Tables.{Forgets};
+
+    /// The tables of a new node, which hold nothing. They have room for 256 network keys with 64 floors each, 256 pairs,
+    /// and 1,024 link keys in the centre or 64 in another node.
+    pub fn new(alloc: Global, role: Role) -> Result<Tables, NoMemory>
+        ensures { IfOk result (λ t. t ≡ new_node (duty role)) }
+    {
+        let most_links = if role == Role::Centre { 1024 } else { 64 };
+        let nets = Vec::with_capacity(alloc, 256)?;
+        let links = Vec::with_capacity(alloc, most_links)?;
+        let pairs = Vec::with_capacity(alloc, 256)?;
+        let contents = Contents {
+            role,
+            state: State::Fresh,
+            declared: 0,
+            aps_limit: 0,
+            aps_next: 0,
+            rolling: Rollover::Idle,
+            nets,
+            active: None,
+            links,
+            pairs,
+        };
+        Ok(Tables { contents })
+    }
+
+    /// What holds of all tables: the rules for records, and that a dropped network key keeps no floors. This call does
+    /// nothing.
+    pub fn keep_rules(&self)
+        ensures rules { keeps_rules self.now ≡ true }
+        ensures forgets { shown self.now ≡ self.now }
+    {
+        let _contents = &self.contents;
+    }
+
+    /// Makes changes, which fit, in their order. The floors of a dropped network key are forgotten.
+    pub fn apply(&mut self, changes: &Changes)
+        requires { AllFit (edits changes.now.items) self.old }
+        ensures { self.new ≡ shown (applied_all (edits changes.now.items) self.old) }
+    {
+        for change in changes.as_slice() {
+            self.contents.change(change);
+        }
+    }
+}
