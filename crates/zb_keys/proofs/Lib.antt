@@ -3,3 +3,4 @@ pub mod SenderLemmas
 pub mod ShownLemmas
 pub mod StateLemmas
 pub mod RuleLemmas
+pub mod ApplyLemmas

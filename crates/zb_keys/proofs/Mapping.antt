@@ -22,15 +22,16 @@ next {X} {Y} {view} {f} i old new x y lt at changed so =
     let in_new : i < length new = omega (arith, ap (length {A = X}) so.rest, length-drop i new, length-drop i old) in
     let here : get_or old i x ≡ x = same_item i old new x so.rest ∙ sym at in
     let done : map view (take (i + 1) (slice_set new i y)) ≡ map f (map view (take (i + 1) old)) =
-        ap (map view) (take_more_set new i y in_new) ∙ map_push view (take i new) y
-        ∙ ap (λ l. l ++ view y ∷ []) so.done
-        ∙ ap (λ z. map f (map view (take i old)) ++ z ∷ []) (changed ∙ ap (λ z. f (view z)) (sym here))
-        ∙ sym (map_push f (map view (take i old)) (view (get_or old i x)))
-        ∙ ap (map f) (sym (map_more view old i x lt)) in
+    ap (map view) (take_more_set new i y in_new) ∙ map_push view (take i new) y
+    ∙ ap (λ l. l ++ view y ∷ []) so.done
+    ∙ ap (λ z. map f (map view (take i old)) ++ z ∷ []) (changed ∙ ap (λ z. f (view z)) (sym here))
+    ∙ sym (map_push f (map view (take i old)) (view (get_or old i x)))
+    ∙ ap (map f) (sym (map_more view old i x lt)) in
     let later : i < i + 1 = omega arith in
     record {
       done = done;
-      rest = drop-set-lt (i + 1) new i y later ∙ sym (drop-drop 1 i new) ∙ ap (drop 1) so.rest ∙ drop-drop 1 i old }
+      rest = drop-set-lt (i + 1) new i y later ∙ sym (drop-drop 1 i new) ∙ ap (drop 1) so.rest ∙ drop-drop 1 i old;
+    }
 
 -- the same, where the item is read with a default
 pub next_read : {X Y : Type 0} {view : X → Y} {f : Y → Y} (i : ℕ) (old new : List X) (d y : X) → i < length old → view y ≡ f (view (get_or new i d)) → Mapped view f i old new → Mapped view f (i + 1) old (slice_set new i y)
@@ -44,7 +45,7 @@ room_beside {X} {Y} {view} {g} f P i old new d lt all so =
     let lt2 : i < length (map view old) = omega (arith, length-map old view) in
     let lt3 : i < length (map f (map view old)) = omega (arith, length-map (map view old) f) in
     let at : get_or (map f (map view old)) i (f (view d)) ≡ f (view (get_or new i d)) =
-        get_or-map f (map view old) i (view d) (f (view d)) lt2 ∙ ap f (get_or-map view old i d (view d) lt) ∙ ap (λ x. f (view x)) (same_item i old new d so.rest) in
+    get_or-map f (map view old) i (view d) (f (view d)) lt2 ∙ ap f (get_or-map view old i d (view d) lt) ∙ ap (λ x. f (view x)) (same_item i old new d so.rest) in
     subst P at (All-get_or P (map f (map view old)) i (f (view d)) lt3 all)
 
 pub list_any-map : {X Y : Type 0} (p : Y → Bool) (view : X → Y) (xs : List X) → list_any p (map view xs) ≡ list_any (λ x. p (view x)) xs

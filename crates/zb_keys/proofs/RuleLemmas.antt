@@ -51,7 +51,7 @@ found_live g mild key (r ∷ rs) =
     ∙ at_test (same_key r.key key) (found_live g mild key rs)
   where
     at_test : (b : Bool) → row_is_live (find (λ (x : NetKey). same_key x.key key) (map g rs)) ≡ row_is_live (find (λ (x : NetKey). same_key x.key key) rs)
-      → row_is_live (if b then Some (g r) else find (λ (x : NetKey). same_key x.key key) (map g rs)) ≡ row_is_live (if b then Some r else find (λ (x : NetKey). same_key x.key key) rs)
+        → row_is_live (if b then Some (g r) else find (λ (x : NetKey). same_key x.key key) (map g rs)) ≡ row_is_live (if b then Some r else find (λ (x : NetKey). same_key x.key key) rs)
     at_test true e = mild.live r
     at_test false e = e
 
@@ -67,23 +67,29 @@ kept_by_map g mild s kept =
     let alike : (a b : NetKey) → same_key (g a).key (g b).key ≡ same_key a.key b.key = λ a b. ap (λ k. same_key k (g b).key) (mild.key a) ∙ ap (same_key a.key) (mild.key b) in
     let keys : all_apart (λ (a b : NetKey). same_key a.key b.key) (map g s.nets) ≡ all_apart (λ (a b : NetKey). same_key a.key b.key) s.nets = apart_map (λ (a b : NetKey). same_key a.key b.key) g alike s.nets in
     let lives : length (filter (λ (x : NetKey). x.live) (map g s.nets)) ≡ length (live_nets s) =
-        ap (length {A = NetKey}) (filter-map (λ (x : NetKey). x.live) g s.nets) ∙ length-map (filter (λ (x : NetKey). (g x).live) s.nets) g
-        ∙ ap (length {A = NetKey}) (filter_same_tests (λ (x : NetKey). (g x).live) (λ (x : NetKey). x.live) mild.live s.nets) in
+    ap (length {A = NetKey}) (filter-map (λ (x : NetKey). x.live) g s.nets) ∙ length-map (filter (λ (x : NetKey). (g x).live) s.nets) g
+    ∙ ap (length {A = NetKey}) (filter_same_tests (λ (x : NetKey). (g x).live) (λ (x : NetKey). x.live) mild.live s.nets) in
     let now : NodeState = record s { nets = map g s.nets } in
     rules_back now (record {
       room = rw (length-map s.nets g) r.room;
       keys = ap (λ b. b && all_apart (λ (a b : LinkKey). same_key a.key b.key) s.links) keys ∙ r.keys;
       two = ap (λ n. nat_le n 2) lives ∙ r.two;
       active = still_active g mild s s.active refl r.active;
-      partners = r.partners; marks = r.marks;
+      partners = r.partners;
+      marks = r.marks;
       floors = all_map floors_rule g mild.floors s.nets r.floors;
       limits = all_map limit_rule g mild.limit s.nets r.limits;
-      duty_kept = r.duty_kept; pairs_kept = r.pairs_kept })
+      duty_kept = r.duty_kept;
+      pairs_kept = r.pairs_kept;
+    })
 
 shown_is_mild : Mild shown_net
 shown_is_mild = record {
-    key = λ r. refl; live = λ r. refl; limit = λ r e. e;
-    floors = λ r e. at_test r r.live e }
+  key = λ r. refl;
+  live = λ r. refl;
+  limit = λ r e. e;
+  floors = λ r e. at_test r r.live e;
+}
   where
     at_test : (r : NetKey) (b : Bool) → floors_rule r ≡ true → floors_rule (record r { live = b; floors = if b then r.floors else [] }) ≡ true
     at_test r true e = e
@@ -103,6 +109,7 @@ again_at key f each (r ∷ rs) =
     twice : (b : Bool) → record r { live = b; floors = if b then (if b then r.floors else []) else [] } ≡ record r { live = b; floors = if b then r.floors else [] }
     twice true = refl
     twice false = refl
+
     at_test : (b live : Bool) → shown_net (if b then f (shown_net r) else shown_net r) ≡ shown_net (if b then f r else r)
     at_test true live = each r
     at_test false live = twice r.live

@@ -23,28 +23,31 @@ skips sender value f fs below =
 
 pub goes_past : (floors : List SenderFloor) (sender i : ℕ) (d : SenderFloor) → i < length floors → (get_or floors i d).sender.0 < sender → Passed floors sender i → Passed floors sender (i + 1)
 goes_past floors sender i d lt below so = record {
-    before = λ value.
+  before = λ value.
       so.before value
       ∙ ap (λ l. map heard_floor (take i floors) ++ floor_stored sender value (map heard_floor l)) (drop_more floors i d lt)
       ∙ ap (λ l. map heard_floor (take i floors) ++ l) (skips sender value (heard_floor (get_or floors i d)) (map heard_floor (drop (i + 1) floors)) below)
       ∙ sym (append_assoc (map heard_floor (take i floors)) (heard_floor (get_or floors i d) ∷ []) (floor_stored sender value (map heard_floor (drop (i + 1) floors))))
-      ∙ ap (λ l. l ++ floor_stored sender value (map heard_floor (drop (i + 1) floors))) (sym (map_push heard_floor (take i floors) (get_or floors i d)) ∙ ap (map heard_floor) (sym (take_more floors i d lt))) }
+      ∙ ap (λ l. l ++ floor_stored sender value (map heard_floor (drop (i + 1) floors))) (sym (map_push heard_floor (take i floors) (get_or floors i d)) ∙ ap (map heard_floor) (sym (take_more floors i d lt)));
+}
 
 pub is_here : (floors : List SenderFloor) (sender i : ℕ) (d : SenderFloor) → i < length floors → sender ≤ (get_or floors i d).sender.0 → Passed floors sender i → IsPlace floors sender i
 is_here floors sender i d lt here so = record {
-    within = omega arith;
-    before = so.before;
-    here = λ f rest at. let same : get_or floors i d ∷ drop (i + 1) floors ≡ f ∷ rest = sym (drop_more floors i d lt) ∙ at in
+  within = omega arith;
+  before = so.before;
+  here = λ f rest at. let same : get_or floors i d ∷ drop (i + 1) floors ≡ f ∷ rest = sym (drop_more floors i d lt) ∙ at in
       let e : get_or floors i d ≡ f = cc in
-      rw (← e) here }
+      rw (← e) here;
+}
 
 pub is_end : (floors : List SenderFloor) (sender : ℕ) → Passed floors sender (length floors) → IsPlace floors sender (length floors)
 is_end floors sender so = record {
-    within = omega arith;
-    before = so.before;
-    here = λ f rest at. let none : drop (length floors) floors ≡ [] = drop_all (length floors) floors (omega arith) in
+  within = omega arith;
+  before = so.before;
+  here = λ f rest at. let none : drop (length floors) floors ≡ [] = drop_all (length floors) floors (omega arith) in
       let clash : [] ≡ f ∷ rest = sym none ∙ at in
-      absurd (cc) }
+      absurd (cc);
+}
 
 -- a floor that stands there is raised
 pub raised : (floors : List SenderFloor) (sender place value : ℕ) (d : SenderFloor) (m : ℕ) → place < length floors → (get_or floors place d).sender.0 ≡ sender
@@ -55,7 +58,7 @@ raised floors sender place value d m lt same new so =
     let equal : nat_eq sender (get_or floors place d).sender.0 ≡ true = eq-eqb _ _ (sym same) in
     let y : SenderFloor = record (get_or floors place d) { stored = m } in
     let stored : floor_stored sender value (heard_floor (get_or floors place d) ∷ map heard_floor (drop (place + 1) floors)) ≡ heard_floor (record (get_or floors place d) { stored = m }) ∷ map heard_floor (drop (place + 1) floors) =
-        rw (not_below, equal, new) refl in
+    rw (not_below, equal, new) refl in
     let split : slice_set floors place y ≡ take place floors ++ y ∷ drop (place + 1) floors = rw add-one (set_split floors place y lt) in
     ap (map heard_floor) split ∙ map-append heard_floor (take place floors) (y ∷ drop (place + 1) floors)
     ∙ ap (λ l. map heard_floor (take place floors) ++ l) (sym stored)
@@ -82,11 +85,11 @@ has_room floors sender place value so absent room =
     let front = in_front (drop place floors) sender value (λ f fs at. let le : sender ≤ f.sender.0 = so.here f fs at in let ne : f.sender.0 ≡ sender → ⊥ = absent f fs at in omega arith) in
     let all = so.before value ∙ ap (λ l. map heard_floor (take place floors) ++ l) front in
     let long : length (floor_stored sender value (map heard_floor floors)) ≡ length floors + 1 =
-        ap (length {A = model.SenderFloor}) all ∙ length-append (map heard_floor (take place floors)) _
-        ∙ (let a : length (map heard_floor (take place floors)) ≡ length (take place floors) = length-map (take place floors) heard_floor in
-           let b : length (map heard_floor (drop place floors)) ≡ length (drop place floors) = length-map (drop place floors) heard_floor in
-           let c : length (take place floors) + length (drop place floors) ≡ length floors = sym (length-append (take place floors) (drop place floors)) ∙ ap (length {A = SenderFloor}) (take-append-drop place floors) in
-           omega arith) in
+    ap (length {A = model.SenderFloor}) all ∙ length-append (map heard_floor (take place floors)) _
+    ∙ (let a : length (map heard_floor (take place floors)) ≡ length (take place floors) = length-map (take place floors) heard_floor in
+    let b : length (map heard_floor (drop place floors)) ≡ length (drop place floors) = length-map (drop place floors) heard_floor in
+    let c : length (take place floors) + length (drop place floors) ≡ length floors = sym (length-append (take place floors) (drop place floors)) ∙ ap (length {A = SenderFloor}) (take-append-drop place floors) in
+    omega arith) in
     omega arith
 
 -- an array filled again from a list of its own length is that list

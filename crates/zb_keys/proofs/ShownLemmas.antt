@@ -49,9 +49,9 @@ pub installed_new : (rows : List NetRow) (row : NetRow) (key : Bytes) (sequence 
 installed_new rows row key sequence none is e =
     let absent : has_net key (map net_key rows) ≡ false = list_any-map (λ (r : NetKey). same_key r.key key) net_key rows ∙ none in
     rw absent (map-append net_key rows (row ∷ [])
-      ∙ ap (λ z. map net_key rows ++ z ∷ []) is
-      ∙ ap (λ l. l ++ new_net key sequence ∷ []) (sym e)
-      ∙ sym (map-append shown_net (map net_key rows) (new_net key sequence ∷ [])))
+    ∙ ap (λ z. map net_key rows ++ z ∷ []) is
+    ∙ ap (λ l. l ++ new_net key sequence ∷ []) (sym e)
+    ∙ sym (map-append shown_net (map net_key rows) (new_net key sequence ∷ [])))
 
 pub installed_same : (rows : List NetRow) (key : Bytes) (sequence : ℕ) → list_any (λ (r : NetRow). same_key (net_key r).key key) rows ≡ true → map shown_net (map net_key rows) ≡ map net_key rows
     → map net_key rows ≡ map shown_net (if has_net key (map net_key rows) then map net_key rows else map net_key rows ++ new_net key sequence ∷ [])
@@ -71,7 +71,7 @@ filter-map p view [] = refl
 filter-map p view (x ∷ xs) = at_test (p (view x)) (filter-map p view xs)
   where
     at_test : (b : Bool) → filter p (map view xs) ≡ map view (filter (λ y. p (view y)) xs)
-      → (if b then view x ∷ filter p (map view xs) else filter p (map view xs)) ≡ map view (if b then x ∷ filter (λ y. p (view y)) xs else filter (λ y. p (view y)) xs)
+        → (if b then view x ∷ filter p (map view xs) else filter p (map view xs)) ≡ map view (if b then x ∷ filter (λ y. p (view y)) xs else filter (λ y. p (view y)) xs)
     at_test true e = ap (λ l. view x ∷ l) e
     at_test false e = e
 

@@ -27,13 +27,21 @@ both false b e = absurd (cc)
 -- other network rows in the place of those that stand
 pub becomes_nets : (now : NodeState) (a : Contents) (rows : List NetRow) → length rows ≡ a.nets.len → record (state_of a) { nets = map net_key rows } ≡ now → Becomes now a (record a { nets = with_items a.nets rows })
 becomes_nets now a rows long is = record {
-    state = ap (λ l. record (state_of a) { nets = map net_key l }) (with_items_is a.nets rows long) ∙ is;
-    role = refl; nets_room = omega arith; links_room = omega arith; pairs_room = omega arith }
+  state = ap (λ l. record (state_of a) { nets = map net_key l }) (with_items_is a.nets rows long) ∙ is;
+  role = refl;
+  nets_room = omega arith;
+  links_room = omega arith;
+  pairs_room = omega arith;
+}
 
 pub becomes_links : (now : NodeState) (a : Contents) (rows : List LinkRow) → length rows ≡ a.links.len → record (state_of a) { links = map link_key rows } ≡ now → Becomes now a (record a { links = with_items a.links rows })
 becomes_links now a rows long is = record {
-    state = ap (λ l. record (state_of a) { links = map link_key l }) (with_items_is a.links rows long) ∙ is;
-    role = refl; nets_room = omega arith; links_room = omega arith; pairs_room = omega arith }
+  state = ap (λ l. record (state_of a) { links = map link_key l }) (with_items_is a.links rows long) ∙ is;
+  role = refl;
+  nets_room = omega arith;
+  links_room = omega arith;
+  pairs_room = omega arith;
+}
 
 pub reserved_state : (s : NodeState) (key : Bytes) (limit : ℕ) (nets : List NetKey) → s.active ≡ Some key → Forgets s → nets ≡ at_net key (reserved limit) s.nets → record s { nets = nets } ≡ shown (applied (Reserve Nwk limit) s)
 unfolding applied shown
@@ -184,8 +192,9 @@ floors_room s key sender value forgets kept =
 pub sound_again : (now : NodeState) (old new : Contents) → Becomes (shown now) old new → keeps_rules (shown now) ≡ true → IsSound old → IsSound new
 unfolding shown
 sound_again now old new so kept sound = record {
-    rules = subst (λ s. keeps_rules s ≡ true) (sym so.state) kept;
-    forgets = subst Forgets (sym so.state) (shown_twice now.nets);
-    nets_room = omega (arith, so.nets_room, sound.nets_room);
-    links_room = subst (λ r. most_links (duty r) ≤ vec_capacity new.links) (sym so.role) (omega (arith, so.links_room, sound.links_room));
-    pairs_room = omega (arith, so.pairs_room, sound.pairs_room) }
+  rules = subst (λ s. keeps_rules s ≡ true) (sym so.state) kept;
+  forgets = subst Forgets (sym so.state) (shown_twice now.nets);
+  nets_room = omega (arith, so.nets_room, sound.nets_room);
+  links_room = subst (λ r. most_links (duty r) ≤ vec_capacity new.links) (sym so.role) (omega (arith, so.links_room, sound.links_room));
+  pairs_room = omega (arith, so.pairs_room, sound.pairs_room);
+}

@@ -13,13 +13,26 @@ heard_floor f = record { sender = f.sender.0; kept = f.kept; stored = f.stored }
 
 abbrev pub net_key : NetRow → NetKey
 net_key r = record {
-    key = r.key.0; sequence = r.sequence; live = r.live; started = r.started; limit = r.limit; next = r.next;
-    floors = map heard_floor r.floors.items }
+  key = r.key.0;
+  sequence = r.sequence;
+  live = r.live;
+  started = r.started;
+  limit = r.limit;
+  next = r.next;
+  floors = map heard_floor r.floors.items;
+}
 
 abbrev pub link_key : LinkRow → LinkKey
 link_key r = record {
-    partner = r.partner.0; key = r.key.0; trust = trust r.attribute; live = r.live; code = r.code; told = r.told;
-    kept = r.floor.kept; stored = r.floor.stored }
+  partner = r.partner.0;
+  key = r.key.0;
+  trust = trust r.attribute;
+  live = r.live;
+  code = r.code;
+  told = r.told;
+  kept = r.floor.kept;
+  stored = r.floor.stored;
+}
 
 abbrev pub pair_key : program_pair.Pair → PairKey
 pair_key p = record { first = p.first.0; second = p.second.0; key = p.key.0 }

@@ -14,9 +14,17 @@ active_bytes (Some key) = Some key.0
 
 abbrev pub state_of : Contents → NodeState
 state_of a = record {
-    duty = duty a.role; stage = stage a.state; declared = a.declared; aps_limit = a.aps_limit; aps_next = a.aps_next;
-    sending = is_sending a.rolling; nets = map net_key a.nets.items; active = active_bytes a.active;
-    links = map link_key a.links.items; pairs = map pair_key a.pairs.items }
+  duty = duty a.role;
+  stage = stage a.state;
+  declared = a.declared;
+  aps_limit = a.aps_limit;
+  aps_next = a.aps_next;
+  sending = is_sending a.rolling;
+  nets = map net_key a.nets.items;
+  active = active_bytes a.active;
+  links = map link_key a.links.items;
+  pairs = map pair_key a.pairs.items;
+}
 
 -- a dropped network key keeps no floors
 abbrev pub Forgets : NodeState → Type 0

@@ -8,7 +8,9 @@ ghost use Rattle.zb_model.specs.Data.{Nwk, Aps, Reserve, Floor, Start, Moved, Dr
 ghost use Rattle.zb_model.specs.State.{applied, shown, at_net, net_floor, most};
 ghost use Rattle.zb_model.specs.Fits.{keeps_rules};
 
-use crate::link::{drop_link, has_row, has_told, revive_link, store_link, tell_links, untell_links};
+use crate::link::{
+    drop_link, has_row, has_told, revive_link, store_link, tell_links, untell_links,
+};
 use crate::net::{drop_net, has_key, reserve_net, start_net, store_net};
 use crate::pair::{drop_pairs, has_pair};
 use crate::{LinkRow, NetRow, Pair};
@@ -43,14 +45,23 @@ impl Contents {
     {
         match *change {
             Change::Reserve { layer, limit } => self.reserve(layer, limit),
-            Change::Floor { layer, key, sender, value } => self.store(layer, &key, sender, value),
+            Change::Floor {
+                layer,
+                key,
+                sender,
+                value,
+            } => self.store(layer, &key, sender, value),
             Change::Draw { key: _ } => {}
             Change::DropNet { key } => self.drop_net(&key),
             Change::DropLink { partner, key } => self.drop_link(partner, &key),
             Change::Install { key, sequence } => self.install(key, sequence),
             Change::Active { key } => self.activate(key),
             Change::Start { key, value } => self.start(&key, value),
-            Change::Row { partner, key, attribute } => self.set_link(partner, key, attribute),
+            Change::Row {
+                partner,
+                key,
+                attribute,
+            } => self.set_link(partner, key, attribute),
             Change::Pair { first, second, key } => self.add_pair(first, second, key),
             Change::State { state } => self.enter(state),
             Change::Live { device } => self.tell(device, false),

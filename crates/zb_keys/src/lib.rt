@@ -6,6 +6,7 @@ mod contents;
 mod link;
 mod net;
 mod pair;
+mod reading;
 mod tables;
 
 pub use link::LinkRow;

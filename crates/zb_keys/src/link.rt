@@ -40,10 +40,7 @@ impl LinkRow {
             live: true,
             code: attribute == Attribute::Provisional,
             told,
-            floor: Floor {
-                kept: 0,
-                stored: 0,
-            },
+            floor: Floor { kept: 0, stored: 0 },
         }
     }
 
@@ -128,7 +125,13 @@ pub(crate) fn store_link(rows: &mut [LinkRow], partner: Eui, key: &Key, value: u
 }
 
 /// Brings the row of a partner and key into use.
-pub(crate) fn revive_link(rows: &mut [LinkRow], partner: Eui, key: &Key, attribute: Attribute, told: bool)
+pub(crate) fn revive_link(
+    rows: &mut [LinkRow],
+    partner: Eui,
+    key: &Key,
+    attribute: Attribute,
+    told: bool,
+)
     ensures { map link_key rows.new ≡ at_link partner.0 key.now.0 (revived (trust attribute) told) (map link_key rows.old) }
 {
     for row in rows.iter_mut() {
@@ -158,7 +161,8 @@ pub(crate) fn untell_links(rows: &mut [LinkRow])
 pub(crate) fn has_row(rows: &[LinkRow], partner: Eui, key: &Key) -> bool
     ensures { result ≡ list_any (λ r. is_link partner.0 key.now.0 (link_key r)) rows.now }
 {
-    rows.iter().any(|row| row.partner == partner && row.key == *key)
+    rows.iter()
+        .any(|row| row.partner == partner && row.key == *key)
 }
 
 /// Whether a partner has a row in use.
@@ -172,5 +176,6 @@ pub(crate) fn has_live(rows: &[LinkRow], partner: Eui) -> bool
 pub(crate) fn has_told(rows: &[LinkRow], partner: Eui) -> bool
     ensures { result ≡ list_any (λ r. is_live_of partner.0 (link_key r) && r.told) rows.now }
 {
-    rows.iter().any(|row| row.live && row.partner == partner && row.told)
+    rows.iter()
+        .any(|row| row.live && row.partner == partner && row.told)
 }

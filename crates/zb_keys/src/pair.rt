@@ -23,7 +23,9 @@ pub(crate) fn has_pair(pairs: &[Pair], a: Eui, b: Eui) -> bool
 {
     let first = a.0.min(b.0);
     let second = a.0.max(b.0);
-    pairs.iter().any(|pair| pair.first.0 == first && pair.second.0 == second)
+    pairs
+        .iter()
+        .any(|pair| pair.first.0 == first && pair.second.0 == second)
 }
 
 /// Takes away the keys of a device.

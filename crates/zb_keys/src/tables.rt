@@ -1,4 +1,8 @@
 //! The tables of a node.
+ghost use Rattle.std.specs.Prelude.{◌≡◌};
+ghost use Rattle.zb_change.specs.Changes.{duty};
+ghost use Rattle.zb_model.specs.Fits.{most_links};
+
 use crate::contents::Contents;
 use crate::{LinkRow, NetRow, Pair};
 use std::alloc::Global;
@@ -37,9 +41,8 @@ impl Tables {
     pub fn new(alloc: Global, role: Role) -> Result<Tables, NoMemory>
         ensures { IfOk result (λ t. t ≡ new_node (duty role)) }
     {
-        let most_links = if role == Role::Centre { 1024 } else { 64 };
         let nets = Vec::with_capacity(alloc, 256)?;
-        let links = Vec::with_capacity(alloc, most_links)?;
+        let links = Vec::with_capacity(alloc, link_room(role))?;
         let pairs = Vec::with_capacity(alloc, 256)?;
         let contents = Contents {
             role,
@@ -73,5 +76,16 @@ impl Tables {
         for change in changes.as_slice() {
             self.contents.change(change);
         }
+    }
+}
+
+/// How many link keys a node may hold.
+fn link_room(role: Role) -> usize
+    ensures { result ≡ most_links (duty role) }
+{
+    match role {
+        Role::Centre => 1024,
+        Role::Router => 64,
+        Role::Device => 64,
     }
 }

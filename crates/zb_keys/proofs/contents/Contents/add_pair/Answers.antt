@@ -23,11 +23,19 @@ returns-then-not-has_pair c =
     let answer : c.has_pair.result ≡ list_any (λ (p : program.Pair). names_two c.args.first.0 c.args.second.0 (pair_key p)) c.args.self.now.pairs.items = c.has_pair.ensures ∙ ap (list_any (λ (p : program.Pair). names_two c.args.first.0 c.args.second.0 (pair_key p))) c.as_slice.ensures.value in
     record {
       state = paired_state (state_of c.args.self.now) c.args.first.0 c.args.second.0 c.args.key.0 _ c.requires.forgets (ap (map pair_key) c.add.ensures.items ∙ paired_new c.args.first.0 c.args.second.0 c.args.key.0 c.args.self.now.pairs.items _ (sym answer ∙ c.if-not-has_pair.true) refl);
-      role = refl; nets_room = search rules; links_room = search rules; pairs_room = c.add.ensures.room }
+      role = refl;
+      nets_room = search rules;
+      links_room = search rules;
+      pairs_room = c.add.ensures.room;
+    }
 
 pub returns-else-not-has_pair : goal.returns-else-not-has_pair
 returns-else-not-has_pair c =
     let answer : c.has_pair.result ≡ list_any (λ (p : program.Pair). names_two c.args.first.0 c.args.second.0 (pair_key p)) c.args.self.now.pairs.items = c.has_pair.ensures ∙ ap (list_any (λ (p : program.Pair). names_two c.args.first.0 c.args.second.0 (pair_key p))) c.as_slice.ensures.value in
     record {
       state = paired_state (state_of c.args.self.now) c.args.first.0 c.args.second.0 c.args.key.0 _ c.requires.forgets (paired_same c.args.first.0 c.args.second.0 c.args.key.0 c.args.self.now.pairs.items (sym answer ∙ c.if-not-has_pair.false));
-      role = refl; nets_room = search rules; links_room = search rules; pairs_room = search rules }
+      role = refl;
+      nets_room = search rules;
+      links_room = search rules;
+      pairs_room = search rules;
+    }

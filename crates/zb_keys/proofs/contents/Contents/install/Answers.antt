@@ -24,11 +24,19 @@ returns-then-not-has_key c =
     let answer : c.has_key.result ≡ list_any (λ (r : NetRow). same_key (net_key r).key c.args.key.0) c.args.self.now.nets.items = c.has_key.ensures ∙ ap (list_any (λ (r : NetRow). same_key (net_key r).key c.args.key.0)) c.as_slice.ensures.value in
     record {
       state = installed_state (state_of c.args.self.now) c.args.key.0 c.args.sequence _ (ap (map net_key) c.add.ensures.items ∙ installed_new c.args.self.now.nets.items c.installed-row.result c.args.key.0 c.args.sequence (sym answer ∙ c.if-not-has_key.true) c.installed-row.ensures c.requires.forgets);
-      role = refl; nets_room = c.add.ensures.room; links_room = search rules; pairs_room = search rules }
+      role = refl;
+      nets_room = c.add.ensures.room;
+      links_room = search rules;
+      pairs_room = search rules;
+    }
 
 pub returns-else-not-has_key : goal.returns-else-not-has_key
 returns-else-not-has_key c =
     let answer : c.has_key.result ≡ list_any (λ (r : NetRow). same_key (net_key r).key c.args.key.0) c.args.self.now.nets.items = c.has_key.ensures ∙ ap (list_any (λ (r : NetRow). same_key (net_key r).key c.args.key.0)) c.as_slice.ensures.value in
     record {
       state = installed_state (state_of c.args.self.now) c.args.key.0 c.args.sequence _ (installed_same c.args.self.now.nets.items c.args.key.0 c.args.sequence (sym answer ∙ c.if-not-has_key.false) c.requires.forgets);
-      role = refl; nets_room = search rules; links_room = search rules; pairs_room = search rules }
+      role = refl;
+      nets_room = search rules;
+      links_room = search rules;
+      pairs_room = search rules;
+    }
