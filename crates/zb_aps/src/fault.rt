@@ -1,0 +1,33 @@
+//! Why bytes are no APS frame.
+use std::error::Error;
+use std::fmt;
+
+/// The first fault of bytes that are no APS frame: `TooLong` before all others, and then what is met as the fields
+/// are walked from the front.
+#[derive(Clone, Copy, Debug, PartialEq, Eq)]
+pub enum ApsError {
+    /// More than 127 bytes.
+    TooLong,
+    /// A field is not whole; `at` is the number of all bytes.
+    Short { at: u32 },
+    /// The frame type is neither data (0), command (1) nor ack (2).
+    FrameType { found: u8 },
+    /// The delivery mode is neither unicast (0), broadcast (2) nor group (3).
+    Delivery { found: u8 },
+    /// The auxiliary header names the network key (1).
+    KeyId { found: u8 },
+}
+
+impl fmt::Display for ApsError {
+    fn fmt<W: fmt::Write>(&self, f: &mut fmt::Formatter<W>) -> fmt::Result {
+        match self {
+            ApsError::TooLong => f.write_str("an APS frame has at most 127 bytes"),
+            ApsError::Short { at } => write!(f, "the APS frame is cut at byte {at}"),
+            ApsError::FrameType { found } => write!(f, "no APS frame type {found}"),
+            ApsError::Delivery { found } => write!(f, "no APS delivery mode {found}"),
+            ApsError::KeyId { found } => write!(f, "key identifier {found} at APS"),
+        }
+    }
+}
+
+impl Error for ApsError {}

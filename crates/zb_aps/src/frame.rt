@@ -1,0 +1,126 @@
+//! APS frames.
+ghost use Rattle.std.specs.Prelude.{◌≡◌, ◌≤◌, ◌<◌, ◌++◌, length, IfOk, OnErr, Ok, Err, IsTrue, ◌↔◌};
+ghost use Rattle.zb_cursor.specs.Reading.{Gives};
+ghost use Rattle.zb_cursor.specs.Writing.{Appends};
+ghost use Rattle.zb_aps.specs.declared.fault.ApsError.{ApsError};
+ghost use Rattle.zb_aps.specs.declared.frame.ApsFrame.{ApsFrame};
+ghost use Rattle.zb_aps.specs.Spelling.{frame, content};
+ghost use Rattle.zb_aps.specs.Shape.{IsShaped, IsFrame, Spells};
+ghost use Rattle.zb_aps.specs.Reading.{frame_at, frame_of};
+ghost use Rattle.zb_aps.specs.Faults.{HasFault};
+
+use crate::auxiliary::{ApsAux, put_aux, read_aux};
+use crate::fault::ApsError;
+use crate::header::{ApsHeader, put_header, read_header};
+use arrayvec::ArrayVec;
+use zb_base::Frame;
+use zb_cursor::{Reader, TooLong, frame_from, has_bit, put};
+
+/// A APS frame. A secured one has an auxiliary header, and its body is the ciphertext.
+#[derive(Debug, Drop, PartialEq, Eq)]
+pub struct ApsFrame {
+    pub header: ApsHeader,
+    /// There exactly where bit 5 of the control byte is 1.
+    pub aux: Option<ApsAux>,
+    pub body: Frame,
+    /// The message integrity code, which is zero in a frame that is not secured.
+    pub mic: [u8; 4],
+}
+
+impl ApsFrame {
+    /// Whether this is a frame: the reader takes the type, the delivery and the key identifier, the options agree
+    /// with the control byte, and the code is zero where there is no security.
+    pub fn shape_ok(&self) -> bool
+        ensures { IsTrue result ↔ IsShaped self.now }
+    {
+        self.header.shape_ok()
+            && self.aux.is_some() == has_bit(u16::from(self.header.control), 5)
+            && match &self.aux {
+                None => self.mic == [0; 4],
+                Some(aux) => aux.shape_ok(),
+            }
+    }
+}
+
+#[tactic(auto, unfolding(crate::specs::Reading::frame_at, crate::specs::Reading::secured_at, crate::specs::Reading::unsecured_at))]
+fn read_frame(reader: &mut Reader<ApsError>) -> Result<ApsFrame, ApsError>
+    requires { length reader.old.rest.now ≤ 127 }
+    ensures exact { Gives result reader.new.rest.now (frame_at reader.old.cut reader.old.rest.now) }
+    ensures found { IfOk result (λ f. IsFrame reader.old.rest.now f) }
+{
+    let header = read_header(reader)?;
+    if !has_bit(u16::from(header.control), 5) {
+        let body = frame_from(reader.all());
+        return Ok(ApsFrame {
+            header,
+            aux: None,
+            body,
+            mic: [0; 4],
+        });
+    }
+    let aux = read_aux(reader)?;
+    let (body, mic) = reader.body_and_mic()?;
+    Ok(ApsFrame {
+        header,
+        aux: Some(aux),
+        body,
+        mic,
+    })
+}
+
+#[tactic(auto, unfolding(crate::specs::Reading::frame_of))]
+fn read_whole(bytes: &[u8]) -> Result<ApsFrame, ApsError>
+    ensures found { IfOk result (λ f. Spells bytes.now f) }
+    ensures exact { result ≡ frame_of bytes.now }
+{
+    if bytes.len() > 127 {
+        return Err(ApsError::TooLong);
+    }
+    let mut reader = Reader {
+        rest: bytes,
+        cut: ApsError::Short {
+            at: bytes.len() as u32,
+        },
+    };
+    let frame = read_frame(&mut reader)?;
+    Ok(frame)
+}
+
+/// The APS frame that all of the bytes are, or their first fault.
+pub fn read(bytes: &[u8]) -> Result<ApsFrame, ApsError>
+    // What is read is spelled so, and what is spelled so is read.
+    ensures found { IfOk result (λ f. Spells bytes.now f) }
+    ensures only { (f : ApsFrame) → Spells bytes.now f → result ≡ Ok f }
+    // Which fault it is, by a walk over the fields, and by the bytes and the frames that there are.
+    ensures exact { result ≡ frame_of bytes.now }
+    ensures fault { (e : ApsError) → (result ≡ Err e) ↔ HasFault bytes.now e }
+{
+    read_whole(bytes)
+}
+
+fn put_content(out: &mut Frame, value: &ApsFrame) -> Result<(), TooLong>
+    ensures { Appends out.old.items (content value.now.aux value.now.body.items value.now.mic) out.new.items result }
+{
+    match &value.aux {
+        None => put(out, &value.body)?,
+        Some(aux) => {
+            put_aux(out, aux)?;
+            put(out, &value.body)?;
+            put(out, &value.mic)?;
+        }
+    }
+    Ok(())
+}
+
+/// The one spelling of the frame.
+pub fn write(value: &ApsFrame) -> Result<Frame, TooLong>
+    requires { IsShaped value.now }
+    ensures text { IfOk result (λ bytes. bytes.items ≡ frame value.now) }
+    ensures fits { IfOk result (λ bytes. length (frame value.now) ≤ 127) }
+    ensures long { OnErr result (127 < length (frame value.now)) }
+{
+    let mut out = ArrayVec::new();
+    put_header(&mut out, &value.header)?;
+    put_content(&mut out, value)?;
+    Ok(out)
+}

@@ -1,0 +1,16 @@
+//! APS frames both ways (05-3474-21, 2.2.5 and 4.5.1): a frame of at most 127 bytes as a value, the reader with the
+//! first fault of other bytes, and the writer of the one spelling of a value.
+#![tactic(auto)]
+
+mod auxiliary;
+mod fault;
+mod frame;
+mod header;
+mod laws;
+
+pub use auxiliary::ApsAux;
+pub use fault::ApsError;
+pub use frame::{ApsFrame, read, write};
+pub use header::{ApsHeader, Extended};
+pub use laws::round_trips;
+pub use zb_cursor::TooLong;
