@@ -1,10 +1,10 @@
 -- Plain facts on tests, finds and lists.
-use Rattle.std.proofs.Common.{◌≡◌, ℕ, ◌<◌, ◌+◌, Bool, true, false, cond, not, ◌&&◌, ◌||◌, List, [], ◌∷◌, ◌++◌, map, Option, Some, None, option_map, find, fold, flat_map, nat_eq, bytes_eq, refl, sym, ap, ◌∙◌, subst, arith, eqb-true, eq-eqb, append_assoc}
+use Rattle.std.proofs.Common.{◌≡◌, ℕ, Bool, true, false, cond, List, [], ◌∷◌, ◌++◌, map, Option, Some, option_map, find, fold, flat_map, nat_eq, refl, sym, ap, ◌∙◌, subst, eq-eqb, append_assoc}
 use Rattle.std.proofs.lemmas.Slice.Eq.{bytes_eq-Decides}
 use Rattle.std.proofs.lemmas.List.Sums.{fold-append}
 use Rattle.zb_model.specs.Data.{Bytes}
 use Rattle.zb_model.specs.Lines.{LogLine}
-use Rattle.zb_model.specs.State.{NodeState, new_node, same_key}
+use Rattle.zb_model.specs.State.{new_node, same_key}
 use Rattle.zb_model.specs.Readings.{state_of, heard_line}
 use Rattle.zb_model.specs.Claims.{Each}
 

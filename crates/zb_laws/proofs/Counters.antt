@@ -1,12 +1,12 @@
 -- Counters over lines: no limit is behind its counter, and what was sealed stays below.
-use Rattle.std.proofs.Common.{◌≡◌, ℕ, ◌<◌, ◌≤◌, ◌+◌, ◌^◌, min, max, Bool, true, false, cond, not, ◌&&◌, ◌||◌, List, [], ◌∷◌, ◌++◌, map, Option, Some, None, option_map, find, nat_eq, nat_le, fold, refl, sym, ap, ◌∙◌, subst, arith, eqb-true, eq-eqb, le_refl}
-use Rattle.zb_model.specs.Data.{Bytes, Duty, Tier, Nwk, Aps, ForNetwork, Sealing, Move, Draw, DropNet, DropLink, Install, Active, Row, Pair, Became, Live, Removed, Roll, Told, Untold, Edit, Reserve, Floor, Start, Moved}
-use Rattle.zb_model.specs.Lines.{LogLine, Declared, GivenNet, GivenLink, Counter, Changed, Commit, Accept, Refuse, Seal, Forge, Send, Inject, Stopped, DownReset, DownDisk, Boot, Dump, End}
-use Rattle.zb_model.specs.State.{most, NetKey, NodeState, same_key, has_net, at_net, of_active, new_net, given_net, reserved, started_at, dropped_net, net_floor, net_kept, next_at, booted_net, declared_at, net_of, applied, moved, sealed, sealed_at, after_boot, heard, accepted, with_given_net, with_given_link, with_declared}
+use Rattle.std.proofs.Common.{◌≡◌, ℕ, ◌<◌, ◌≤◌, ◌+◌, ◌^◌, max, Bool, true, false, cond, List, [], ◌∷◌, ◌++◌, map, Option, Some, None, option_map, find, refl, sym, ap, ◌∙◌, subst, arith, le_refl}
+use Rattle.zb_model.specs.Data.{Bytes, Tier, Nwk, Aps, ForNetwork, Sealing, Move, Draw, DropNet, DropLink, Install, Active, Row, Pair, Became, Live, Removed, Roll, Told, Untold, Edit, Reserve, Floor, Start, Moved}
+use Rattle.zb_model.specs.Lines.{LogLine, Declared, GivenNet, GivenLink, Counter, Changed, Accept, Seal, Boot}
+use Rattle.zb_model.specs.State.{most, NetKey, NodeState, same_key, has_net, at_net, of_active, new_net, given_net, reserved, started_at, dropped_net, net_floor, net_kept, next_at, booted_net, declared_at, applied, moved, sealed, sealed_at, after_boot, heard, accepted, with_given_net, with_given_link, with_declared}
 use Rattle.zb_model.specs.Frames.{nwk_control}
-use Rattle.zb_model.specs.Readings.{state_of, heard_line, after, speaker}
-use Rattle.zb_laws.proofs.Basics.{same_key-refl, same_key-eq, nat_eq-refl, find-map, state-snoc}
-use Rattle.zb_laws.proofs.Nets.{Holds, On, at_key, Keeps, Closed, Mild, Covers, Gives, covers-closed, covers-started, covers-booted, on-map, on-add, on-applied, on-accepted, on-booted, only-if}
+use Rattle.zb_model.specs.Readings.{state_of, after, speaker}
+use Rattle.zb_laws.proofs.Basics.{same_key-eq, find-map}
+use Rattle.zb_laws.proofs.Nets.{Holds, On, at_key, Keeps, Mild, Covers, Gives, covers-closed, covers-started, covers-booted, on-map, on-add, on-applied, on-accepted, on-booted}
 
 -- What a seal needs of the state before it: its counter comes next and is below the stored limit.
 unfoldable pub SealFitsAt : Tier → Sealing → NodeState → Type 0
@@ -35,14 +35,14 @@ abbrev IsMissing : Option NetKey → Type 0
 IsMissing None = Unit {0}
 IsMissing (Some y) = ⊥
 
-none-some : (x : NetKey) → None ≡ Some x → ⊥
+pub none-some : (x : NetKey) → None ≡ Some x → ⊥
 none-some x e = subst (λ o. IsMissing o) e tt
 
 found-test : (key : Bytes) (x r : NetKey) (o : Option NetKey) (b : Bool) → at_key key x ≡ b → (o ≡ Some r → same_key r.key key ≡ true) → cond b (Some x) o ≡ Some r → same_key r.key key ≡ true
 found-test key x r o true h k e = subst (λ o. IsKept key o) e h
 found-test key x r o false h k e = k e
 
-found-key : (key : Bytes) (nets : List NetKey) (r : NetKey) → find (at_key key) nets ≡ Some r → same_key r.key key ≡ true
+pub found-key : (key : Bytes) (nets : List NetKey) (r : NetKey) → find (at_key key) nets ≡ Some r → same_key r.key key ≡ true
 found-key key [] r e = absurd (none-some r e)
 found-key key (x ∷ nets) r e = found-test key x r (find (at_key key) nets) (at_key key x) refl (found-key key nets r) e
 

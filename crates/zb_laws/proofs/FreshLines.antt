@@ -1,19 +1,18 @@
 -- Lines whose seals fit have seals apart: no two under one key and nonce.
-use Rattle.std.proofs.Common.{◌≡◌, ℕ, ◌<◌, ◌≤◌, ◌+◌, ◌^◌, min, max, Bool, true, false, cond, not, ◌&&◌, ◌||◌, List, [], ◌∷◌, ◌++◌, map, Option, Some, None, option_map, find, nat_eq, nat_le, fold, flat_map, take, drop, get_or, refl, sym, ap, ◌∙◌, subst, arith, eqb-true, eq-eqb, le_refl, append_assoc, lt_irrefl}
-use Rattle.std.specs.Prelude.{⊤}
+use Rattle.std.proofs.Common.{◌≡◌, ℕ, ◌<◌, ◌+◌, ◌^◌, Bool, true, false, cond, List, [], ◌∷◌, ◌++◌, Option, Some, None, find, nat_eq, flat_map, take, drop, get_or, refl, sym, ap, ◌∙◌, subst, arith, eqb-true, append_assoc, lt_irrefl}
 use Rattle.std.specs.List.{AllByRecursion}
-use Rattle.std.specs.Int.{w32, w64, to_le_bytes, from_le_bytes}
+use Rattle.std.specs.Int.{w32, w64, from_le_bytes}
 use Rattle.std.proofs.lemmas.Nat.{from_le_bytes-to_le_bytes_4, from_le_bytes-to_le_bytes_8}
-use Rattle.zb_model.specs.Data.{Bytes, Duty, Tier, Nwk, Aps, Purpose, ForNetwork, Sealing}
-use Rattle.zb_model.specs.Lines.{LogLine, Declared, GivenNet, GivenLink, Counter, Changed, Commit, Accept, Refuse, Seal, Forge, Send, Inject, Stopped, DownReset, DownDisk, Boot, Dump, End}
-use Rattle.zb_model.specs.State.{most, NetKey, NodeState, same_key, at_net, next_at, sealed, sealed_at}
+use Rattle.zb_model.specs.Data.{Bytes, Tier, Nwk, Aps, ForNetwork, Sealing}
+use Rattle.zb_model.specs.Lines.{LogLine, Seal}
+use Rattle.zb_model.specs.State.{most, NetKey, NodeState, at_net, next_at, sealed, sealed_at}
 use Rattle.zb_model.specs.Frames.{nwk_control}
 use Rattle.zb_model.specs.Tools.{Tools, sealing_key}
 use Rattle.zb_model.specs.Readings.{state_of, heard_line, after, speaker}
-use Rattle.zb_model.specs.Claims.{Each, Stamp, stamp, nonce, sealed_in, sealed_terms, AreApart}
-use Rattle.zb_laws.proofs.Basics.{same_key-refl, same_key-eq, nat_eq-refl, state-snoc, flat_map-append, append-nil'}
+use Rattle.zb_model.specs.Claims.{Each, stamp, nonce, sealed_in, sealed_terms, AreApart}
+use Rattle.zb_laws.proofs.Basics.{nat_eq-refl, state-snoc, flat_map-append, append-nil'}
 use Rattle.zb_laws.proofs.Nets.{Holds, On, at_key, Covers, Gives}
-use Rattle.zb_laws.proofs.Counters.{SealFitsAt, SealFits, StateFits, LineFits, ApsCovers, Ordered, on-sealed, covers-after, aps-after, ordered-after}
+use Rattle.zb_laws.proofs.Counters.{SealFitsAt, SealFits, StateFits, LineFits, ApsCovers, Ordered, covers-after, aps-after, ordered-after}
 
 -- lists
 

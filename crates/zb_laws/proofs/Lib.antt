@@ -2,3 +2,6 @@ mod Basics
 mod Nets
 mod Counters
 mod FreshLines
+mod Groups
+mod GroupSeals
+mod Runs

@@ -1,9 +1,8 @@
 -- The network row of a key, and what is kept of it by the changes of rows.
-use Rattle.std.proofs.Common.{◌≡◌, ℕ, ◌<◌, ◌≤◌, ◌+◌, min, max, Bool, true, false, cond, not, ◌&&◌, ◌||◌, List, [], ◌∷◌, ◌++◌, map, Option, Some, None, option_map, find, nat_eq, nat_le, refl, sym, ap, ◌∙◌, subst, arith}
-use Rattle.std.specs.List.{list_any}
+use Rattle.std.proofs.Common.{◌≡◌, ℕ, ◌<◌, ◌≤◌, ◌+◌, Bool, true, false, cond, List, [], ◌∷◌, ◌++◌, map, Option, Some, None, option_map, find, refl, sym, ap, ◌∙◌, subst, arith}
 use Rattle.zb_model.specs.Data.{Bytes, Tier, Nwk, Aps, Move, Draw, DropNet, DropLink, Install, Active, Row, Pair, Became, Live, Removed, Roll, Told, Untold, Edit, Reserve, Floor, Start, Moved, Sealing}
-use Rattle.zb_model.specs.State.{most, NetKey, NodeState, same_key, has_net, at_net, of_active, new_net, reserved, started_at, dropped_net, net_floor, net_kept, next_at, booted_net, given_net, declared_at, net_of, applied, moved, after_boot, heard, accepted, with_given_net, with_given_link, with_declared}
-use Rattle.zb_laws.proofs.Basics.{same_key-refl, same_key-eq, find-map}
+use Rattle.zb_model.specs.State.{NetKey, NodeState, same_key, has_net, at_net, of_active, new_net, reserved, started_at, dropped_net, net_floor, net_kept, booted_net, applied, moved, after_boot, heard, accepted}
+use Rattle.zb_laws.proofs.Basics.{find-map}
 
 unfoldable pub Holds : (NetKey → Type 0) → Option NetKey → Type 0
 Holds P None = ⊥

@@ -1,3 +1,15 @@
 //! What holds of every run of the network: laws about transcripts alone, for every schedule. Each stands as the contract of
 //! a function with an empty body; docs/THEOREMS.md says it in words.
 #![tactic(auto)]
+
+ghost use Rattle.zb_model.specs.Claims.{Fresh};
+ghost use Rattle.zb_model.specs.Play.{World};
+ghost use Rattle.zb_model.specs.Schedules.{IsSchedule};
+ghost use Rattle.zb_model.specs.Tools.{Tools};
+ghost use Rattle.zb_model.specs.Transcript.{transcript};
+
+/// No node ever seals two frames under one key with one nonce, whatever frames it is handed, however often it loses power,
+/// and whatever its disk leaves of a commit that was cut.
+pub fn no_nonce_comes_again()
+    ensures { (tools : Tools) (w : World) → IsSchedule w → Fresh tools (transcript tools w) }
+{}

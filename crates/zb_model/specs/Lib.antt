@@ -16,3 +16,4 @@ pub mod FirstPath
 pub mod Secrets
 pub mod Transcript
 pub mod Claims
+pub mod Schedules

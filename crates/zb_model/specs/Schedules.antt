@@ -1,0 +1,30 @@
+-- What every schedule keeps that is read from a text: the premises of the laws about runs.
+use Rattle.std.specs.Prelude.{ℕ, ◌≡◌, ◌<◌, ◌^◌, true, is_some, ⊤}
+use Rattle.std.specs.List.{AllByRecursion}
+use Rattle.zb_model.specs.Rules.{station_of}
+use Rattle.zb_model.specs.Play.{World, Member, Act, Own, RollOver, Deliver, Reset, PowerOn, ShowRecord, ArmStop, ArmFail, stations}
+
+-- a declared node: its EUI has 64 bits, and its blocks aren't empty
+pub record IsMember (m : Member) : Type 0 where
+  pub eui : m.station.eui < 2 ^ 64
+  pub out_block : 0 < m.station.out_block
+  pub in_block : 0 < m.station.in_block
+
+abbrev pub Names : World → ℕ → Type 0
+Names w n = is_some (station_of (stations w) n) ≡ true
+
+-- an event's node is declared
+abbrev pub NamesNode : World → Act → Type 0
+NamesNode w (Own n task) = Names w n
+NamesNode w (RollOver n) = Names w n
+NamesNode w (Deliver frame n) = Names w n
+NamesNode w (Reset n) = Names w n
+NamesNode w (PowerOn n) = Names w n
+NamesNode w (ShowRecord n) = Names w n
+NamesNode w (ArmStop n calls torn) = Names w n
+NamesNode w (ArmFail n call) = Names w n
+NamesNode w _ = ⊤
+
+pub record IsSchedule (w : World) : Type 0 where
+  pub members : AllByRecursion IsMember w.members
+  pub events : AllByRecursion (NamesNode w) w.acts
