@@ -142,7 +142,7 @@ clash h number node stamp small few address b e =
     let counters : b.counter ≡ next h node = same_counter b.counter (next h node) (omega arith) (omega arith) (ap (λ l. take 4 (drop 8 l)) bytes) in
     omega arith
 
-next-append : (h g : List LogLine) (eui : ℕ) → next (h ++ g) eui ≡ fold (next_after eui) (next h eui) g
+pub next-append : (h g : List LogLine) (eui : ℕ) → next (h ++ g) eui ≡ fold (next_after eui) (next h eui) g
 next-append h g eui = fold-append (next_after eui) 0 h g
 
 below-later : (h g : List LogLine) → ((eui : ℕ) → next h eui ≤ next (h ++ g) eui) → (stamp : Stamp) → Below h stamp → Below (h ++ g) stamp
@@ -162,7 +162,7 @@ inv-plain h g number none same inv =
     }
 
 -- what a seal makes of the next counters
-next-sealed : (wire : Sealing → Bytes) (h : List LogLine) (number node eui : ℕ) (sealing : Sealing)
+pub next-sealed : (wire : Sealing → Bytes) (h : List LogLine) (number node eui : ℕ) (sealing : Sealing)
     → next (h ++ sealed_and_sent wire h number node sealing) eui ≡ (if nat_eq node eui then sealing.counter + 1 else next h eui)
 next-sealed wire h number node eui sealing = next-append h (sealed_and_sent wire h number node sealing) eui
 
@@ -183,7 +183,7 @@ next-sealed_grows wire h number node sealing counter eui =
           (omega arith, omega arith)
     ]
 
-next-sealed_own : (wire : Sealing → Bytes) (h : List LogLine) (number node : ℕ) (sealing : Sealing)
+pub next-sealed_own : (wire : Sealing → Bytes) (h : List LogLine) (number node : ℕ) (sealing : Sealing)
     → next (h ++ sealed_and_sent wire h number node sealing) node ≡ sealing.counter + 1
 next-sealed_own wire h number node sealing =
     elim (eqb_tells node node) [

@@ -1,0 +1,4 @@
+pub mod Headers
+pub mod Seats
+pub mod Names
+pub mod Runs

@@ -1,0 +1,4 @@
+pub mod Views
+pub mod Wire
+pub mod Text
+pub mod Stands
