@@ -4,3 +4,6 @@ pub mod ShownLemmas
 pub mod StateLemmas
 pub mod RuleLemmas
 pub mod ApplyLemmas
+pub mod FindLemmas
+pub mod HeardLemmas
+pub mod ReadLemmas

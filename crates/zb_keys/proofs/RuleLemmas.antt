@@ -3,9 +3,14 @@ use Rattle.std.proofs.Common.{◌≡◌, ℕ, ◌+◌, ◌<◌, ◌≤◌, List,
 use Rattle.std.specs.Prelude.{find, nat_le, nat_lt, nat_eq}
 use Rattle.std.specs.List.{list_any, list_all}
 use Rattle.std.proofs.lemmas.List.{length-map, map-append}
-use Rattle.zb_model.specs.Data.{Bytes, Tier, Nwk, Aps, Move, Draw, DropNet, DropLink, Install, Active, Row, Pair, Became, Live, Removed, Roll, Told, Untold, Edit, Reserve, Floor, Start, Moved}
-use Rattle.zb_model.specs.State.{NodeState, SenderFloor, NetKey, LinkKey, PairKey, same_key, net_of, live_nets, shown, shown_net, applied, applied_all, at_net, has_net, reserved, started_at, dropped_net, net_floor, new_net, of_active, is_told, most}
-use Rattle.zb_model.specs.Fits.{keeps_rules, rows_have_room, keys_differ, at_most_two_live, active_is_live, partners_agree, links_are_marked, floors_are_kept, limits_are_started, duty_is_kept, pairs_are_kept, senders_ascend, most_senders, row_is_live, all_apart, fits, all_fit, may_change}
+use Rattle.zb_model.specs.Data.{Bytes, Duty, Tier, Nwk, Aps, Move, Draw, DropNet, DropLink, Install, Active, Row, Pair, Became, Live, Removed, Roll, Told, Untold, Edit, Reserve, Floor, Start, Moved}
+use Rattle.zb_model.specs.State.{NodeState, SenderFloor, NetKey, LinkKey, PairKey, same_key, net_of, live_nets, shown, shown_net, applied, applied_all, at_net, has_net, reserved, started_at, dropped_net, net_floor, new_net, of_active, is_told, most, next_at, net_kept, floor_kept, is_centre, is_provisional, is_unverified}
+use Rattle.zb_model.specs.Fits.{keeps_rules, rows_have_room, keys_differ, at_most_two_live, active_is_live, partners_agree, links_are_marked, floors_are_kept, limits_are_started, duty_is_kept, pairs_are_kept, senders_ascend, most_senders, row_is_live, all_apart, like_rows, same_bool, most_links, fits, all_fit, may_change}
+use Rattle.std.proofs.lemmas.Bool.{not-true}
+use Rattle.std.proofs.lemmas.Bool.Decides.{same_from_decides}
+use Rattle.std.proofs.lemmas.Slice.Eq.{bytes_eq-Decides}
+use Rattle.std.proofs.lemmas.List.Folds.{list_all-map}
+use Rattle.zb_keys.specs.Senders.{counted_row}
 use Rattle.zb_keys.proofs.Mapping.{list_any-map}
 use Rattle.zb_keys.proofs.ShownLemmas.{filter-map, shown_twice}
 use Rattle.zb_keys.proofs.StateLemmas.{both, Rules, rules_of, rules_back}
@@ -15,6 +20,10 @@ floors_rule r = nat_le (length r.floors) most_senders && (list_all (λ (f : Send
 
 abbrev pub limit_rule : NetKey → Bool
 limit_rule r = r.started || nat_eq r.limit 0
+
+pub neither : (a b : Bool) → (a || b) ≡ false → (a ≡ false) × (b ≡ false)
+neither true b e = absurd (cc)
+neither false b e = (refl, e)
 
 pub any_same : {X : Type 0} (p q : X → Bool) → ((x : X) → p x ≡ q x) → (xs : List X) → list_any p xs ≡ list_any q xs
 any_same p q each [] = refl
@@ -192,3 +201,146 @@ fits_kept (Reserve layer limit) s fit kept = rules_shown _ (both (may_change (Re
 fits_kept (Floor layer key sender value) s fit kept = rules_shown _ (both (may_change (Floor layer key sender value) s) _ fit).1
 fits_kept (Start key value) s fit kept = rules_shown _ (both (may_change (Start key value) s) _ fit).1
 fits_kept (Moved m) s fit kept = move_kept m s fit kept
+
+-- a change of one key's row
+pub mild_at : (key : Bytes) (f : NetKey → NetKey) → Mild f → Mild (λ (r : NetKey). if same_key r.key key then f r else r)
+mild_at key f mild = record {
+    key = λ r. key_of (same_key r.key key) r; live = λ r. live_of (same_key r.key key) r;
+    limit = λ r e. limit_of (same_key r.key key) r e; floors = λ r e. floors_of (same_key r.key key) r e }
+  where
+    key_of : (b : Bool) (r : NetKey) → (if b then f r else r).key ≡ r.key
+    key_of true r = mild.key r
+    key_of false r = refl
+    live_of : (b : Bool) (r : NetKey) → (if b then f r else r).live ≡ r.live
+    live_of true r = mild.live r
+    live_of false r = refl
+    limit_of : (b : Bool) (r : NetKey) → limit_rule r ≡ true → limit_rule (if b then f r else r) ≡ true
+    limit_of true r e = mild.limit r e
+    limit_of false r e = e
+    floors_of : (b : Bool) (r : NetKey) → floors_rule r ≡ true → floors_rule (if b then f r else r) ≡ true
+    floors_of true r e = mild.floors r e
+    floors_of false r e = e
+
+pub counted_is_mild : Mild counted_row
+counted_is_mild = record {
+    key = λ r. key_of (nat_lt r.next r.limit) r; live = λ r. live_of (nat_lt r.next r.limit) r;
+    limit = λ r e. limit_of (nat_lt r.next r.limit) r e; floors = λ r e. floors_of (nat_lt r.next r.limit) r e }
+  where
+    key_of : (b : Bool) (r : NetKey) → (if b then next_at (r.next + 1) r else r).key ≡ r.key
+    key_of true r = refl
+    key_of false r = refl
+    live_of : (b : Bool) (r : NetKey) → (if b then next_at (r.next + 1) r else r).live ≡ r.live
+    live_of true r = refl
+    live_of false r = refl
+    limit_of : (b : Bool) (r : NetKey) → limit_rule r ≡ true → limit_rule (if b then next_at (r.next + 1) r else r) ≡ true
+    limit_of true r e = e
+    limit_of false r e = e
+    floors_of : (b : Bool) (r : NetKey) → floors_rule r ≡ true → floors_rule (if b then next_at (r.next + 1) r else r) ≡ true
+    floors_of true r e = e
+    floors_of false r e = e
+
+abbrev kept_at : ℕ → ℕ → SenderFloor → SenderFloor
+kept_at sender kept f = if nat_eq f.sender sender then record f { kept = kept } else f
+
+kept_sender : (sender kept : ℕ) (f : SenderFloor) → (kept_at sender kept f).sender ≡ f.sender
+kept_sender sender kept f = at_test (nat_eq f.sender sender)
+  where
+    at_test : (b : Bool) → (if b then record f { kept = kept } else f).sender ≡ f.sender
+    at_test true = refl
+    at_test false = refl
+
+kept_stored : (sender kept : ℕ) (f : SenderFloor) → (kept_at sender kept f).stored ≡ f.stored
+kept_stored sender kept f = at_test (nat_eq f.sender sender)
+  where
+    at_test : (b : Bool) → (if b then record f { kept = kept } else f).stored ≡ f.stored
+    at_test true = refl
+    at_test false = refl
+
+all_same : {X : Type 0} (p q : X → Bool) → ((x : X) → p x ≡ q x) → (xs : List X) → list_all p xs ≡ list_all q xs
+all_same p q each [] = refl
+all_same p q each (x ∷ xs) = ap (λ b. b && list_all p xs) (each x) ∙ ap (λ b. q x && b) (all_same p q each xs)
+
+ascend_kept : (sender kept : ℕ) (fs : List SenderFloor) → senders_ascend (map (kept_at sender kept) fs) ≡ senders_ascend fs
+ascend_kept sender kept [] = refl
+ascend_kept sender kept (f ∷ fs) =
+    let first : list_all (λ (g : SenderFloor). nat_lt (kept_at sender kept f).sender g.sender) (map (kept_at sender kept) fs) ≡ list_all (λ (g : SenderFloor). nat_lt f.sender g.sender) fs =
+        list_all-map (λ (g : SenderFloor). nat_lt (kept_at sender kept f).sender g.sender) (kept_at sender kept) fs
+        ∙ all_same (λ (g : SenderFloor). nat_lt (kept_at sender kept f).sender (kept_at sender kept g).sender) (λ (g : SenderFloor). nat_lt f.sender g.sender)
+            (λ g. ap (λ a. nat_lt a (kept_at sender kept g).sender) (kept_sender sender kept f) ∙ ap (nat_lt f.sender) (kept_sender sender kept g)) fs in
+    ap (λ b. b && senders_ascend (map (kept_at sender kept) fs)) first ∙ ap (λ b. list_all (λ (g : SenderFloor). nat_lt f.sender g.sender) fs && b) (ascend_kept sender kept fs)
+
+pub heard_is_mild : (sender kept : ℕ) → Mild (net_kept sender kept)
+heard_is_mild sender kept = record {
+    key = λ r. refl; live = λ r. refl; limit = λ r e. e;
+    floors = λ r e.
+      let long : nat_le (length (floor_kept sender kept r.floors)) most_senders ≡ nat_le (length r.floors) most_senders = ap (λ n. nat_le n most_senders) (length-map r.floors (kept_at sender kept)) in
+      let stored : list_all (λ (f : SenderFloor). nat_lt 0 f.stored) (floor_kept sender kept r.floors) ≡ list_all (λ (f : SenderFloor). nat_lt 0 f.stored) r.floors =
+          list_all-map (λ (f : SenderFloor). nat_lt 0 f.stored) (kept_at sender kept) r.floors ∙ all_same (λ (f : SenderFloor). nat_lt 0 (kept_at sender kept f).stored) (λ (f : SenderFloor). nat_lt 0 f.stored) (λ f. ap (nat_lt 0) (kept_stored sender kept f)) r.floors in
+      ap (λ b. b && (list_all (λ (f : SenderFloor). nat_lt 0 f.stored) (floor_kept sender kept r.floors) && senders_ascend (floor_kept sender kept r.floors))) long
+      ∙ ap (λ b. nat_le (length r.floors) most_senders && (b && senders_ascend (floor_kept sender kept r.floors))) stored
+      ∙ ap (λ b. nat_le (length r.floors) most_senders && (list_all (λ (f : SenderFloor). nat_lt 0 f.stored) r.floors && b)) (ascend_kept sender kept r.floors)
+      ∙ e }
+
+-- a change of link rows in their floors alone
+abbrev bare : LinkKey → LinkKey
+bare r = record r { kept = 0; stored = 0 }
+
+abbrev link_rule : Duty → LinkKey → Bool
+link_rule duty r = (not r.told || (r.live && is_centre duty)) && (not (is_provisional r.trust) || r.code)
+
+pub kept_by_links : (g : LinkKey → LinkKey) → ((r : LinkKey) → bare (g r) ≡ bare r) → (s : NodeState) → keeps_rules s ≡ true → keeps_rules (record s { links = map g s.links }) ≡ true
+unfolding rows_have_room keys_differ at_most_two_live active_is_live partners_agree links_are_marked floors_are_kept limits_are_started duty_is_kept pairs_are_kept
+kept_by_links g each s kept =
+    let r = rules_of s kept in
+    let now : NodeState = record s { links = map g s.links } in
+    let keys : all_apart (λ (a b : LinkKey). same_key a.key b.key) (map g s.links) ≡ all_apart (λ (a b : LinkKey). same_key a.key b.key) s.links =
+        apart_map (λ (a b : LinkKey). same_key a.key b.key) g (λ a b. ap (λ (x : LinkKey). same_key x.key (g b).key) (each a) ∙ ap (λ (x : LinkKey). same_key a.key x.key) (each b)) s.links in
+    let classes : all_apart (λ (a b : LinkKey). like_rows a b && same_bool (is_unverified a.trust) (is_unverified b.trust)) (map g s.links) ≡ all_apart (λ (a b : LinkKey). like_rows a b && same_bool (is_unverified a.trust) (is_unverified b.trust)) s.links =
+        apart_map (λ (a b : LinkKey). like_rows a b && same_bool (is_unverified a.trust) (is_unverified b.trust)) g
+          (λ a b. ap (λ (x : LinkKey). like_rows x (g b) && same_bool (is_unverified x.trust) (is_unverified (g b).trust)) (each a) ∙ ap (λ (x : LinkKey). like_rows a x && same_bool (is_unverified a.trust) (is_unverified x.trust)) (each b)) s.links in
+    let tolds : all_apart (λ (a b : LinkKey). like_rows a b && not (same_bool a.told b.told)) (map g s.links) ≡ all_apart (λ (a b : LinkKey). like_rows a b && not (same_bool a.told b.told)) s.links =
+        apart_map (λ (a b : LinkKey). like_rows a b && not (same_bool a.told b.told)) g
+          (λ a b. ap (λ (x : LinkKey). like_rows x (g b) && not (same_bool x.told (g b).told)) (each a) ∙ ap (λ (x : LinkKey). like_rows a x && not (same_bool a.told x.told)) (each b)) s.links in
+    rules_back now (record {
+      room = ap (λ n. nat_le (length s.nets) 256 && (nat_le n (most_links s.duty) && nat_le (length s.pairs) 256)) (length-map s.links g) ∙ r.room;
+      keys = ap (λ b. all_apart (λ (a b : NetKey). same_key a.key b.key) s.nets && b) keys ∙ r.keys;
+      two = r.two; active = r.active;
+      partners = ap (λ b. b && all_apart (λ (a b : LinkKey). like_rows a b && not (same_bool a.told b.told)) (map g s.links)) classes
+        ∙ ap (λ b. all_apart (λ (a b : LinkKey). like_rows a b && same_bool (is_unverified a.trust) (is_unverified b.trust)) s.links && b) tolds ∙ r.partners;
+      marks = all_map (link_rule s.duty) g (λ x e. ap (λ (y : LinkKey). link_rule s.duty y) (each x) ∙ e) s.links r.marks;
+      floors = r.floors; limits = r.limits; duty_kept = r.duty_kept; pairs_kept = r.pairs_kept })
+
+-- only one row has a key
+pub same_key_is : (a b : Bytes) → same_key a b ≡ true → a ≡ b
+same_key_is a b e = (bytes_eq-Decides a b).0 e
+
+pub same_key_of : (a b : Bytes) → a ≡ b → same_key a b ≡ true
+same_key_of a b e = (bytes_eq-Decides a b).1 e
+
+pub same_key_sym : (a b : Bytes) → same_key a b ≡ same_key b a
+same_key_sym a b = same_from_decides (same_key a b) (same_key b a) (bytes_eq-Decides a b) ((λ e. sym (same_key_is b a e)), (λ e. same_key_of b a (sym e)))
+
+none_at : (key : Bytes) (f : NetKey → NetKey) (nets : List NetKey) → list_any (λ (r : NetKey). same_key r.key key) nets ≡ false → at_net key f nets ≡ nets
+none_at key f [] none = refl
+none_at key f (r ∷ rs) none =
+    let parts = neither (same_key r.key key) (list_any (λ (x : NetKey). same_key x.key key) rs) none in
+    ap (λ b. (if b then f r else r) ∷ at_net key f rs) parts.0 ∙ ap (λ l. r ∷ l) (none_at key f rs parts.1)
+
+pub at_net_found : (key : Bytes) (f g : NetKey → NetKey) (nets : List NetKey) → all_apart (λ (a b : NetKey). same_key a.key b.key) nets ≡ true
+    → ((r : NetKey) → find (λ (x : NetKey). same_key x.key key) nets ≡ Some r → f r ≡ g r) → at_net key f nets ≡ at_net key g nets
+at_net_found key f g [] apart each = refl
+at_net_found key f g (r ∷ rs) apart each =
+    let parts = both (not (list_any (λ (x : NetKey). same_key r.key x.key) rs)) (all_apart (λ (a b : NetKey). same_key a.key b.key) rs) apart in
+    at_test (same_key r.key key) refl parts.0 (λ e. at_net_found key f g rs parts.1 e) each
+  where
+    at_test : (b : Bool) → same_key r.key key ≡ b → not (list_any (λ (x : NetKey). same_key r.key x.key) rs) ≡ true
+      → (((x : NetKey) → find (λ (y : NetKey). same_key y.key key) rs ≡ Some x → f x ≡ g x) → at_net key f rs ≡ at_net key g rs)
+      → ((x : NetKey) → (if same_key r.key key then Some r else find (λ (y : NetKey). same_key y.key key) rs) ≡ Some x → f x ≡ g x)
+      → (if same_key r.key key then f r else r) ∷ at_net key f rs ≡ (if same_key r.key key then g r else r) ∷ at_net key g rs
+    at_test true is alone later each =
+      let here : f r ≡ g r = each r (rw is refl) in
+      let none : list_any (λ (x : NetKey). same_key x.key key) rs ≡ false =
+          any_same (λ (x : NetKey). same_key x.key key) (λ (x : NetKey). same_key r.key x.key) (λ x. same_key_sym x.key key ∙ ap (λ k. same_key k x.key) (sym (same_key_is r.key key is))) rs ∙ not-true _ alone in
+      rw is (ap (λ x. x ∷ at_net key f rs) here ∙ ap (λ l. g r ∷ l) (none_at key f rs none ∙ sym (none_at key g rs none)))
+    at_test false is alone later each =
+      rw is (ap (λ l. r ∷ l) (later (λ x e. each x (rw is e))))

@@ -2,3 +2,4 @@ pub mod Rows
 pub mod Senders
 pub mod Tables
 pub mod Reading
+pub mod Planning

@@ -1,8 +1,9 @@
 -- What the readers of tables answer, asked of the state of the node.
 use Rattle.std.specs.Prelude.{ℕ, ◌+◌, Bool, List, Option, Some, None, position, slice_get, find}
 use Rattle.zb_counter.specs.declared.receiving.Floor.{Floor}
-use Rattle.zb_model.specs.Data.{Bytes, Nwk, Aps}
-use Rattle.zb_model.specs.State.{NodeState, SenderFloor, NetKey, LinkKey, same_key, sender_floor, heard}
+use Rattle.zb_counter.specs.declared.sending.Outgoing.{Outgoing}
+use Rattle.zb_model.specs.Data.{Bytes, Tier, Nwk, Aps}
+use Rattle.zb_model.specs.State.{NodeState, SenderFloor, NetKey, LinkKey, same_key, sender_floor, heard, next_counter, stored_limit}
 
 -- the place of the active network key among the rows
 abbrev pub place_of_key : Option Bytes → List NetKey → Option ℕ
@@ -37,3 +38,7 @@ heard_under (Some r) sender counter s = heard Nwk r.key sender counter s
 abbrev pub heard_from : Option LinkKey → ℕ → NodeState → NodeState
 heard_from None counter s = s
 heard_from (Some r) counter s = heard Aps r.key r.partner counter s
+
+-- the outgoing counter of a layer, which is reserved in blocks of that size
+abbrev pub outgoing_of : Tier → ℕ → NodeState → Outgoing
+outgoing_of layer block s = record { next = next_counter layer s; limit = stored_limit layer s; block = block }

@@ -1,21 +1,24 @@
 //! What the tables of a node hold, and how one change changes it.
-ghost use Rattle.std.specs.Prelude.{◌≡◌, ◌<◌, ◌≤◌, [], ◌∷◌, ◌++◌, true, false, length, vec_capacity, vec_len, All, map};
+ghost use Rattle.std.specs.Option.{option_copied};
+ghost use Rattle.std.specs.Prelude.{◌≡◌, ◌<◌, ◌≤◌, ◌-◌, ◌^◌, option_map, [], ◌∷◌, ◌++◌, true, false, length, vec_capacity, vec_len, All, map};
 ghost use Rattle.zb_change.specs.Changes.{tier, trust, stage, edit, is_sending};
 ghost use Rattle.zb_keys.specs.Rows.{net_key, link_key};
 ghost use Rattle.zb_keys.specs.Senders.{HasRoom, live_floor};
+ghost use Rattle.zb_keys.specs.Reading.{outgoing_of, place_of_key};
 ghost use Rattle.zb_keys.specs.Tables.{state_of, Becomes, IsSound, Forgets};
 ghost use Rattle.zb_model.specs.Data.{Nwk, Aps, Reserve, Floor, Start, Moved, DropNet, DropLink, Install, Active, Row, Pair as Paired, Became, Live, Removed, Roll, Told, Untold};
-ghost use Rattle.zb_model.specs.State.{applied, shown, at_net, net_floor, most};
+ghost use Rattle.zb_model.specs.State.{applied, shown, at_net, next_counter, stored_limit, active_row, counted, heard, with_declared};
 ghost use Rattle.zb_model.specs.Fits.{keeps_rules};
 
 use crate::link::{
-    drop_link, has_row, has_told, revive_link, store_link, tell_links, untell_links,
+    drop_link, has_row, has_told, hear_link, revive_link, store_link, tell_links, untell_links,
 };
-use crate::net::{drop_net, has_key, reserve_net, start_net, store_net};
+use crate::net::{count_net, drop_net, has_key, hear_net, key_place, key_row, reserve_net, start_net, store_net};
 use crate::pair::{drop_pairs, has_pair};
 use crate::{LinkRow, NetRow, Pair};
 use zb_base::{Eui, Key, Layer, Role};
 use zb_change::{Attribute, Change, Rollover, State};
+use zb_counter::Outgoing;
 
 /// The stable state of a node, with the next counters and the floors in memory.
 #[derive(Debug, Drop)]
@@ -36,6 +39,126 @@ pub(crate) struct Contents {
 
 #[tactic(auto, unfolding(zb_model::specs::State::applied, zb_model::specs::State::shown))]
 impl Contents {
+    /// The row of the active network key.
+    pub(crate) fn active_row(&self) -> Option<&NetRow>
+        ensures { option_map net_key (option_copied result) ≡ active_row (state_of self.now) }
+    {
+        match &self.active {
+            Some(key) => key_row(self.nets.as_slice(), key),
+            None => None,
+        }
+    }
+
+    /// The outgoing counter of a layer.
+    pub(crate) fn outgoing(&self, layer: Layer, block: u32) -> Outgoing
+        ensures { result ≡ outgoing_of (tier layer) block (state_of self.now) }
+    {
+        match layer {
+            Layer::Nwk => self.outgoing_nwk(block),
+            Layer::Aps => self.outgoing_aps(block),
+        }
+    }
+
+    /// The outgoing NWK counter: that of the active key, or the declared one while none is active.
+    fn outgoing_nwk(&self, block: u32) -> Outgoing
+        ensures { result ≡ outgoing_of Nwk block (state_of self.now) }
+    {
+        match self.active_row() {
+            Some(row) => Outgoing { next: row.next, limit: row.limit, block },
+            None => Outgoing { next: self.declared, limit: self.declared, block },
+        }
+    }
+
+    /// The outgoing counter of the application support layer.
+    #[tactic(auto, unfolding(zb_model::specs::State::next_counter, zb_model::specs::State::stored_limit))]
+    fn outgoing_aps(&self, block: u32) -> Outgoing
+        ensures { result ≡ outgoing_of Aps block (state_of self.now) }
+    {
+        Outgoing { next: self.aps_next, limit: self.aps_limit, block }
+    }
+
+    /// Sets the outgoing NWK counter of the start, before there is a network key.
+    pub(crate) fn declare(&mut self, start: u32)
+        requires sound { IsSound self.old }
+        requires empty { (state_of self.old).nets ≡ [] }
+        ensures state { state_of self.new ≡ with_declared Nwk start (state_of self.old) }
+        ensures sound { IsSound self.new }
+    {
+        self.declared = start;
+    }
+
+    /// The place of the active network key among the rows.
+    pub(crate) fn active_place(&self) -> Option<u32>
+        requires { IsSound self.now }
+        ensures { result ≡ place_of_key (state_of self.now).active (state_of self.now).nets }
+    {
+        match &self.active {
+            Some(key) => match key_place(self.nets.as_slice(), key) {
+                Some(place) => Some(place as u32),
+                None => None,
+            },
+            None => None,
+        }
+    }
+
+    /// Uses the next outgoing counter of a layer, which is reserved.
+    pub(crate) fn count(&mut self, layer: Layer)
+        requires sound { IsSound self.old }
+        requires reserved { next_counter (tier layer) (state_of self.old) < stored_limit (tier layer) (state_of self.old) }
+        ensures state { state_of self.new ≡ counted (tier layer) (state_of self.old) }
+        ensures sound { IsSound self.new }
+    {
+        match layer {
+            Layer::Nwk => self.count_nwk(),
+            Layer::Aps => self.count_aps(),
+        }
+    }
+
+    /// Uses the next outgoing counter of the active network key.
+    fn count_nwk(&mut self)
+        requires sound { IsSound self.old }
+        requires reserved { next_counter Nwk (state_of self.old) < stored_limit Nwk (state_of self.old) }
+        ensures state { state_of self.new ≡ counted Nwk (state_of self.old) }
+        ensures sound { IsSound self.new }
+    {
+        match self.active {
+            Some(key) => count_net(&mut self.nets, &key),
+            None => {}
+        }
+    }
+
+    /// Uses the next outgoing counter of the application support layer.
+    #[tactic(auto, unfolding(zb_model::specs::State::next_counter, zb_model::specs::State::stored_limit, zb_model::specs::State::counted))]
+    fn count_aps(&mut self)
+        requires sound { IsSound self.old }
+        requires reserved { next_counter Aps (state_of self.old) < stored_limit Aps (state_of self.old) }
+        ensures state { state_of self.new ≡ counted Aps (state_of self.old) }
+        ensures sound { IsSound self.new }
+    {
+        let _limit = self.aps_limit;
+        self.aps_next += 1;
+    }
+
+    /// Keeps what was accepted of a sender under a network key.
+    pub(crate) fn hear_nwk(&mut self, key: &Key, sender: Eui, counter: u32)
+        requires sound { IsSound self.old }
+        requires below_last { counter < 2 ^ 32 - 1 }
+        ensures state { state_of self.new ≡ heard Nwk key.now.0 sender.0 counter (state_of self.old) }
+        ensures sound { IsSound self.new }
+    {
+        hear_net(&mut self.nets, key, sender, counter + 1);
+    }
+
+    /// Keeps what was accepted of a partner under a link key.
+    pub(crate) fn hear_aps(&mut self, key: &Key, partner: Eui, counter: u32)
+        requires sound { IsSound self.old }
+        requires below_last { counter < 2 ^ 32 - 1 }
+        ensures state { state_of self.new ≡ heard Aps key.now.0 partner.0 counter (state_of self.old) }
+        ensures sound { IsSound self.new }
+    {
+        hear_link(&mut self.links, partner, key, counter + 1);
+    }
+
     /// Makes one change.
     pub(crate) fn change(&mut self, change: &Change)
         requires rules { keeps_rules (shown (applied (edit change.now) (state_of self.old))) ≡ true }

@@ -1,9 +1,10 @@
 //! Rows of link keys.
-ghost use Rattle.std.specs.Prelude.{◌≡◌, ◌&&◌, false, map, if◌then◌else◌};
+ghost use Rattle.std.specs.Prelude.{◌≡◌, ◌&&◌, false, not, map, find, nat_eq, if◌then◌else◌};
 ghost use Rattle.std.specs.List.{list_any};
+ghost use Rattle.std.specs.Option.{option_copied};
 ghost use Rattle.zb_change.specs.Changes.{trust};
 ghost use Rattle.zb_keys.specs.Rows.{link_key};
-ghost use Rattle.zb_model.specs.State.{at_link, is_link, has_link, is_live_of, dropped_link, link_floor, link_kept, revived, new_link, told_as, with_told};
+ghost use Rattle.zb_model.specs.State.{at_link, is_link, has_link, is_live_of, dropped_link, link_floor, link_kept, revived, new_link, told_as, with_told, is_unverified, same_key};
 
 use zb_base::{Eui, Key};
 use zb_change::Attribute;
@@ -58,6 +59,13 @@ impl LinkRow {
         self.live && self.partner == partner
     }
 
+    /// Whether it is only offered: nobody proved yet that both sides hold the key.
+    pub fn is_unverified(&self) -> bool
+        ensures { result ≡ is_unverified (link_key self.now).trust }
+    {
+        matches!(self.attribute, Attribute::Unverified)
+    }
+
     /// Drops the row, if it is of that partner and key.
     fn drop_at(&mut self, partner: Eui, key: &Key)
         ensures { link_key self.new ≡ (if is_link partner.0 key.now.0 (link_key self.old) then dropped_link (link_key self.old) else link_key self.old) }
@@ -74,6 +82,15 @@ impl LinkRow {
     {
         if self.is_of(partner, key) {
             self.floor.stored = self.floor.stored.max(value);
+        }
+    }
+
+    /// Keeps what was accepted, if the row is of that partner and key.
+    fn hear_at(&mut self, partner: Eui, key: &Key, kept: u32)
+        ensures { link_key self.new ≡ (if is_link partner.0 key.now.0 (link_key self.old) then link_kept kept (link_key self.old) else link_key self.old) }
+    {
+        if self.is_of(partner, key) {
+            self.floor.kept = kept;
         }
     }
 
@@ -178,4 +195,41 @@ pub(crate) fn has_told(rows: &[LinkRow], partner: Eui) -> bool
 {
     rows.iter()
         .any(|row| row.live && row.partner == partner && row.told)
+}
+
+/// The current row of a partner: its row in use that isn't only offered.
+pub(crate) fn current_row<'a>(rows: &'a [LinkRow], partner: Eui) -> Option<&'a LinkRow>
+    ensures { option_copied result ≡ find (λ r. is_live_of partner.0 (link_key r) && not (is_unverified (link_key r).trust)) rows.now }
+{
+    rows.iter().find(|row| row.live && row.partner.0 == partner.0 && !row.is_unverified())
+}
+
+/// The offered row of a partner: its unverified row in use.
+pub(crate) fn offered_row<'a>(rows: &'a [LinkRow], partner: Eui) -> Option<&'a LinkRow>
+    ensures { option_copied result ≡ find (λ r. is_live_of partner.0 (link_key r) && is_unverified (link_key r).trust) rows.now }
+{
+    rows.iter().find(|row| row.live && row.partner.0 == partner.0 && row.is_unverified())
+}
+
+/// The first row in use of a partner.
+pub(crate) fn live_row<'a>(rows: &'a [LinkRow], partner: Eui) -> Option<&'a LinkRow>
+    ensures { option_copied result ≡ find (λ r. is_live_of partner.0 (link_key r)) rows.now }
+{
+    rows.iter().find(|row| row.live && row.partner.0 == partner.0)
+}
+
+/// The first row with that key of another partner.
+pub(crate) fn other_row<'a>(rows: &'a [LinkRow], partner: Eui, key: &Key) -> Option<&'a LinkRow>
+    ensures { option_copied result ≡ find (λ r. same_key (link_key r).key key.now.0 && not (nat_eq (link_key r).partner partner.0)) rows.now }
+{
+    rows.iter().find(|row| row.key == *key && row.partner.0 != partner.0)
+}
+
+/// Keeps what was accepted of a partner under a key.
+pub(crate) fn hear_link(rows: &mut [LinkRow], partner: Eui, key: &Key, kept: u32)
+    ensures { map link_key rows.new ≡ at_link partner.0 key.now.0 (link_kept kept) (map link_key rows.old) }
+{
+    for row in rows.iter_mut() {
+        row.hear_at(partner, key, kept);
+    }
 }

@@ -1,12 +1,15 @@
 //! Rows of network keys.
-ghost use Rattle.std.specs.Prelude.{◌≡◌, ◌+◌, ◌<◌, ◌≤◌, [], ◌∷◌, ◌++◌, ℕ, List, length, map, take, drop, min, if◌then◌else◌, nat_eq, All, IsTrue, IsFalse};
+ghost use Rattle.std.specs.Prelude.{◌≡◌, ◌+◌, ◌<◌, ◌≤◌, [], ◌∷◌, ◌++◌, ℕ, List, length, map, take, drop, min, if◌then◌else◌, nat_eq, not, ◌&&◌, find, position, All, IsTrue, IsFalse};
 ghost use Rattle.std.specs.List.{list_any};
+ghost use Rattle.std.specs.Option.{option_copied};
 ghost use Rattle.zb_keys.specs.Rows.{net_key, heard_floor};
 ghost use Rattle.zb_model.specs.State.{most, at_net, new_net, same_key, reserved, started_at, dropped_net, shown_net, next_at, net_floor, net_kept, floor_stored, floor_kept};
-ghost use Rattle.zb_keys.specs.Senders.{IsPlace, IsAbsent, HasRoom, live_floor};
+ghost use Rattle.zb_keys.specs.Reading.{floor_of_row};
+ghost use Rattle.zb_keys.specs.Senders.{IsPlace, IsAbsent, HasRoom, live_floor, counted_row};
 
 use arrayvec::ArrayVec;
 use zb_base::{Eui, Key};
+use zb_counter::Floor;
 
 /// The floor of one sender under a network key.
 #[derive(Clone, Copy, Debug, Default, PartialEq, Eq)]
@@ -88,12 +91,12 @@ impl NetRow {
         }
     }
 
-    /// Uses the next outgoing counter, if the row has that key. It ends at the greatest number.
+    /// Uses the next outgoing counter, if the row has that key and the counter is reserved.
     pub(crate) fn count_at(&mut self, key: &Key)
-        ensures { net_key self.new ≡ (if same_key (net_key self.old).key key.now.0 then next_at (min ((net_key self.old).next + 1) most) (net_key self.old) else net_key self.old) }
+        ensures { net_key self.new ≡ (if same_key (net_key self.old).key key.now.0 then counted_row (net_key self.old) else net_key self.old) }
     {
-        if self.key == *key {
-            self.next = self.next.saturating_add(1);
+        if self.key == *key && self.next < self.limit {
+            self.next += 1;
         }
     }
 
@@ -107,11 +110,24 @@ impl NetRow {
         }
     }
 
-    /// Keeps what was accepted of a sender.
-    pub(crate) fn hear(&mut self, sender: Eui, kept: u32)
-        ensures { net_key self.new ≡ net_kept sender.0 kept (net_key self.old) }
+    /// Keeps what was accepted of a sender, if the row has that key.
+    pub(crate) fn hear_at(&mut self, key: &Key, sender: Eui, kept: u32)
+        ensures { net_key self.new ≡ (if same_key (net_key self.old).key key.now.0 then net_kept sender.0 kept (net_key self.old) else net_key self.old) }
     {
-        hear(&mut self.floors, sender, kept);
+        if self.key == *key {
+            hear(&mut self.floors, sender, kept);
+        }
+    }
+
+    /// The floor of a sender: 0 and 0 where none was stored.
+    #[tactic(auto, unfolding(zb_model::specs::State::sender_floor), using(crate::proofs::FindLemmas::find_map))]
+    pub(crate) fn floor_of(&self, sender: Eui) -> Floor
+        ensures { result ≡ floor_of_row sender.0 (Some (net_key self.now)) }
+    {
+        match stored_floor(self.floors.as_slice(), sender) {
+            Some(floor) => Floor { kept: floor.kept, stored: floor.stored },
+            None => Floor { kept: 0, stored: 0 },
+        }
     }
 }
 
@@ -206,10 +222,19 @@ pub(crate) fn start_net(rows: &mut [NetRow], key: &Key, value: u32)
 
 /// Uses the next outgoing counter of a key.
 pub(crate) fn count_net(rows: &mut [NetRow], key: &Key)
-    ensures { map net_key rows.new ≡ at_net key.now.0 (λ r. next_at (min (r.next + 1) most) r) (map net_key rows.old) }
+    ensures { map net_key rows.new ≡ at_net key.now.0 counted_row (map net_key rows.old) }
 {
     for row in rows.iter_mut() {
         row.count_at(key);
+    }
+}
+
+/// Keeps what was accepted of a sender under a key.
+pub(crate) fn hear_net(rows: &mut [NetRow], key: &Key, sender: Eui, kept: u32)
+    ensures { map net_key rows.new ≡ at_net key.now.0 (net_kept sender.0 kept) (map net_key rows.old) }
+{
+    for row in rows.iter_mut() {
+        row.hear_at(key, sender, kept);
     }
 }
 
@@ -228,4 +253,32 @@ pub(crate) fn has_key(rows: &[NetRow], key: &Key) -> bool
     ensures { result ≡ list_any (λ r. same_key (net_key r).key key.now.0) rows.now }
 {
     rows.iter().any(|row| row.key == *key)
+}
+
+/// The floor that was stored of a sender.
+fn stored_floor<'a>(floors: &'a [SenderFloor], sender: Eui) -> Option<&'a SenderFloor>
+    ensures { option_copied result ≡ find (λ f. nat_eq (heard_floor f).sender sender.0) floors.now }
+{
+    floors.iter().find(|floor| floor.sender.0 == sender.0)
+}
+
+/// The place of a key's row.
+pub(crate) fn key_place(rows: &[NetRow], key: &Key) -> Option<usize>
+    ensures { result ≡ position (λ r. same_key (net_key r).key key.now.0) rows.now }
+{
+    rows.iter().position(|row| row.key == *key)
+}
+
+/// The place of a dropped row with that key.
+pub(crate) fn dropped_place(rows: &[NetRow], key: &Key) -> Option<usize>
+    ensures { result ≡ position (λ r. same_key (net_key r).key key.now.0 && not r.live) rows.now }
+{
+    rows.iter().position(|row| row.key == *key && !row.live)
+}
+
+/// The row of a key.
+pub(crate) fn key_row<'a>(rows: &'a [NetRow], key: &Key) -> Option<&'a NetRow>
+    ensures { option_copied result ≡ find (λ r. same_key (net_key r).key key.now.0) rows.now }
+{
+    rows.iter().find(|row| row.key == *key)
 }

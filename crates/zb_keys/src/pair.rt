@@ -1,6 +1,7 @@
 //! The keys that the centre gave two devices for one another.
-ghost use Rattle.std.specs.Prelude.{◌≡◌, not, filter, vec_capacity};
+ghost use Rattle.std.specs.Prelude.{◌≡◌, not, filter, find, vec_capacity};
 ghost use Rattle.std.specs.List.{list_any};
+ghost use Rattle.std.specs.Option.{option_copied};
 ghost use Rattle.zb_keys.specs.Rows.{pair_key};
 ghost use Rattle.zb_model.specs.State.{names, names_two};
 
@@ -34,4 +35,13 @@ pub(crate) fn drop_pairs(pairs: &mut Vec<Pair>, device: Eui)
     ensures room { vec_capacity pairs.new ≡ vec_capacity pairs.old }
 {
     pairs.retain(|pair| !(pair.first.0 == device.0 || pair.second.0 == device.0));
+}
+
+/// The row of two devices.
+pub(crate) fn pair_row<'a>(pairs: &'a [Pair], a: Eui, b: Eui) -> Option<&'a Pair>
+    ensures { option_copied result ≡ find (λ p. names_two a.0 b.0 (pair_key p)) pairs.now }
+{
+    let first = a.0.min(b.0);
+    let second = a.0.max(b.0);
+    pairs.iter().find(|pair| pair.first.0 == first && pair.second.0 == second)
 }

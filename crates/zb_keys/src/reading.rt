@@ -1,12 +1,14 @@
 //! The readers of tables, and what seals and accepted frames do to them.
-ghost use Rattle.std.specs.Prelude.{◌≡◌, ◌<◌, ◌+◌, ◌-◌, ◌^◌, [], length, map, option_map};
+ghost use Rattle.std.specs.Prelude.{◌≡◌, ◌<◌, ◌-◌, ◌^◌, [], map, option_map, slice_get};
 ghost use Rattle.std.specs.Option.{option_copied};
 ghost use Rattle.zb_change.specs.Changes.{duty, tier, stage, is_sending};
 ghost use Rattle.zb_keys.specs.Rows.{net_key, link_key, pair_key};
-ghost use Rattle.zb_keys.specs.Reading.{place_of_key, floor_at, sender_at, heard_under, heard_from};
-ghost use Rattle.zb_model.specs.Data.{Nwk, Aps};
-ghost use Rattle.zb_model.specs.State.{next_counter, stored_limit, counted, with_declared, current, offered};
+ghost use Rattle.zb_keys.specs.Reading.{place_of_key, outgoing_of, floor_at, sender_at, heard_under, heard_from};
+ghost use Rattle.zb_model.specs.Data.{Nwk};
+ghost use Rattle.zb_model.specs.State.{next_counter, stored_limit, counted, with_declared, current, offered, pair_of};
 
+use crate::link::{current_row, offered_row};
+use crate::pair::pair_row;
 use crate::{LinkRow, NetRow, Pair, Tables};
 use zb_base::{Eui, Key, Layer, Role};
 use zb_change::{Rollover, State};
@@ -67,5 +69,116 @@ impl Tables {
         ensures { option_map (λ k. k.0) result ≡ self.now.active }
     {
         self.contents.active
+    }
+
+    /// The place of the active network key among the rows.
+    pub fn active(&self) -> Option<u32>
+        ensures { result ≡ place_of_key self.now.active self.now.nets }
+    {
+        self.contents.active_place()
+    }
+
+    /// The floor of a sender under the network key at a place: 0 and 0 where none was stored.
+    pub fn floor(&self, place: u32, sender: Eui) -> Floor
+        ensures { result ≡ floor_at self.now place sender.0 }
+    {
+        match self.contents.nets.get(place as usize) {
+            Some(row) => row.floor_of(sender),
+            None => Floor { kept: 0, stored: 0 },
+        }
+    }
+
+    /// The sender number `at`, from 0 and by ascending address, among those with a stored floor under the network key
+    /// at a place.
+    pub fn sender(&self, place: u32, at: u32) -> Option<Eui>
+        ensures { option_map (λ e. e.0) result ≡ sender_at self.now place at }
+    {
+        match self.contents.nets.get(place as usize) {
+            Some(row) => match row.floors.as_slice().get(at as usize) {
+                Some(floor) => Some(floor.sender),
+                None => None,
+            },
+            None => None,
+        }
+    }
+
+    /// The current row of a partner: its link key in use that isn't only offered.
+    #[tactic(auto, unfolding(zb_model::specs::State::current), using(crate::proofs::FindLemmas::find_map))]
+    pub fn current(&self, partner: Eui) -> Option<&LinkRow>
+        ensures { option_map link_key (option_copied result) ≡ current self.now partner.0 }
+    {
+        current_row(self.contents.links.as_slice(), partner)
+    }
+
+    /// The offered row of a partner: its unverified link key in use.
+    #[tactic(auto, unfolding(zb_model::specs::State::offered), using(crate::proofs::FindLemmas::find_map))]
+    pub fn offered(&self, partner: Eui) -> Option<&LinkRow>
+        ensures { option_map link_key (option_copied result) ≡ offered self.now partner.0 }
+    {
+        offered_row(self.contents.links.as_slice(), partner)
+    }
+
+    /// The outgoing counter of a layer, which is reserved in blocks of that size. At NWK it is that of the active key.
+    pub fn outgoing(&self, layer: Layer, block: u32) -> Outgoing
+        ensures { result ≡ outgoing_of (tier layer) block self.now }
+    {
+        self.contents.outgoing(layer, block)
+    }
+
+    /// Uses the next outgoing counter of a layer, which is reserved.
+    pub fn sealed(&mut self, layer: Layer)
+        requires { next_counter (tier layer) self.old < stored_limit (tier layer) self.old }
+        ensures { self.new ≡ counted (tier layer) self.old }
+    {
+        self.contents.count(layer);
+    }
+
+    /// Keeps what was accepted of a sender under the network key at a place. A dropped key keeps nothing.
+    pub fn accepted_net(&mut self, place: u32, sender: Eui, counter: u32)
+        requires { counter < 2 ^ 32 - 1 }
+        ensures { self.new ≡ heard_under (slice_get self.old.nets place) sender.0 counter self.old }
+    {
+        if let Some(row) = self.contents.nets.get(place as usize) {
+            let key = row.key;
+            self.contents.hear_nwk(&key, sender, counter);
+        }
+    }
+
+    /// Keeps what was accepted under the link key at a place, a dropped one too.
+    pub fn accepted_link(&mut self, place: u32, counter: u32)
+        requires { counter < 2 ^ 32 - 1 }
+        ensures { self.new ≡ heard_from (slice_get self.old.links place) counter self.old }
+    {
+        if let Some(row) = self.contents.links.get(place as usize) {
+            let key = row.key;
+            let partner = row.partner;
+            self.contents.hear_aps(&key, partner, counter);
+        }
+    }
+
+    /// Sets the outgoing NWK counter of the start, before there is a network key.
+    pub fn declare(&mut self, start: u32)
+        requires { self.old.nets ≡ [] }
+        ensures { self.new ≡ with_declared Nwk start self.old }
+    {
+        self.contents.declare(start);
+    }
+
+    /// The row of two devices.
+    #[tactic(auto, unfolding(zb_model::specs::State::pair_of), using(crate::proofs::FindLemmas::find_map))]
+    pub fn pair_between(&self, a: Eui, b: Eui) -> Option<&Pair>
+        ensures { option_map pair_key (option_copied result) ≡ pair_of self.now a.0 b.0 }
+    {
+        pair_row(self.contents.pairs.as_slice(), a, b)
+    }
+
+    /// The key of two devices.
+    pub fn pair_key(&self, a: Eui, b: Eui) -> Option<Key>
+        ensures { option_map (λ k. k.0) result ≡ option_map (λ p. p.key) (pair_of self.now a.0 b.0) }
+    {
+        match self.pair_between(a, b) {
+            Some(pair) => Some(pair.key),
+            None => None,
+        }
     }
 }

@@ -1,0 +1,73 @@
+-- What seals and accepted frames do to the contents of tables.
+use Rattle.std.proofs.Common.{◌≡◌, ℕ, ◌+◌, ◌<◌, ◌≤◌, List, [], map, length, refl, sym, ap, ◌∙◌, arith, Bool, true, false, if◌then◌else◌, subst, Option, Some, None}
+use Rattle.std.specs.Prelude.{vec_capacity, find, nat_lt, nat_eq}
+use Rattle.std.specs.Vec.{with_items}
+use Rattle.std.proofs.lemmas.List.{with_items_is}
+use borrow.Author.Tests.{lt-ltb}
+use Rattle.zb_model.specs.Data.{Bytes, Nwk, Aps}
+use Rattle.zb_model.specs.State.{NodeState, NetKey, LinkKey, same_key, at_net, at_link, is_link, shown_net, next_at, net_kept, floor_kept, link_kept, counted, heard, of_active, next_counter, stored_limit, active_row, net_of, SenderFloor}
+use Rattle.zb_model.specs.Fits.{keeps_rules, keys_differ, all_apart}
+use Rattle.zb_keys.specs.declared.contents.Contents.{Contents}
+use Rattle.zb_keys.specs.declared.net.NetRow.{NetRow}
+use Rattle.zb_keys.specs.declared.link.LinkRow.{LinkRow}
+use Rattle.zb_keys.specs.Rows.{net_key, link_key}
+use Rattle.zb_keys.specs.Senders.{counted_row}
+use Rattle.zb_keys.specs.Tables.{state_of, IsSound, Forgets}
+use Rattle.zb_keys.proofs.ShownLemmas.{shown_at}
+use Rattle.zb_keys.proofs.StateLemmas.{both, rules_of}
+use Rattle.zb_keys.proofs.RuleLemmas.{Mild, mild_at, counted_is_mild, heard_is_mild, kept_by_map, kept_by_links, at_net_found}
+
+-- network rows that are changed where nothing of the rules is told
+pub sound_nets : (a : Contents) (rows : List NetRow) (key : Bytes) (f : NetKey → NetKey) → Mild f → ((r : NetKey) → shown_net r ≡ r → shown_net (f r) ≡ f r)
+    → length rows ≡ a.nets.len → map net_key rows ≡ at_net key f (map net_key a.nets.items) → IsSound a → IsSound (record a { nets = with_items a.nets rows })
+sound_nets a rows key f mild shows long is sound =
+    let state : state_of (record a { nets = with_items a.nets rows }) ≡ record (state_of a) { nets = at_net key f (map net_key a.nets.items) } =
+        ap (λ l. record (state_of a) { nets = map net_key l }) (with_items_is a.nets rows long) ∙ ap (λ l. record (state_of a) { nets = l }) is in
+    record {
+      rules = subst (λ s. keeps_rules s ≡ true) (sym state) (kept_by_map (λ (r : NetKey). if same_key r.key key then f r else r) (mild_at key f mild) (state_of a) sound.rules);
+      forgets = subst Forgets (sym state) (shown_at key f f shows (map net_key a.nets.items) sound.forgets);
+      nets_room = sound.nets_room; links_room = sound.links_room; pairs_room = sound.pairs_room }
+
+pub state_nets : (a : Contents) (rows : List NetRow) (nets : List NetKey) → length rows ≡ a.nets.len → map net_key rows ≡ nets → state_of (record a { nets = with_items a.nets rows }) ≡ record (state_of a) { nets = nets }
+state_nets a rows nets long is = ap (λ l. record (state_of a) { nets = map net_key l }) (with_items_is a.nets rows long) ∙ ap (λ l. record (state_of a) { nets = l }) is
+
+pub counted_shows : (r : NetKey) → shown_net r ≡ r → shown_net (counted_row r) ≡ counted_row r
+counted_shows r same = at_test (nat_lt r.next r.limit)
+  where
+    at_test : (b : Bool) → shown_net (if b then next_at (r.next + 1) r else r) ≡ (if b then next_at (r.next + 1) r else r)
+    at_test true = ap (next_at (r.next + 1)) same
+    at_test false = same
+
+pub heard_shows : (sender kept : ℕ) (r : NetKey) → shown_net r ≡ r → shown_net (net_kept sender kept r) ≡ net_kept sender kept r
+heard_shows sender kept r same = by_live r.live refl
+  where
+    by_live : (b : Bool) → r.live ≡ b → shown_net (net_kept sender kept r) ≡ net_kept sender kept r
+    by_live true live = rw live refl
+    by_live false dead =
+      let empty : r.floors ≡ [] = ap (λ (x : NetKey). x.floors) (sym (rw dead at same)) in
+      rw (dead, empty) refl
+
+pub link_heard : (a : Contents) (rows : List LinkRow) (partner : ℕ) (key : Bytes) (kept : ℕ) → length rows ≡ a.links.len → map link_key rows ≡ at_link partner key (link_kept kept) (map link_key a.links.items) → IsSound a → IsSound (record a { links = with_items a.links rows })
+link_heard a rows partner key kept long is sound =
+    let state : state_of (record a { links = with_items a.links rows }) ≡ record (state_of a) { links = at_link partner key (link_kept kept) (map link_key a.links.items) } =
+        ap (λ l. record (state_of a) { links = map link_key l }) (with_items_is a.links rows long) ∙ ap (λ l. record (state_of a) { links = l }) is in
+    record {
+      rules = subst (λ s. keeps_rules s ≡ true) (sym state) (kept_by_links (λ (r : LinkKey). if is_link partner key r then link_kept kept r else r) (λ r. bare_same (is_link partner key r) r) (state_of a) sound.rules);
+      forgets = subst Forgets (sym state) sound.forgets;
+      nets_room = sound.nets_room; links_room = sound.links_room; pairs_room = sound.pairs_room }
+  where
+    bare_same : (b : Bool) (r : LinkKey) → record (if b then link_kept kept r else r) { kept = 0; stored = 0 } ≡ record r { kept = 0; stored = 0 }
+    bare_same true r = refl
+    bare_same false r = refl
+
+pub state_links : (a : Contents) (rows : List LinkRow) (links : List LinkKey) → length rows ≡ a.links.len → map link_key rows ≡ links → state_of (record a { links = with_items a.links rows }) ≡ record (state_of a) { links = links }
+state_links a rows links long is = ap (λ l. record (state_of a) { links = map link_key l }) (with_items_is a.links rows long) ∙ ap (λ l. record (state_of a) { links = l }) is
+
+-- the counter of the active key is reserved, so counting it is counting the row
+pub counted_nets : (s : NodeState) (key : Bytes) → s.active ≡ Some key → keeps_rules s ≡ true → next_counter Nwk s < stored_limit Nwk s → record s { nets = at_net key counted_row s.nets } ≡ counted Nwk s
+unfolding counted next_counter stored_limit active_row keys_differ
+counted_nets s key active kept reserved =
+    let apart = (both (all_apart (λ (a b : NetKey). same_key a.key b.key) s.nets) _ (rules_of s kept).keys).0 in
+    let nets : at_net key counted_row s.nets ≡ at_net key (λ (r : NetKey). next_at (r.next + 1) r) s.nets =
+        at_net_found key counted_row (λ (r : NetKey). next_at (r.next + 1) r) s.nets apart (λ r found. let lt : r.next < r.limit = rw (active, found) at reserved in let t : nat_lt r.next r.limit ≡ true = lt-ltb _ _ lt in rw t refl) in
+    ap (λ l. record s { nets = l }) (nets ∙ ap (λ a. of_active (λ (r : NetKey). next_at (r.next + 1) r) a s.nets) (sym active))

@@ -1,0 +1,21 @@
+use Rattle.std.proofs.Common.{◌≡◌, ◌∙◌, sym, ap, map, refl, ◌+◌, Some, None, subst}
+use Rattle.std.specs.Prelude.{find, position, option_map}
+use Rattle.zb_model.specs.Data.{Nwk, Aps}
+use Rattle.zb_model.specs.State.{same_key, counted}
+use Rattle.zb_keys.specs.declared.net.NetRow.{NetRow}
+use Rattle.zb_keys.specs.Rows.{net_key, link_key}
+use Rattle.zb_keys.specs.Tables.{state_of, active_bytes}
+use Rattle.zb_keys.proofs.ReadLemmas.{counted_none, active_found, active_none, outgoing_row, outgoing_none, declared_sound, declared_state, aps_sound, place_found, place_none, place_fits}
+use Rattle.zb_keys.proofs.contents.Contents.active_place.Goals as goal
+
+pub overflow_cast-result : goal.overflow_cast-result
+overflow_cast-result c = record { fits = place_fits c.args.self.now (λ (r : NetRow). same_key (net_key r).key c.in-Some.key.0) c.in-Some-key_place.place c.requires (c.in-Some-key_place.ensures ∙ ap (position (λ (r : NetRow). same_key (net_key r).key c.in-Some.key.0)) c.as_slice.ensures.value) }
+
+pub returns-in-Some-key_place : goal.returns-in-Some-key_place
+returns-in-Some-key_place c = place_found c.args.self.now c.in-Some.key (Some c.in-Some-key_place.place) c.in-Some.is (c.in-Some-key_place.ensures ∙ ap (position (λ (r : NetRow). same_key (net_key r).key c.in-Some.key.0)) c.as_slice.ensures.value)
+
+pub returns-in-None-key_place : goal.returns-in-None-key_place
+returns-in-None-key_place c = place_found c.args.self.now c.in-Some.key None c.in-Some.is (c.in-None-key_place.ensures ∙ ap (position (λ (r : NetRow). same_key (net_key r).key c.in-Some.key.0)) c.as_slice.ensures.value)
+
+pub returns-in-None : goal.returns-in-None
+returns-in-None c = place_none c.args.self.now c.in-None.is

@@ -1,0 +1,20 @@
+use Rattle.std.proofs.Common.{◌≡◌, ◌∙◌, sym, ap, map, refl, ◌+◌}
+use Rattle.zb_model.specs.Data.{Nwk, Aps}
+use Rattle.zb_model.specs.State.{NodeState, at_net, at_link, net_kept, link_kept, counted, heard}
+use Rattle.zb_keys.specs.Rows.{net_key, link_key}
+use Rattle.zb_keys.specs.Senders.{counted_row}
+use Rattle.zb_keys.specs.Tables.{state_of, active_bytes}
+use Rattle.zb_keys.proofs.RuleLemmas.{counted_is_mild, heard_is_mild}
+use Rattle.zb_keys.proofs.HeardLemmas.{sound_nets, state_nets, state_links, counted_shows, heard_shows, link_heard, counted_nets}
+use Rattle.zb_keys.proofs.contents.Contents.hear_aps.Goals as goal
+
+pub returns-clause-state : goal.returns-clause-state
+unfolding heard
+returns-clause-state c =
+    let links = c.hear_link.ensures ∙ ap (λ l. at_link c.args.partner.0 c.args.key.now.0 (link_kept (c.args.counter + 1)) (map link_key l)) c.deref_mut.ensures.value in
+    state_links c.args.self.now c.hear_link.new.rows _ (c.hear_link.auto.rows ∙ c.deref_mut.ensures.len) links
+
+pub returns-clause-sound : goal.returns-clause-sound
+returns-clause-sound c =
+    let links = c.hear_link.ensures ∙ ap (λ l. at_link c.args.partner.0 c.args.key.now.0 (link_kept (c.args.counter + 1)) (map link_key l)) c.deref_mut.ensures.value in
+    link_heard c.args.self.now c.hear_link.new.rows c.args.partner.0 c.args.key.now.0 (c.args.counter + 1) (c.hear_link.auto.rows ∙ c.deref_mut.ensures.len) links c.requires.sound
