@@ -78,3 +78,7 @@ Gives (Err e) rest read = read ≡ Err e
 abbrev pub GivesBy : {E A B : Type 0} → (A → B) → Result A E → List ℕ → Result (B × List ℕ) E → Type 0
 GivesBy view (Ok x) rest read = read ≡ Ok (view x, rest)
 GivesBy view (Err e) rest read = read ≡ Err e
+
+-- nothing that stands here is a field
+abbrev pub refuse : {E A : Type 0} → E → Reading E A
+refuse fault cut bytes = Err fault

@@ -1,0 +1,327 @@
+//! The commands.
+ghost use Rattle.std.specs.Prelude.{◌≡◌, ◌≢◌, ◌≤◌, ◌<◌, ◌^◌, ◌∷◌, ◌++◌, [], length, IfOk, OnErr, Ok, Err, IsTrue, ◌↔◌, true};
+ghost use Rattle.zb_cursor.specs.Spelling.{byte, short, eui, key};
+ghost use Rattle.zb_cursor.specs.Reading.{Gives};
+ghost use Rattle.zb_cursor.specs.Writing.{Appends};
+ghost use Rattle.zb_cmd.specs.Spelling.{command};
+ghost use Rattle.zb_cmd.specs.Shape.{InRange, IsCommand, IsSmall};
+ghost use Rattle.zb_cmd.specs.declared.fault.CmdError.{CmdError};
+ghost use Rattle.zb_cmd.specs.declared.command.Command.{Command};
+ghost use Rattle.zb_cmd.specs.Shape.{Spells};
+ghost use Rattle.zb_cmd.specs.Reading.{update_at, remove_at, switch_at, verify_at, confirm_at, body_of, command_at, command_of};
+ghost use Rattle.zb_cmd.specs.Faults.{HasFault};
+
+use crate::fault::CmdError;
+use crate::request::{put_partner, read_request};
+use crate::transport::{put_application, put_link, put_network, read_transport};
+use crate::tunnel::{put_tunnel, read_tunnel};
+use arrayvec::ArrayVec;
+use zb_base::{Eui, Frame, Key, Short};
+use zb_cursor::{Reader, TooLong, put, put_byte, put_eui, put_short};
+
+/// A command of the APS security services (05-3474-21, 4.4.10), without the APS header that carries it.
+#[derive(Debug, Drop, PartialEq, Eq)]
+pub enum Command {
+    /// Transport-Key (05) of a network key (01).
+    TransportNetwork {
+        key: Key,
+        sequence: u8,
+        destination: Eui,
+        source: Eui,
+    },
+    /// Transport-Key (05) of an application link key (03).
+    TransportApplication {
+        key: Key,
+        partner: Eui,
+        initiator: u8,
+    },
+    /// Transport-Key (05) of a trust centre link key (04).
+    TransportLink {
+        key: Key,
+        destination: Eui,
+        source: Eui,
+    },
+    /// Update-Device (06).
+    Update {
+        device: Eui,
+        short: Short,
+        status: u8,
+    },
+    /// Remove-Device (07).
+    Remove {
+        target: Eui,
+    },
+    /// Request-Key (08) of an application link key (02) with a partner.
+    RequestApplication {
+        partner: Eui,
+    },
+    /// Request-Key (08) of the trust centre link key (04).
+    RequestLink,
+    /// Switch-Key (09).
+    Switch {
+        sequence: u8,
+    },
+    /// Tunnel (0E): a sealed frame for `inner_ok`.
+    Tunnel {
+        destination: Eui,
+        inner: Frame,
+    },
+    /// Verify-Key (0F).
+    Verify {
+        kind: u8,
+        source: Eui,
+        hash: [u8; 16],
+    },
+    /// Confirm-Key (10).
+    Confirm {
+        status: u8,
+        kind: u8,
+        destination: Eui,
+    },
+}
+
+#[tactic(auto, unfolding(crate::specs::Reading::update_at))]
+fn read_update(reader: &mut Reader<CmdError>) -> Result<Command, CmdError>
+    ensures exact { Gives result reader.new.rest.now (update_at reader.old.cut reader.old.rest.now) }
+    ensures spelled { IfOk result (λ c. 6 ∷ reader.old.rest.now ≡ command c ++ reader.new.rest.now) }
+    ensures shaped { IfOk result (λ c. IsCommand c) }
+    ensures in_range { IfOk result (λ c. InRange c) }
+    ensures small { IfOk result (λ c. IsSmall c) }
+    ensures shorter { length reader.new.rest.now ≤ length reader.old.rest.now }
+    ensures cut { reader.new.cut ≡ reader.old.cut }
+{
+    let device = reader.eui()?;
+    let short = reader.short()?;
+    let status = reader.byte()?;
+    Ok(Command::Update {
+        device,
+        short,
+        status,
+    })
+}
+
+#[tactic(auto, unfolding(crate::specs::Reading::remove_at))]
+fn read_remove(reader: &mut Reader<CmdError>) -> Result<Command, CmdError>
+    ensures exact { Gives result reader.new.rest.now (remove_at reader.old.cut reader.old.rest.now) }
+    ensures spelled { IfOk result (λ c. 7 ∷ reader.old.rest.now ≡ command c ++ reader.new.rest.now) }
+    ensures shaped { IfOk result (λ c. IsCommand c) }
+    ensures in_range { IfOk result (λ c. InRange c) }
+    ensures small { IfOk result (λ c. IsSmall c) }
+    ensures shorter { length reader.new.rest.now ≤ length reader.old.rest.now }
+    ensures cut { reader.new.cut ≡ reader.old.cut }
+{
+    let target = reader.eui()?;
+    Ok(Command::Remove { target })
+}
+
+#[tactic(auto, unfolding(crate::specs::Reading::switch_at))]
+fn read_switch(reader: &mut Reader<CmdError>) -> Result<Command, CmdError>
+    ensures exact { Gives result reader.new.rest.now (switch_at reader.old.cut reader.old.rest.now) }
+    ensures spelled { IfOk result (λ c. 9 ∷ reader.old.rest.now ≡ command c ++ reader.new.rest.now) }
+    ensures shaped { IfOk result (λ c. IsCommand c) }
+    ensures in_range { IfOk result (λ c. InRange c) }
+    ensures small { IfOk result (λ c. IsSmall c) }
+    ensures shorter { length reader.new.rest.now ≤ length reader.old.rest.now }
+    ensures cut { reader.new.cut ≡ reader.old.cut }
+{
+    let sequence = reader.byte()?;
+    Ok(Command::Switch { sequence })
+}
+
+#[tactic(auto, unfolding(crate::specs::Reading::verify_at))]
+fn read_verify(reader: &mut Reader<CmdError>) -> Result<Command, CmdError>
+    ensures exact { Gives result reader.new.rest.now (verify_at reader.old.cut reader.old.rest.now) }
+    ensures spelled { IfOk result (λ c. 15 ∷ reader.old.rest.now ≡ command c ++ reader.new.rest.now) }
+    ensures shaped { IfOk result (λ c. IsCommand c) }
+    ensures in_range { IfOk result (λ c. InRange c) }
+    ensures small { IfOk result (λ c. IsSmall c) }
+    ensures shorter { length reader.new.rest.now ≤ length reader.old.rest.now }
+    ensures cut { reader.new.cut ≡ reader.old.cut }
+{
+    let kind = reader.byte()?;
+    let source = reader.eui()?;
+    let front = reader.bytes(16)?;
+    let mut hash = [0; 16];
+    hash.copy_from_slice(front);
+    Ok(Command::Verify { kind, source, hash })
+}
+
+#[tactic(auto, unfolding(crate::specs::Reading::confirm_at))]
+fn read_confirm(reader: &mut Reader<CmdError>) -> Result<Command, CmdError>
+    ensures exact { Gives result reader.new.rest.now (confirm_at reader.old.cut reader.old.rest.now) }
+    ensures spelled { IfOk result (λ c. 16 ∷ reader.old.rest.now ≡ command c ++ reader.new.rest.now) }
+    ensures shaped { IfOk result (λ c. IsCommand c) }
+    ensures in_range { IfOk result (λ c. InRange c) }
+    ensures small { IfOk result (λ c. IsSmall c) }
+    ensures shorter { length reader.new.rest.now ≤ length reader.old.rest.now }
+    ensures cut { reader.new.cut ≡ reader.old.cut }
+{
+    let status = reader.byte()?;
+    let kind = reader.byte()?;
+    let destination = reader.eui()?;
+    Ok(Command::Confirm {
+        status,
+        kind,
+        destination,
+    })
+}
+
+/// What stands behind the identifier.
+#[tactic(auto, unfolding(crate::specs::Reading::body_of))]
+fn read_body(reader: &mut Reader<CmdError>, id: u8) -> Result<Command, CmdError>
+    ensures exact { Gives result reader.new.rest.now (body_of id reader.old.cut reader.old.rest.now) }
+    ensures spelled { IfOk result (λ c. id ∷ reader.old.rest.now ≡ command c ++ reader.new.rest.now) }
+    ensures shaped { IfOk result (λ c. IsCommand c) }
+    ensures in_range { IfOk result (λ c. InRange c) }
+    ensures small { IfOk result (λ c. IsSmall c) }
+    ensures shorter { length reader.new.rest.now ≤ length reader.old.rest.now }
+    ensures cut { reader.new.cut ≡ reader.old.cut }
+{
+    match id {
+        5 => read_transport(reader),
+        6 => read_update(reader),
+        7 => read_remove(reader),
+        8 => read_request(reader),
+        9 => read_switch(reader),
+        14 => read_tunnel(reader),
+        15 => read_verify(reader),
+        16 => read_confirm(reader),
+        _ => Err(CmdError::Unknown { id }),
+    }
+}
+
+#[tactic(auto, unfolding(crate::specs::Reading::command_at))]
+fn read_front(reader: &mut Reader<CmdError>) -> Result<Command, CmdError>
+    ensures exact { Gives result reader.new.rest.now (command_at reader.old.cut reader.old.rest.now) }
+    ensures spelled { IfOk result (λ c. reader.old.rest.now ≡ command c ++ reader.new.rest.now) }
+    ensures shaped { IfOk result (λ c. IsCommand c) }
+    ensures in_range { IfOk result (λ c. InRange c) }
+    ensures small { IfOk result (λ c. IsSmall c) }
+    ensures shorter { length reader.new.rest.now ≤ length reader.old.rest.now }
+    ensures cut { reader.new.cut ≡ reader.old.cut }
+{
+    let id = reader.byte()?;
+    let command = read_body(reader, id)?;
+    Ok(command)
+}
+
+#[tactic(auto, unfolding(crate::specs::Reading::command_of))]
+fn read_whole(bytes: &[u8]) -> Result<Command, CmdError>
+    requires { length bytes.now < 2 ^ 32 }
+    ensures found { IfOk result (λ c. Spells bytes.now c) }
+    ensures exact { result ≡ command_of bytes.now }
+{
+    let mut reader = Reader {
+        rest: bytes,
+        cut: CmdError::Short {
+            at: bytes.len() as u32,
+        },
+    };
+    let command = read_front(&mut reader)?;
+    if !reader.rest.is_empty() {
+        return Err(CmdError::Trailing {
+            count: reader.rest.len() as u32,
+        });
+    }
+    Ok(command)
+}
+
+/// The command that all of the bytes are, or their first fault.
+pub fn read_command(bytes: &[u8]) -> Result<Command, CmdError>
+    requires { length bytes.now < 2 ^ 32 }
+    // What is read is spelled so, and what is spelled so is read.
+    ensures found { IfOk result (λ c. Spells bytes.now c) }
+    ensures only { (c : Command) → Spells bytes.now c → result ≡ Ok c }
+    // Which fault it is, by a walk over the fields, and by the bytes and the commands that there are.
+    ensures exact { result ≡ command_of bytes.now }
+    ensures fault { (e : CmdError) → (result ≡ Err e) ↔ HasFault bytes.now e }
+{
+    read_whole(bytes)
+}
+
+fn put_update(out: &mut Frame, device: Eui, address: Short, status: u8) -> Result<(), TooLong>
+    ensures { Appends out.old.items (6 ∷ (eui device ++ short address ++ byte status)) out.new.items result }
+{
+    put_byte(out, 6)?;
+    put_eui(out, device)?;
+    put_short(out, address)?;
+    put_byte(out, status)?;
+    Ok(())
+}
+
+fn put_verify(out: &mut Frame, kind: u8, source: Eui, hash: &[u8; 16]) -> Result<(), TooLong>
+    ensures { Appends out.old.items (15 ∷ (byte kind ++ eui source ++ hash.now)) out.new.items result }
+{
+    put(out, &[15, kind])?;
+    put_eui(out, source)?;
+    put(out, hash)?;
+    Ok(())
+}
+
+fn put_confirm(out: &mut Frame, status: u8, kind: u8, destination: Eui) -> Result<(), TooLong>
+    ensures { Appends out.old.items (16 ∷ (byte status ++ byte kind ++ eui destination)) out.new.items result }
+{
+    put(out, &[16, status, kind])?;
+    put_eui(out, destination)?;
+    Ok(())
+}
+
+fn put_target(out: &mut Frame, target: Eui) -> Result<(), TooLong>
+    ensures { Appends out.old.items (7 ∷ eui target) out.new.items result }
+{
+    put_byte(out, 7)?;
+    put_eui(out, target)?;
+    Ok(())
+}
+
+fn put_command(out: &mut Frame, value: &Command) -> Result<(), TooLong>
+    ensures { Appends out.old.items (command value.now) out.new.items result }
+{
+    match value {
+        Command::TransportNetwork {
+            key,
+            sequence,
+            destination,
+            source,
+        } => put_network(out, key, *sequence, *destination, *source)?,
+        Command::TransportApplication {
+            key,
+            partner,
+            initiator,
+        } => put_application(out, key, *partner, *initiator)?,
+        Command::TransportLink {
+            key,
+            destination,
+            source,
+        } => put_link(out, key, *destination, *source)?,
+        Command::Update {
+            device,
+            short,
+            status,
+        } => put_update(out, *device, *short, *status)?,
+        Command::Remove { target } => put_target(out, *target)?,
+        Command::RequestApplication { partner } => put_partner(out, *partner)?,
+        Command::RequestLink => put(out, &[8, 4])?,
+        Command::Switch { sequence } => put(out, &[9, *sequence])?,
+        Command::Tunnel { destination, inner } => put_tunnel(out, *destination, inner)?,
+        Command::Verify { kind, source, hash } => put_verify(out, *kind, *source, hash)?,
+        Command::Confirm {
+            status,
+            kind,
+            destination,
+        } => put_confirm(out, *status, *kind, *destination)?,
+    }
+    Ok(())
+}
+
+/// The one spelling of the command.
+pub fn write_command(value: &Command) -> Result<Frame, TooLong>
+    requires { IsCommand value.now }
+    ensures text { IfOk result (λ bytes. bytes.items ≡ command value.now) }
+    ensures fits { IfOk result (λ bytes. length (command value.now) ≤ 127) }
+    ensures long { OnErr result (127 < length (command value.now)) }
+{
+    let mut out = ArrayVec::new();
+    put_command(&mut out, value)?;
+    Ok(out)
+}

@@ -1,0 +1,29 @@
+//! Why bytes are no command.
+use std::error::Error;
+use std::fmt;
+
+/// The first fault of bytes that are no command: `Unknown`, then `KeyType`, then `Short`, then `Trailing`.
+#[derive(Clone, Copy, Debug, PartialEq, Eq)]
+pub enum CmdError {
+    /// No command has this identifier.
+    Unknown { id: u8 },
+    /// A Transport-Key or a Request-Key of a key type that it does not have.
+    KeyType { found: u8 },
+    /// A field is not whole, or the frame in a Tunnel has no extended nonce; `at` is the number of all bytes.
+    Short { at: u32 },
+    /// So many bytes stand behind the command.
+    Trailing { count: u32 },
+}
+
+impl fmt::Display for CmdError {
+    fn fmt<W: fmt::Write>(&self, f: &mut fmt::Formatter<W>) -> fmt::Result {
+        match self {
+            CmdError::Unknown { id } => write!(f, "no command {id}"),
+            CmdError::KeyType { found } => write!(f, "no key type {found}"),
+            CmdError::Short { at } => write!(f, "the command is cut at byte {at}"),
+            CmdError::Trailing { count } => write!(f, "{count} bytes behind the command"),
+        }
+    }
+}
+
+impl Error for CmdError {}

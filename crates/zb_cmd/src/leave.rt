@@ -1,0 +1,89 @@
+//! Leave, the command by which a node is told to leave the network.
+ghost use Rattle.std.specs.Prelude.{◌≡◌, ◌∷◌, ◌++◌, ◌≤◌, ◌<◌, length, ◌^◌, IfOk, Ok, Err, ◌↔◌};
+ghost use Rattle.zb_cursor.specs.Reading.{Gives};
+ghost use Rattle.zb_cmd.specs.declared.fault.CmdError.{CmdError};
+ghost use Rattle.zb_cmd.specs.declared.leave.Leave.{Leave};
+ghost use Rattle.zb_cmd.specs.Spelling.{leave};
+ghost use Rattle.zb_cmd.specs.Shape.{SpellsLeave};
+ghost use Rattle.zb_cmd.specs.Reading.{leave_body, leave_at, leave_of};
+ghost use Rattle.zb_cmd.specs.Faults.{HasLeaveFault};
+
+use crate::fault::CmdError;
+use zb_base::Frame;
+use zb_cursor::{Reader, frame_from};
+
+/// The NWK command Leave (05-3474-21, 3.4.4), without the NWK header that carries it.
+#[derive(Clone, Copy, Debug, PartialEq, Eq)]
+pub struct Leave {
+    /// Bit 5: rejoin; 6: request; 7: remove children; the others are free.
+    pub options: u8,
+}
+
+#[tactic(auto, unfolding(crate::specs::Reading::leave_body))]
+fn read_options(reader: &mut Reader<CmdError>, id: u8) -> Result<Leave, CmdError>
+    ensures exact { Gives result reader.new.rest.now (leave_body id reader.old.cut reader.old.rest.now) }
+    ensures spelled { IfOk result (λ l. id ∷ reader.old.rest.now ≡ leave l ++ reader.new.rest.now) }
+    ensures in_range { IfOk result (λ l. l.options < 2 ^ 8) }
+    ensures shorter { length reader.new.rest.now ≤ length reader.old.rest.now }
+    ensures cut { reader.new.cut ≡ reader.old.cut }
+{
+    if id != 4 {
+        return Err(CmdError::Unknown { id });
+    }
+    let options = reader.byte()?;
+    Ok(Leave { options })
+}
+
+#[tactic(auto, unfolding(crate::specs::Reading::leave_at))]
+fn read_front(reader: &mut Reader<CmdError>) -> Result<Leave, CmdError>
+    ensures exact { Gives result reader.new.rest.now (leave_at reader.old.cut reader.old.rest.now) }
+    ensures spelled { IfOk result (λ l. reader.old.rest.now ≡ leave l ++ reader.new.rest.now) }
+    ensures in_range { IfOk result (λ l. l.options < 2 ^ 8) }
+    ensures shorter { length reader.new.rest.now ≤ length reader.old.rest.now }
+    ensures cut { reader.new.cut ≡ reader.old.cut }
+{
+    let id = reader.byte()?;
+    let leave = read_options(reader, id)?;
+    Ok(leave)
+}
+
+#[tactic(auto, unfolding(crate::specs::Reading::leave_of))]
+fn read_whole(bytes: &[u8]) -> Result<Leave, CmdError>
+    requires { length bytes.now < 2 ^ 32 }
+    ensures found { IfOk result (λ l. SpellsLeave bytes.now l) }
+    ensures exact { result ≡ leave_of bytes.now }
+{
+    let mut reader = Reader {
+        rest: bytes,
+        cut: CmdError::Short {
+            at: bytes.len() as u32,
+        },
+    };
+    let leave = read_front(&mut reader)?;
+    if !reader.rest.is_empty() {
+        return Err(CmdError::Trailing {
+            count: reader.rest.len() as u32,
+        });
+    }
+    Ok(leave)
+}
+
+/// The Leave that all of the bytes are, or their first fault.
+pub fn read_leave(bytes: &[u8]) -> Result<Leave, CmdError>
+    requires { length bytes.now < 2 ^ 32 }
+    // What is read is spelled so, and what is spelled so is read.
+    ensures found { IfOk result (λ l. SpellsLeave bytes.now l) }
+    ensures only { (l : Leave) → SpellsLeave bytes.now l → result ≡ Ok l }
+    // Which fault it is, by a walk over the fields, and by the bytes.
+    ensures exact { result ≡ leave_of bytes.now }
+    ensures fault { (e : CmdError) → (result ≡ Err e) ↔ HasLeaveFault bytes.now e }
+{
+    read_whole(bytes)
+}
+
+/// The one spelling of the Leave.
+pub fn write_leave(value: &Leave) -> Frame
+    ensures { result.items ≡ leave value.now }
+{
+    frame_from(&[4, value.options])
+}
