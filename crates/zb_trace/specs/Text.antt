@@ -1,6 +1,6 @@
 -- The text of a line: words, separated by one space each and ended by a line feed.
 use Rattle.std.specs.Prelude.{◌≡◌, ◌<◌, ◌≤◌, ◌⊎◌, ℕ, List, [], ◌∷◌, ◌++◌, length, codes, decimal, Bool, true, false}
-use Rattle.std.specs.List.{flat_map}
+use Rattle.std.specs.List.{AllByRecursion, flat_map}
 use Rattle.hex.specs.Hex.{encode_upper, IsBytes}
 use Rattle.zb_base.specs.declared.node.Role.{Role}
 use Rattle.zb_base.specs.declared.node.Role.TheVariants as role
@@ -251,3 +251,11 @@ text l = line_of (words l)
 
 abbrev pub texts : List Line → List ℕ
 texts lines = flat_map text lines
+
+-- A line all of whose words may stand in a line. Only the names are a condition: the rest holds of each value of the
+-- program's type.
+abbrev pub IsProper : Line → Type 0
+IsProper l = AllByRecursion MayStand (words l)
+
+abbrev pub AllProper : List Line → Type 0
+AllProper lines = AllByRecursion IsProper lines

@@ -1,0 +1,116 @@
+-- How the words of a line are read: each kind of line has a shape, which says what stands behind its first words.
+use Rattle.std.specs.Prelude.{ℕ, ◌==◌, List, [], ◌∷◌, length, codes, bytes_eq, if◌then◌else◌, Option, Some, None}
+use Rattle.std.specs.Option.{option_map, option_and_then}
+use Rattle.std.specs.Result.{result_ok}
+use Rattle.hex.specs.Hex.{decode_of}
+use Rattle.zb_text.specs.Fields.{name_of, eui_of, short_of, key_of}
+use Rattle.zb_text.specs.Hexadecimal.{fixed_of, bytes_of}
+use Rattle.zb_text.specs.Numbers.{number_of}
+use Rattle.zb_text.specs.Words.{first_of, field, nothing}
+use Rattle.zb_trace.specs.Text.{Word, Fixed, Chosen, Number, Called, CalledOrNobody, Address, ShortAddress, Secret, Octet, Octets, AllOctets, layers, labels, places}
+
+-- What may stand in a place of a line.
+pub data Field : Type 0 where
+  OneOf : (among : List (List ℕ)) → Field
+  UpTo : (limit : ℕ) → Field
+  AName : Field
+  ANameOrDash : Field
+  AnAddress : Field
+  AShort : Field
+  AKey : Field
+  AByte : Field
+  SomeBytes : (limit : ℕ) → Field
+  AllBytes : Field
+
+abbrev pub choice : List (List ℕ) → List (List ℕ) → List ℕ → Option Word
+choice among [] word = None
+choice among (one ∷ more) word = if bytes_eq word one then Some (Chosen among one) else choice among more word
+
+abbrev pub name_or_dash : List ℕ → Option (List ℕ)
+name_or_dash word = if bytes_eq word (codes "-") then Some (codes "-") else name_of word
+
+-- The bytes that a word spells, as many as there are: `-` is no bytes, and others have two digits each.
+abbrev pub all_bytes_of : List ℕ → Option (List ℕ)
+all_bytes_of word =
+    if bytes_eq word (codes "-") then Some []
+    else if length word == 0 then None
+    else result_ok (decode_of word)
+
+-- the one byte of some bytes
+abbrev pub octet_of : List ℕ → Option Word
+octet_of (byte ∷ []) = Some (Octet byte)
+octet_of _ = None
+
+-- What a word is in such a place.
+abbrev pub value_of : Field → List ℕ → Option Word
+value_of (OneOf among) word = choice among among word
+value_of (UpTo limit) word = option_map (Number limit) (number_of limit word)
+value_of AName word = option_map Called (name_of word)
+value_of ANameOrDash word = option_map CalledOrNobody (name_or_dash word)
+value_of AnAddress word = option_map Address (eui_of word)
+value_of AShort word = option_map ShortAddress (short_of word)
+value_of AKey word = option_map Secret (key_of word)
+value_of AByte word = option_and_then octet_of (fixed_of 1 word)
+value_of (SomeBytes limit) word = option_map (Octets limit) (bytes_of limit word)
+value_of AllBytes word = option_map AllOctets (all_bytes_of word)
+
+-- What words are in the places of a shape, with nothing behind them.
+abbrev pub shaped : List Field → List (List ℕ) → Option (List Word)
+shaped [] words = option_map (λ _. []) (nothing words)
+shaped (place ∷ more) words =
+    option_and_then (λ (taken : Word × List (List ℕ)). option_map (λ behind. taken.0 ∷ behind) (shaped more taken.1)) (field (value_of place) words)
+
+-- The shapes
+
+abbrev pub a_count : Field
+a_count = UpTo 4294967295
+
+abbrev pub a_sequence : Field
+a_sequence = UpTo 255
+
+abbrev pub a_layer : Field
+a_layer = OneOf layers
+
+-- a term: layer, label, base key, source, counter, control byte, header, content
+abbrev pub a_term : List Field
+a_term = a_layer ∷ OneOf labels ∷ AKey ∷ AnAddress ∷ a_count ∷ AByte ∷ SomeBytes 127 ∷ SomeBytes 127 ∷ []
+
+-- words behind a word that says which of two forms they have
+abbrev pub two_forms : List ℕ → List Field → List ℕ → List Field → List (List ℕ) → Option (List Word)
+two_forms one first other second words =
+    option_and_then (λ (taken : List ℕ × List (List ℕ)).
+    if bytes_eq taken.0 one then option_map (λ behind. Fixed one ∷ behind) (shaped first taken.1)
+    else if bytes_eq taken.0 other then option_map (λ behind. Fixed other ∷ behind) (shaped second taken.1)
+    else None)
+    (first_of words)
+
+-- The reasons of a refusal that have no detail: those of frames, and those of the policy.
+abbrev pub reason_or : (List ℕ → Option Word) → List (List ℕ) → List ℕ → Option Word
+reason_or other [] word = other word
+reason_or other (one ∷ more) word = if bytes_eq word one then Some (Fixed one) else reason_or other more word
+
+unfoldable pub policy_reason : List ℕ → Option Word
+policy_reason word =
+    reason_or (λ _. None)
+    (codes "not-member" ∷ codes "wrong-state" ∷ codes "keys-full" ∷ codes "rows-full" ∷ codes "no-draw" ∷ codes "counter-spent"
+    ∷ codes "wrong-hash" ∷ codes "no-frame" ∷ []) word
+
+unfoldable pub plain_reason : List ℕ → Option Word
+plain_reason word =
+    reason_or policy_reason
+    (codes "down" ∷ codes "malformed" ∷ codes "not-for-me" ∷ codes "unsecured" ∷ codes "no-key" ∷ codes "counter-max" ∷ codes "bad-mic"
+    ∷ codes "policy" ∷ []) word
+
+abbrev pub behind_reason : Word → List ℕ → List (List ℕ) → Option (List Word)
+behind_reason place word words =
+    if bytes_eq word (codes "stale") then option_map (λ behind. place ∷ Fixed (codes "stale") ∷ behind) (shaped (a_count ∷ []) words)
+    else if bytes_eq word (codes "key-old") then option_map (λ behind. place ∷ Fixed (codes "key-old") ∷ behind) (shaped (a_count ∷ []) words)
+    else if bytes_eq word (codes "key-in-use") then option_map (λ behind. place ∷ Fixed (codes "key-in-use") ∷ behind) (shaped (AnAddress ∷ []) words)
+    else option_and_then (λ reason. option_map (λ behind. place ∷ reason ∷ behind) (shaped [] words)) (plain_reason word)
+
+-- where and why an event was refused
+unfoldable pub a_refusal : List (List ℕ) → Option (List Word)
+a_refusal words =
+    option_and_then (λ (place : Word × List (List ℕ)).
+    option_and_then (λ (reason : List ℕ × List (List ℕ)). behind_reason place.0 reason.0 reason.1) (first_of place.1))
+    (field (value_of (OneOf places)) words)

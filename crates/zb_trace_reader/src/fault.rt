@@ -1,0 +1,18 @@
+//! Where a text is no transcript.
+use std::error::Error;
+use std::fmt;
+
+/// The first line, from 1, that is no text of a line of a transcript.
+#[derive(Clone, Copy, Debug, PartialEq, Eq)]
+pub struct TraceError {
+    pub line: u32,
+}
+
+impl fmt::Display for TraceError {
+    fn fmt<W: fmt::Write>(&self, f: &mut fmt::Formatter<W>) -> fmt::Result {
+        let line = self.line;
+        write!(f, "line {line} is no line of a transcript")
+    }
+}
+
+impl Error for TraceError {}
