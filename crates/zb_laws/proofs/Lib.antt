@@ -5,3 +5,4 @@ mod FreshLines
 mod Groups
 mod GroupSeals
 mod Runs
+mod Finds

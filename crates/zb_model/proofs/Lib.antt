@@ -3,3 +3,4 @@ pub mod FirstPathLaws
 mod Toy
 mod Terms
 mod Rows
+mod Refusals
