@@ -6,7 +6,7 @@ use Rattle.zb_model.specs.State.{most, NetKey, NodeState, same_key, has_net, at_
 use Rattle.zb_model.specs.Frames.{nwk_control}
 use Rattle.zb_model.specs.Readings.{state_of, after, speaker}
 use Rattle.zb_laws.proofs.Basics.{same_key-eq, find-map}
-use Rattle.zb_laws.proofs.Nets.{Holds, On, at_key, Keeps, Mild, Covers, Gives, covers-closed, covers-started, covers-booted, on-map, on-add, on-applied, on-accepted, on-booted}
+use Rattle.zb_laws.proofs.Nets.{Holds, On, at_key, Keeps, Mild, Covers, Gives, covers-closed, covers-heard, covers-started, covers-booted, on-map, on-add, on-applied, on-accepted, on-booted}
 
 -- What a seal needs of the state before it: its counter comes next and is below the stored limit.
 unfoldable pub SealFitsAt : Tier → Sealing → NodeState → Type 0
@@ -108,7 +108,7 @@ covers-after c key (GivenNet n k q) s m h = on-add (Covers c) (has_net k s.nets)
 covers-after c key (Counter n Nwk v) s m h = on-map (Covers c) (declared_at v) (covers-declared c v) key s.nets h
 covers-after c key (Counter n Aps v) s m h = h
 covers-after c key (Changed e n edit) s m h = on-applied (Covers c) (covers-closed c) key edit s (mild-covers c edit) h
-covers-after c key (Accept e n t) s m h = on-accepted (Covers c) (covers-closed c) key t s h
+covers-after c key (Accept e n t) s m h = on-accepted (Covers c) (covers-heard c) key t s h
 covers-after c key (Seal e n t) s m h = covers-sealed t.layer c key t s m.fits h
 covers-after c key (Boot e n) s m h = on-booted (Covers c) (covers-booted c) key s h
 covers-after c key _ s m h = h

@@ -1,7 +1,5 @@
 -- Items that are found in lists: what is found, and that in a list of items apart each is found.
-use Rattle.std.proofs.Common.{◌≡◌, ℕ, Bool, true, false, cond, not, ◌&&◌, ◌||◌, List, [], ◌∷◌, ◌++◌, map, filter, reverse, Option, Some, None, option_map, find, refl, sym, ap, ◌∙◌, subst, ◌⊎◌, inl, inr, ⊎_elim}
-use Rattle.std.proofs.lemmas.Bool.{false≢true, both_ways}
-use Rattle.std.specs.List.{AllByRecursion, list_any}
+use Rattle.std.proofs.Common.{◌≡◌, Bool, true, false, cond, List, [], ◌∷◌, ◌++◌, map, Option, Some, None, option_map, find, sym, subst, ◌⊎◌, inl, inr, ⊎_elim}
 use Rattle.zb_laws.proofs.Basics.{find-map}
 
 unfoldable pub HoldsOf : {X : Type 0} → (X → Type 0) → Option X → Type 0

@@ -11,7 +11,7 @@ use Rattle.zb_model.specs.Readings.{state_of, heard_line, after, speaker}
 use Rattle.zb_model.specs.Play.{commit_lines, refuse_lines, send_lines, stored_lines}
 use Rattle.zb_model.specs.Claims.{Each}
 use Rattle.zb_laws.proofs.Basics.{same_key-eq, nat_eq-refl, state-snoc, append-nil'}
-use Rattle.zb_laws.proofs.Nets.{Holds, On, at_key, Mild, Gives, gives-closed, gives-started, on-applied, on-accepted, on-map-found}
+use Rattle.zb_laws.proofs.Nets.{Holds, On, at_key, Mild, Gives, gives-closed, gives-heard, gives-started, on-applied, on-accepted, on-map-found}
 use Rattle.zb_laws.proofs.Counters.{SealFitsAt, SealFits, StateFits, LineFits, Ordered, IfHolds, Behind, found-key}
 use Rattle.zb_laws.proofs.FreshLines.{heard-keeps, all-append}
 
@@ -141,7 +141,7 @@ aps-gives-accepted c t s h = aps-gives-heard c t.layer t.base t.source t.counter
 
 pub ready-accepted : (s0 : NodeState) (send : Option Sending) (t : Sealing) (s : NodeState) → Ready s0 send s → Ready s0 send (accepted t s)
 ready-accepted s0 send t s r = record {
-  net = λ a row found. on-accepted (Gives (next_counter Nwk s0)) (gives-closed (next_counter Nwk s0)) row.key t s (r.net a row found);
+  net = λ a row found. on-accepted (Gives (next_counter Nwk s0)) (gives-heard (next_counter Nwk s0)) row.key t s (r.net a row found);
   aps = λ a. aps-gives-accepted (next_counter Aps s0) t s (r.aps a);
 }
 

@@ -6,3 +6,5 @@ mod Groups
 mod GroupSeals
 mod Runs
 mod Finds
+mod FloorRows
+mod OnceLines

@@ -64,7 +64,6 @@ pub record Closed (P : NetKey → Type 0) : Type 0 where
   pub reserves : (limit : ℕ) → Keeps P (reserved limit)
   pub drops : Keeps P dropped_net
   pub floors : (sender value : ℕ) → Keeps P (net_floor sender value)
-  pub keeps : (sender kept : ℕ) → Keeps P (net_kept sender kept)
 
 -- changes but a start: P of a key's row goes on
 pub on-moved : (P : NetKey → Type 0) → Closed P → (key : Bytes) (m : Move) (s : NodeState) → On P key s.nets → On P key (moved m s).nets
@@ -96,12 +95,16 @@ on-applied P c key (Floor Aps k sender value) s m h = h
 on-applied P c key (Start k value) s m h = on-at P (started_at value) m k key s.nets h
 on-applied P c key (Moved m) s x h = on-moved P c key m s h
 
-pub on-heard : (P : NetKey → Type 0) → Closed P → (key : Bytes) (layer : Tier) (k : Bytes) (sender counter : ℕ) (s : NodeState) → On P key s.nets → On P key (heard layer k sender counter s).nets
+-- P is kept when an accepted counter moves a floor
+abbrev pub KeepsHeard : (NetKey → Type 0) → Type 0
+KeepsHeard P = (sender kept : ℕ) → Keeps P (net_kept sender kept)
+
+pub on-heard : (P : NetKey → Type 0) → KeepsHeard P → (key : Bytes) (layer : Tier) (k : Bytes) (sender counter : ℕ) (s : NodeState) → On P key s.nets → On P key (heard layer k sender counter s).nets
 unfolding heard
-on-heard P c key Nwk k sender counter s h = on-at P (net_kept sender (counter + 1)) (c.keeps sender (counter + 1)) k key s.nets h
+on-heard P c key Nwk k sender counter s h = on-at P (net_kept sender (counter + 1)) (c sender (counter + 1)) k key s.nets h
 on-heard P c key Aps k sender counter s h = h
 
-pub on-accepted : (P : NetKey → Type 0) → Closed P → (key : Bytes) (t : Sealing) (s : NodeState) → On P key s.nets → On P key (accepted t s).nets
+pub on-accepted : (P : NetKey → Type 0) → KeepsHeard P → (key : Bytes) (t : Sealing) (s : NodeState) → On P key s.nets → On P key (accepted t s).nets
 unfolding accepted
 on-accepted P c key t s h = on-heard P c key t.layer t.base t.source t.counter s h
 
@@ -124,8 +127,13 @@ covers-closed c = record {
   reserves = λ limit. record { key = λ r. refl; kept = λ r h. (refl, h.1, omega (arith, h.2)) };
   drops = record { key = λ r. refl; kept = λ r h. h };
   floors = λ sender value. record { key = λ r. refl; kept = λ r h. h };
-  keeps = λ sender kept. record { key = λ r. refl; kept = λ r h. h };
 }
+
+pub covers-heard : (c : ℕ) → KeepsHeard (Covers c)
+covers-heard c sender kept = record { key = λ r. refl; kept = λ r h. h }
+
+pub gives-heard : (c : ℕ) → KeepsHeard (Gives c)
+gives-heard c sender kept = record { key = λ r. refl; kept = λ r h. h }
 
 pub covers-started : (c value : ℕ) → Keeps (Covers c) (started_at value)
 covers-started c value = record { key = λ r. refl; kept = λ r h. (refl, omega (arith, h.1), omega (arith, h.2)) }
@@ -138,7 +146,6 @@ gives-closed c = record {
   reserves = λ limit. record { key = λ r. refl; kept = λ r h. (refl, h.1, omega (arith, h.2)) };
   drops = record { key = λ r. refl; kept = λ r h. h };
   floors = λ sender value. record { key = λ r. refl; kept = λ r h. h };
-  keeps = λ sender kept. record { key = λ r. refl; kept = λ r h. h };
 }
 
 pub gives-started : (c value : ℕ) → value ≤ c → Keeps (Gives c) (started_at value)
