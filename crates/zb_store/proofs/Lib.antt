@@ -1,0 +1,10 @@
+pub mod Slots
+pub mod Entries
+pub mod Images
+pub mod Going
+pub mod Stages
+pub mod Replacing
+pub mod Settling
+pub mod Placed
+pub mod Finding
+pub mod Laying

@@ -1,0 +1,6 @@
+use Rattle.std.proofs.Common.{◌≡◌, ◌+◌, ◌≤◌, length, rules, sym, ◌∙◌, ap, arith}
+use Rattle.zb_store.proofs.Replacing.{length-body}
+use Rattle.zb_store.proofs.store.Store.format.Goals as goal
+
+pub lay_out-requires : goal.lay_out-requires
+lay_out-requires g c = omega (arith, ap length c.deref.ensures.value, ap length c.spell_body.ensures.bytes, length-body 1 c.args.first.now)

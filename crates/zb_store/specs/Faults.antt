@@ -1,0 +1,56 @@
+-- When each fault of a store comes.
+use Rattle.std.specs.Prelude.{ℕ, ◌<◌, ◌≤◌, ◌≡◌, List, length, Option, None, Bool, IsTrue}
+use Rattle.zb_base.specs.Outside.{Rose}
+use Rattle.zb_disk.specs.View.{Telling, View}
+use Rattle.zb_store.specs.declared.fault.StoreFault.{StoreFault}
+use Rattle.zb_store.specs.declared.fault.StoreFault.TheVariants.{Disk, NoRecord, TooLarge, NoMemory, Worn}
+use Rattle.zb_store.specs.Layout.{stands}
+use Rattle.zb_store.specs.Store.{Place}
+
+-- of `append`: the disk, where its count of faults rose, or too large a payload
+abbrev pub IsAppendFault : List ℕ → View → View → StoreFault → Type 0
+IsAppendFault payload old new Disk = Rose old.faults new.faults
+IsAppendFault payload old new NoRecord = ⊥
+IsAppendFault payload old new (TooLarge len) = (len ≡ length payload) × (481 < length payload)
+IsAppendFault payload old new NoMemory = ⊥
+IsAppendFault payload old new Worn = ⊥
+
+-- of `put`: the disk, too large a record, or the last generation
+abbrev pub IsPutFault : Place → List ℕ → View → View → StoreFault → Type 0
+IsPutFault store content old new Disk = Rose old.faults new.faults
+IsPutFault store content old new NoRecord = ⊥
+IsPutFault store content old new (TooLarge len) = (len ≡ length content) × (49152 < length content)
+IsPutFault store content old new NoMemory = ⊥
+IsPutFault store content old new Worn = (length content ≤ 49152) × (store.generation ≡ 18446744073709551615)
+
+-- of `format`: the disk, too large a record, or want of memory, of which nothing is said
+abbrev pub IsFormatFault : List ℕ → View → View → StoreFault → Type 0
+IsFormatFault content old new Disk = Rose old.faults new.faults
+IsFormatFault content old new NoRecord = ⊥
+IsFormatFault content old new (TooLarge len) = (len ≡ length content) × (49152 < length content)
+IsFormatFault content old new NoMemory = Unit {0}
+IsFormatFault content old new Worn = ⊥
+
+-- of the calls that read: the disk, no open slot, or want of memory
+abbrev pub IsReadFault : Telling → View → View → StoreFault → Type 0
+IsReadFault tells old new Disk = Rose old.faults new.faults
+IsReadFault tells old new NoRecord = IsTrue tells.content → stands old.seen ≡ None
+IsReadFault tells old new (TooLarge len) = ⊥
+IsReadFault tells old new NoMemory = Unit {0}
+IsReadFault tells old new Worn = ⊥
+
+-- of `standing`, which takes no memory
+abbrev pub IsStandingFault : Telling → View → View → StoreFault → Type 0
+IsStandingFault tells old new Disk = Rose old.faults new.faults
+IsStandingFault tells old new NoRecord = IsTrue tells.content → stands old.seen ≡ None
+IsStandingFault tells old new (TooLarge len) = ⊥
+IsStandingFault tells old new NoMemory = ⊥
+IsStandingFault tells old new Worn = ⊥
+
+-- of a read into memory: the disk, or want of memory
+abbrev pub IsBytesFault : View → View → StoreFault → Type 0
+IsBytesFault old new Disk = Rose old.faults new.faults
+IsBytesFault old new NoRecord = ⊥
+IsBytesFault old new (TooLarge len) = ⊥
+IsBytesFault old new NoMemory = Unit {0}
+IsBytesFault old new Worn = ⊥

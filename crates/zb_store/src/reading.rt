@@ -1,0 +1,304 @@
+//! The reads of the store: which slot stands, how many entries stand behind its record, and their payloads.
+ghost use Rattle.std.specs.Prelude.{◌≡◌, ◌==◌, ◌&&◌, nat_le, ◌+◌, ◌*◌, ◌-◌, ◌≤◌, ◌<◌, ◌++◌, ℕ, List, [], length, take, drop, IsTrue, IfOk, IfErr, IfSome, Some, None, MatchOption, MatchResult};
+ghost use Rattle.std.specs.List.{concat};
+ghost use Rattle.std.specs.Int.{from_le_bytes, w16, w32, w64};
+ghost use Rattle.zb_base.specs.Outside.{HasCause};
+ghost use Rattle.zb_disk.specs.View.{IsStill, window};
+ghost use Rattle.zb_disk.specs.Calls.{IsRead};
+ghost use Rattle.zb_store.specs.Layout.{Standing, slot, stands, entry_of, payloads_of, extent};
+ghost use Rattle.zb_store.specs.Reading.{IsHeaderOf, opens, chosen, IsFoundIn, IsReadIn, IsBehind, size_at};
+ghost use Rattle.zb_store.specs.Faults.{IsBytesFault, IsReadFault, IsStandingFault};
+
+use crate::StoreFault;
+use crate::commit::{OPEN, base};
+use std::alloc::{AllocError, Global};
+use zb_base::Failed;
+use zb_disk::Disk;
+
+/// The first bytes of a slot.
+#[derive(Clone, Copy)]
+pub(crate) struct Header {
+    pub(crate) gate: u8,
+    pub(crate) generation: u64,
+    pub(crate) size: u32,
+}
+
+/// The slot that stands, how many bytes it has, and whether the gate of the other slot is open too.
+#[derive(Clone, Copy)]
+pub(crate) struct Found {
+    pub(crate) second: bool,
+    pub(crate) generation: u64,
+    pub(crate) size: u32,
+    pub(crate) room: u64,
+    pub(crate) other_open: bool,
+}
+
+// The number that two bytes spell, and so on.
+fn le16(bytes: &[u8]) -> u16
+    requires { 2 ≤ length bytes.now }
+    ensures { result ≡ from_le_bytes w16 bytes.now }
+{
+    u16::from_le_bytes([bytes[0], bytes[1]])
+}
+
+fn le32(bytes: &[u8]) -> u32
+    requires { 4 ≤ length bytes.now }
+    ensures { result ≡ from_le_bytes w32 bytes.now }
+{
+    u32::from_le_bytes([bytes[0], bytes[1], bytes[2], bytes[3]])
+}
+
+fn le64(bytes: &[u8]) -> u64
+    requires { 8 ≤ length bytes.now }
+    ensures { result ≡ from_le_bytes w64 bytes.now }
+{
+    u64::from_le_bytes([
+        bytes[0], bytes[1], bytes[2], bytes[3], bytes[4], bytes[5], bytes[6], bytes[7],
+    ])
+}
+
+fn read_header<D: Disk>(disk: &mut D, second: bool) -> Result<Header, Failed>
+    ensures read { IsRead D.tells (D.state disk.old) (D.state disk.new) result }
+    ensures bytes { IfOk result (λ h. IsTrue D.tells.content → IsHeaderOf (slot second (D.state disk.old).seen) h) }
+{
+    let mut buf = [0u8; 13];
+    disk.read(base(second), &mut buf)?;
+    Ok(Header {
+        gate: buf[0],
+        generation: le64(&buf[1..9]),
+        size: le32(&buf[9..13]),
+    })
+}
+
+fn is_open(header: Header, room: u64) -> bool
+    ensures { result ≡ opens header room }
+{
+    header.gate == OPEN && header.size <= 49_152 && 13 + u64::from(header.size) <= room
+}
+
+// The newer of two open slots, and the first on a tie.
+fn choose(first: Header, first_room: u64, second: Header, second_room: u64) -> Option<Found>
+    ensures { result ≡ chosen first first_room second second_room }
+{
+    let first_open = is_open(first, first_room);
+    if is_open(second, second_room) && (!first_open || first.generation < second.generation) {
+        return Some(Found {
+            second: true,
+            generation: second.generation,
+            size: second.size,
+            room: second_room,
+            other_open: first.gate == OPEN,
+        });
+    }
+    if !first_open {
+        return None;
+    }
+    Some(Found {
+        second: false,
+        generation: first.generation,
+        size: first.size,
+        room: first_room,
+        other_open: second.gate == OPEN,
+    })
+}
+
+/// The slot that stands.
+pub(crate) fn find<D: Disk>(disk: &mut D) -> Result<Option<Found>, Failed>
+    ensures still { IsStill (D.state disk.old) (D.state disk.new) }
+    ensures cause { HasCause (D.state disk.old).faults (D.state disk.new).faults result }
+    ensures small { IfOk result (λ found. IfSome found (λ f. f.size ≤ 49152)) }
+    ensures found { IfOk result (λ found. IsTrue D.tells.content
+        → MatchOption found (stands (D.state disk.old).seen ≡ None) (λ f. IsFoundIn f (D.state disk.old).seen)) }
+{
+    let size = disk.size()?;
+    let first = read_header(disk, false)?;
+    let second = read_header(disk, true)?;
+    Ok(choose(first, size.min(65_536), second, size.saturating_sub(65_536)))
+}
+
+// The length of the entry that stands at a place of the disk, behind which its slot has so many bytes.
+fn entry_size<D: Disk>(disk: &mut D, at: u64, room: u64) -> Result<Option<u16>, Failed>
+    ensures read { IsRead D.tells (D.state disk.old) (D.state disk.new) result }
+    ensures small { IfOk result (λ size. IfSome size (λ n. n ≤ 481)) }
+    ensures entry { IfOk result (λ size. IsTrue D.tells.content
+        → (b : List ℕ) → IsBehind b at room 3 (D.state disk.old).seen → size ≡ size_at b) }
+{
+    let mut buf = [0u8; 3];
+    disk.read(at, &mut buf)?;
+    let size = le16(&buf[1..3]);
+    Ok(is_entry(buf[0], size, room).then_some(size))
+}
+
+// Whether an entry stands, of which the gate, the length and the bytes of the slot from its gate on are known.
+fn is_entry(gate: u8, size: u16, room: u64) -> bool
+    ensures { result ≡ (gate == OPEN && nat_le size 481 && nat_le (3 + size) room) }
+{
+    gate == OPEN && size <= 481 && 3 + u64::from(size) <= room
+}
+
+/// How many entries stand from a place of the disk on, and how many bytes they take.
+pub(crate) fn count_entries<D: Disk>(
+    disk: &mut D,
+    start: u64,
+    room: u64,
+) -> Result<(u32, u64), Failed>
+    requires { start ≤ 131072 }
+    ensures still { IsStill (D.state disk.old) (D.state disk.new) }
+    ensures cause { HasCause (D.state disk.old).faults (D.state disk.new).faults result }
+    ensures few { IfOk result (λ r. r.0 ≤ 32) }
+    ensures short { IfOk result (λ r. r.1 ≤ 484 * r.0) }
+    ensures entries { IfOk result (λ r. IsTrue D.tells.content → (b : List ℕ) → IsBehind b start room 15616 (D.state disk.old).seen
+        → (r.0 ≡ length (payloads_of 32 b)) × (r.1 ≡ extent (payloads_of 32 b))) }
+{
+    let mut taken = 0;
+    for count in 0..32 {
+        match entry_size(disk, start + taken, room.saturating_sub(taken)) {
+            Ok(None) => return Ok((count, taken)),
+            Ok(Some(size)) => taken += 3 + u64::from(size),
+            Err(Failed) => return Err(Failed),
+        }
+    }
+    Ok((32, taken))
+}
+
+// The entry at the front, and what lies behind it.
+fn split_entry(bytes: &[u8]) -> Option<(&[u8], &[u8])>
+    ensures { MatchOption result (entry_of bytes.now ≡ None)
+        (λ r. (entry_of bytes.now ≡ Some r.0.now) × (r.1.now ≡ drop (3 + length r.0.now) bytes.now)) }
+{
+    if bytes.len() < 3 {
+        return None;
+    }
+    let size = le16(&bytes[1..3]);
+    if !is_entry(bytes[0], size, bytes.len() as u64) {
+        return None;
+    }
+    let end = 3 + usize::from(size);
+    Some((&bytes[3..end], &bytes[end..]))
+}
+
+/// The payloads of the entries one after the other.
+pub(crate) fn payload_bytes(alloc: Global, entries: &[u8]) -> Result<Vec<u8>, AllocError>
+    ensures { IfOk result (λ v. v.items ≡ concat (payloads_of 32 entries.now)) }
+{
+    let mut payloads = Vec::with_capacity(alloc, entries.len())?;
+    let mut rest = entries;
+    for entry in 0..32u32 {
+        prove!(entry < 32);
+        let Some((payload, behind)) = split_entry(rest) else {
+            return Ok(payloads);
+        };
+        payloads.extend_from_slice(payload)?;
+        rest = behind;
+    }
+    Ok(payloads)
+}
+
+/// What stands on a disk: its slot, the record, the payloads one after the other, how many entries there are, and the
+/// place in the slot behind the last of them.
+#[derive(Drop)]
+pub(crate) struct Contents {
+    pub(crate) found: Found,
+    pub(crate) content: Vec<u8>,
+    pub(crate) payloads: Vec<u8>,
+    pub(crate) entries: u32,
+    pub(crate) end: u32,
+}
+
+// So many bytes from a place on.
+fn read_bytes<D: Disk>(
+    alloc: Global,
+    disk: &mut D,
+    at: u64,
+    len: usize,
+) -> Result<Vec<u8>, StoreFault>
+    ensures still { IsStill (D.state disk.old) (D.state disk.new) }
+    ensures later { (D.state disk.old).faults ≤ (D.state disk.new).faults }
+    ensures faults { IfErr result (IsBytesFault (D.state disk.old) (D.state disk.new)) }
+    ensures bytes { IfOk result (λ v. IsTrue D.tells.content → v.items ≡ window (D.state disk.old).seen at len) }
+{
+    let mut bytes = Vec::with_capacity(alloc, len)?;
+    bytes.resize(len, 0)?;
+    match disk.read(at, &mut bytes) {
+        Ok(()) => Ok(bytes),
+        Err(Failed) => Err(StoreFault::Disk),
+    }
+}
+
+// What stands in the slot that was found.
+fn read_found<D: Disk>(alloc: Global, disk: &mut D, found: Found) -> Result<Contents, StoreFault>
+    requires { found.size ≤ 49152 }
+    ensures still { IsStill (D.state disk.old) (D.state disk.new) }
+    ensures later { (D.state disk.old).faults ≤ (D.state disk.new).faults }
+    ensures faults { IfErr result (IsBytesFault (D.state disk.old) (D.state disk.new)) }
+    ensures found { IfOk result (λ r. r.found ≡ found) }
+    ensures few { IfOk result (λ r. r.entries ≤ 32) }
+    ensures end { IfOk result (λ r. r.end ≤ 49165 + 484 * r.entries) }
+    ensures read { IfOk result (λ r. IsTrue D.tells.content → IsFoundIn found (D.state disk.old).seen → IsReadIn r (D.state disk.old).seen) }
+{
+    let record_at = base(found.second) + 13;
+    let start = record_at + u64::from(found.size);
+    let room = found.room.saturating_sub(13 + u64::from(found.size));
+    let (entries, taken) = match count_entries(disk, start, room) {
+        Ok(counted) => counted,
+        Err(Failed) => return Err(StoreFault::Disk),
+    };
+    let content = read_bytes(alloc, disk, record_at, found.size as usize)?;
+    let region = read_bytes(alloc, disk, start, taken as usize)?;
+    let payloads = payload_bytes(alloc, &region)?;
+    Ok(Contents {
+        found,
+        content,
+        payloads,
+        entries,
+        end: 13 + found.size + taken as u32,
+    })
+}
+
+/// What stands on the disk.
+pub(crate) fn read_standing<D: Disk>(alloc: Global, disk: &mut D) -> Result<Contents, StoreFault>
+    ensures still { IsStill (D.state disk.old) (D.state disk.new) }
+    ensures later { (D.state disk.old).faults ≤ (D.state disk.new).faults }
+    ensures faults { IfErr result (IsReadFault D.tells (D.state disk.old) (D.state disk.new)) }
+    ensures few { IfOk result (λ r. r.entries ≤ 32) }
+    ensures end { IfOk result (λ r. r.end ≤ 49165 + 484 * r.entries) }
+    ensures read { IfOk result (λ r. IsTrue D.tells.content → IsReadIn r (D.state disk.old).seen) }
+{
+    match find(disk) {
+        Ok(Some(found)) => read_found(alloc, disk, found),
+        Ok(None) => Err(StoreFault::NoRecord),
+        Err(Failed) => Err(StoreFault::Disk),
+    }
+}
+
+// How many entries stand in the slot that was found.
+fn count_found<D: Disk>(disk: &mut D, found: Found) -> Result<(u64, u32), StoreFault>
+    requires { found.size ≤ 49152 }
+    ensures still { IsStill (D.state disk.old) (D.state disk.new) }
+    ensures later { (D.state disk.old).faults ≤ (D.state disk.new).faults }
+    ensures faults { IfErr result (IsStandingFault D.tells (D.state disk.old) (D.state disk.new)) }
+    ensures answer { IfOk result (λ r. IsTrue D.tells.content → IsFoundIn found (D.state disk.old).seen
+        → (s : Standing) × (stands (D.state disk.old).seen ≡ Some s) × (r.0 ≡ s.generation) × (r.1 ≡ length s.payloads)) }
+{
+    let start = base(found.second) + 13 + u64::from(found.size);
+    let room = found.room.saturating_sub(13 + u64::from(found.size));
+    match count_entries(disk, start, room) {
+        Ok((entries, _)) => Ok((found.generation, entries)),
+        Err(Failed) => Err(StoreFault::Disk),
+    }
+}
+
+/// The generation that stands, and how many entries.
+pub(crate) fn count_standing<D: Disk>(disk: &mut D) -> Result<(u64, u32), StoreFault>
+    ensures still { IsStill (D.state disk.old) (D.state disk.new) }
+    ensures later { (D.state disk.old).faults ≤ (D.state disk.new).faults }
+    ensures faults { IfErr result (IsStandingFault D.tells (D.state disk.old) (D.state disk.new)) }
+    ensures answer { IfOk result (λ r. IsTrue D.tells.content
+        → (s : Standing) × (stands (D.state disk.old).seen ≡ Some s) × (r.0 ≡ s.generation) × (r.1 ≡ length s.payloads)) }
+{
+    match find(disk) {
+        Ok(Some(found)) => count_found(disk, found),
+        Ok(None) => Err(StoreFault::NoRecord),
+        Err(Failed) => Err(StoreFault::Disk),
+    }
+}
