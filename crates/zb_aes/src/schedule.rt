@@ -43,11 +43,18 @@ impl Cipher {
     pub fn encrypt(&self, block: &[u8; 16]) -> [u8; 16]
         ensures { result ≡ enciphered self.now block.now }
     {
-        let mut state = State::read(block).plus(self.keys[0]);
-        for i in 1..10 {
-            let next = state.round(self.keys[i]);
-            state = next;
-        }
-        state.last_round(self.keys[10]).bytes()
+        State::read(block)
+            .plus(self.keys[0])
+            .round(self.keys[1])
+            .round(self.keys[2])
+            .round(self.keys[3])
+            .round(self.keys[4])
+            .round(self.keys[5])
+            .round(self.keys[6])
+            .round(self.keys[7])
+            .round(self.keys[8])
+            .round(self.keys[9])
+            .last_round(self.keys[10])
+            .bytes()
     }
 }

@@ -1,16 +1,21 @@
-use Rattle.std.proofs.Common.{arith}
+use Rattle.std.proofs.Common.{refl, arith}
 use Rattle.zb_aes.proofs.Keys.{rounds-init, rounds-more, rounds-end}
 use Rattle.zb_aes.proofs.schedule.Cipher.encrypt.Goals as goal
 
-pub loop-i-init : goal.loop-i-init
-loop-i-init c = rounds-init c.args.self.now c.args.block.now _ _ _ c.self.view_is c.read.ensures c.plus-state.ensures
-
-pub loop-i-preserved : goal.loop-i-preserved
-loop-i-preserved c =
-    rounds-more c.args.self.now c.args.block.now _ _ _ _ c.loop-i.i c.loop-i.auto.i c.self.view_is
-    (c.self.invariant.each c.loop-i.i (omega arith)) c.loop-i.invariant c.round-next.ensures
-
 pub returns : goal.returns
 returns c =
-    rounds-end c.args.self.now c.args.block.now _ _ _ _ _ c.loop-i.i (omega arith) c.self.view_is
-    (c.self.invariant.each 10 (omega arith)) c.loop-i.invariant c.last_round.ensures c.bytes.ensures
+    let key = c.args.self.now in
+    let block = c.args.block.now in
+    let is = c.self.view_is in
+    let s0 = rounds-init key block _ _ _ is c.read.ensures c.plus.ensures in
+    let s1 = rounds-more key block _ _ _ _ 1 (omega arith) is (c.self.invariant.each 1 (omega arith)) s0 c.round.ensures in
+    let s2 = rounds-more key block _ _ _ _ 2 (omega arith) is (c.self.invariant.each 2 (omega arith)) s1 c.round-2.ensures in
+    let s3 = rounds-more key block _ _ _ _ 3 (omega arith) is (c.self.invariant.each 3 (omega arith)) s2 c.round-3.ensures in
+    let s4 = rounds-more key block _ _ _ _ 4 (omega arith) is (c.self.invariant.each 4 (omega arith)) s3 c.round-4.ensures in
+    let s5 = rounds-more key block _ _ _ _ 5 (omega arith) is (c.self.invariant.each 5 (omega arith)) s4 c.round-5.ensures in
+    let s6 = rounds-more key block _ _ _ _ 6 (omega arith) is (c.self.invariant.each 6 (omega arith)) s5 c.round-6.ensures in
+    let s7 = rounds-more key block _ _ _ _ 7 (omega arith) is (c.self.invariant.each 7 (omega arith)) s6 c.round-7.ensures in
+    let s8 = rounds-more key block _ _ _ _ 8 (omega arith) is (c.self.invariant.each 8 (omega arith)) s7 c.round-8.ensures in
+    let s9 = rounds-more key block _ _ _ _ 9 (omega arith) is (c.self.invariant.each 9 (omega arith)) s8 c.round-9.ensures in
+    rounds-end key block _ _ _ _ _ 10 refl is (c.self.invariant.each 10 (omega arith)) s9 c.last_round.ensures
+    c.bytes.ensures
