@@ -4,3 +4,4 @@ pub mod Images
 pub mod Calls
 pub mod Tearing
 pub mod Moments
+pub mod Trails

@@ -3,3 +3,7 @@ pub mod Calls
 pub mod Memory
 pub mod MemoryInside
 pub mod MemoryLaws
+pub mod Trail
+pub mod TrailInside
+pub mod TrailLaws
+pub mod File

@@ -2,8 +2,12 @@
 #![tactic(auto)]
 
 pub mod disk;
+pub mod file;
 pub mod memory;
 mod runs;
+pub mod trail;
 
 pub use disk::Disk;
+pub use file::FileDisk;
 pub use memory::{Arming, MemDisk};
+pub use trail::TrailDisk;

@@ -288,8 +288,8 @@ impl Disk for MemDisk {
     }
 }
 
-// Copies the bytes from a place on into the buffer, with 00 past the end.
-fn copy_window(bytes: &[u8], at: u64, buf: &mut [u8])
+/// Copies the bytes from a place on into the buffer, with 00 past the end.
+pub(crate) fn copy_window(bytes: &[u8], at: u64, buf: &mut [u8])
     ensures { buf.new ≡ window bytes.now at (length buf.old) }
 {
     let start = at.min(bytes.len() as u64) as usize;
