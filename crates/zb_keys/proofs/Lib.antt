@@ -7,3 +7,4 @@ pub mod ApplyLemmas
 pub mod FindLemmas
 pub mod HeardLemmas
 pub mod ReadLemmas
+pub mod PlanLemmas

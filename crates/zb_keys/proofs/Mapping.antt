@@ -51,3 +51,7 @@ room_beside {X} {Y} {view} {g} f P i old new d lt all so =
 pub list_any-map : {X Y : Type 0} (p : Y → Bool) (view : X → Y) (xs : List X) → list_any p (map view xs) ≡ list_any (λ x. p (view x)) xs
 list_any-map p view [] = refl
 list_any-map p view (x ∷ xs) = ap (λ b. p (view x) || b) (list_any-map p view xs)
+
+-- the same, by a name that an attribute can have
+pub any_map : {X Y : Type 0} (p : Y → Bool) (view : X → Y) (xs : List X) → list_any p (map view xs) ≡ list_any (λ x. p (view x)) xs
+any_map p view xs = list_any-map p view xs

@@ -3,3 +3,4 @@ pub mod Senders
 pub mod Tables
 pub mod Reading
 pub mod Planning
+pub mod Written

@@ -17,9 +17,9 @@ abbrev pub moves : List Move → List Edit
 moves ms = map Moved ms
 
 -- A call tells these changes, or has this refusal.
-abbrev pub Tells : {E : Type 0} → (Change → Edit) → Result (List Change) E → Result (List Edit) E → Type 0
-Tells view (Ok changes) answer = answer ≡ Ok (map view changes)
-Tells view (Err e) answer = answer ≡ Err e
+abbrev pub Tells : {V E : Type 0} → (V → List Change) → Result V E → Result (List Edit) E → Type 0
+Tells items (Ok changes) answer = answer ≡ Ok (edits (items changes))
+Tells items (Err e) answer = answer ≡ Err e
 
 -- A network key becomes active, if it isn't, and starts counting, if it never did.
 abbrev pub activation : NodeState → Bytes → List Edit
@@ -46,6 +46,11 @@ unless_other (Some r) told = Err (KeyInUse (record { 0 = r.partner }))
 
 abbrev pub taking : NodeState → ℕ → Bytes → List Edit → Result (List Edit) KeyError
 taking s partner key told = if not (has_link partner key s.links) && links_full s then Err RowsFull else unless_other (other_user s partner key) told
+
+-- refused, or these changes
+abbrev pub refused_or : Option KeyError → List Edit → Result (List Edit) KeyError
+refused_or None told = Ok told
+refused_or (Some e) told = Err e
 
 -- A device is let in by the key of its install code.
 unfoldable pub providing : NodeState → ℕ → Bytes → Result (List Edit) KeyError

@@ -7,11 +7,11 @@ ghost use Rattle.zb_keys.specs.Senders.{HasRoom, live_floor};
 ghost use Rattle.zb_keys.specs.Reading.{outgoing_of, place_of_key};
 ghost use Rattle.zb_keys.specs.Tables.{state_of, Becomes, IsSound, Forgets};
 ghost use Rattle.zb_model.specs.Data.{Nwk, Aps, Reserve, Floor, Start, Moved, DropNet, DropLink, Install, Active, Row, Pair as Paired, Became, Live, Removed, Roll, Told, Untold};
-ghost use Rattle.zb_model.specs.State.{applied, shown, at_net, next_counter, stored_limit, active_row, counted, heard, with_declared};
+ghost use Rattle.zb_model.specs.State.{applied, shown, at_net, next_counter, stored_limit, active_row, counted, heard, with_declared, current, offered};
 ghost use Rattle.zb_model.specs.Fits.{keeps_rules};
 
 use crate::link::{
-    drop_link, has_row, has_told, hear_link, revive_link, store_link, tell_links, untell_links,
+    current_row, drop_link, has_row, has_told, hear_link, offered_row, revive_link, store_link, tell_links, untell_links,
 };
 use crate::net::{count_net, drop_net, has_key, hear_net, key_place, key_row, reserve_net, start_net, store_net};
 use crate::pair::{drop_pairs, has_pair};
@@ -49,6 +49,22 @@ impl Contents {
         }
     }
 
+    /// The current row of a partner.
+    #[tactic(auto, unfolding(zb_model::specs::State::current), using(crate::proofs::FindLemmas::find_map))]
+    pub(crate) fn current(&self, partner: Eui) -> Option<&LinkRow>
+        ensures { option_map link_key (option_copied result) ≡ current (state_of self.now) partner.0 }
+    {
+        current_row(self.links.as_slice(), partner)
+    }
+
+    /// The offered row of a partner.
+    #[tactic(auto, unfolding(zb_model::specs::State::offered), using(crate::proofs::FindLemmas::find_map))]
+    pub(crate) fn offered(&self, partner: Eui) -> Option<&LinkRow>
+        ensures { option_map link_key (option_copied result) ≡ offered (state_of self.now) partner.0 }
+    {
+        offered_row(self.links.as_slice(), partner)
+    }
+
     /// The outgoing counter of a layer.
     pub(crate) fn outgoing(&self, layer: Layer, block: u32) -> Outgoing
         ensures { result ≡ outgoing_of (tier layer) block (state_of self.now) }
@@ -60,7 +76,7 @@ impl Contents {
     }
 
     /// The outgoing NWK counter: that of the active key, or the declared one while none is active.
-    fn outgoing_nwk(&self, block: u32) -> Outgoing
+    pub(crate) fn outgoing_nwk(&self, block: u32) -> Outgoing
         ensures { result ≡ outgoing_of Nwk block (state_of self.now) }
     {
         match self.active_row() {

@@ -2,12 +2,17 @@
 //! of pairs of devices.
 #![tactic(auto)]
 
+mod calls;
 mod contents;
 mod link;
+mod link_planning;
 mod net;
 mod pair;
+mod payload;
+mod planning;
 mod reading;
 mod tables;
+mod writing;
 
 pub use link::LinkRow;
 pub use net::{NetRow, SenderFloor};

@@ -2,11 +2,12 @@
 ghost use Rattle.std.specs.Prelude.{◌≡◌, ◌&&◌, false, not, map, find, nat_eq, if◌then◌else◌};
 ghost use Rattle.std.specs.List.{list_any};
 ghost use Rattle.std.specs.Option.{option_copied};
-ghost use Rattle.zb_change.specs.Changes.{trust};
+ghost use Rattle.zb_change.specs.Changes.{duty, trust};
+ghost use Rattle.zb_model.specs.Fits.{most_links};
 ghost use Rattle.zb_keys.specs.Rows.{link_key};
-ghost use Rattle.zb_model.specs.State.{at_link, is_link, has_link, is_live_of, dropped_link, link_floor, link_kept, revived, new_link, told_as, with_told, is_unverified, same_key};
+ghost use Rattle.zb_model.specs.State.{at_link, is_link, has_link, is_live_of, dropped_link, link_floor, link_kept, revived, new_link, told_as, with_told, is_unverified, is_verified, same_key};
 
-use zb_base::{Eui, Key};
+use zb_base::{Eui, Key, Role};
 use zb_change::Attribute;
 use zb_counter::Floor;
 
@@ -64,6 +65,13 @@ impl LinkRow {
         ensures { result ≡ is_unverified (link_key self.now).trust }
     {
         matches!(self.attribute, Attribute::Unverified)
+    }
+
+    /// Whether both sides proved that they hold the key.
+    pub fn is_verified(&self) -> bool
+        ensures { result ≡ is_verified (link_key self.now).trust }
+    {
+        matches!(self.attribute, Attribute::Verified)
     }
 
     /// Drops the row, if it is of that partner and key.
@@ -231,5 +239,16 @@ pub(crate) fn hear_link(rows: &mut [LinkRow], partner: Eui, key: &Key, kept: u32
 {
     for row in rows.iter_mut() {
         row.hear_at(partner, key, kept);
+    }
+}
+
+/// How many link keys a node may hold.
+pub(crate) fn link_room(role: Role) -> usize
+    ensures { result ≡ most_links (duty role) }
+{
+    match role {
+        Role::Centre => 1024,
+        Role::Router => 64,
+        Role::Device => 64,
     }
 }

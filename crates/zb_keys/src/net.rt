@@ -269,13 +269,6 @@ pub(crate) fn key_place(rows: &[NetRow], key: &Key) -> Option<usize>
     rows.iter().position(|row| row.key == *key)
 }
 
-/// The place of a dropped row with that key.
-pub(crate) fn dropped_place(rows: &[NetRow], key: &Key) -> Option<usize>
-    ensures { result ≡ position (λ r. same_key (net_key r).key key.now.0 && not r.live) rows.now }
-{
-    rows.iter().position(|row| row.key == *key && !row.live)
-}
-
 /// The row of a key.
 pub(crate) fn key_row<'a>(rows: &'a [NetRow], key: &Key) -> Option<&'a NetRow>
     ensures { option_copied result ≡ find (λ r. same_key (net_key r).key key.now.0) rows.now }

@@ -7,7 +7,6 @@ ghost use Rattle.zb_keys.specs.Reading.{place_of_key, outgoing_of, floor_at, sen
 ghost use Rattle.zb_model.specs.Data.{Nwk};
 ghost use Rattle.zb_model.specs.State.{next_counter, stored_limit, counted, with_declared, current, offered, pair_of};
 
-use crate::link::{current_row, offered_row};
 use crate::pair::pair_row;
 use crate::{LinkRow, NetRow, Pair, Tables};
 use zb_base::{Eui, Key, Layer, Role};
@@ -103,19 +102,17 @@ impl Tables {
     }
 
     /// The current row of a partner: its link key in use that isn't only offered.
-    #[tactic(auto, unfolding(zb_model::specs::State::current), using(crate::proofs::FindLemmas::find_map))]
     pub fn current(&self, partner: Eui) -> Option<&LinkRow>
         ensures { option_map link_key (option_copied result) ≡ current self.now partner.0 }
     {
-        current_row(self.contents.links.as_slice(), partner)
+        self.contents.current(partner)
     }
 
     /// The offered row of a partner: its unverified link key in use.
-    #[tactic(auto, unfolding(zb_model::specs::State::offered), using(crate::proofs::FindLemmas::find_map))]
     pub fn offered(&self, partner: Eui) -> Option<&LinkRow>
         ensures { option_map link_key (option_copied result) ≡ offered self.now partner.0 }
     {
-        offered_row(self.contents.links.as_slice(), partner)
+        self.contents.offered(partner)
     }
 
     /// The outgoing counter of a layer, which is reserved in blocks of that size. At NWK it is that of the active key.

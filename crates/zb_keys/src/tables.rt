@@ -1,9 +1,6 @@
 //! The tables of a node.
-ghost use Rattle.std.specs.Prelude.{◌≡◌};
-ghost use Rattle.zb_change.specs.Changes.{duty};
-ghost use Rattle.zb_model.specs.Fits.{most_links};
-
 use crate::contents::Contents;
+use crate::link::link_room;
 use crate::{LinkRow, NetRow, Pair};
 use std::alloc::Global;
 use std::marker::Model;
@@ -76,16 +73,5 @@ impl Tables {
         for change in changes.as_slice() {
             self.contents.change(change);
         }
-    }
-}
-
-/// How many link keys a node may hold.
-fn link_room(role: Role) -> usize
-    ensures { result ≡ most_links (duty role) }
-{
-    match role {
-        Role::Centre => 1024,
-        Role::Router => 64,
-        Role::Device => 64,
     }
 }

@@ -1,0 +1,88 @@
+//! The calls on tables that tell changes of rows, or why there are none. They change nothing. The draw of a new key and
+//! the state of the node are not among the changes: who calls adds them.
+ghost use Rattle.std.specs.Prelude.{◌≡◌};
+ghost use Rattle.zb_change.specs.Changes.{edits};
+ghost use Rattle.zb_keys.specs.Planning.{Tells, installing, providing, offering, partnering, verifying, switching, dropping, pairing};
+
+use crate::Tables;
+use zb_base::{Eui, Key};
+use zb_change::{Changes, KeyError};
+
+impl Tables {
+    /// What a network key changes that comes to a router or device: where two keys are in use, the one that isn't active
+    /// is dropped; the new one is installed, and becomes active in a node that knocks or rejoins, or that has none. A key
+    /// that is in use gets no second row.
+    ///
+    /// Refused as `KeyOld` where the key was dropped before, and as `KeysFull` where it is new and there are 256.
+    pub fn install_net(&self, key: &Key, sequence: u8) -> Result<Changes, KeyError>
+        ensures { Tells (λ changes. changes.items) result (installing self.now key.now.0 sequence) }
+    {
+        self.contents.install_net(key, sequence)
+    }
+
+    /// What it changes at the centre that a device is let in by the key of its install code: the row is new or comes
+    /// back into use, provisional, and the device is live. The device isn't live before.
+    ///
+    /// Refused where the key has no row of that device: as `RowsFull` where there is no room for one, and as `KeyInUse`
+    /// where another partner has the key.
+    pub fn provision(&self, partner: Eui, key: &Key) -> Result<Changes, KeyError>
+        ensures { Tells (λ changes. changes.items) result (providing self.now partner.0 key.now.0) }
+    {
+        self.contents.provision(partner, key)
+    }
+
+    /// What an unverified link key changes: nothing, where it is the current or the offered one of the partner. Else a key
+    /// that was offered before is dropped, and the row is new or comes back into use.
+    ///
+    /// Refused as `provision` is.
+    pub fn offer(&self, partner: Eui, key: &Key) -> Result<Changes, KeyError>
+        ensures { Tells (λ changes. changes.items) result (offering self.now partner.0 key.now.0) }
+    {
+        self.contents.offer(partner, key)
+    }
+
+    /// What the hash of a link key changes (05-3474-21, 4.5.3): the offered key becomes verified and the current one is
+    /// dropped, where the hash is of the offered key; nothing, where it is of the verified current one.
+    ///
+    /// Refused as `NoRow` where there is neither such row, and as `WrongHash` where the hash is of neither.
+    pub fn verify(&self, partner: Eui, hash: &[u8; 16]) -> Result<Changes, KeyError>
+        ensures { Tells (λ changes. changes.items) result (verifying self.now partner.0 hash.now) }
+    {
+        self.contents.verify(partner, hash)
+    }
+
+    /// What it changes that the newest network key in use with that sequence becomes the active one.
+    ///
+    /// Refused as `NoRow` where there is none.
+    pub fn switch(&self, sequence: u8) -> Result<Changes, KeyError>
+        ensures { Tells (λ changes. changes.items) result (switching self.now sequence) }
+    {
+        self.contents.switch(sequence)
+    }
+
+    /// What it changes that a partner goes: its rows in use are dropped, and at the centre it is removed.
+    pub fn drop_partner(&self, partner: Eui) -> Changes
+        ensures { edits result.items ≡ dropping self.now partner.0 }
+    {
+        self.contents.drop_partner(partner)
+    }
+
+    /// What a key of two devices changes at the centre. They have none before.
+    ///
+    /// Refused as `RowsFull` where there are 256.
+    pub fn pair(&self, a: Eui, b: Eui, key: &Key) -> Result<Changes, KeyError>
+        ensures { Tells (λ changes. changes.items) result (pairing self.now a.0 b.0 key.now.0) }
+    {
+        self.contents.pair(a, b, key)
+    }
+
+    /// What a link key with a partner changes that the centre made: nothing, where it is in use. Else the partner's rows in
+    /// use are dropped, and the key's row is new or comes back into use, verified.
+    ///
+    /// Refused as `provision` is.
+    pub fn partner(&self, partner: Eui, key: &Key) -> Result<Changes, KeyError>
+        ensures { Tells (λ changes. changes.items) result (partnering self.now partner.0 key.now.0) }
+    {
+        self.contents.partner(partner, key)
+    }
+}
