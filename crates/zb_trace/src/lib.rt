@@ -12,6 +12,8 @@ mod parts;
 pub mod printing;
 mod spelling;
 mod start;
+#[cfg(test)]
+mod tests;
 
 pub use line::Line;
 pub use printing::{put_line, text, write_line};

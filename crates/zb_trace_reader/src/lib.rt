@@ -9,6 +9,8 @@ mod nobodys;
 mod parts;
 pub mod reading;
 mod start;
+#[cfg(test)]
+mod tests;
 
 pub use fault::TraceError;
 pub use reading::read_lines;

@@ -1,0 +1,124 @@
+//! Reads transcripts of worked runs back, prints their lines again and compares; then tries each line with a fault in
+//! it. For each file it writes how many lines there are, whether the printed text is the same, and of how many changed
+//! lines each was refused: with a carriage return, without its line feed, with two spaces, with a word dropped, with its
+//! last word doubled, and, where it has such digits, with hexadecimal digits in lower case.
+#![tactic(auto)]
+
+use std::alloc::{AllocError, Global};
+use std::{env, fs, io};
+use zb_base::OrMemory;
+use zb_trace::{Line, put_line};
+use zb_trace_reader::{TraceError, read_lines};
+
+fn main(rt: HostRuntime) -> io::Result<()> {
+    for name in env::args(&rt)?.skip(1) {
+        let bytes = fs::read(&rt, name.as_str())?;
+        report(&rt, name.as_str(), bytes.as_slice())?;
+    }
+    Ok(())
+}
+
+/// Writes what is found of one file.
+fn report(rt: &(impl Print + AllocGlobal), name: &str, bytes: &[u8]) -> io::Result<()> {
+    match read_whole(rt.alloc(), bytes) {
+        Ok(lines) => {
+            let same = prints_as(rt.alloc(), lines.as_slice(), bytes)?;
+            let count = lines.len();
+            let word = if same { "the same" } else { "another text" };
+            let [returns, unended, spaces, dropped, doubled, lower] = faults_refused(
+                rt.alloc(),
+                bytes,
+            )?;
+            println!(rt;
+                "{name}: {count} lines, {word}; refused {returns} {unended} {spaces} {dropped} {doubled} {lower}"
+            )
+        }
+        Err(OrMemory::Fault(TraceError { line })) => println!(rt; "{name}: bad line {line}"),
+        Err(OrMemory::NoMemory) => println!(rt; "{name}: no memory"),
+    }
+}
+
+fn read_whole(alloc: Global, bytes: &[u8]) -> Result<Vec<Line>, OrMemory<TraceError>> {
+    if bytes.len() < 1 << 24 {
+        read_lines(alloc, bytes)
+    } else {
+        Err(OrMemory::NoMemory)
+    }
+}
+
+/// Whether the lines have this text.
+fn prints_as(alloc: Global, lines: &[Line], bytes: &[u8]) -> Result<bool, AllocError> {
+    let mut page = Vec::new(alloc);
+    for line in lines {
+        put_line(&mut page, line)?;
+    }
+    Ok(page.as_slice() == bytes)
+}
+
+/// How many lines of the text were refused with each fault in them.
+fn faults_refused(alloc: Global, bytes: &[u8]) -> Result<[u32; 6], AllocError> {
+    let mut refused = [0u32; 6];
+    for line in bytes.split(|byte| *byte == b'\n') {
+        if !line.is_empty() {
+            for fault in 0..6u8 {
+                if is_refused(alloc, changed(alloc, line, fault)?.as_slice()) {
+                    let count = &mut refused[usize::from(fault)];
+                    *count = count.saturating_add(1);
+                }
+            }
+        }
+    }
+    Ok(refused)
+}
+
+/// Whether a text is no transcript, at its first line.
+fn is_refused(alloc: Global, text: &[u8]) -> bool {
+    match read_whole(alloc, text) {
+        Err(OrMemory::Fault(fault)) => fault.line == 1,
+        _ => false,
+    }
+}
+
+/// A line with a fault in it.
+fn changed(alloc: Global, line: &[u8], fault: u8) -> Result<Vec<u8>, AllocError> {
+    let mut text = Vec::new(alloc);
+    let first = line
+        .iter()
+        .position(|byte| *byte == b' ')
+        .unwrap_or(line.len());
+    let last = line
+        .iter()
+        .rposition(|byte| *byte == b' ')
+        .unwrap_or(line.len());
+    match fault {
+        0 => {
+            text.extend_from_slice(line)?;
+            text.push(b'\r')?;
+        }
+        1 => {
+            text.extend_from_slice(line)?;
+            return Ok(text);
+        }
+        2 => {
+            text.extend_from_slice(&line[..first])?;
+            text.push(b' ')?;
+            text.extend_from_slice(&line[first..])?;
+        }
+        3 => text.extend_from_slice(&line[..last])?,
+        4 => {
+            text.extend_from_slice(line)?;
+            text.extend_from_slice(&line[last..])?;
+        }
+        _ => lower(&mut text, line)?,
+    }
+    text.push(b'\n')?;
+    Ok(text)
+}
+
+/// The line with all its letters in lower case.
+fn lower(text: &mut Vec<u8>, line: &[u8]) -> Result<(), AllocError> {
+    for byte in line {
+        text.push(byte.to_ascii_lowercase())?;
+    }
+    Ok(())
+}
