@@ -3,7 +3,7 @@ ghost use Rattle.std.specs.Prelude.{◌≡◌, ◌++◌, [], Some, OnOk, codes};
 ghost use Rattle.zb_model.specs.Data.{AtEvent, NoKey};
 ghost use Rattle.zb_model.specs.FirstPath.{Tally, end_of};
 ghost use Rattle.zb_model.specs.Lines as line;
-ghost use Rattle.zb_player.specs.Text.{line_text, duty_text};
+ghost use Rattle.zb_player.specs.Text.{line_text, duty_text, answer_text};
 ghost use Rattle.zb_player.specs.Views.{duty_of, station_of};
 
 use crate::script::{NetworkKey, Node};
@@ -74,6 +74,16 @@ pub(crate) fn put_refusal(page: &mut Vec<u8>, event: u32, node: &Node) -> Result
     Ok(())
 }
 
+fn answer_word(answer: bool) -> &'static [u8]
+    ensures { result.now ≡ answer_text answer }
+{
+    if answer {
+        b"yes".as_slice()
+    } else {
+        b"no".as_slice()
+    }
+}
+
 /// The end: how many events, seals and refusals there were. Nothing was accepted or forged.
 #[tactic(auto, using(std::proofs::Common::append_assoc))]
 pub(crate) fn put_end(
@@ -90,8 +100,8 @@ pub(crate) fn put_end(
     add_number(page, seals)?;
     add_number(page, 0)?;
     add_number(page, refusals)?;
-    add_word(page, b"yes")?;
-    add_word(page, b"yes")?;
+    add_word(page, answer_word(true))?;
+    add_word(page, answer_word(true))?;
     end_line(page)?;
     Ok(())
 }

@@ -1,0 +1,198 @@
+//! How the program ends.
+ghost use Rattle.std.specs.Prelude.{◌≡◌, ◌+◌, ◌<◌, ◌≤◌, ◌++◌, ◌∷◌, [], length, decimal, slice_index};
+ghost use Rattle.hex.specs.Hex.{encode_upper};
+ghost use Rattle.arrayvec.specs.ArrayString.{array_string_len};
+ghost use Rattle.zb_text.specs.Fields.{short_text};
+ghost use Rattle.zb_text.specs.Words.{then};
+
+use arrayvec::ArrayString;
+use itoa::Buffer;
+use zb_install::CodeError;
+
+/// The end of a run. Its number is the status of the process.
+#[derive(Clone, Copy, Debug, PartialEq, Eq)]
+pub enum Status {
+    /// The whole output was written, and the input of a command that has one was read to its end.
+    Ok,
+    /// The words are no command.
+    Usage,
+    /// The source failed.
+    ReadFault,
+    /// The sink failed.
+    WriteFault,
+    /// The input, or a word, isn't what the command takes. Nothing was written.
+    Refused { line: u32, cause: Cause },
+    /// There was no memory left.
+    NoMemory,
+    /// The input has more than so many bytes.
+    TooLong { limit: u32 },
+}
+
+/// Why an input or a word is refused.
+#[derive(Clone, Copy, Debug, PartialEq, Eq)]
+pub enum Cause {
+    /// The input has a line that breaks a rule, or no centre.
+    Syntax,
+    /// The code has an odd number of characters, `at`, or the one at `at` is no hexadecimal digit.
+    NotHex { at: u32 },
+    /// The code has a length that no install code has.
+    Length { len: u32 },
+    /// The code's last two bytes are `kept`, and the CRC of the others is `found`.
+    Crc { kept: u16, found: u16 },
+}
+
+impl From<CodeError> for Cause {
+    ghost use Rattle.std.specs.Prelude.{◌≡◌};
+    ghost use Rattle.tc_cli.specs.Statuses.{cause_of};
+
+    ghost from_gives = { λ e c. c ≡ cause_of e };
+
+    fn from(error: CodeError) -> Cause {
+        match error {
+            CodeError::NotHex { at } => Cause::NotHex { at },
+            CodeError::Length { len } => Cause::Length { len },
+            CodeError::Crc { kept, found } => Cause::Crc { kept, found },
+        }
+    }
+}
+
+impl Status {
+    ghost use Rattle.std.specs.Prelude.{◌≡◌};
+    ghost use Rattle.tc_cli.specs.Statuses.{number_of, text_of};
+
+    /// The status of the process.
+    pub fn number(&self) -> u8
+        ensures { result ≡ number_of self.now }
+    {
+        match self {
+            Status::Ok => 0,
+            Status::Usage => 2,
+            Status::ReadFault => 3,
+            Status::WriteFault => 4,
+            Status::Refused { .. } => 5,
+            Status::NoMemory => 6,
+            Status::TooLong { .. } => 9,
+        }
+    }
+
+    /// What is said of the status on standard output, without a line feed. Nothing is said of `Ok` and `WriteFault`.
+    pub fn text(&self) -> ArrayString<64>
+        ensures { result.bytes ≡ text_of self.now }
+    {
+        match self {
+            Status::Ok | Status::WriteFault => ArrayString::new(),
+            Status::Usage => word("usage"),
+            Status::ReadFault => word("read fault"),
+            Status::NoMemory => word("no memory"),
+            Status::Refused { line, cause } => {
+                let mut text = word("refused");
+                add_number(&mut text, *line);
+                cause.add_to(&mut text);
+                text
+            }
+            Status::TooLong { limit } => {
+                let mut text = word("too long");
+                add_number(&mut text, *limit);
+                text
+            }
+        }
+    }
+}
+
+impl Cause {
+    ghost use Rattle.std.specs.Prelude.{◌≡◌, ◌≤◌, ◌++◌};
+    ghost use Rattle.arrayvec.specs.ArrayString.{array_string_len};
+    ghost use Rattle.tc_cli.specs.Statuses.{cause_text};
+
+    /// Adds the cause's word and its details, each behind a space.
+    #[tactic(auto, using(std::proofs::Common::append_assoc))]
+    fn add_to(&self, text: &mut ArrayString<64>)
+        requires { array_string_len text.old ≤ 20 }
+        ensures { text.new.bytes ≡ text.old.bytes ++ cause_text self.now }
+    {
+        match self {
+            Cause::Syntax => add_word(text, "syntax"),
+            Cause::NotHex { at } => {
+                add_word(text, "not-hex");
+                add_number(text, *at);
+            }
+            Cause::Length { len } => {
+                add_word(text, "length");
+                add_number(text, *len);
+            }
+            Cause::Crc { kept, found } => {
+                add_word(text, "crc");
+                add_digits(text, *kept);
+                add_digits(text, *found);
+            }
+        }
+    }
+}
+
+/// A text of some words.
+fn word(words: &str) -> ArrayString<64>
+    requires { length words.now ≤ 20 }
+    ensures bytes { result.bytes ≡ words.now }
+    ensures len { array_string_len result ≡ length words.now }
+{
+    let mut text = ArrayString::new();
+    text.push_str(words);
+    text
+}
+
+/// Adds a word behind a space.
+#[tactic(auto, using(std::proofs::Common::append_assoc))]
+fn add_word(text: &mut ArrayString<64>, word: &str)
+    requires { array_string_len text.old + length word.now ≤ 60 }
+    ensures bytes { text.new.bytes ≡ text.old.bytes ++ then word.now }
+    ensures len { array_string_len text.new ≡ array_string_len text.old + length word.now + 1 }
+{
+    text.push_str(" ");
+    text.push_str(word);
+}
+
+/// Adds a number in decimal digits behind a space.
+fn add_number(text: &mut ArrayString<64>, number: u32)
+    requires { array_string_len text.old ≤ 50 }
+    ensures bytes { text.new.bytes ≡ text.old.bytes ++ then (decimal number) }
+    ensures len { array_string_len text.new ≤ array_string_len text.old + 11 }
+{
+    let mut digits = Buffer::new();
+    add_word(text, digits.format(number));
+}
+
+/// Adds a number in four hexadecimal digits behind a space.
+#[tactic(auto, using(std::proofs::Common::append_assoc), unfolding(hex::specs::Hex::encode_with))]
+fn add_digits(text: &mut ArrayString<64>, number: u16)
+    requires { array_string_len text.old ≤ 50 }
+    ensures bytes { text.new.bytes ≡ text.old.bytes ++ then (short_text number) }
+    ensures len { array_string_len text.new ≡ array_string_len text.old + 5 }
+{
+    let [high, low] = number.to_be_bytes();
+    text.push_str(" ");
+    add_pair(text, high);
+    add_pair(text, low);
+}
+
+/// Adds a byte in two hexadecimal digits.
+#[tactic(auto, using(std::proofs::Common::append_assoc))]
+fn add_pair(text: &mut ArrayString<64>, byte: u8)
+    requires { array_string_len text.old ≤ 60 }
+    ensures bytes { text.new.bytes ≡ text.old.bytes ++ encode_upper (byte ∷ []) }
+    ensures len { array_string_len text.new ≡ array_string_len text.old + 2 }
+{
+    let [first, second] = pair(byte);
+    text.push(char::from(first));
+    text.push(char::from(second));
+}
+
+const DIGITS: [u8; 16] = *b"0123456789ABCDEF";
+
+#[tactic(auto, unfolding(hex::specs::Hex::encode_with))]
+fn pair(byte: u8) -> [u8; 2]
+    ensures digits { result ≡ encode_upper (byte ∷ []) }
+    ensures first { slice_index result 0 < 128 }
+    ensures second { slice_index result 1 < 128 }
+{
+    [DIGITS[(byte >> 4) as usize], DIGITS[(byte & 15) as usize]]
+}

@@ -1,0 +1,250 @@
+//! Whole runs over objects in memory. What is wanted comes from worked examples outside of this repository.
+use crate::program::run;
+use crate::status::{Cause, Status};
+use std::test::Fail;
+use std::thread::Threads;
+use zb_base::{MemSink, MemSource};
+
+const TWO_FRAMES: &[u8] = b"node c centre 00124B0000000001 0000 4 2
+node d device 00124B0000000002 1A2B 4 2
+netkey c 000102030405060708090A0B0C0D0E0F 0
+netkey d 000102030405060708090A0B0C0D0E0F 0
+say c 1A2B 0102
+say c 1A2B 0102
+";
+
+const TWO_FRAMES_PLAYED: &[u8] = b"0 node c centre 00124B0000000001 0000 4 2
+0 node d device 00124B0000000002 1A2B 4 2
+0 given c net 000102030405060708090A0B0C0D0E0F 0
+0 given d net 000102030405060708090A0B0C0D0E0F 0
+1 seal c nwk network 000102030405060708090A0B0C0D0E0F 00124B0000000001 0 2D 08022B1A00001E002D0000000001000000004B120000 00010000040101000102
+1 send c 1 08022B1A00001E00280000000001000000004B12000063DD603D8198631D3B765B34BA85
+2 seal c nwk network 000102030405060708090A0B0C0D0E0F 00124B0000000001 1 2D 08022B1A00001E012D0100000001000000004B120000 00010000040101010102
+2 send c 2 08022B1A00001E01280100000001000000004B120000897752BDF0FC12EC62703D343AD0
+end 2 2 0 0 yes yes
+";
+
+const WITHOUT_A_KEY: &[u8] = b"node c centre 00124B0000000001 0000 4 2
+node d device 00124B0000000002 1A2B 4 2
+netkey c 000102030405060708090A0B0C0D0E0F 0
+say c 1A2B 0102
+say c 1A2B 0102
+say d 0000 -
+";
+
+const WITHOUT_A_KEY_PLAYED: &[u8] = b"0 node c centre 00124B0000000001 0000 4 2
+0 node d device 00124B0000000002 1A2B 4 2
+0 given c net 000102030405060708090A0B0C0D0E0F 0
+1 seal c nwk network 000102030405060708090A0B0C0D0E0F 00124B0000000001 0 2D 08022B1A00001E002D0000000001000000004B120000 00010000040101000102
+1 send c 1 08022B1A00001E00280000000001000000004B12000063DD603D8198631D3B765B34BA85
+2 seal c nwk network 000102030405060708090A0B0C0D0E0F 00124B0000000001 1 2D 08022B1A00001E012D0100000001000000004B120000 00010000040101010102
+2 send c 2 08022B1A00001E01280100000001000000004B120000897752BDF0FC12EC62703D343AD0
+3 refuse d event no-key
+end 3 2 0 1 yes yes
+";
+
+const REFUSED: Status = Status::Refused {
+    line: 1,
+    cause: Cause::Syntax,
+};
+
+/// What a run came to: how it ended, and what the sink took.
+#[derive(Drop)]
+struct Ran {
+    status: Status,
+    sink: MemSink,
+}
+
+/// Runs words over an input whose calls of some numbers fail, and a sink whose calls of some numbers fail.
+fn over<H: AllocGlobal + Threads + Sync>(
+    rt: &H,
+    words: &[&str],
+    input: &[u8],
+    fails: &[u32],
+    sink_fails: &[u32],
+) -> Result<Ran, Fail> {
+    let mut texts = Vec::new(rt.alloc());
+    for word in words {
+        texts.push(String::from_str(rt.alloc(), word)?)?;
+    }
+    let mut source = MemSource::new(rt.alloc(), input, fails)?;
+    let mut sink = MemSink::new(rt.alloc(), 65_536, sink_fails)?;
+    let status = run(rt, rt.alloc(), texts.as_slice(), &mut source, &mut sink);
+    Ok(Ran { status, sink })
+}
+
+#[test]
+fn two_frames_are_sealed(rt: HostRuntime) -> Result<(), Fail> {
+    let ran = over(&rt, &["play"], TWO_FRAMES, &[], &[])?;
+    assert_eq!(rt; ran.status, Status::Ok);
+    assert_eq!(rt; ran.sink.taken(), TWO_FRAMES_PLAYED);
+    Ok(())
+}
+
+#[test]
+fn a_node_without_a_network_key_refuses(rt: HostRuntime) -> Result<(), Fail> {
+    let ran = over(&rt, &["play"], WITHOUT_A_KEY, &[], &[])?;
+    assert_eq!(rt; ran.status, Status::Ok);
+    assert_eq!(rt; ran.sink.taken(), WITHOUT_A_KEY_PLAYED);
+    Ok(())
+}
+
+#[test]
+fn comments_empty_lines_carriage_returns_and_a_last_line_without_an_end_are_read(
+    rt: HostRuntime,
+) -> Result<(), Fail> {
+    let input =
+        b"# \xFF any byte\r\n\r\n\nnode c centre 00124b0000000001 0000 65536 1024\r\nsay c FFF8 -";
+    let ran = over(&rt, &["play"], input, &[], &[])?;
+    assert_eq!(rt; ran.status, Status::Ok);
+    assert_eq!(rt;
+        ran.sink.taken(),
+        b"0 node c centre 00124B0000000001 0000 65536 1024\n1 refuse c event no-key\nend 1 0 0 1 yes yes\n".as_slice()
+    );
+    Ok(())
+}
+
+#[test]
+fn other_lines_are_refused(rt: HostRuntime) -> Result<(), Fail> {
+    let inputs: [&[u8]; 20] = [
+        b"boom\n",
+        b"",
+        b"# no centre\n",
+        b"node d device 00124B0000000002 1A2B 4 2\n",
+        b"node c centre 00124B0000000001 0000 0 2\n",
+        b"node c centre 00124B0000000001 0000 65537 2\n",
+        b"node c centre 00124B0000000001 0000 4 1025\n",
+        b"node c centre 00124B0000000001 0001 4 2\n",
+        b"node c centre 0000000000000000 0000 4 2\n",
+        b"node c centre FFFFFFFFFFFFFFFF 0000 4 2\n",
+        b"node c centre 00124B0000000001 0000 4 02\n",
+        b"node c centre 00124B0000000001 0000 4 2 \n",
+        b"node c centre 00124B0000000001 0000 4 2\nnode e centre 00124B0000000002 1A2B 4 2\n",
+        b"node c centre 00124B0000000001 0000 4 2\nnode d device 00124B0000000001 1A2B 4 2\n",
+        b"node c centre 00124B0000000001 0000 4 2\nnetkey d 000102030405060708090A0B0C0D0E0F 0\n",
+        b"node c centre 00124B0000000001 0000 4 2\nnetkey c 5A6967426565416C6C69616E63653039 0\n",
+        b"node c centre 00124B0000000001 0000 4 2\nnetkey c 000102030405060708090A0B0C0D0E0F 256\n",
+        b"node c centre 00124B0000000001 0000 4 2\nsay c 0000 -\nnode d device 00124B0000000002 1A2B 4 2\n",
+        b"node c centre 00124B0000000001 0000 4 2\nsay d 0000 -\n",
+        b"node c centre 00124B0000000001 0000 4 2\r\r\n",
+    ];
+    for input in inputs {
+        let ran = over(&rt, &["play"], input, &[], &[])?;
+        assert_eq!(rt; ran.status, REFUSED);
+        assert_eq!(rt; ran.sink.taken().len(), 0);
+    }
+    Ok(())
+}
+
+#[test]
+fn other_words_are_no_command(rt: HostRuntime) -> Result<(), Fail> {
+    let wrong: [&[&str]; 6] = [
+        &[],
+        &["play", "now"],
+        &["install"],
+        &["install", "00", "00"],
+        &["help"],
+        &["Play"],
+    ];
+    for words in wrong {
+        let ran = over(&rt, words, TWO_FRAMES, &[], &[])?;
+        assert_eq!(rt; ran.status, Status::Usage);
+        assert_eq!(rt; ran.sink.taken().len(), 0);
+    }
+    Ok(())
+}
+
+#[test]
+fn a_source_that_fails_is_a_read_fault(rt: HostRuntime) -> Result<(), Fail> {
+    let ran = over(&rt, &["play"], TWO_FRAMES, &[2], &[])?;
+    assert_eq!(rt; ran.status, Status::ReadFault);
+    assert_eq!(rt; ran.sink.taken().len(), 0);
+    Ok(())
+}
+
+#[test]
+fn a_sink_that_fails_is_a_write_fault_behind_what_was_written(rt: HostRuntime) -> Result<(), Fail> {
+    let first = over(&rt, &["play"], TWO_FRAMES, &[], &[1])?;
+    assert_eq!(rt; first.status, Status::WriteFault);
+    assert_eq!(rt; first.sink.taken().len(), 0);
+    let last = over(&rt, &["play"], TWO_FRAMES, &[], &[4])?;
+    assert_eq!(rt; last.status, Status::WriteFault);
+    assert!(rt; TWO_FRAMES_PLAYED.starts_with(last.sink.taken()));
+    let install = over(&rt, &["install", CODE], b"", &[], &[1])?;
+    assert_eq!(rt; install.status, Status::WriteFault);
+    Ok(())
+}
+
+#[test]
+fn an_input_of_line_feeds_is_too_long_past_the_longest(rt: HostRuntime) -> Result<(), Fail> {
+    let mut input = vec![in rt.alloc(); 10u8; 16_777_217]?;
+    let long = over(&rt, &["play"], input.as_slice(), &[], &[])?;
+    assert_eq!(rt; long.status, Status::TooLong { limit: 16_777_216 });
+    let _ = input.pop();
+    let short = over(&rt, &["play"], input.as_slice(), &[], &[])?;
+    assert_eq!(rt; short.status, REFUSED);
+    assert_eq!(rt; short.sink.taken().len(), 0);
+    Ok(())
+}
+
+const CODE: &str = "83FED3407A939723A5C639B26916D505C3B5";
+
+#[test]
+fn an_install_code_gives_its_link_key(rt: HostRuntime) -> Result<(), Fail> {
+    let ran = over(&rt, &["install", CODE], b"", &[], &[])?;
+    assert_eq!(rt; ran.status, Status::Ok);
+    assert_eq!(rt;
+        ran.sink.taken(),
+        b"66B6900981E1EE3CA4206B6B861C02BB\n".as_slice()
+    );
+    Ok(())
+}
+
+#[test]
+fn other_codes_are_refused_for_what_is_wrong(rt: HostRuntime) -> Result<(), Fail> {
+    let refusals = [
+        (
+            "83FED3407A939723A5C639B26916D505C3B4",
+            "refused 1 crc B4C3 B5C3",
+        ),
+        ("83FED3407A939723A5C639B26916D505C3", "refused 1 length 17"),
+        (
+            "83FED3407A939723A5C639B26916D505C3B",
+            "refused 1 not-hex 35",
+        ),
+        ("83FED3407A932B7G", "refused 1 not-hex 15"),
+        ("", "refused 1 length 0"),
+    ];
+    for (code, text) in refusals {
+        let ran = over(&rt, &["install", code], b"", &[], &[])?;
+        assert_eq!(rt; ran.status.number(), 5);
+        assert_eq!(rt; ran.status.text().as_str(), text);
+        assert_eq!(rt; ran.sink.taken().len(), 0);
+    }
+    assert_eq!(rt;
+        over(&rt, &["install", "83FED3407A932B70"], b"", &[], &[])?.status,
+        Status::Ok
+    );
+    Ok(())
+}
+
+#[test]
+fn each_status_has_its_number_and_text(rt: HostRuntime) {
+    let texts = [
+        (Status::Ok, 0, ""),
+        (Status::Usage, 2, "usage"),
+        (Status::ReadFault, 3, "read fault"),
+        (Status::WriteFault, 4, ""),
+        (REFUSED, 5, "refused 1 syntax"),
+        (Status::NoMemory, 6, "no memory"),
+        (
+            Status::TooLong { limit: 16_777_216 },
+            9,
+            "too long 16777216",
+        ),
+    ];
+    for (status, number, text) in texts {
+        assert_eq!(rt; status.number(), number);
+        assert_eq!(rt; status.text().as_str(), text);
+    }
+}
