@@ -1,1 +1,4 @@
 pub mod Terms
+pub mod Keys
+pub mod Wire
+pub mod Opening

@@ -1,0 +1,145 @@
+//! What a secured frame says of itself before any key is tried, and opening it.
+ghost use Rattle.std.specs.Prelude.{◌≡◌, Some, None, Err, OnOk, OnErr};
+ghost use Rattle.zb_seal.specs.declared.envelope.OpenError.TheVariants.{BadMic};
+ghost use Rattle.zb_ccm.specs.Ccm.{opens};
+ghost use Rattle.zb_seal.specs.Keys.{sealing_key as key_of};
+ghost use Rattle.zb_seal.specs.Opening.{source_of, content_of, term_of, opened};
+
+use crate::key::nonce;
+use crate::term::Term;
+use std::error::Error;
+use std::fmt;
+use zb_aes::Cipher;
+use zb_aps::ApsError;
+use zb_base::{Eui, Frame, Key, Label, Layer};
+use zb_nwk::NwkError;
+
+/// Why a frame does not open, in the order in which it is judged.
+#[derive(Clone, Copy, Debug, PartialEq, Eq)]
+pub enum OpenError {
+    /// The bytes are no frame: the fault of the one reader that was used.
+    Frame {
+        nwk: Option<NwkError>,
+        aps: Option<ApsError>,
+    },
+    /// The frame is not secured.
+    NotSecured,
+    /// The frame names no source, and none was given.
+    NoSource,
+    /// The message integrity code is not that of a content under this key.
+    BadMic,
+}
+
+impl fmt::Display for OpenError {
+    fn fmt<W: fmt::Write>(&self, f: &mut fmt::Formatter<W>) -> fmt::Result {
+        match self {
+            OpenError::Frame { .. } => f.write_str("no frame"),
+            OpenError::NotSecured => f.write_str("the frame is not secured"),
+            OpenError::NoSource => f.write_str("the source of the frame is not known"),
+            OpenError::BadMic => f.write_str("the code of the frame is wrong"),
+        }
+    }
+}
+
+impl Error for OpenError {}
+
+fn open_frame(
+    cipher: &Cipher,
+    nonce: &[u8; 13],
+    header: &Frame,
+    text: &mut Frame,
+    mic: &[u8; 4],
+) -> Result<(), OpenError>
+    ensures opened { OnOk result (opens cipher.now nonce.now header.now.items text.old.items mic.now ≡ Some text.new.items) }
+    ensures refused { OnErr result (opens cipher.now nonce.now header.now.items text.old.items mic.now ≡ None) }
+    ensures bad_mic { OnErr result (result ≡ Err BadMic) }
+    ensures kept { OnErr result (text.new ≡ text.old) }
+{
+    match zb_ccm::open_with(cipher, nonce, header.as_slice(), text.as_mut_slice(), mic) {
+        Ok(()) => Ok(()),
+        Err(_) => Err(OpenError::BadMic),
+    }
+}
+
+/// A secured layer of a frame, closed: all but the key and the content.
+#[derive(Debug, Drop, PartialEq, Eq)]
+pub struct Envelope {
+    pub layer: Layer,
+    /// Which key of a base key seals it.
+    pub label: Label,
+    /// The source in the auxiliary header, which only an APS frame may leave out.
+    pub source: Option<Eui>,
+    pub counter: u32,
+    /// The auxiliary control byte with the real level.
+    pub control: u8,
+    /// What is authenticated: the header with its auxiliary header and the real level.
+    pub header: Frame,
+    /// The cipher text.
+    pub text: Frame,
+    /// The message integrity code.
+    pub mic: [u8; 4],
+}
+
+impl Envelope {
+    /// Opens in place under an expanded sealing key: `text` becomes the content. Where the code is not that of a
+    /// content under this key and source, all stays as it was, for the next key.
+    pub fn unseal(&mut self, cipher: &Cipher, source: Eui) -> Result<(), OpenError>
+        ensures opened { OnOk result (content_of self.old cipher.now source ≡ Some self.new.text.items) }
+        ensures refused { OnErr result (content_of self.old cipher.now source ≡ None) }
+        ensures bad_mic { OnErr result (result ≡ Err BadMic) }
+        ensures kept { OnErr result (self.new ≡ self.old) }
+        ensures same { self.new ≡ record self.old { text = self.new.text } }
+    {
+        let nonce = nonce(source, self.counter, self.control);
+        open_frame(cipher, &nonce, &self.header, &mut self.text, &self.mic)?;
+        Ok(())
+    }
+
+    /// The source in the frame, else the one that is given.
+    pub fn source_or(&self, given: Option<Eui>) -> Option<Eui>
+        ensures { result ≡ source_of self.now.source given }
+    {
+        match self.source {
+            Some(source) => Some(source),
+            None => given,
+        }
+    }
+
+    /// The term of an envelope that was unsealed under a key of this base key, for this source.
+    pub fn into_term(self, base: &Key, source: Eui) -> Term
+        ensures { result ≡ term_of self base.now source }
+    {
+        Term {
+            layer: self.layer,
+            base: *base,
+            label: self.label,
+            source,
+            counter: self.counter,
+            control: self.control,
+            header: self.header,
+            content: self.text,
+        }
+    }
+
+    /// What the envelope opens to under this base key, whose sealing key for the label was expanded before. `given`
+    /// is the source where the frame names none.
+    #[tactic(auto, unfolding(crate::specs::Opening::opened))]
+    pub fn open_with(
+        self,
+        base: &Key,
+        cipher: &Cipher,
+        given: Option<Eui>,
+    ) -> Result<Term, OpenError>
+        requires { cipher.now ≡ key_of self.label base.now.0 }
+        ensures { result ≡ opened self base.now given }
+    {
+        let mut envelope = self;
+        match envelope.source_or(given) {
+            None => Err(OpenError::NoSource),
+            Some(source) => {
+                envelope.unseal(cipher, source)?;
+                Ok(envelope.into_term(base, source))
+            }
+        }
+    }
+}

@@ -1,0 +1,198 @@
+//! From the bytes on the air to a term.
+ghost use Rattle.std.specs.Prelude.{◌≡◌, ◌+◌, ◌-◌, ◌≤◌, ◌<◌, ◌++◌, length, take, IfOk, IfSome, Some, None};
+ghost use Rattle.zb_base.specs.declared.label.Label.TheVariants.{Network};
+ghost use Rattle.zb_nwk.specs.Shape.{Spells as SpellsNwk};
+ghost use Rattle.zb_aps.specs.Shape.{key_id, Spells as SpellsAps};
+ghost use Rattle.zb_seal.specs.Keys.{sealing_key as key_of};
+ghost use Rattle.zb_seal.specs.Wire.{at_place, real_level as restored};
+ghost use Rattle.zb_nwk.specs.Spelling.{header as header_of_nwk, aux as aux_of_nwk};
+ghost use Rattle.zb_aps.specs.Spelling.{header as header_of_aps, aux as aux_of_aps};
+ghost use Rattle.zb_seal.specs.Opening.{leveled_nwk, leveled_aps, aps_size as size_of_aps, nwk_envelope as envelope_of_nwk, aps_envelope as envelope_of_aps, seen_nwk, seen_aps, label_of as label_of_id, opened_nwk, opened_aps};
+
+use crate::ciphers::Ciphers;
+use crate::envelope::{Envelope, OpenError};
+use crate::key::{real_level, sealing_key};
+use crate::term::Term;
+use zb_aes::Cipher;
+use zb_aps::{ApsAux, ApsFrame};
+use zb_base::{Eui, Frame, Key, Label, Layer};
+use zb_cursor::frame_from;
+use zb_nwk::{NwkAux, NwkFrame};
+
+/// Changes the control byte at the place to the level that counts.
+fn restore_level(bytes: &mut [u8], place: usize)
+    requires { place < length bytes.old }
+    ensures { bytes.new ≡ at_place restored place bytes.old }
+{
+    bytes[place] = real_level(bytes[place]);
+}
+
+/// What is authenticated: the front of the bytes up to the body, with the level that counts in the control byte that
+/// stands `size` bytes before its end.
+fn authenticated(bytes: &[u8], body: usize, size: usize) -> Frame
+    requires some { 0 < size }
+    requires room { size + body + 4 ≤ length bytes.now }
+    requires fits { length bytes.now ≤ 127 }
+    ensures { result.items ≡ at_place restored (length bytes.now - 4 - body - size) (take (length bytes.now - 4 - body) bytes.now) }
+{
+    let front = bytes.len() - 4 - body;
+    let mut header = frame_from(&bytes[..front]);
+    restore_level(header.as_mut_slice(), front - size);
+    header
+}
+
+fn nwk_header(bytes: &[u8], frame: &NwkFrame, aux: &NwkAux) -> Frame
+    requires spells { SpellsNwk bytes.now frame.now }
+    requires secured { frame.now.aux ≡ Some aux.now }
+    ensures { result.items ≡ header_of_nwk frame.now.header ++ aux_of_nwk (leveled_nwk aux.now) }
+{
+    authenticated(bytes, frame.body.len(), 14)
+}
+
+fn nwk_envelope(bytes: &[u8], frame: NwkFrame) -> Result<Envelope, OpenError>
+    requires { SpellsNwk bytes.now frame }
+    ensures exact { result ≡ envelope_of_nwk frame frame.aux }
+    ensures label { IfOk result (λ s. s.label ≡ Network) }
+{
+    match frame.aux {
+        None => Err(OpenError::NotSecured),
+        Some(aux) => {
+            let header = nwk_header(bytes, &frame, &aux);
+            Ok(Envelope {
+                layer: Layer::Nwk,
+                label: Label::Network,
+                source: Some(aux.source),
+                counter: aux.counter,
+                control: real_level(aux.control),
+                header,
+                text: frame.body,
+                mic: frame.mic,
+            })
+        }
+    }
+}
+
+/// What a NWK frame says of itself before any key is tried.
+#[tactic(auto, unfolding(crate::specs::Opening::seen_nwk))]
+pub fn look_nwk(bytes: &[u8]) -> Result<Envelope, OpenError>
+    ensures exact { result ≡ seen_nwk bytes.now }
+    ensures label { IfOk result (λ s. s.label ≡ Network) }
+{
+    match zb_nwk::read(bytes) {
+        Err(fault) => Err(OpenError::Frame {
+            nwk: Some(fault),
+            aps: None,
+        }),
+        Ok(frame) => nwk_envelope(bytes, frame),
+    }
+}
+
+fn label_of(control: u8) -> Label
+    ensures { result ≡ label_of_id (key_id control) }
+{
+    match (control >> 3) & 3 {
+        0 => Label::Data,
+        1 => Label::Network,
+        2 => Label::Transport,
+        _ => Label::Load,
+    }
+}
+
+/// The length of an auxiliary header at APS.
+fn aps_size(source: Option<Eui>) -> usize
+    ensures size { result ≡ size_of_aps source }
+    ensures some { 0 < result }
+{
+    match source {
+        None => 5,
+        Some(_) => 13,
+    }
+}
+
+fn aps_header(bytes: &[u8], frame: &ApsFrame, aux: &ApsAux) -> Frame
+    requires spells { SpellsAps bytes.now frame.now }
+    requires secured { frame.now.aux ≡ Some aux.now }
+    ensures { result.items ≡ header_of_aps frame.now.header ++ aux_of_aps (leveled_aps aux.now) }
+{
+    authenticated(bytes, frame.body.len(), aps_size(aux.source))
+}
+
+fn aps_envelope(bytes: &[u8], frame: ApsFrame) -> Result<Envelope, OpenError>
+    requires { SpellsAps bytes.now frame }
+    ensures exact { result ≡ envelope_of_aps frame frame.aux }
+{
+    match frame.aux {
+        None => Err(OpenError::NotSecured),
+        Some(aux) => {
+            let header = aps_header(bytes, &frame, &aux);
+            Ok(Envelope {
+                layer: Layer::Aps,
+                label: label_of(aux.control),
+                source: aux.source,
+                counter: aux.counter,
+                control: real_level(aux.control),
+                header,
+                text: frame.body,
+                mic: frame.mic,
+            })
+        }
+    }
+}
+
+/// What an APS frame says of itself before any key is tried.
+#[tactic(auto, unfolding(crate::specs::Opening::seen_aps))]
+pub fn look_aps(bytes: &[u8]) -> Result<Envelope, OpenError>
+    ensures exact { result ≡ seen_aps bytes.now }
+{
+    match zb_aps::read(bytes) {
+        Err(fault) => Err(OpenError::Frame {
+            nwk: None,
+            aps: Some(fault),
+        }),
+        Ok(frame) => aps_envelope(bytes, frame),
+    }
+}
+
+/// The term of a NWK frame under a network key that was expanded before.
+#[tactic(auto, unfolding(crate::specs::Opening::opened_nwk))]
+pub fn open_nwk_with(bytes: &[u8], key: &Key, cipher: &Cipher) -> Result<Term, OpenError>
+    requires { cipher.now ≡ key.now.0 }
+    ensures exact { result ≡ opened_nwk bytes.now key.now }
+{
+    let envelope = look_nwk(bytes)?;
+    let term = envelope.open_with(key, cipher, None)?;
+    Ok(term)
+}
+
+/// The term of a NWK frame under a network key.
+pub fn open_nwk(bytes: &[u8], key: &Key) -> Result<Term, OpenError>
+    ensures exact { result ≡ opened_nwk bytes.now key.now }
+{
+    open_nwk_with(bytes, key, &Cipher::new(&key.0))
+}
+
+/// The term of an APS frame under a link key whose sealing keys were expanded before.
+#[tactic(auto, unfolding(crate::specs::Opening::opened_aps))]
+pub fn open_aps_with(
+    bytes: &[u8],
+    ciphers: &Ciphers,
+    source: Option<Eui>,
+) -> Result<Term, OpenError>
+    ensures exact { result ≡ opened_aps bytes.now ciphers.now source }
+{
+    let envelope = look_aps(bytes)?;
+    let cipher = ciphers.of(envelope.label);
+    let term = envelope.open_with(ciphers.base(), cipher, source)?;
+    Ok(term)
+}
+
+/// The term of an APS frame under a link key. `source` is the source where the frame names none.
+#[tactic(auto, unfolding(crate::specs::Opening::opened_aps))]
+pub fn open_aps(bytes: &[u8], base: &Key, source: Option<Eui>) -> Result<Term, OpenError>
+    ensures exact { result ≡ opened_aps bytes.now base.now source }
+{
+    let envelope = look_aps(bytes)?;
+    let key = sealing_key(envelope.label, base);
+    let term = envelope.open_with(base, &Cipher::new(&key.0), source)?;
+    Ok(term)
+}

@@ -1,0 +1,84 @@
+//! From a term to the bytes on the air.
+ghost use Rattle.std.specs.Prelude.{◌≡◌, ◌+◌, ◌-◌, ◌≤◌, ◌<◌, length, slice_set, IfOk, OnErr};
+ghost use Rattle.zb_seal.specs.Keys.{sealing_key as key_of};
+ghost use Rattle.zb_seal.specs.Wire.{wire as wire_of, wire_under, sealed_term, on_air as air, aux_size as size_of_aux, at_place, zero_level as cleared};
+
+use crate::key::{nonce, sealing_key, zero_level};
+use crate::term::Term;
+use zb_aes::Cipher;
+use zb_base::{Frame, Layer};
+use zb_ccm::seal_with;
+use zb_cursor::{TooLong, frame_from, has_bit, put};
+
+/// How far before the header's end its auxiliary control byte stands.
+fn aux_size(layer: Layer, control: u8) -> usize
+    ensures size { result ≡ size_of_aux layer control }
+    ensures some { 5 ≤ result }
+{
+    match layer {
+        Layer::Nwk => 14,
+        Layer::Aps => {
+            if has_bit(u16::from(control), 5) {
+                13
+            } else {
+                5
+            }
+        }
+    }
+}
+
+/// Changes the control byte at the place to level bits 000.
+fn clear_level(bytes: &mut [u8], place: usize)
+    requires { place < length bytes.old }
+    ensures { bytes.new ≡ at_place cleared place bytes.old }
+{
+    bytes[place] = zero_level(bytes[place]);
+}
+
+/// The header with level bits 000, where it is long enough for an auxiliary header.
+fn on_air(size: usize, header: &Frame) -> Frame
+    requires { 5 ≤ size }
+    ensures { result.items ≡ air size header.now.items }
+{
+    let mut out = frame_from(header.as_slice());
+    let len = out.len();
+    if size <= len {
+        clear_level(out.as_mut_slice(), len - size);
+    }
+    out
+}
+
+/// The cipher text of the content, and its code.
+fn seal_content(cipher: &Cipher, term: &Term) -> (Frame, [u8; 4])
+    ensures text { result.0.items ≡ (sealed_term cipher.now term.now).text }
+    ensures mic { result.1 ≡ (sealed_term cipher.now term.now).mic }
+{
+    let mut text = frame_from(term.content.as_slice());
+    let nonce = nonce(term.source, term.counter, term.control);
+    let mic = seal_with(cipher, &nonce, term.header.as_slice(), text.as_mut_slice());
+    (text, mic)
+}
+
+/// The bytes on the air of a term whose sealing key was expanded before.
+pub fn wire_with(term: &Term, cipher: &Cipher) -> Result<Frame, TooLong>
+    requires { cipher.now ≡ key_of term.now.label term.now.base.0 }
+    ensures text { IfOk result (λ bytes. bytes.items ≡ wire_of term.now) }
+    ensures fits { IfOk result (λ bytes. length (wire_of term.now) ≤ 127) }
+    ensures long { OnErr result (127 < length (wire_of term.now)) }
+{
+    let mut out = on_air(aux_size(term.layer, term.control), &term.header);
+    let (text, mic) = seal_content(cipher, term);
+    put(&mut out, &text)?;
+    put(&mut out, &mic)?;
+    Ok(out)
+}
+
+/// The bytes on the air of a term: its header with level bits 000, the cipher text, the code.
+pub fn wire(term: &Term) -> Result<Frame, TooLong>
+    ensures text { IfOk result (λ bytes. bytes.items ≡ wire_of term.now) }
+    ensures fits { IfOk result (λ bytes. length (wire_of term.now) ≤ 127) }
+    ensures long { OnErr result (127 < length (wire_of term.now)) }
+{
+    let key = sealing_key(term.label, &term.base);
+    wire_with(term, &Cipher::new(&key.0))
+}
