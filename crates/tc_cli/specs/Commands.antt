@@ -1,7 +1,5 @@
 -- The commands of the program, by the words after its name.
-use Rattle.std.specs.Prelude.{ℕ, ◌++◌, ◌∷◌, [], ◌&&◌, nat_lt, if◌then◌else◌, List, length, codes, bytes_eq, map, string_bytes, Option, Some, None, Result, Ok, Err}
-use Rattle.std.specs.declared.string.String.{String}
-use Rattle.std.specs.declared.alloc.Global.{Global}
+use Rattle.std.specs.Prelude.{◌++◌, ◌∷◌, [], ◌&&◌, nat_lt, if◌then◌else◌, List, length, codes, bytes_eq, Option, Some, None, Result, Ok, Err}
 use Rattle.hex.specs.Hex.{encode_upper}
 use Rattle.zb_install.specs.Code.{code_of_text, code_key}
 use Rattle.zb_install.specs.declared.code_error.CodeError.{CodeError}

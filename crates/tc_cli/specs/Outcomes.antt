@@ -1,6 +1,6 @@
 -- What the answers of the program mean.
-use Rattle.std.specs.Prelude.{◌≡◌, ◌<◌, ℕ, List, length, Option, Some, None, IfSome, Ok, Err}
-use Rattle.std.specs.Io.KnownBytes.{Appends, Keeps, IsAtEnd}
+use Rattle.std.specs.Prelude.{◌≡◌, ℕ, List, Option, Some, Ok, Err}
+use Rattle.std.specs.Io.KnownBytes.{Appends, Keeps}
 use Rattle.zb_base.specs.Outside.{AppendsFront, Rose}
 use Rattle.zb_install.specs.Code.{code_of_text}
 use Rattle.zb_install.specs.declared.code_error.CodeError.{CodeError}
@@ -15,7 +15,6 @@ use Rattle.tc_cli.specs.Statuses.{cause_of}
 use Rattle.tc_cli.specs.declared.status.Status.{Status}
 use Rattle.tc_cli.specs.declared.status.Status.TheVariants as status
 use Rattle.tc_cli.specs.declared.status.Cause.{Cause}
-use Rattle.tc_cli.specs.declared.status.Cause.TheVariants as cause
 
 -- The longest input, in bytes.
 abbrev pub longest : ℕ

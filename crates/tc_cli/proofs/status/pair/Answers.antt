@@ -1,4 +1,4 @@
-use Rattle.std.proofs.Common.{refl, ◌∷◌, [], List, ℕ}
+use Rattle.std.proofs.Common.{refl, ◌∷◌, []}
 use Rattle.tc_cli.proofs.DigitLemmas.{below}
 use Rattle.tc_cli.proofs.status.pair.Goals as goal
 
