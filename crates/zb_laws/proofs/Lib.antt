@@ -8,3 +8,7 @@ mod Runs
 mod Finds
 mod FloorRows
 mod OnceLines
+mod Sound
+mod Judged
+mod OnceGroups
+mod OnceRuns

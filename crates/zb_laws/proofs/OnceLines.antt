@@ -244,7 +244,7 @@ over-after layer c base source (Boot e n) s m h = over-boot layer c base source 
 over-after layer c base source _ s m h = h
 
 -- a counter that was taken is under the floors then
-link-own : (P R : LinkKey → Type 0) (f : LinkKey → LinkKey) → SameSlot f → ((r : LinkKey) → P r → R (f r)) → (p : ℕ) (k : Bytes) (links : List LinkKey) → Finds P (is_link p k) links → Finds R (is_link p k) (at_link p k f links)
+pub link-own : (P R : LinkKey → Type 0) (f : LinkKey → LinkKey) → SameSlot f → ((r : LinkKey) → P r → R (f r)) → (p : ℕ) (k : Bytes) (links : List LinkKey) → Finds P (is_link p k) links → Finds R (is_link p k) (at_link p k f links)
 unfolding HoldsOf
 link-own P R f same move p k links h =
     subst (λ o. HoldsOf R o) (sym (find-map (is_link p k) (λ r. cond (is_link p k r) (f r) r) (cond-slot f (is_link p k) same p k) links)) (by-found (find (is_link p k) links) refl h)

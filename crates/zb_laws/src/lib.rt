@@ -2,7 +2,8 @@
 //! a function with an empty body; docs/THEOREMS.md says it in words.
 #![tactic(auto)]
 
-ghost use Rattle.zb_model.specs.Claims.{Fresh};
+ghost use Rattle.zb_laws.specs.Opening.{Opens};
+ghost use Rattle.zb_model.specs.Claims.{Fresh, Once};
 ghost use Rattle.zb_model.specs.Play.{World};
 ghost use Rattle.zb_model.specs.Schedules.{IsSchedule};
 ghost use Rattle.zb_model.specs.Tools.{Tools};
@@ -12,4 +13,10 @@ ghost use Rattle.zb_model.specs.Transcript.{transcript};
 /// and whatever its disk leaves of a commit that was cut.
 pub fn no_nonce_comes_again()
     ensures { (tools : Tools) (w : World) → IsSchedule w → Fresh tools (transcript tools w) }
+{}
+
+/// No node ever accepts the counter of a sender twice under one key, whatever comes again on the air, resets and cut commits
+/// included. `Opens` says that a frame which opens shows its base key, counter and source.
+pub fn no_counter_is_taken_twice()
+    ensures { (tools : Tools) → Opens tools → (w : World) → IsSchedule w → Once (transcript tools w) }
 {}
