@@ -8,7 +8,7 @@ use arrayvec::ArrayVec;
 use zb_base::{Eui, Key, Name, Short};
 
 /// A reader of the words of one line, from the first to the last.
-#[derive(Drop)]
+#[derive(Clone, Copy, Debug)]
 pub struct Words<'a> {
     /// What is left of the line, or None behind its last word.
     pub rest: Option<&'a [u8]>,

@@ -1,0 +1,6 @@
+pub mod Codes
+pub mod Fits
+pub mod Grammar
+pub mod Said
+pub mod Texts
+pub mod Views

@@ -1,0 +1,60 @@
+-- What the lines of a schedule say. Names, keys and other strings of bytes are lists of numbers below 256; addresses
+-- and counters are numbers.
+use Rattle.std.specs.Prelude.{ℕ, List, Bool, Option}
+use Rattle.zb_base.specs.declared.label.Label.{Label}
+use Rattle.zb_base.specs.declared.label.Layer.{Layer}
+use Rattle.zb_base.specs.declared.node.Role.{Role}
+
+abbrev pub Bytes : Type 0
+Bytes = List ℕ
+
+-- An event.
+pub data Act : Type 0 where
+  -- a node sends application bytes
+  Says : (name : Bytes) (to : ℕ) (bytes : Bytes) → Act
+  -- a frame that went on the air arrives at a node
+  Delivers : (frame : ℕ) (name : Bytes) → Act
+  -- a node's timer
+  Ticks : (name : Bytes) → Act
+  -- a router or device starts to join, or to rejoin
+  Knocks : (name : Bytes) → Act
+  Rejoins : (name : Bytes) → Act
+  -- a parent hears a child that joins or rejoins
+  Adopts : (parent : Bytes) (name : Bytes) (rejoin : Bool) → Act
+  -- the centre: a device's install code is entered, it is sent the network key again, a new network key, the switch
+  -- to it, and a device is removed by way of a parent
+  Provisions : (name : Bytes) (code : Bytes) → Act
+  Repeats : (name : Bytes) → Act
+  Rolls : Act
+  Switches : Act
+  Removes : (name : Bytes) (parent : Bytes) → Act
+  -- power and disk
+  Resets : (name : Bytes) → Act
+  Boots : (name : Bytes) → Act
+  Dumps : (name : Bytes) → Act
+  Stops : (name : Bytes) (calls : ℕ) (torn : Bytes) → Act
+  Fails : (name : Bytes) (call : ℕ) → Act
+  -- the hostile air: bytes, and frames sealed by an outsider
+  Injects : (bytes : Bytes) → Act
+  ForgesNet : (to from source : ℕ) (key : Bytes) (sequence counter : ℕ) (content : Bytes) → Act
+  ForgesBoth : (to from source : ℕ) (key : Bytes) (sequence counter : ℕ) (label : Label) (base : Bytes) (aps_counter : ℕ) (command : Bytes) → Act
+  ForgesOpen : (to from source : ℕ) (label : Label) (base : Bytes) (aps_counter : ℕ) (command : Bytes) → Act
+  -- application link keys: a device asks for one, the centre shares it with the partner, a device uses it
+  Asks : (name : Bytes) (partner : Bytes) → Act
+  Shares : (name : Bytes) (partner : Bytes) → Act
+  Tells : (name : Bytes) (partner : Bytes) (bytes : Bytes) → Act
+
+-- A line.
+pub data Sentence : Type 0 where
+  -- an empty line or a comment
+  Quiet : Sentence
+  -- declarations: a node, its install code (None where the bytes are no install code), a network key that it holds,
+  -- its stored outgoing limit, and the next key of the supply
+  Introduces : (name : Bytes) (role : Role) (eui short out_block in_block : ℕ) → Sentence
+  Codes : (name : Bytes) (code : Option Bytes) → Sentence
+  Holds : (name : Bytes) (key : Bytes) (sequence : ℕ) → Sentence
+  Starts : (name : Bytes) (layer : Layer) (limit : ℕ) → Sentence
+  Draws : (key : Bytes) → Sentence
+  -- an event whose bytes are no install code, and any other event
+  Misprovisions : (name : Bytes) → Sentence
+  Happens : (act : Act) → Sentence

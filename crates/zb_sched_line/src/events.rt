@@ -1,0 +1,180 @@
+//! Events but forged frames, behind their first word.
+
+ghost use Rattle.std.specs.Prelude.{◌≡◌, codes, IfSome};
+ghost use Rattle.zb_text.specs.Words.{left, Shows};
+ghost use Rattle.zb_sched_line.specs.Fits.{FitsAct, IsName};
+ghost use Rattle.zb_sched_line.specs.Grammar.{child_of, deliver_of, fail_of, inject_of, name_alone, other_act, own_act, remove_of, say_of, stop_of, tell_of, two_names};
+ghost use Rattle.zb_sched_line.specs.Views.{act_of};
+
+use crate::event::Event;
+use crate::fields::{byte, keyword, number_between, rejoin, some_bytes};
+use crate::forge::forge;
+use zb_base::Name;
+use zb_text::words::Words;
+
+/// An event of one node, if the keyword begins one.
+pub fn own_event(keyword: &[u8], words: Words) -> Option<Event>
+    ensures value { Shows act_of result (own_act keyword.now (left words.entry)) }
+    ensures fits { IfSome result (λ event. FitsAct (act_of event)) }
+{
+    if keyword == b"say".as_slice() {
+        say(words)
+    } else if keyword == b"deliver".as_slice() {
+        deliver(words)
+    } else if keyword == b"timer".as_slice() {
+        Some(Event::Timer { name: only_name(words)? })
+    } else if keyword == b"knock".as_slice() {
+        Some(Event::Knock { name: only_name(words)? })
+    } else if keyword == b"rejoin".as_slice() {
+        Some(Event::Rejoin { name: only_name(words)? })
+    } else if keyword == b"reset".as_slice() {
+        Some(Event::Reset { name: only_name(words)? })
+    } else if keyword == b"boot".as_slice() {
+        Some(Event::Boot { name: only_name(words)? })
+    } else if keyword == b"dump".as_slice() {
+        Some(Event::Dump { name: only_name(words)? })
+    } else if keyword == b"stop".as_slice() {
+        stop(words)
+    } else if keyword == b"fail".as_slice() {
+        fail(words)
+    } else {
+        None
+    }
+}
+
+/// An event of the centre, of two nodes, or of the air, if the keyword begins one.
+pub fn other_event(keyword: &[u8], words: Words) -> Option<Event>
+    ensures value { Shows act_of result (other_act keyword.now (left words.entry)) }
+    ensures fits { IfSome result (λ event. FitsAct (act_of event)) }
+{
+    if keyword == b"inject".as_slice() {
+        inject(words)
+    } else if keyword == b"forge".as_slice() {
+        forge(words)
+    } else if keyword == b"child".as_slice() {
+        child(words)
+    } else if keyword == b"again".as_slice() {
+        Some(Event::Again { name: only_name(words)? })
+    } else if keyword == b"roll".as_slice() {
+        words.end()?;
+        Some(Event::Roll)
+    } else if keyword == b"switch".as_slice() {
+        words.end()?;
+        Some(Event::Switch)
+    } else if keyword == b"remove".as_slice() {
+        remove(words)
+    } else if keyword == b"ask".as_slice() {
+        let (name, partner) = both_names(words)?;
+        Some(Event::Ask { name, partner })
+    } else if keyword == b"share".as_slice() {
+        let (name, partner) = both_names(words)?;
+        Some(Event::Share { name, partner })
+    } else if keyword == b"tell".as_slice() {
+        tell(words)
+    } else {
+        None
+    }
+}
+
+fn only_name(mut words: Words) -> Option<Name>
+    ensures value { Shows (λ name. name.bytes) result (name_alone (left words.entry)) }
+    ensures fits { IfSome result (λ name. IsName name.bytes) }
+{
+    let name = words.name()?;
+    words.end()?;
+    Some(name)
+}
+
+fn both_names(mut words: Words) -> Option<(Name, Name)>
+    ensures value { Shows (λ names. (names.0.bytes, names.1.bytes)) result (two_names (left words.entry)) }
+    ensures fits { IfSome result (λ names. IsName names.0.bytes × IsName names.1.bytes) }
+{
+    let first = words.name()?;
+    let second = words.name()?;
+    words.end()?;
+    Some((first, second))
+}
+
+fn say(mut words: Words) -> Option<Event>
+    ensures value { Shows act_of result (say_of (left words.entry)) }
+    ensures fits { IfSome result (λ event. FitsAct (act_of event)) }
+{
+    let name = words.name()?;
+    let to = words.short()?;
+    let bytes = words.bytes::<64>()?;
+    words.end()?;
+    Some(Event::Say { name, to, bytes })
+}
+
+fn deliver(mut words: Words) -> Option<Event>
+    ensures value { Shows act_of result (deliver_of (left words.entry)) }
+    ensures fits { IfSome result (λ event. FitsAct (act_of event)) }
+{
+    let frame = number_between(&mut words, 1, u32::MAX)?;
+    let name = words.name()?;
+    words.end()?;
+    Some(Event::Deliver { frame, name })
+}
+
+fn child(mut words: Words) -> Option<Event>
+    ensures value { Shows act_of result (child_of (left words.entry)) }
+    ensures fits { IfSome result (λ event. FitsAct (act_of event)) }
+{
+    let parent = words.name()?;
+    let name = words.name()?;
+    let rejoin = rejoin(&mut words)?;
+    words.end()?;
+    Some(Event::Child { parent, name, rejoin })
+}
+
+fn remove(mut words: Words) -> Option<Event>
+    ensures value { Shows act_of result (remove_of (left words.entry)) }
+    ensures fits { IfSome result (λ event. FitsAct (act_of event)) }
+{
+    let name = words.name()?;
+    keyword(&mut words, b"via")?;
+    let parent = words.name()?;
+    words.end()?;
+    Some(Event::Remove { name, parent })
+}
+
+fn stop(mut words: Words) -> Option<Event>
+    ensures value { Shows act_of result (stop_of (left words.entry)) }
+    ensures fits { IfSome result (λ event. FitsAct (act_of event)) }
+{
+    let name = words.name()?;
+    let calls = byte(&mut words, 5)?;
+    let torn = words.bytes::<32>()?;
+    words.end()?;
+    Some(Event::Stop { name, calls, torn })
+}
+
+fn fail(mut words: Words) -> Option<Event>
+    ensures value { Shows act_of result (fail_of (left words.entry)) }
+    ensures fits { IfSome result (λ event. FitsAct (act_of event)) }
+{
+    let name = words.name()?;
+    let call = number_between(&mut words, 1, 6)?;
+    words.end()?;
+    Some(Event::Fail { name, call: call as u8 })
+}
+
+fn inject(mut words: Words) -> Option<Event>
+    ensures value { Shows act_of result (inject_of (left words.entry)) }
+    ensures fits { IfSome result (λ event. FitsAct (act_of event)) }
+{
+    let bytes = some_bytes::<127>(&mut words)?;
+    words.end()?;
+    Some(Event::Inject { bytes })
+}
+
+fn tell(mut words: Words) -> Option<Event>
+    ensures value { Shows act_of result (tell_of (left words.entry)) }
+    ensures fits { IfSome result (λ event. FitsAct (act_of event)) }
+{
+    let name = words.name()?;
+    let partner = words.name()?;
+    let bytes = words.bytes::<64>()?;
+    words.end()?;
+    Some(Event::Tell { name, partner, bytes })
+}

@@ -1,0 +1,118 @@
+//! The words of a schedule beside those that all texts share.
+
+ghost use Rattle.std.specs.Prelude.{◌≡◌, ◌<◌, ◌≤◌, ◌^◌, length, codes, IfSome, IsTrue};
+ghost use Rattle.hex.specs.Hex.{IsBytes};
+ghost use Rattle.zb_text.specs.Words.{field, left, nothing, Takes};
+ghost use Rattle.zb_text.specs.Hexadecimal.{bytes_of};
+ghost use Rattle.zb_text.specs.Numbers.{number_of};
+ghost use Rattle.zb_sched_line.specs.Fits.{IsApsLabel};
+ghost use Rattle.zb_sched_line.specs.Grammar.{is_real_eui, label_of, layer_of, literal, number_from, real_eui_of, rejoin_of, role_of, some_bytes_of};
+
+use arrayvec::ArrayVec;
+use zb_base::{Eui, Label, Layer, Role};
+use zb_text::words::Words;
+
+/// Takes a number from `low` to `high`.
+pub fn number_between(words: &mut Words, low: u32, high: u32) -> Option<u32>
+    ensures value { Takes (λ number. number) result (left words.new) (field (number_from low high) (left words.old)) }
+    ensures fits { IfSome result (λ number. (low ≤ number) × (number ≤ high)) }
+{
+    let number = words.number(high)?;
+    if low <= number { Some(number) } else { None }
+}
+
+/// Takes a number up to `limit`, which fits a byte.
+pub fn byte(words: &mut Words, limit: u8) -> Option<u8>
+    ensures value { Takes (λ number. number) result (left words.new) (field (number_of limit) (left words.old)) }
+    ensures fits { IfSome result (λ number. number ≤ limit) }
+{
+    let number = words.number(limit as u32)?;
+    Some(number as u8)
+}
+
+/// Takes an IEEE address that a node can have: not all 0, nor all F.
+pub fn real_eui(words: &mut Words) -> Option<Eui>
+    ensures value { Takes (λ eui. eui.0) result (left words.new) (field real_eui_of (left words.old)) }
+    ensures fits { IfSome result (λ eui. (eui.0 < 2 ^ 64) × IsTrue (is_real_eui eui.0)) }
+{
+    let eui = words.eui()?;
+    if eui.0 != 0 && eui.0 != u64::MAX { Some(eui) } else { None }
+}
+
+/// Takes at least one byte, and at most `N`.
+pub fn some_bytes<const N: usize>(words: &mut Words) -> Option<ArrayVec<u8, N>>
+    ensures value { Takes (λ bytes. bytes.items) result (left words.new) (field (some_bytes_of N) (left words.old)) }
+    ensures fits { IfSome result (λ bytes. (0 < length bytes.items) × (length bytes.items ≤ N) × IsBytes bytes.items) }
+{
+    let bytes = words.bytes::<N>()?;
+    if 0 < bytes.len() { Some(bytes) } else { None }
+}
+
+/// Takes one certain word.
+pub fn keyword(words: &mut Words, expected: &[u8]) -> Option<()>
+    ensures { Takes (λ nothing. nothing) result (left words.new) (field (literal expected.now) (left words.old)) }
+{
+    let word = words.word()?;
+    if word == expected { Some(()) } else { None }
+}
+
+/// Takes `centre`, `router` or `device`.
+pub fn role(words: &mut Words) -> Option<Role>
+    ensures { Takes (λ role. role) result (left words.new) (field role_of (left words.old)) }
+{
+    let word = words.word()?;
+    if word == b"centre".as_slice() {
+        Some(Role::Centre)
+    } else if word == b"router".as_slice() {
+        Some(Role::Router)
+    } else if word == b"device".as_slice() {
+        Some(Role::Device)
+    } else {
+        None
+    }
+}
+
+/// Takes `nwk` or `aps`.
+pub fn layer(words: &mut Words) -> Option<Layer>
+    ensures { Takes (λ layer. layer) result (left words.new) (field layer_of (left words.old)) }
+{
+    let word = words.word()?;
+    if word == b"nwk".as_slice() {
+        Some(Layer::Nwk)
+    } else if word == b"aps".as_slice() {
+        Some(Layer::Aps)
+    } else {
+        None
+    }
+}
+
+/// Takes `data`, `transport` or `load`, the key identifiers of an APS command.
+pub fn label(words: &mut Words) -> Option<Label>
+    ensures value { Takes (λ label. label) result (left words.new) (field label_of (left words.old)) }
+    ensures fits { IfSome result IsApsLabel }
+{
+    let word = words.word()?;
+    if word == b"data".as_slice() {
+        Some(Label::Data)
+    } else if word == b"transport".as_slice() {
+        Some(Label::Transport)
+    } else if word == b"load".as_slice() {
+        Some(Label::Load)
+    } else {
+        None
+    }
+}
+
+/// Takes `join`, which is false, or `rejoin`, which is true.
+pub fn rejoin(words: &mut Words) -> Option<bool>
+    ensures { Takes (λ rejoin. rejoin) result (left words.new) (field rejoin_of (left words.old)) }
+{
+    let word = words.word()?;
+    if word == b"join".as_slice() {
+        Some(false)
+    } else if word == b"rejoin".as_slice() {
+        Some(true)
+    } else {
+        None
+    }
+}

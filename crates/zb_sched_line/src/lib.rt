@@ -1,0 +1,15 @@
+//! The lines of a schedule, one by one: what a line says, how it is read and how it is printed. What lines may stand
+//! together is judged in `zb_sched`.
+#![tactic(auto)]
+
+pub mod code;
+pub mod declarations;
+pub mod event;
+pub mod events;
+pub mod fields;
+pub mod forge;
+pub mod line;
+
+pub use code::InstallCode;
+pub use event::Event;
+pub use line::{read_line, Line};
