@@ -44,7 +44,16 @@ fn node(mut words: Words) -> Option<Line>
     let in_block = words.number(u32::MAX)?;
     words.end()?;
     if may_have(role, short) {
-        Some(Line::Node { peer: Peer { name, eui, short, role }, out_block, in_block })
+        Some(Line::Node {
+            peer: Peer {
+                name,
+                eui,
+                short,
+                role,
+            },
+            out_block,
+            in_block,
+        })
     } else {
         None
     }
@@ -68,7 +77,11 @@ fn netkey(mut words: Words) -> Option<Line>
     let key = words.key()?;
     let sequence = byte(&mut words, 255)?;
     words.end()?;
-    Some(Line::NetKey { name, key, sequence })
+    Some(Line::NetKey {
+        name,
+        key,
+        sequence,
+    })
 }
 
 fn counter(mut words: Words) -> Option<Line>

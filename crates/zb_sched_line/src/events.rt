@@ -22,17 +22,29 @@ pub fn own_event(keyword: &[u8], words: Words) -> Option<Event>
     } else if keyword == b"deliver".as_slice() {
         deliver(words)
     } else if keyword == b"timer".as_slice() {
-        Some(Event::Timer { name: only_name(words)? })
+        Some(Event::Timer {
+            name: only_name(words)?,
+        })
     } else if keyword == b"knock".as_slice() {
-        Some(Event::Knock { name: only_name(words)? })
+        Some(Event::Knock {
+            name: only_name(words)?,
+        })
     } else if keyword == b"rejoin".as_slice() {
-        Some(Event::Rejoin { name: only_name(words)? })
+        Some(Event::Rejoin {
+            name: only_name(words)?,
+        })
     } else if keyword == b"reset".as_slice() {
-        Some(Event::Reset { name: only_name(words)? })
+        Some(Event::Reset {
+            name: only_name(words)?,
+        })
     } else if keyword == b"boot".as_slice() {
-        Some(Event::Boot { name: only_name(words)? })
+        Some(Event::Boot {
+            name: only_name(words)?,
+        })
     } else if keyword == b"dump".as_slice() {
-        Some(Event::Dump { name: only_name(words)? })
+        Some(Event::Dump {
+            name: only_name(words)?,
+        })
     } else if keyword == b"stop".as_slice() {
         stop(words)
     } else if keyword == b"fail".as_slice() {
@@ -54,7 +66,9 @@ pub fn other_event(keyword: &[u8], words: Words) -> Option<Event>
     } else if keyword == b"child".as_slice() {
         child(words)
     } else if keyword == b"again".as_slice() {
-        Some(Event::Again { name: only_name(words)? })
+        Some(Event::Again {
+            name: only_name(words)?,
+        })
     } else if keyword == b"roll".as_slice() {
         words.end()?;
         Some(Event::Roll)
@@ -124,7 +138,11 @@ fn child(mut words: Words) -> Option<Event>
     let name = words.name()?;
     let rejoin = rejoin(&mut words)?;
     words.end()?;
-    Some(Event::Child { parent, name, rejoin })
+    Some(Event::Child {
+        parent,
+        name,
+        rejoin,
+    })
 }
 
 fn remove(mut words: Words) -> Option<Event>
@@ -156,7 +174,10 @@ fn fail(mut words: Words) -> Option<Event>
     let name = words.name()?;
     let call = number_between(&mut words, 1, 6)?;
     words.end()?;
-    Some(Event::Fail { name, call: call as u8 })
+    Some(Event::Fail {
+        name,
+        call: call as u8,
+    })
 }
 
 fn inject(mut words: Words) -> Option<Event>
@@ -176,5 +197,9 @@ fn tell(mut words: Words) -> Option<Event>
     let partner = words.name()?;
     let bytes = words.bytes::<64>()?;
     words.end()?;
-    Some(Event::Tell { name, partner, bytes })
+    Some(Event::Tell {
+        name,
+        partner,
+        bytes,
+    })
 }

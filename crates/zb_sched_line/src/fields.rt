@@ -36,7 +36,11 @@ pub fn real_eui(words: &mut Words) -> Option<Eui>
     ensures fits { IfSome result (λ eui. (eui.0 < 2 ^ 64) × IsTrue (is_real_eui eui.0)) }
 {
     let eui = words.eui()?;
-    if eui.0 != 0 && eui.0 != u64::MAX { Some(eui) } else { None }
+    if eui.0 != 0 && eui.0 != u64::MAX {
+        Some(eui)
+    } else {
+        None
+    }
 }
 
 /// Takes at least one byte, and at most `N`.

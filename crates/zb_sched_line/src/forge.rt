@@ -27,11 +27,14 @@ pub struct Command {
 }
 
 /// To whom a forged frame goes, from whom it says to come, and its source.
-#[derive(Clone, Copy)]
-struct Route {
-    to: Short,
-    from: Short,
-    source: Eui,
+#[derive(Clone, Copy, Debug)]
+pub struct Route {
+    /// The destination.
+    pub to: Short,
+    /// The source's network address.
+    pub from: Short,
+    /// The source's IEEE address.
+    pub source: Eui,
 }
 
 /// A forged frame.
@@ -53,6 +56,17 @@ pub fn forge(mut words: Words) -> Option<Event>
     }
 }
 
+/// How a forged frame is sealed at the network layer.
+#[derive(Clone, Copy, Debug)]
+pub struct Net {
+    /// The network key.
+    pub key: Key,
+    /// The key's sequence number.
+    pub sequence: u8,
+    /// The NWK frame counter.
+    pub counter: u32,
+}
+
 fn forge_net(route: Route, mut words: Words) -> Option<Event>
     requires { IsEui route.source.0 }
     ensures value { Shows act_of result (forge_net_of route.to.0 route.from.0 route.source.0 (left words.entry)) }
@@ -64,11 +78,35 @@ fn forge_net(route: Route, mut words: Words) -> Option<Event>
     let word = words.word()?;
     let Route { to, from, source } = route;
     if word == b"aps".as_slice() {
-        let Command { label, base, counter: aps_counter, bytes: command } = aps_command(words)?;
-        Some(Event::ForgeNetAps { to, from, source, key, sequence, counter, label, base, aps_counter, command })
+        let Command {
+            label,
+            base,
+            counter: aps_counter,
+            bytes: command,
+        } = aps_command(words)?;
+        Some(Event::ForgeNetAps {
+            to,
+            from,
+            source,
+            key,
+            sequence,
+            counter,
+            label,
+            base,
+            aps_counter,
+            command,
+        })
     } else {
         let content = only_content(word, words)?;
-        Some(Event::ForgeNet { to, from, source, key, sequence, counter, content })
+        Some(Event::ForgeNet {
+            to,
+            from,
+            source,
+            key,
+            sequence,
+            counter,
+            content,
+        })
     }
 }
 
@@ -91,8 +129,21 @@ fn forge_open(route: Route, mut words: Words) -> Option<Event>
 {
     keyword(&mut words, b"aps")?;
     let Route { to, from, source } = route;
-    let Command { label, base, counter: aps_counter, bytes: command } = aps_command(words)?;
-    Some(Event::ForgeOpen { to, from, source, label, base, aps_counter, command })
+    let Command {
+        label,
+        base,
+        counter: aps_counter,
+        bytes: command,
+    } = aps_command(words)?;
+    Some(Event::ForgeOpen {
+        to,
+        from,
+        source,
+        label,
+        base,
+        aps_counter,
+        command,
+    })
 }
 
 fn aps_command(mut words: Words) -> Option<Command>
@@ -104,5 +155,10 @@ fn aps_command(mut words: Words) -> Option<Command>
     let counter = words.number(u32::MAX)?;
     let bytes = some_bytes::<64>(&mut words)?;
     words.end()?;
-    Some(Command { label, base, counter, bytes })
+    Some(Command {
+        label,
+        base,
+        counter,
+        bytes,
+    })
 }

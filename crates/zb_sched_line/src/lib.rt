@@ -9,7 +9,10 @@ pub mod events;
 pub mod fields;
 pub mod forge;
 pub mod line;
+pub mod print;
+pub mod print_event;
+pub mod print_forged;
 
 pub use code::InstallCode;
 pub use event::Event;
-pub use line::{read_line, Line};
+pub use line::{Line, read_line};

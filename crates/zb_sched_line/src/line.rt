@@ -19,17 +19,36 @@ pub enum Line {
     /// An empty line, or a comment.
     Blank,
     /// `node NAME ROLE EUI SHORT OUT IN`: a node and its blocks of counters.
-    Node { peer: Peer, out_block: u32, in_block: u32 },
+    Node {
+        peer: Peer,
+        out_block: u32,
+        in_block: u32,
+    },
     /// `code NAME HEX`: the install code that is printed on a node.
-    Code { name: Name, code: Option<InstallCode> },
+    Code {
+        name: Name,
+        code: Option<InstallCode>,
+    },
     /// `netkey NAME KEY SEQ`: a network key that a node holds from the start.
-    NetKey { name: Name, key: Key, sequence: u8 },
+    NetKey {
+        name: Name,
+        key: Key,
+        sequence: u8,
+    },
     /// `counter NAME LAYER N`: a node's stored outgoing limit at the start.
-    Counter { name: Name, layer: Layer, limit: u32 },
+    Counter {
+        name: Name,
+        layer: Layer,
+        limit: u32,
+    },
     /// `draw KEY`: the next key of the supply.
-    Draw { key: Key },
+    Draw {
+        key: Key,
+    },
     /// `provision NAME HEX` where the bytes are no install code.
-    BadProvision { name: Name },
+    BadProvision {
+        name: Name,
+    },
     /// Any other event.
     Event(Event),
 }

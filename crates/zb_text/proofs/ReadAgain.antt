@@ -128,7 +128,7 @@ false_unless : (b : Bool) → (b ≡ true → ⊥) → b ≡ false
 false_unless true no_way = absurd (no_way refl)
 false_unless false no_way = refl
 
-differ : (xs ys : List ℕ) → (length xs ≡ length ys → ⊥) → bytes_eq xs ys ≡ false
+pub differ : (xs ys : List ℕ) → (length xs ≡ length ys → ⊥) → bytes_eq xs ys ≡ false
 differ xs ys longer = false_unless (bytes_eq xs ys) (λ same. longer (ap (length {A = ℕ}) ((bytes_eq-Decides xs ys).0 same)))
 
 pub bytes_again : (limit : ℕ) (bytes : List ℕ) → length bytes ≤ limit → IsBytes bytes → bytes_of limit (bytes_text bytes) ≡ Some bytes
