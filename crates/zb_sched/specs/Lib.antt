@@ -1,0 +1,6 @@
+pub mod Drafts
+pub mod Judge
+pub mod Plan
+pub mod Printed
+pub mod Reading
+pub mod Supplies

@@ -1,0 +1,50 @@
+-- A schedule: its nodes, its supply of keys, and its events.
+use Rattle.std.specs.Prelude.{ℕ, List, map, Option}
+use Rattle.std.specs.Option.{option_map}
+use Rattle.zb_base.specs.declared.node.Role.{Role}
+use Rattle.zb_sched_line.specs.Codes.{code_bytes}
+use Rattle.zb_sched_line.specs.Said.{Bytes, Act}
+use Rattle.zb_sched_line.specs.Views.{act_of}
+use Rattle.zb_sched.specs.declared.schedule.Node.{Node}
+use Rattle.zb_sched.specs.declared.schedule.Schedule.{Schedule}
+
+-- A node: its name, part and addresses; its blocks of outgoing and incoming counters; the install code printed on
+-- it; the network key that it holds from the start, with its sequence number; its stored outgoing limits at the start.
+pub record Member : Type 0 where
+  pub name : Bytes
+  pub role : Role
+  pub eui : ℕ
+  pub short : ℕ
+  pub out_block : ℕ
+  pub in_block : ℕ
+  pub code : Option Bytes
+  pub network : Option (Bytes × ℕ)
+  pub start_nwk : ℕ
+  pub start_aps : ℕ
+
+pub record Plan : Type 0 where
+  pub members : List Member
+  pub draws : List Bytes
+  pub acts : List Act
+
+-- The node and the schedule that the program's values stand for.
+abbrev pub member_of : Node → Member
+member_of node = record {
+  name = node.peer.name.bytes;
+  role = node.peer.role;
+  eui = node.peer.eui.0;
+  short = node.peer.short.0;
+  out_block = node.out_block;
+  in_block = node.in_block;
+  code = option_map (λ code. code_bytes code) node.code;
+  network = option_map (λ held. (held.0.0, held.1)) node.network;
+  start_nwk = node.start_nwk;
+  start_aps = node.start_aps;
+}
+
+abbrev pub plan_of : Schedule → Plan
+plan_of schedule = record {
+  members = map member_of schedule.nodes;
+  draws = map (λ key. key.0) schedule.draws;
+  acts = map act_of schedule.events;
+}

@@ -1,0 +1,249 @@
+//! A schedule while it is read: what each line does to it, or why the line may not stand there.
+
+ghost use Rattle.std.specs.Prelude.{◌≡◌, ◌<◌, ◌++◌, [], ◌∷◌, map, length, nat_lt, OnOk, is_some, Some, Err, position};
+ghost use Rattle.std.specs.List.{list_any};
+ghost use Rattle.std.specs.Option.{option_map};
+ghost use Rattle.zb_base.specs.declared.fault.OrMemory.TheVariants.{Fault};
+ghost use Rattle.zb_sched_line.specs.Codes.{code_bytes, code_key};
+ghost use Rattle.zb_sched_line.specs.Views.{act_of, sentence_of};
+ghost use Rattle.zb_sched.specs.Judge.{after_act, after_code, after_counter, after_draw, after_netkey, after_node, after_sentence, are_blocks, clashes, has_begun, has_code as is_coded, has_counter as is_counted, changed, coded, has_its_nodes, has_name, holding, is_joiner, is_parent, has_network as is_holding, is_link as is_link_key, is_link_of_other as is_other_link, is_network as is_network_key, is_taken as clashes_with, role_named, starting};
+ghost use Rattle.zb_sched.specs.Reading.{has_centre, start, Steps};
+
+use crate::entry::{has_centre, has_code, has_counter, has_network, is_link, is_link_of_other, is_network, is_taken, role, set_code, set_counter, set_network, Entry};
+use crate::error::SchedCause;
+use crate::schedule::Node;
+use crate::supply::Supply;
+use std::alloc::Global;
+use std::marker::Model;
+use zb_base::{Key, Layer, Name, OrMemory, Peer, Role};
+use zb_sched_line::{Event, InstallCode, Line};
+
+/// A schedule so far.
+#[derive(Drop)]
+pub struct Draft {
+    entries: Vec<Entry>,
+    draws: Supply,
+    events: Vec<Event>,
+}
+
+impl Model for Draft {
+    ghost use Rattle.std.specs.Prelude.{map};
+    ghost use Rattle.std.specs.List.{AllByRecursion};
+    ghost use Rattle.zb_sched_line.specs.Views.{act_of};
+    ghost use Rattle.zb_sched.specs.Drafts.{seat_of, IsLinked};
+    ghost use Rattle.zb_sched.specs.Judge.{Seen};
+
+    ghost Value = { Seen };
+
+    ghost view = { λ d. record { seats = map seat_of d.entries.items; draws = d.draws; acts = map act_of d.events.items } };
+
+    ghost invariant = { λ d. AllByRecursion IsLinked d.entries.items };
+}
+
+/// The well-known link key, ASCII `ZigBeeAlliance09`.
+const WELL_KNOWN: [u8; 16] = *b"ZigBeeAlliance09";
+
+impl Draft {
+    /// Nothing yet.
+    pub fn new(alloc: Global) -> Draft
+        ensures { result ≡ start }
+    {
+        Draft {
+            entries: Vec::new(alloc),
+            draws: Supply::new(alloc),
+            events: Vec::new(alloc),
+        }
+    }
+
+    fn has_begun(&self) -> bool
+        ensures { result ≡ has_begun self.now }
+    {
+        !self.events.is_empty()
+    }
+
+    fn is_taken(&self, peer: &Peer) -> bool
+        ensures { result ≡ list_any (λ seat. clashes_with peer.now.name.bytes peer.now.eui.0 peer.now.short.0 seat) self.now.seats }
+    {
+        is_taken(self.entries.as_slice(), peer)
+    }
+
+    fn role(&self, name: &Name) -> Option<Role>
+        ensures { result ≡ role_named name.now.bytes self.now.seats }
+    {
+        role(self.entries.as_slice(), name)
+    }
+
+    fn has_code(&self, name: &Name) -> bool
+        ensures { result ≡ is_coded name.now.bytes self.now.seats }
+    {
+        has_code(self.entries.as_slice(), name)
+    }
+
+    fn has_network(&self, name: &Name) -> bool
+        ensures { result ≡ is_holding name.now.bytes self.now.seats }
+    {
+        has_network(self.entries.as_slice(), name)
+    }
+
+    fn has_counter(&self, name: &Name, layer: Layer) -> bool
+        ensures { result ≡ is_counted name.now.bytes layer self.now.seats }
+    {
+        has_counter(self.entries.as_slice(), name, layer)
+    }
+
+    fn is_link(&self, key: &Key) -> bool
+        ensures { result ≡ is_link_key key.now.0 self.now.seats }
+    {
+        is_link(self.entries.as_slice(), key)
+    }
+
+    fn is_network(&self, key: &Key) -> bool
+        ensures { result ≡ is_network_key key.now.0 self.now.seats }
+    {
+        is_network(self.entries.as_slice(), key)
+    }
+
+    fn is_link_of_other(&self, key: &Key, name: &Name) -> bool
+        ensures { result ≡ is_other_link key.now.0 name.now.bytes self.now.seats }
+    {
+        is_link_of_other(self.entries.as_slice(), key, name)
+    }
+
+    fn clashes(&self, key: &Key, name: &Name) -> bool
+        ensures { result ≡ clashes key.now.0 name.now.bytes self.now }
+    {
+        self.is_link_of_other(key, name) || self.is_network(key) || self.draws.has(key) || key.0 == WELL_KNOWN
+    }
+
+    fn has_centre(&self) -> bool
+        ensures { result ≡ has_centre self.now.seats }
+    {
+        has_centre(self.entries.as_slice())
+    }
+
+    /// Takes the line of a node.
+    fn take_node(&mut self, peer: Peer, out_block: u32, in_block: u32) -> Result<(), OrMemory<SchedCause>>
+        ensures { Steps result self.new (after_node self.old peer.name.bytes peer.role peer.eui.0 peer.short.0 out_block in_block) }
+    {
+        if self.has_begun() {
+            return refuse(SchedCause::Syntax);
+        }
+        if self.is_taken(&peer) {
+            return refuse(SchedCause::DuplicateNode);
+        }
+        if !are_blocks(out_block, in_block) {
+            return refuse(SchedCause::Block);
+        }
+        if 64 <= self.entries.len() {
+            return refuse(SchedCause::TooMany);
+        }
+        self.entries.push(Entry::new(peer, out_block, in_block))?;
+        Ok(())
+    }
+
+    /// Takes the line of an install code.
+    fn take_code(&mut self, name: &Name, code: Option<InstallCode>) -> Result<(), OrMemory<SchedCause>>
+        ensures { Steps result self.new (after_code self.old name.now.bytes (option_map (λ code. code_bytes code) code)) }
+    {
+        if self.has_begun() {
+            return refuse(SchedCause::Syntax);
+        }
+        if self.has_code(name) {
+            return refuse(SchedCause::DuplicateNode);
+        }
+        let Some(code) = code else {
+            return refuse(SchedCause::BadCode);
+        };
+        let link = code.link_key();
+        if self.clashes(&link, name) {
+            return refuse(SchedCause::DuplicateCode);
+        }
+        if !is_joiner(self.role(name)) {
+            return refuse(SchedCause::UnknownNode);
+        }
+        set_code(&mut self.entries, name, code, link);
+        Ok(())
+    }
+
+    /// Takes the line of a network key.
+    fn take_netkey(&mut self, name: &Name, key: Key, sequence: u8) -> Result<(), OrMemory<SchedCause>>
+        ensures { Steps result self.new (after_netkey self.old name.now.bytes key.0 sequence) }
+    {
+        if self.has_begun() {
+            return refuse(SchedCause::Syntax);
+        }
+        if self.has_network(name) {
+            return refuse(SchedCause::DuplicateNode);
+        }
+        if self.is_link(&key) || self.draws.has(&key) || key.0 == WELL_KNOWN {
+            return refuse(SchedCause::DrawRepeated);
+        }
+        if self.role(name).is_none() {
+            return refuse(SchedCause::UnknownNode);
+        }
+        set_network(&mut self.entries, name, key, sequence);
+        Ok(())
+    }
+
+    /// Takes the line of a counter.
+    fn take_counter(&mut self, name: &Name, layer: Layer, limit: u32) -> Result<(), OrMemory<SchedCause>>
+        ensures { Steps result self.new (after_counter self.old name.now.bytes layer limit) }
+    {
+        if self.has_begun() {
+            return refuse(SchedCause::Syntax);
+        }
+        if self.has_counter(name, layer) {
+            return refuse(SchedCause::DuplicateNode);
+        }
+        if self.role(name).is_none() {
+            return refuse(SchedCause::UnknownNode);
+        }
+        set_counter(&mut self.entries, name, layer, limit);
+        Ok(())
+    }
+
+    /// Takes the line of a key of the supply.
+    fn take_draw(&mut self, key: Key) -> Result<(), OrMemory<SchedCause>>
+        ensures { Steps result self.new (after_draw self.old key.0) }
+    {
+        if self.has_begun() {
+            return refuse(SchedCause::Syntax);
+        }
+        if self.draws.has(&key) || self.is_network(&key) || self.is_link(&key) || key.0 == WELL_KNOWN {
+            return refuse(SchedCause::DrawRepeated);
+        }
+        self.draws.push(key)?;
+        Ok(())
+    }
+}
+
+/// Refuses a line.
+fn refuse(cause: SchedCause) -> Result<(), OrMemory<SchedCause>>
+    ensures { result ≡ Err (Fault cause) }
+{
+    Err(OrMemory::Fault(cause))
+}
+
+fn are_blocks(out_block: u32, in_block: u32) -> bool
+    ensures { result ≡ are_blocks out_block in_block }
+{
+    1 <= out_block && out_block <= 65_536 && 1 <= in_block && in_block <= 1024
+}
+
+fn is_joiner(role: Option<Role>) -> bool
+    ensures { result ≡ is_joiner role }
+{
+    match role {
+        None | Some(Role::Centre) => false,
+        Some(Role::Router) | Some(Role::Device) => true,
+    }
+}
+
+fn is_parent(role: Option<Role>) -> bool
+    ensures { result ≡ is_parent role }
+{
+    match role {
+        None | Some(Role::Device) => false,
+        Some(Role::Centre) | Some(Role::Router) => true,
+    }
+}

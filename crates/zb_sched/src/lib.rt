@@ -1,0 +1,13 @@
+//! Schedules: what a network is made of and what happens in it, as a text. `read` takes exactly the texts that are
+//! schedules, and tells of others the first bad line and why; `write` prints the one text of a schedule.
+#![tactic(auto)]
+
+pub mod draft;
+pub mod entry;
+pub mod error;
+pub mod schedule;
+pub mod supply;
+
+pub use error::{SchedCause, SchedError};
+pub use schedule::{Node, Schedule};
+pub use zb_sched_line::Event;
