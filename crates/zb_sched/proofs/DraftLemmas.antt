@@ -9,7 +9,7 @@ use Rattle.std.proofs.lemmas.List.Sums.{fails_before_first}
 use Rattle.std.specs.Option.{option_map}
 use Rattle.zb_base.specs.declared.node.Role.{Role}
 use Rattle.zb_sched_line.specs.Said.{Bytes}
-use Rattle.zb_sched.specs.Drafts.{seat_of, IsLinked, is_linked}
+use Rattle.zb_sched.specs.Drafts.{seat_of, IsLinked, is_linked, role_among}
 use Rattle.zb_sched.specs.Judge.{Seat, changed, has_name, is_key, link_of, is_link, is_link_of_other, role_named}
 use Rattle.zb_sched.specs.declared.entry.Entry.{Entry}
 
@@ -22,7 +22,7 @@ found : (b : Bool) (e : Entry) (o : Option Entry) (r : Option Seat) → option_m
 found true e o r h = refl
 found false e o r h = h
 
-pub role_seats : (name : Bytes) (es : List Entry) → option_map (λ x. x.node.peer.role) (find (λ e. has_name name (seat_of e)) es) ≡ role_named name (map seat_of es)
+pub role_seats : (name : Bytes) (es : List Entry) → role_among name es ≡ role_named name (map seat_of es)
 role_seats name [] = refl
 role_seats name (e ∷ es) =
     found (has_name name (seat_of e)) e (find (λ x. has_name name (seat_of x)) es) (find (λ s. has_name name s) (map seat_of es)) (role_seats name es)

@@ -1,2 +1,5 @@
 pub mod DraftLemmas
+pub mod PageLemmas
+pub mod ReadLemmas
+pub mod RoleLemmas
 pub mod SupplyLemmas

@@ -1,8 +1,9 @@
 -- What the program's unfinished schedule stands for.
-use Rattle.std.specs.Prelude.{◌≡◌, List, Bool, Option}
+use Rattle.std.specs.Prelude.{◌≡◌, List, Bool, Option, Some, None, find, if◌then◌else◌}
 use Rattle.std.specs.Option.{option_map}
+use Rattle.zb_base.specs.declared.node.Role.{Role}
 use Rattle.zb_sched_line.specs.Said.{Bytes}
-use Rattle.zb_sched.specs.Judge.{Seat, is_key, link_of}
+use Rattle.zb_sched.specs.Judge.{Seat, has_name, is_key, link_of}
 use Rattle.zb_sched.specs.Plan.{member_of}
 use Rattle.zb_sched.specs.declared.entry.Entry.{Entry}
 
@@ -16,3 +17,10 @@ IsLinked entry = option_map (λ key. key.0) entry.link ≡ link_of (member_of en
 -- Whether that key is the link key beside a node.
 abbrev pub is_linked : Bytes → Entry → Bool
 is_linked key entry = is_key key (option_map (λ link. link.0) entry.link)
+
+-- The part of the node of a name, and of one node if it has that name.
+abbrev pub role_among : Bytes → List Entry → Option Role
+role_among name entries = option_map (λ entry. entry.node.peer.role) (find (λ entry. has_name name (seat_of entry)) entries)
+
+abbrev pub own_role : Bytes → Entry → Option Role
+own_role name entry = if has_name name (seat_of entry) then Some entry.node.peer.role else None

@@ -1,4 +1,5 @@
 pub mod Drafts
+pub mod Faults
 pub mod Judge
 pub mod Plan
 pub mod Printed

@@ -9,14 +9,14 @@ ghost use Rattle.zb_sched_line.specs.Views.{act_of, sentence_of};
 ghost use Rattle.zb_sched.specs.Judge.{after_act, after_code, after_counter, after_draw, after_netkey, after_node, after_sentence, are_blocks, clashes, has_begun, has_code as is_coded, has_counter as is_counted, changed, coded, has_its_nodes, has_name, holding, is_joiner, is_parent, has_network as is_holding, is_link as is_link_key, is_link_of_other as is_other_link, is_network as is_network_key, is_taken as clashes_with, role_named, starting};
 ghost use Rattle.zb_sched.specs.Reading.{has_centre, start, Steps};
 
-use crate::entry::{has_centre, has_code, has_counter, has_network, is_link, is_link_of_other, is_network, is_taken, role, set_code, set_counter, set_network, Entry};
+use crate::entry::{nodes_of, has_centre, has_code, has_counter, has_network, is_link, is_link_of_other, is_network, is_taken, role, roles, set_code, set_counter, set_network, Entry};
 use crate::error::SchedCause;
-use crate::schedule::Node;
+use crate::schedule::Schedule;
 use crate::supply::Supply;
-use std::alloc::Global;
+use std::alloc::{AllocError, Global};
 use std::marker::Model;
-use zb_base::{Key, Layer, Name, OrMemory, Peer, Role};
-use zb_sched_line::{Event, InstallCode, Line};
+use zb_base::{Key, Layer, List, Name, OrMemory, Peer, Role};
+use zb_sched_line::{read_line, Event, InstallCode, Line};
 
 /// A schedule so far.
 #[derive(Drop)]
@@ -115,7 +115,8 @@ impl Draft {
         self.is_link_of_other(key, name) || self.is_network(key) || self.draws.has(key) || key.0 == WELL_KNOWN
     }
 
-    fn has_centre(&self) -> bool
+    /// Whether the centre was declared.
+    pub fn has_centre(&self) -> bool
         ensures { result ≡ has_centre self.now.seats }
     {
         has_centre(self.entries.as_slice())
@@ -214,6 +215,135 @@ impl Draft {
         }
         self.draws.push(key)?;
         Ok(())
+    }
+}
+
+impl Draft {
+    ghost use Rattle.std.specs.Prelude.{◌≡◌, is_some, IfOk};
+    ghost use Rattle.zb_sched.specs.Plan.{plan_of};
+    ghost use Rattle.zb_sched_line.specs.Views.{act_of, sentence_of};
+    ghost use Rattle.zb_sched.specs.Judge.{after_act, after_sentence, are_child_and_parent, are_partners, has_its_nodes, provision_clashes, role_named};
+    ghost use Rattle.zb_sched.specs.Reading.{after_line, finished, Steps};
+
+    fn roles(&self, first: &Name, second: &Name) -> (Option<Role>, Option<Role>)
+        ensures first { result.0 ≡ role_named first.now.bytes self.now.seats }
+        ensures second { result.1 ≡ role_named second.now.bytes self.now.seats }
+    {
+        roles(self.entries.as_slice(), first, second)
+    }
+
+    fn are_partners(&self, name: &Name, partner: &Name) -> bool
+        ensures { result ≡ are_partners name.now.bytes partner.now.bytes self.now.seats }
+    {
+        if *name == *partner {
+            return false;
+        }
+        let roles = self.roles(name, partner);
+        is_joiner(roles.0) && is_joiner(roles.1)
+    }
+
+    fn are_child_and_parent(&self, name: &Name, parent: &Name) -> bool
+        ensures { result ≡ are_child_and_parent name.now.bytes parent.now.bytes self.now.seats }
+    {
+        if *name == *parent {
+            return false;
+        }
+        let roles = self.roles(name, parent);
+        is_joiner(roles.0) && is_parent(roles.1)
+    }
+
+    fn has_nodes_of(&self, event: &Event) -> bool
+        ensures { result ≡ has_its_nodes (act_of event.now) self.now.seats }
+    {
+        match event {
+            Event::Say { name, .. }
+            | Event::Deliver { name, .. }
+            | Event::Timer { name }
+            | Event::Reset { name }
+            | Event::Boot { name }
+            | Event::Dump { name }
+            | Event::Stop { name, .. }
+            | Event::Fail { name, .. } => self.role(name).is_some(),
+            Event::Knock { name } | Event::Rejoin { name } | Event::Provision { name, .. } | Event::Again { name } => {
+                is_joiner(self.role(name))
+            }
+            Event::Child { parent, name, .. } | Event::Remove { name, parent } => self.are_child_and_parent(name, parent),
+            Event::Ask { name, partner } | Event::Share { name, partner } | Event::Tell { name, partner, .. } => {
+                self.are_partners(name, partner)
+            }
+            Event::Roll
+            | Event::Switch
+            | Event::Inject { .. }
+            | Event::ForgeNet { .. }
+            | Event::ForgeNetAps { .. }
+            | Event::ForgeOpen { .. } => true,
+        }
+    }
+
+    fn provision_clashes(&self, event: &Event) -> bool
+        ensures { result ≡ provision_clashes (act_of event.now) self.now }
+    {
+        match event {
+            Event::Provision { name, code } => self.clashes(&code.link_key(), name),
+            _ => false,
+        }
+    }
+
+    /// Takes an event.
+    fn take_event(&mut self, event: Event) -> Result<(), OrMemory<SchedCause>>
+        ensures { Steps result self.new (after_act self.old (act_of event)) }
+    {
+        if self.provision_clashes(&event) {
+            return refuse(SchedCause::DuplicateCode);
+        }
+        if !self.has_nodes_of(&event) {
+            return refuse(SchedCause::UnknownNode);
+        }
+        if 100_000 <= self.events.len() {
+            return refuse(SchedCause::TooMany);
+        }
+        self.events.push(event)?;
+        Ok(())
+    }
+
+    /// The schedule that was read.
+    pub fn finish(self, alloc: Global) -> Result<Schedule, AllocError>
+        ensures { IfOk result (λ schedule. plan_of schedule ≡ finished self) }
+    {
+        let Draft { entries, draws, events } = self;
+        let nodes = nodes_of(alloc, entries)?;
+        let keys = draws.into_keys();
+        Ok(Schedule {
+            nodes: List::from_vec(nodes),
+            draws: List::from_vec(keys),
+            events: List::from_vec(events),
+        })
+    }
+
+    /// Takes what a line says.
+    fn take_line(&mut self, line: Line) -> Result<(), OrMemory<SchedCause>>
+        ensures { Steps result self.new (after_sentence self.old (sentence_of line)) }
+    {
+        match line {
+            Line::Blank => Ok(()),
+            Line::Node { peer, out_block, in_block } => self.take_node(peer, out_block, in_block),
+            Line::Code { name, code } => self.take_code(&name, code),
+            Line::NetKey { name, key, sequence } => self.take_netkey(&name, key, sequence),
+            Line::Counter { name, layer, limit } => self.take_counter(&name, layer, limit),
+            Line::Draw { key } => self.take_draw(key),
+            Line::BadProvision { name: _ } => refuse(SchedCause::BadCode),
+            Line::Event(event) => self.take_event(event),
+        }
+    }
+
+    /// Takes a line. After an error the schedule so far is not to be used any more.
+    pub fn take(&mut self, text: &[u8]) -> Result<(), OrMemory<SchedCause>>
+        ensures { Steps result self.new (after_line self.old text.now) }
+    {
+        match read_line(text) {
+            Some(line) => self.take_line(line),
+            None => refuse(SchedCause::Syntax),
+        }
     }
 }
 

@@ -1,14 +1,15 @@
 //! A node while its schedule is read, and what is asked of all nodes so far.
 
-ghost use Rattle.std.specs.Prelude.{◌≡◌, ◌==◌, ◌&&◌, not, find, position, map, is_some};
+ghost use Rattle.std.specs.Prelude.{◌≡◌, ◌==◌, ◌&&◌, not, find, position, map, is_some, IfOk};
 ghost use Rattle.std.specs.List.{list_any, AllByRecursion};
 ghost use Rattle.std.specs.Option.{option_map};
-ghost use Rattle.zb_sched.specs.Drafts.{seat_of, is_linked, IsLinked};
+ghost use Rattle.zb_sched.specs.Drafts.{seat_of, is_linked, IsLinked, role_among};
 ghost use Rattle.zb_sched_line.specs.Codes.{code_bytes, code_key};
 ghost use Rattle.zb_sched.specs.Reading.{is_centre};
 ghost use Rattle.zb_sched.specs.Judge.{changed, coded, has_name, holding, starting, is_declared, is_key, is_taken as clashes_with, network_of};
 
 use crate::schedule::Node;
+use std::alloc::{AllocError, Global};
 use zb_base::{Key, Layer, Name, Peer, Role};
 use zb_sched_line::InstallCode;
 
@@ -44,7 +45,7 @@ pub fn place(entries: &[Entry], name: &Name) -> Option<usize>
 
 /// The part of the node of a name.
 pub fn role(entries: &[Entry], name: &Name) -> Option<Role>
-    ensures { result ≡ option_map (λ entry. entry.node.peer.role) (find (λ entry. has_name name.now.bytes (seat_of entry)) entries.now) }
+    ensures { result ≡ role_among name.now.bytes entries.now }
 {
     let entry = find(entries, name)?;
     Some(entry.node.peer.role)
@@ -54,6 +55,21 @@ fn find<'a>(entries: &'a [Entry], name: &Name) -> Option<&'a Entry>
     ensures { option_map (λ entry. entry.now) result ≡ find (λ entry. has_name name.now.bytes (seat_of entry)) entries.now }
 {
     entries.iter().find(|entry| entry.node.peer.name == *name)
+}
+
+/// The parts of the nodes of two names, found in one walk.
+#[tactic(auto, using(crate::proofs::RoleLemmas::role_step, crate::proofs::RoleLemmas::role_end))]
+pub fn roles(entries: &[Entry], first: &Name, second: &Name) -> (Option<Role>, Option<Role>)
+    ensures first { result.0 ≡ role_among first.now.bytes entries.now }
+    ensures second { result.1 ≡ role_among second.now.bytes entries.now }
+{
+    let mut one = None;
+    let mut two = None;
+    for entry in entries {
+        one = entry.role_unless(one, first);
+        two = entry.role_unless(two, second);
+    }
+    (one, two)
 }
 
 /// Whether the node of a name has an install code.
@@ -132,6 +148,17 @@ pub fn set_counter(entries: &mut Vec<Entry>, name: &Name, layer: Layer, limit: u
     }
 }
 
+/// The nodes alone.
+pub fn nodes_of(alloc: Global, entries: Vec<Entry>) -> Result<Vec<Node>, AllocError>
+    ensures { IfOk result (λ nodes. nodes.items ≡ map (λ entry. entry.node) entries.items) }
+{
+    let mut nodes = Vec::with_capacity(alloc, entries.len())?;
+    for entry in entries {
+        nodes.push(entry.node)?;
+    }
+    Ok(nodes)
+}
+
 /// Whether a node is the centre.
 pub fn has_centre(entries: &[Entry]) -> bool
     ensures { result ≡ list_any (λ entry. is_centre (seat_of entry).member.role) entries.now }
@@ -144,7 +171,8 @@ pub fn has_centre(entries: &[Entry]) -> bool
 
 impl Entry {
     ghost use Rattle.std.specs.Prelude.{◌≡◌};
-    ghost use Rattle.zb_sched.specs.Drafts.{seat_of, is_linked, IsLinked};
+    ghost use Rattle.zb_sched.specs.Drafts.{seat_of, is_linked, IsLinked, own_role};
+    ghost use Rattle.zb_sched_line.specs.Grammar.{or_else};
     ghost use Rattle.zb_sched.specs.Judge.{is_declared, is_key, network_of, coded, holding, new_seat, starting};
     ghost use Rattle.zb_sched_line.specs.Codes.{code_bytes, code_key};
 
@@ -168,6 +196,15 @@ impl Entry {
             nwk_declared: false,
             aps_declared: false,
         }
+    }
+
+    fn role_unless(&self, found: Option<Role>, name: &Name) -> Option<Role>
+        ensures { result ≡ or_else found (own_role name.now.bytes self.now) }
+    {
+        if found.is_none() && self.node.peer.name == *name {
+            return Some(self.node.peer.role);
+        }
+        found
     }
 
     fn set_code(&mut self, code: InstallCode, link: Key)

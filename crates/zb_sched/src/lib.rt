@@ -5,9 +5,12 @@
 pub mod draft;
 pub mod entry;
 pub mod error;
+mod reader;
 pub mod schedule;
 pub mod supply;
+mod writer;
 
 pub use error::{SchedCause, SchedError};
+pub use reader::read;
 pub use schedule::{Node, Schedule};
 pub use zb_sched_line::Event;

@@ -1,0 +1,37 @@
+//! The reader.
+
+ghost use Rattle.std.specs.Prelude.{◌≡◌, ◌-◌, ◌^◌, ◌<◌, length};
+ghost use Rattle.zb_sched.specs.Reading.{Reads, schedule_of};
+
+use crate::draft::Draft;
+use crate::error::{SchedCause, SchedError};
+use crate::schedule::Schedule;
+use std::alloc::Global;
+use zb_base::OrMemory;
+use zb_text::lines::next_line;
+
+/// Reads a schedule. The error is the first bad line, with the first of its causes.
+pub fn read(alloc: Global, text: &[u8]) -> Result<Schedule, OrMemory<SchedError>>
+    requires { length text.now < 2 ^ 32 - 1 }
+    ensures exact { Reads result (schedule_of text.now) }
+{
+    let mut draft = Draft::new(alloc);
+    let mut rest = text;
+    let mut number: u32 = 1;
+    while let Some((line, after)) = next_line(rest) {
+        match draft.take(line) {
+            Ok(()) => {}
+            Err(OrMemory::Fault(cause)) => return Err(OrMemory::Fault(SchedError { line: number, cause })),
+            Err(OrMemory::NoMemory) => return Err(OrMemory::NoMemory),
+        }
+        rest = after;
+        number += 1;
+    }
+    if !draft.has_centre() {
+        return Err(OrMemory::Fault(SchedError { line: number, cause: SchedCause::NoCentre }));
+    }
+    match draft.finish(alloc) {
+        Ok(schedule) => Ok(schedule),
+        Err(_) => Err(OrMemory::NoMemory),
+    }
+}
