@@ -7,7 +7,7 @@ use Rattle.zb_base.specs.declared.label.Layer.{Layer}
 use Rattle.zb_base.specs.declared.label.Layer.TheVariants.{Nwk, Aps}
 use Rattle.zb_base.specs.declared.node.Role.{Role}
 use Rattle.zb_base.specs.declared.node.Role.TheVariants.{Centre, Router, Device}
-use Rattle.zb_sched_line.specs.Codes.{code_key}
+use Rattle.zb_install.specs.Code.{code_key}
 use Rattle.zb_sched_line.specs.Said.{Bytes, Act, Says, Delivers, Ticks, Knocks, Rejoins, Adopts, Provisions, Repeats, Rolls, Switches, Removes, Resets, Boots, Dumps, Stops, Fails, Injects, ForgesNet, ForgesBoth, ForgesOpen, Asks, Shares, Tells, Sentence, Quiet, Introduces, Codes, Holds, Starts, Draws, Misprovisions, Happens}
 use Rattle.zb_sched.specs.Plan.{Member}
 use Rattle.zb_sched.specs.declared.error.SchedCause.{SchedCause}

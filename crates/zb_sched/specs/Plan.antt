@@ -2,7 +2,6 @@
 use Rattle.std.specs.Prelude.{ℕ, List, map, Option}
 use Rattle.std.specs.Option.{option_map}
 use Rattle.zb_base.specs.declared.node.Role.{Role}
-use Rattle.zb_sched_line.specs.Codes.{code_bytes}
 use Rattle.zb_sched_line.specs.Said.{Bytes, Act}
 use Rattle.zb_sched_line.specs.Views.{act_of}
 use Rattle.zb_sched.specs.declared.schedule.Node.{Node}
@@ -36,7 +35,7 @@ member_of node = record {
   short = node.peer.short.0;
   out_block = node.out_block;
   in_block = node.in_block;
-  code = option_map (λ code. code_bytes code) node.code;
+  code = node.code;
   network = option_map (λ held. (held.0.0, held.1)) node.network;
   start_nwk = node.start_nwk;
   start_aps = node.start_aps;

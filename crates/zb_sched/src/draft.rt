@@ -4,19 +4,23 @@ ghost use Rattle.std.specs.Prelude.{◌≡◌, ◌<◌, ◌++◌, [], ◌∷◌,
 ghost use Rattle.std.specs.List.{list_any};
 ghost use Rattle.std.specs.Option.{option_map};
 ghost use Rattle.zb_base.specs.declared.fault.OrMemory.TheVariants.{Fault};
-ghost use Rattle.zb_sched_line.specs.Codes.{code_bytes, code_key};
+ghost use Rattle.zb_install.specs.Code.{code_key};
 ghost use Rattle.zb_sched_line.specs.Views.{act_of, sentence_of};
 ghost use Rattle.zb_sched.specs.Judge.{after_act, after_code, after_counter, after_draw, after_netkey, after_node, after_sentence, are_blocks, clashes, has_begun, has_code as is_coded, has_counter as is_counted, changed, coded, has_its_nodes, has_name, holding, is_joiner, is_parent, has_network as is_holding, is_link as is_link_key, is_link_of_other as is_other_link, is_network as is_network_key, is_taken as clashes_with, role_named, starting};
 ghost use Rattle.zb_sched.specs.Reading.{has_centre, start, Steps};
 
-use crate::entry::{nodes_of, has_centre, has_code, has_counter, has_network, is_link, is_link_of_other, is_network, is_taken, role, roles, set_code, set_counter, set_network, Entry};
+use crate::entry::{
+    Entry, has_centre, has_code, has_counter, has_network, is_link, is_link_of_other, is_network,
+    is_taken, nodes_of, role, roles, set_code, set_counter, set_network,
+};
 use crate::error::SchedCause;
 use crate::schedule::Schedule;
 use crate::supply::Supply;
 use std::alloc::{AllocError, Global};
 use std::marker::Model;
 use zb_base::{Key, Layer, List, Name, OrMemory, Peer, Role};
-use zb_sched_line::{read_line, Event, InstallCode, Line};
+use zb_install::InstallCode;
+use zb_sched_line::{Event, Line, read_line};
 
 /// A schedule so far.
 #[derive(Drop)]
@@ -112,7 +116,10 @@ impl Draft {
     fn clashes(&self, key: &Key, name: &Name) -> bool
         ensures { result ≡ clashes key.now.0 name.now.bytes self.now }
     {
-        self.is_link_of_other(key, name) || self.is_network(key) || self.draws.has(key) || key.0 == WELL_KNOWN
+        self.is_link_of_other(key, name)
+            || self.is_network(key)
+            || self.draws.has(key)
+            || key.0 == WELL_KNOWN
     }
 
     /// Whether the centre was declared.
@@ -123,7 +130,12 @@ impl Draft {
     }
 
     /// Takes the line of a node.
-    fn take_node(&mut self, peer: Peer, out_block: u32, in_block: u32) -> Result<(), OrMemory<SchedCause>>
+    fn take_node(
+        &mut self,
+        peer: Peer,
+        out_block: u32,
+        in_block: u32,
+    ) -> Result<(), OrMemory<SchedCause>>
         ensures { Steps result self.new (after_node self.old peer.name.bytes peer.role peer.eui.0 peer.short.0 out_block in_block) }
     {
         if self.has_begun() {
@@ -143,8 +155,12 @@ impl Draft {
     }
 
     /// Takes the line of an install code.
-    fn take_code(&mut self, name: &Name, code: Option<InstallCode>) -> Result<(), OrMemory<SchedCause>>
-        ensures { Steps result self.new (after_code self.old name.now.bytes (option_map (λ code. code_bytes code) code)) }
+    fn take_code(
+        &mut self,
+        name: &Name,
+        code: Option<InstallCode>,
+    ) -> Result<(), OrMemory<SchedCause>>
+        ensures { Steps result self.new (after_code self.old name.now.bytes code) }
     {
         if self.has_begun() {
             return refuse(SchedCause::Syntax);
@@ -167,7 +183,12 @@ impl Draft {
     }
 
     /// Takes the line of a network key.
-    fn take_netkey(&mut self, name: &Name, key: Key, sequence: u8) -> Result<(), OrMemory<SchedCause>>
+    fn take_netkey(
+        &mut self,
+        name: &Name,
+        key: Key,
+        sequence: u8,
+    ) -> Result<(), OrMemory<SchedCause>>
         ensures { Steps result self.new (after_netkey self.old name.now.bytes key.0 sequence) }
     {
         if self.has_begun() {
@@ -187,7 +208,12 @@ impl Draft {
     }
 
     /// Takes the line of a counter.
-    fn take_counter(&mut self, name: &Name, layer: Layer, limit: u32) -> Result<(), OrMemory<SchedCause>>
+    fn take_counter(
+        &mut self,
+        name: &Name,
+        layer: Layer,
+        limit: u32,
+    ) -> Result<(), OrMemory<SchedCause>>
         ensures { Steps result self.new (after_counter self.old name.now.bytes layer limit) }
     {
         if self.has_begun() {
@@ -210,7 +236,11 @@ impl Draft {
         if self.has_begun() {
             return refuse(SchedCause::Syntax);
         }
-        if self.draws.has(&key) || self.is_network(&key) || self.is_link(&key) || key.0 == WELL_KNOWN {
+        if self.draws.has(&key)
+            || self.is_network(&key)
+            || self.is_link(&key)
+            || key.0 == WELL_KNOWN
+        {
             return refuse(SchedCause::DrawRepeated);
         }
         self.draws.push(key)?;
@@ -264,13 +294,15 @@ impl Draft {
             | Event::Dump { name }
             | Event::Stop { name, .. }
             | Event::Fail { name, .. } => self.role(name).is_some(),
-            Event::Knock { name } | Event::Rejoin { name } | Event::Provision { name, .. } | Event::Again { name } => {
-                is_joiner(self.role(name))
-            }
-            Event::Child { parent, name, .. } | Event::Remove { name, parent } => self.are_child_and_parent(name, parent),
-            Event::Ask { name, partner } | Event::Share { name, partner } | Event::Tell { name, partner, .. } => {
-                self.are_partners(name, partner)
-            }
+            Event::Knock { name }
+            | Event::Rejoin { name }
+            | Event::Provision { name, .. }
+            | Event::Again { name } => { is_joiner(self.role(name)) }
+            Event::Child { parent, name, .. } | Event::Remove { name, parent } =>
+                self.are_child_and_parent(name, parent),
+            Event::Ask { name, partner }
+            | Event::Share { name, partner }
+            | Event::Tell { name, partner, .. } => { self.are_partners(name, partner) }
             Event::Roll
             | Event::Switch
             | Event::Inject { .. }
@@ -310,7 +342,11 @@ impl Draft {
     pub fn finish(self, alloc: Global) -> Result<Schedule, AllocError>
         ensures { IfOk result (λ schedule. plan_of schedule ≡ finished self) }
     {
-        let Draft { entries, draws, events } = self;
+        let Draft {
+            entries,
+            draws,
+            events,
+        } = self;
         let nodes = nodes_of(alloc, entries)?;
         let keys = draws.into_keys();
         Ok(Schedule {
@@ -326,9 +362,17 @@ impl Draft {
     {
         match line {
             Line::Blank => Ok(()),
-            Line::Node { peer, out_block, in_block } => self.take_node(peer, out_block, in_block),
+            Line::Node {
+                peer,
+                out_block,
+                in_block,
+            } => self.take_node(peer, out_block, in_block),
             Line::Code { name, code } => self.take_code(&name, code),
-            Line::NetKey { name, key, sequence } => self.take_netkey(&name, key, sequence),
+            Line::NetKey {
+                name,
+                key,
+                sequence,
+            } => self.take_netkey(&name, key, sequence),
             Line::Counter { name, layer, limit } => self.take_counter(&name, layer, limit),
             Line::Draw { key } => self.take_draw(key),
             Line::BadProvision { name: _ } => refuse(SchedCause::BadCode),

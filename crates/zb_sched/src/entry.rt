@@ -4,14 +4,14 @@ ghost use Rattle.std.specs.Prelude.{◌≡◌, ◌==◌, ◌&&◌, not, find, po
 ghost use Rattle.std.specs.List.{list_any, AllByRecursion};
 ghost use Rattle.std.specs.Option.{option_map};
 ghost use Rattle.zb_sched.specs.Drafts.{seat_of, is_linked, IsLinked, role_among};
-ghost use Rattle.zb_sched_line.specs.Codes.{code_bytes, code_key};
+ghost use Rattle.zb_install.specs.Code.{code_key};
 ghost use Rattle.zb_sched.specs.Reading.{is_centre};
 ghost use Rattle.zb_sched.specs.Judge.{changed, coded, has_name, holding, starting, is_declared, is_key, is_taken as clashes_with, network_of};
 
 use crate::schedule::Node;
 use std::alloc::{AllocError, Global};
 use zb_base::{Key, Layer, Name, Peer, Role};
-use zb_sched_line::InstallCode;
+use zb_install::InstallCode;
 
 /// A node so far, the link key of its install code, and which of its counters were declared.
 #[derive(Drop)]
@@ -40,7 +40,9 @@ pub fn is_taken(entries: &[Entry], peer: &Peer) -> bool
 pub fn place(entries: &[Entry], name: &Name) -> Option<usize>
     ensures { result ≡ position (λ entry. has_name name.now.bytes (seat_of entry)) entries.now }
 {
-    entries.iter().position(|entry| entry.node.peer.name == *name)
+    entries
+        .iter()
+        .position(|entry| entry.node.peer.name == *name)
 }
 
 /// The part of the node of a name.
@@ -116,8 +118,8 @@ pub fn is_network(entries: &[Entry], key: &Key) -> bool
 
 /// Sets the install code of the node of a name, and its link key.
 pub fn set_code(entries: &mut Vec<Entry>, name: &Name, code: InstallCode, link: Key)
-    requires { link.0 ≡ code_key (code_bytes code) }
-    ensures seats { map seat_of entries.new.items ≡ changed name.now.bytes (λ seat. coded (code_bytes code) seat) (map seat_of entries.old.items) }
+    requires { link.0 ≡ code_key code }
+    ensures seats { map seat_of entries.new.items ≡ changed name.now.bytes (λ seat. coded code seat) (map seat_of entries.old.items) }
     ensures linked { AllByRecursion IsLinked entries.old.items → AllByRecursion IsLinked entries.new.items }
 {
     match place(entries.as_slice(), name) {
@@ -174,7 +176,7 @@ impl Entry {
     ghost use Rattle.zb_sched.specs.Drafts.{seat_of, is_linked, IsLinked, own_role};
     ghost use Rattle.zb_sched_line.specs.Grammar.{or_else};
     ghost use Rattle.zb_sched.specs.Judge.{is_declared, is_key, network_of, coded, holding, new_seat, starting};
-    ghost use Rattle.zb_sched_line.specs.Codes.{code_bytes, code_key};
+    ghost use Rattle.zb_install.specs.Code.{code_key};
 
     /// A node of which only its own line was read.
     pub fn new(peer: Peer, out_block: u32, in_block: u32) -> Entry
@@ -208,8 +210,8 @@ impl Entry {
     }
 
     fn set_code(&mut self, code: InstallCode, link: Key)
-        requires { link.0 ≡ code_key (code_bytes code) }
-        ensures seat { seat_of self.new ≡ coded (code_bytes code) (seat_of self.old) }
+        requires { link.0 ≡ code_key code }
+        ensures seat { seat_of self.new ≡ coded code (seat_of self.old) }
         ensures linked { IsLinked self.old → IsLinked self.new }
     {
         self.node.code = Some(code);

@@ -21,14 +21,20 @@ pub fn read(alloc: Global, text: &[u8]) -> Result<Schedule, OrMemory<SchedError>
     while let Some((line, after)) = next_line(rest) {
         match draft.take(line) {
             Ok(()) => {}
-            Err(OrMemory::Fault(cause)) => return Err(OrMemory::Fault(SchedError { line: number, cause })),
+            Err(OrMemory::Fault(cause)) => return Err(OrMemory::Fault(SchedError {
+                line: number,
+                cause,
+            })),
             Err(OrMemory::NoMemory) => return Err(OrMemory::NoMemory),
         }
         rest = after;
         number += 1;
     }
     if !draft.has_centre() {
-        return Err(OrMemory::Fault(SchedError { line: number, cause: SchedCause::NoCentre }));
+        return Err(OrMemory::Fault(SchedError {
+            line: number,
+            cause: SchedCause::NoCentre,
+        }));
     }
     match draft.finish(alloc) {
         Ok(schedule) => Ok(schedule),

@@ -1,10 +1,11 @@
 //! A schedule.
 
 use zb_base::{Key, List, Peer};
-use zb_sched_line::{Event, InstallCode};
+use zb_install::InstallCode;
+use zb_sched_line::Event;
 
 /// A declared node.
-#[derive(Debug, Drop)]
+#[derive(Drop)]
 pub struct Node {
     /// Its name, addresses and part.
     pub peer: Peer,
@@ -23,7 +24,7 @@ pub struct Node {
 }
 
 /// The nodes in the order of their lines, the keys of the supply, and the events.
-#[derive(Debug, Drop)]
+#[derive(Drop)]
 pub struct Schedule {
     /// The declared nodes.
     pub nodes: List<Node>,

@@ -13,9 +13,9 @@ ghost use Rattle.zb_sched.specs.Printed.{act_line, code_lines, counter_line, cou
 use crate::schedule::{Node, Schedule};
 use std::alloc::{AllocError, Global};
 use zb_base::{Failed, Key, Layer, OrMemory, Sink};
+use zb_sched_line::Event;
 use zb_sched_line::print::{put_code, put_counter, put_draw, put_netkey, put_node};
 use zb_sched_line::print_event::put_event;
-use zb_sched_line::Event;
 
 fn put_nodes(out: &mut Vec<u8>, nodes: &[Node]) -> Result<(), AllocError>
     ensures { OnOk result (out.new.items ≡ out.old.items ++ page (map (λ node. node_line (member_of node)) nodes.now)) }
@@ -39,7 +39,7 @@ fn put_own_code(out: &mut Vec<u8>, node: &Node) -> Result<(), AllocError>
     ensures { OnOk result (out.new.items ≡ out.old.items ++ page (code_lines (member_of node.now))) }
 {
     match &node.code {
-        Some(code) => put_code(out, &node.peer.name, code.bytes.as_slice())?,
+        Some(code) => put_code(out, &node.peer.name, code.bytes())?,
         None => {}
     }
     Ok(())
@@ -81,7 +81,12 @@ fn put_own_counters(out: &mut Vec<u8>, node: &Node) -> Result<(), AllocError>
     Ok(())
 }
 
-fn put_own_counter(out: &mut Vec<u8>, node: &Node, layer: Layer, limit: u32) -> Result<(), AllocError>
+fn put_own_counter(
+    out: &mut Vec<u8>,
+    node: &Node,
+    layer: Layer,
+    limit: u32,
+) -> Result<(), AllocError>
     ensures { OnOk result (out.new.items ≡ out.old.items ++ page (counter_line node.now.peer.name.bytes layer limit)) }
 {
     if limit != 0 {
@@ -109,7 +114,11 @@ fn put_events(out: &mut Vec<u8>, events: &[Event]) -> Result<(), AllocError>
 }
 
 /// Prints the one text of a schedule into a sink.
-pub fn write<W: Sink>(alloc: Global, schedule: &Schedule, out: &mut W) -> Result<(), OrMemory<Failed>>
+pub fn write<W: Sink>(
+    alloc: Global,
+    schedule: &Schedule,
+    out: &mut W,
+) -> Result<(), OrMemory<Failed>>
     ensures whole { OnOk result (Appends (W.taken out.old) (W.taken out.new) (printed (plan_of schedule.now))) }
     ensures front { IfErr result (λ fault. AppendsFront (W.taken out.old) (W.taken out.new) (printed (plan_of schedule.now))) }
     ensures cause { HasCause (W.faults out.old) (W.faults out.new) (write_fault result) }

@@ -15,13 +15,13 @@ use Rattle.zb_base.specs.declared.node.Role.TheVariants.{Centre, Router, Device}
 use Rattle.zb_text.specs.Fields.{eui_text, short_text, name_of, eui_of, short_of, key_of}
 use Rattle.zb_text.specs.Hexadecimal.{bytes_text, bytes_of}
 use Rattle.zb_text.specs.Numbers.{number_of}
-use Rattle.zb_text.specs.Pages.{IsWord, line_of_words}
+use Rattle.zb_text.specs.Pages.{IsWord, IsLine, line_of_words}
 use Rattle.zb_text.specs.Words.{words, first_of, field, nothing}
-use Rattle.zb_text.proofs.ReadAgain.{words_again, differ, number_again, name_again, eui_again, short_again, fixed_again, bytes_again, IsWord-name, IsWord-decimal, IsWord-digits, IsWord-bytes, eui_words, short_words}
+use Rattle.zb_text.proofs.ReadAgain.{words_again, differ, number_again, name_again, eui_again, short_again, fixed_again, bytes_again, IsWord-name, IsWord-decimal, IsWord-digits, IsWord-bytes, eui_words, short_words, IsLine-words}
 use Rattle.zb_sched_line.specs.Fits.{IsName, IsEui, IsKey, AtMost, SomeUpTo, IsCode, IsApsLabel, FitsSealed, FitsAct, FitsSentence}
-use Rattle.zb_sched_line.specs.Grammar.{greatest, kept, number_from, real_eui_of, some_bytes_of, literal, role_of, layer_of, label_of, rejoin_of, code_of, or_else, own_act, other_act, declaration, is_quiet, meaning_of}
+use Rattle.zb_sched_line.specs.Grammar.{greatest, kept, number_from, real_eui_of, some_bytes_of, literal, role_of, layer_of, label_of, rejoin_of, code_of as word_of_code, or_else, own_act, other_act, declaration, is_quiet, meaning_of}
 use Rattle.zb_sched_line.specs.Said.{Bytes, Act, Says, Delivers, Ticks, Knocks, Rejoins, Adopts, Provisions, Repeats, Rolls, Switches, Removes, Resets, Boots, Dumps, Stops, Fails, Injects, ForgesNet, ForgesBoth, ForgesOpen, Asks, Shares, Tells, Sentence, Quiet, Introduces, Codes, Holds, Starts, Draws, Misprovisions, Happens}
-use Rattle.zb_sched_line.specs.Texts.{role_text, layer_text, label_text, rejoin_text, node_words, netkey_words, counter_words, draw_words, act_words}
+use Rattle.zb_sched_line.specs.Texts.{role_text, layer_text, label_text, rejoin_text, node_words, code_words, netkey_words, counter_words, draw_words, act_words}
 
 -- what a line means, from its words
 abbrev said : List ℕ → List (List ℕ) → Option Sentence
@@ -244,3 +244,122 @@ forge_open_again : (to : ℕ) (from : ℕ) (source : ℕ) (label : Label) (base 
 forge_open_again to from source label base aps_counter command fits =
     meaning_again 102 (111 ∷ 114 ∷ 103 ∷ 101 ∷ []) (short_text to ∷ short_text from ∷ eui_text source ∷ codes "open" ∷ codes "aps" ∷ label_text label ∷ encode_upper base ∷ decimal aps_counter ∷ bytes_text command ∷ []) refl refl
     (short_words to, (short_words from, (eui_words source, (refl, (refl, (IsWord-label label, (IsWord-digits base fits.3.1.1, (IsWord-decimal aps_counter (omega (arith, fits.3.2)), (IsWord-bytes command fits.3.3.2, tt))))))))) ∙ rw (short_again to fits.0, short_again from fits.1, real_eui_again source fits.2, label_again label fits.3.0, key_again base fits.3.1, number_again greatest aps_counter fits.3.2 (omega (arith, fits.3.2)), some_bytes_again 64 command fits.3.3) refl
+
+-- ---- install codes
+
+text_is_longer : (bytes : Bytes) → length bytes ≤ length (bytes_text bytes)
+text_is_longer [] = omega arith
+text_is_longer (b ∷ bs) = omega (arith, length-encode_with upper_digits (b ∷ bs))
+
+word_of_code_again : (code : Bytes) → IsCode code → word_of_code (bytes_text code) ≡ Some (Some code)
+word_of_code_again code fits = rw (bytes_again (length (bytes_text code)) code (text_is_longer code) fits.1, fits.0) refl
+
+pub code_again : (name code : Bytes) → IsName name → IsCode code → meaning_of (line_of_words (code_words name code)) ≡ Some (Codes name (Some code))
+code_again name code named fits =
+    meaning_again 99 (111 ∷ 100 ∷ 101 ∷ []) (name ∷ bytes_text code ∷ []) refl refl (IsWord-name name named, (IsWord-bytes code fits.1, tt))
+    ∙ rw (name_again name named, word_of_code_again code fits) refl
+
+provision_again : (name code : Bytes) → FitsAct (Provisions name code)
+    → meaning_of (line_of_words (act_words (Provisions name code))) ≡ Some (Happens (Provisions name code))
+provision_again name code fits =
+    meaning_again 112 (114 ∷ 111 ∷ 118 ∷ 105 ∷ 115 ∷ 105 ∷ 111 ∷ 110 ∷ []) (name ∷ bytes_text code ∷ []) refl refl
+    (IsWord-name name fits.0, (IsWord-bytes code fits.1.1, tt))
+    ∙ rw (name_again name fits.0, word_of_code_again code fits.1) refl
+
+-- ---- every event
+
+pub act_again : (act : Act) → FitsAct act → meaning_of (line_of_words (act_words act)) ≡ Some (Happens act)
+act_again (Says name to bytes) fits = say_again name to bytes fits
+act_again (Delivers frame name) fits = deliver_again frame name fits
+act_again (Ticks name) fits = timer_again name fits
+act_again (Knocks name) fits = knock_again name fits
+act_again (Rejoins name) fits = rejoin_line_again name fits
+act_again (Adopts parent name rejoin) fits = child_again parent name rejoin fits
+act_again (Provisions name code) fits = provision_again name code fits
+act_again (Repeats name) fits = repeat_again name fits
+act_again Rolls fits = roll_again fits
+act_again Switches fits = switch_again fits
+act_again (Removes name parent) fits = remove_again name parent fits
+act_again (Resets name) fits = reset_again name fits
+act_again (Boots name) fits = boot_again name fits
+act_again (Dumps name) fits = dump_again name fits
+act_again (Stops name calls torn) fits = stop_again name calls torn fits
+act_again (Fails name call) fits = fail_again name call fits
+act_again (Injects bytes) fits = inject_again bytes fits
+act_again (ForgesNet to from source key sequence counter content) fits = forge_net_again to from source key sequence counter content fits
+act_again (ForgesBoth to from source key sequence counter label base aps_counter command) fits =
+    forge_both_again to from source key sequence counter label base aps_counter command fits
+act_again (ForgesOpen to from source label base aps_counter command) fits = forge_open_again to from source label base aps_counter command fits
+act_again (Asks name partner) fits = ask_again name partner fits
+act_again (Shares name partner) fits = share_again name partner fits
+act_again (Tells name partner bytes) fits = tell_again name partner bytes fits
+
+-- ---- every printed line is a line
+
+pub IsLine-node : (name : Bytes) (role : Role) (eui short out_block in_block : ℕ) → FitsSentence (Introduces name role eui short out_block in_block)
+    → IsLine (line_of_words (node_words name role eui short out_block in_block))
+IsLine-node name role eui short out_block in_block fits =
+    IsLine-words (node_words name role eui short out_block in_block)
+    (refl, (IsWord-name name fits.0, (IsWord-role role, (eui_words eui, (short_words short, (IsWord-decimal out_block (omega (arith, fits.4)), (IsWord-decimal in_block (omega (arith, fits.5)), tt)))))))
+
+pub IsLine-code : (name code : Bytes) → IsName name → IsCode code → IsLine (line_of_words (code_words name code))
+IsLine-code name code named fits = IsLine-words (code_words name code) (refl, (IsWord-name name named, (IsWord-bytes code fits.1, tt)))
+
+pub IsLine-netkey : (name key : Bytes) (sequence : ℕ) → FitsSentence (Holds name key sequence) → IsLine (line_of_words (netkey_words name key sequence))
+IsLine-netkey name key sequence fits =
+    IsLine-words (netkey_words name key sequence) (refl, (IsWord-name name fits.0, (IsWord-digits key fits.1.1, (IsWord-decimal sequence (omega (arith, fits.2)), tt))))
+
+pub IsLine-counter : (name : Bytes) (layer : Layer) (limit : ℕ) → FitsSentence (Starts name layer limit) → IsLine (line_of_words (counter_words name layer limit))
+IsLine-counter name layer limit fits =
+    IsLine-words (counter_words name layer limit) (refl, (IsWord-name name fits.0, (IsWord-layer layer, (IsWord-decimal limit (omega (arith, fits.1)), tt))))
+
+pub IsLine-draw : (key : Bytes) → FitsSentence (Draws key) → IsLine (line_of_words (draw_words key))
+IsLine-draw key fits = IsLine-words (draw_words key) (refl, (IsWord-digits key fits.1, tt))
+
+pub IsLine-act : (act : Act) → FitsAct act → IsLine (line_of_words (act_words act))
+IsLine-act (Ticks name) fits =
+    IsLine-words (act_words (Ticks name)) (refl, (IsWord-name name fits, tt))
+IsLine-act (Knocks name) fits =
+    IsLine-words (act_words (Knocks name)) (refl, (IsWord-name name fits, tt))
+IsLine-act (Rejoins name) fits =
+    IsLine-words (act_words (Rejoins name)) (refl, (IsWord-name name fits, tt))
+IsLine-act (Repeats name) fits =
+    IsLine-words (act_words (Repeats name)) (refl, (IsWord-name name fits, tt))
+IsLine-act (Resets name) fits =
+    IsLine-words (act_words (Resets name)) (refl, (IsWord-name name fits, tt))
+IsLine-act (Boots name) fits =
+    IsLine-words (act_words (Boots name)) (refl, (IsWord-name name fits, tt))
+IsLine-act (Dumps name) fits =
+    IsLine-words (act_words (Dumps name)) (refl, (IsWord-name name fits, tt))
+IsLine-act (Says name to bytes) fits =
+    IsLine-words (act_words (Says name to bytes)) (refl, (IsWord-name name fits.0, (short_words to, (IsWord-bytes bytes fits.2.1, tt))))
+IsLine-act (Delivers frame name) fits =
+    IsLine-words (act_words (Delivers frame name)) (refl, (IsWord-decimal frame (omega (arith, fits.1)), (IsWord-name name fits.2, tt)))
+IsLine-act (Adopts parent name rejoin) fits =
+    IsLine-words (act_words (Adopts parent name rejoin)) (refl, (IsWord-name parent fits.0, (IsWord-name name fits.1, (IsWord-rejoin rejoin, tt))))
+IsLine-act Rolls fits =
+    IsLine-words (act_words Rolls) (refl, tt)
+IsLine-act Switches fits =
+    IsLine-words (act_words Switches) (refl, tt)
+IsLine-act (Removes name parent) fits =
+    IsLine-words (act_words (Removes name parent)) (refl, (IsWord-name name fits.0, (refl, (IsWord-name parent fits.1, tt))))
+IsLine-act (Stops name calls torn) fits =
+    IsLine-words (act_words (Stops name calls torn)) (refl, (IsWord-name name fits.0, (IsWord-decimal calls (omega (arith, fits.1)), (IsWord-bytes torn fits.2.1, tt))))
+IsLine-act (Fails name call) fits =
+    IsLine-words (act_words (Fails name call)) (refl, (IsWord-name name fits.0, (IsWord-decimal call (omega (arith, fits.2)), tt)))
+IsLine-act (Injects bytes) fits =
+    IsLine-words (act_words (Injects bytes)) (refl, (IsWord-bytes bytes fits.2, tt))
+IsLine-act (Asks name partner) fits =
+    IsLine-words (act_words (Asks name partner)) (refl, (IsWord-name name fits.0, (IsWord-name partner fits.1, tt)))
+IsLine-act (Shares name partner) fits =
+    IsLine-words (act_words (Shares name partner)) (refl, (IsWord-name name fits.0, (IsWord-name partner fits.1, tt)))
+IsLine-act (Tells name partner bytes) fits =
+    IsLine-words (act_words (Tells name partner bytes)) (refl, (IsWord-name name fits.0, (IsWord-name partner fits.1, (IsWord-bytes bytes fits.2.1, tt))))
+IsLine-act (ForgesNet to from source key sequence counter content) fits =
+    IsLine-words (act_words (ForgesNet to from source key sequence counter content)) (refl, (short_words to, (short_words from, (eui_words source, (refl, (IsWord-digits key fits.3.1, (IsWord-decimal sequence (omega (arith, fits.4)), (IsWord-decimal counter (omega (arith, fits.5)), (IsWord-bytes content fits.6.2, tt)))))))))
+IsLine-act (ForgesBoth to from source key sequence counter label base aps_counter command) fits =
+    IsLine-words (act_words (ForgesBoth to from source key sequence counter label base aps_counter command)) (refl, (short_words to, (short_words from, (eui_words source, (refl, (IsWord-digits key fits.3.1, (IsWord-decimal sequence (omega (arith, fits.4)), (IsWord-decimal counter (omega (arith, fits.5)), (refl, (IsWord-label label, (IsWord-digits base fits.6.1.1, (IsWord-decimal aps_counter (omega (arith, fits.6.2)), (IsWord-bytes command fits.6.3.2, tt)))))))))))))
+IsLine-act (ForgesOpen to from source label base aps_counter command) fits =
+    IsLine-words (act_words (ForgesOpen to from source label base aps_counter command)) (refl, (short_words to, (short_words from, (eui_words source, (refl, (refl, (IsWord-label label, (IsWord-digits base fits.3.1.1, (IsWord-decimal aps_counter (omega (arith, fits.3.2)), (IsWord-bytes command fits.3.3.2, tt))))))))))
+IsLine-act (Provisions name code) fits =
+    IsLine-words (act_words (Provisions name code)) (refl, (IsWord-name name fits.0, (IsWord-bytes code fits.1.1, tt)))

@@ -1,12 +1,7 @@
--- Install codes (stand-in).
-use Rattle.std.specs.Prelude.{ℕ, List, Bool, ◌==◌, length, replicate}
-use Rattle.zb_sched_line.specs.declared.code.InstallCode.{InstallCode}
+-- Install codes, as `zb_install` defines them.
+use Rattle.std.specs.Prelude.{List, ℕ, Bool, is_ok}
+use Rattle.zb_install.specs.Code.{code_of}
 
-unfoldable pub is_code : List ℕ → Bool
-is_code bytes = length bytes == 8
-
-unfoldable pub code_key : List ℕ → List ℕ
-code_key bytes = replicate 16 0
-
-abbrev pub code_bytes : InstallCode → List ℕ
-code_bytes code = code.bytes.items
+-- Whether bytes are an install code with its CRC.
+abbrev pub is_code : List ℕ → Bool
+is_code bytes = is_ok (code_of bytes)

@@ -304,9 +304,11 @@ other_act word ws =
 abbrev pub declaration : List ℕ → List (List ℕ) → Option Sentence
 declaration word ws =
     if bytes_eq word (codes "node") then node_of ws
+    else if bytes_eq word (codes "code") then code_line_of ws
     else if bytes_eq word (codes "netkey") then netkey_of ws
     else if bytes_eq word (codes "counter") then counter_of ws
     else if bytes_eq word (codes "draw") then draw_of ws
+    else if bytes_eq word (codes "provision") then provision_of ws
     else None
 
 -- The first of two that is there.

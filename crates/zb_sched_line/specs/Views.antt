@@ -1,7 +1,6 @@
 -- What the program's lines and events say.
 use Rattle.std.specs.Prelude.{ℕ, List, Bool, Option, Some, None}
 use Rattle.std.specs.Option.{option_map}
-use Rattle.zb_sched_line.specs.Codes.{code_bytes}
 use Rattle.zb_sched_line.specs.Said.{Act, Says, Delivers, Ticks, Knocks, Rejoins, Adopts, Provisions, Repeats, Rolls, Switches, Removes, Resets, Boots, Dumps, Stops, Fails, Injects, ForgesNet, ForgesBoth, ForgesOpen, Asks, Shares, Tells, Sentence, Quiet, Introduces, Codes, Holds, Starts, Draws, Misprovisions, Happens}
 use Rattle.zb_sched_line.specs.Grammar.{Sealed}
 use Rattle.zb_sched_line.specs.declared.event.Event.{Event}
@@ -17,7 +16,7 @@ act_of (Timer name) = Ticks name.bytes
 act_of (Knock name) = Knocks name.bytes
 act_of (Rejoin name) = Rejoins name.bytes
 act_of (Child parent name rejoin) = Adopts parent.bytes name.bytes rejoin
-act_of (Provision name code) = Provisions name.bytes (code_bytes code)
+act_of (Provision name code) = Provisions name.bytes code
 act_of (Again name) = Repeats name.bytes
 act_of Roll = Rolls
 act_of Switch = Switches
@@ -39,7 +38,7 @@ act_of (Tell name partner bytes) = Tells name.bytes partner.bytes bytes.items
 abbrev pub sentence_of : Line → Sentence
 sentence_of Blank = Quiet
 sentence_of (Node peer out_block in_block) = Introduces peer.name.bytes peer.role peer.eui.0 peer.short.0 out_block in_block
-sentence_of (Code name code) = Codes name.bytes (option_map code_bytes code)
+sentence_of (Code name code) = Codes name.bytes (code)
 sentence_of (NetKey name key sequence) = Holds name.bytes key.0 sequence
 sentence_of (Counter name layer limit) = Starts name.bytes layer limit
 sentence_of (Draw key) = Draws key.0

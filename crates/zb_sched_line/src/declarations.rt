@@ -3,11 +3,11 @@
 ghost use Rattle.std.specs.Prelude.{◌≡◌, codes, is_some, IfSome};
 ghost use Rattle.std.specs.Option.{option_map};
 ghost use Rattle.zb_text.specs.Words.{field, left, Shows, Takes};
-ghost use Rattle.zb_sched_line.specs.Codes.{code_bytes};
 ghost use Rattle.zb_sched_line.specs.Fits.{FitsSentence};
-ghost use Rattle.zb_sched_line.specs.Grammar.{code_line_of, code_of, counter_of, declaration as declared, draw_of, is_short_of, netkey_of, node_of, provision_of};
+ghost use Rattle.zb_sched_line.specs.Grammar.{code_line_of, counter_of, declaration as declared, draw_of, is_short_of, netkey_of, node_of, provision_of};
 ghost use Rattle.zb_sched_line.specs.Views.{sentence_of};
 
+use crate::codes::install_code;
 use crate::event::Event;
 use crate::fields::{byte, layer, real_eui, role};
 use crate::line::Line;
@@ -21,12 +21,16 @@ pub fn declaration(keyword: &[u8], words: Words) -> Option<Line>
 {
     if keyword == b"node".as_slice() {
         node(words)
+    } else if keyword == b"code".as_slice() {
+        code(words)
     } else if keyword == b"netkey".as_slice() {
         netkey(words)
     } else if keyword == b"counter".as_slice() {
         counter(words)
     } else if keyword == b"draw".as_slice() {
         draw(words)
+    } else if keyword == b"provision".as_slice() {
+        provision(words)
     } else {
         None
     }
@@ -66,6 +70,29 @@ fn may_have(role: Role, short: Short) -> bool
         Role::Centre => short.0 == 0,
         Role::Router => 1 <= short.0 && short.0 <= 0xFFF7,
         Role::Device => 1 <= short.0 && short.0 <= 0xFFF7,
+    }
+}
+
+fn code(mut words: Words) -> Option<Line>
+    ensures value { Shows sentence_of result (code_line_of (left words.entry)) }
+    ensures fits { IfSome result (λ line. FitsSentence (sentence_of line)) }
+{
+    let name = words.name()?;
+    let code = install_code(&mut words)?;
+    words.end()?;
+    Some(Line::Code { name, code })
+}
+
+fn provision(mut words: Words) -> Option<Line>
+    ensures value { Shows sentence_of result (provision_of (left words.entry)) }
+    ensures fits { IfSome result (λ line. FitsSentence (sentence_of line)) }
+{
+    let name = words.name()?;
+    let code = install_code(&mut words)?;
+    words.end()?;
+    match code {
+        Some(code) => Some(Line::Event(Event::Provision { name, code })),
+        None => Some(Line::BadProvision { name }),
     }
 }
 

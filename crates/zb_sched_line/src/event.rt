@@ -1,11 +1,11 @@
 //! The events of a schedule.
 
-use crate::code::InstallCode;
 use arrayvec::ArrayVec;
 use zb_base::{Eui, Frame, Key, Label, Name, Short};
+use zb_install::InstallCode;
 
 /// An event: one step of one node, or something on the air. Its fields are the words of its line.
-#[derive(Debug, Drop)]
+#[derive(Drop)]
 pub enum Event {
     /// `say NAME SHORT HEX`: the node sends application bytes.
     Say {

@@ -14,7 +14,7 @@ use zb_text::hexadecimal;
 use zb_text::words::Words;
 
 /// The APS part of a forged frame.
-#[derive(Debug, Drop)]
+#[derive(Drop)]
 pub struct Command {
     /// Which key is derived from the base key.
     pub label: Label,

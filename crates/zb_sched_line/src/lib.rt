@@ -2,17 +2,17 @@
 //! together is judged in `zb_sched`.
 #![tactic(auto)]
 
-pub mod code;
+pub mod codes;
 pub mod declarations;
 pub mod event;
 pub mod events;
 pub mod fields;
 pub mod forge;
+pub mod laws;
 pub mod line;
 pub mod print;
 pub mod print_event;
 pub mod print_forged;
 
-pub use code::InstallCode;
 pub use event::Event;
 pub use line::{Line, read_line};

@@ -6,15 +6,15 @@ ghost use Rattle.zb_sched_line.specs.Fits.{FitsSentence};
 ghost use Rattle.zb_sched_line.specs.Grammar.{is_quiet, meaning_of};
 ghost use Rattle.zb_sched_line.specs.Views.{sentence_of};
 
-use crate::code::InstallCode;
 use crate::declarations::declaration;
 use crate::event::Event;
 use crate::events::{other_event, own_event};
 use zb_base::{Key, Layer, Name, Peer};
+use zb_install::InstallCode;
 use zb_text::words::Words;
 
 /// What a line says. Where an install code stands in it, None is bytes that are no install code.
-#[derive(Debug, Drop)]
+#[derive(Drop)]
 pub enum Line {
     /// An empty line, or a comment.
     Blank,

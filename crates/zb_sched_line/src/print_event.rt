@@ -114,7 +114,7 @@ pub fn put_event(out: &mut Vec<u8>, event: &Event) -> Result<(), AllocError>
             partner,
             bytes,
         } => put_tell(out, name, partner, bytes.as_slice())?,
-        Event::Provision { name, code } => put_provision(out, name, code.bytes.as_slice())?,
+        Event::Provision { name, code } => put_provision(out, name, code.bytes())?,
     }
     Ok(())
 }

@@ -1,6 +1,5 @@
 use Rattle.std.proofs.Common.{◌∙◌, ap, sym, List}
 use Rattle.std.specs.Prelude.{position}
-use Rattle.zb_sched_line.specs.Codes.{code_bytes}
 use Rattle.zb_sched.specs.Drafts.{seat_of}
 use Rattle.zb_sched.specs.Judge.{Seat, has_name, coded, holding, starting}
 use Rattle.zb_sched.specs.declared.entry.Entry.{Entry}
@@ -9,11 +8,11 @@ use Rattle.zb_sched.proofs.entry.set_code.Goals as goal
 
 pub returns-in-Some-clause-seats : goal.returns-in-Some-clause-seats
 returns-in-Some-clause-seats c =
-    entries_changed c.args.name.now.bytes (λ (seat : Seat). coded (code_bytes c.args.code) seat) c.args.entries.now.items c.in-Some.at c.index_mut.result.now c.set_code.new.self
+    entries_changed c.args.name.now.bytes (λ (seat : Seat). coded c.args.code seat) c.args.entries.now.items c.in-Some.at c.index_mut.result.now c.set_code.new.self
     (ap (λ (es : List Entry). position (λ x. has_name c.args.name.now.bytes (seat_of x)) es) (sym c.as_slice.ensures.value) ∙ sym c.in-Some.ensures)
-    (c.set_code.ensures.seat ∙ ap (λ (x : Entry). coded (code_bytes c.args.code) (seat_of x)) c.index_mut.ensures.value)
+    (c.set_code.ensures.seat ∙ ap (λ (x : Entry). coded c.args.code (seat_of x)) c.index_mut.ensures.value)
 
 pub returns-in-None-clause-seats : goal.returns-in-None-clause-seats
 returns-in-None-clause-seats c =
-    entries_same c.args.name.now.bytes (λ (seat : Seat). coded (code_bytes c.args.code) seat) c.args.entries.now.items
+    entries_same c.args.name.now.bytes (λ (seat : Seat). coded c.args.code seat) c.args.entries.now.items
     (ap (λ (es : List Entry). position (λ x. has_name c.args.name.now.bytes (seat_of x)) es) (sym c.as_slice.ensures.value) ∙ sym c.in-None.ensures)

@@ -1,6 +1,5 @@
 use Rattle.std.proofs.Common.{◌∙◌, ap, sym, List}
 use Rattle.std.specs.Prelude.{position}
-use Rattle.zb_sched_line.specs.Codes.{code_bytes}
 use Rattle.zb_sched.specs.Drafts.{seat_of}
 use Rattle.zb_sched.specs.Judge.{Seat, has_name, coded, holding, starting}
 use Rattle.zb_sched.specs.declared.entry.Entry.{Entry}

@@ -6,7 +6,8 @@ use Rattle.zb_sched.proofs.reader.read.Given as goal
 abbrev pub invariant-loop-line : goal.invariant-loop-line
 invariant-loop-line l = record {
   reads : reads l.number l.draft (lines l.rest) ≡ schedule_of l.text;
-  short : l.number + length l.rest ≤ length l.text + 1 }
+  short : l.number + length l.rest ≤ length l.text + 1;
+}
 
 abbrev pub decreases-loop-line : goal.decreases-loop-line
 decreases-loop-line l = length l.rest
