@@ -1,7 +1,7 @@
 -- Hexadecimal digits, byte by byte.
-use Rattle.std.proofs.Common.{◌≡◌, ℕ, ◌+◌, ◌<◌, List, [], ◌∷◌, ◌++◌, length, get_or, take, refl, arith, add-one, ap, sym, ◌∙◌}
+use Rattle.std.proofs.Common.{◌≡◌, ℕ, ◌+◌, ◌<◌, List, [], ◌∷◌, ◌++◌, length, get_or, take, refl, add-one, ap, ◌∙◌}
 use Rattle.std.proofs.Math.Seq.{take-suc}
-use Rattle.hex.specs.Hex.{encode_with, encode_upper, upper_digits}
+use Rattle.hex.specs.Hex.{encode_with, encode_upper}
 
 pub encode_upper-append : (xs ys : List ℕ) → encode_upper (xs ++ ys) ≡ encode_upper xs ++ encode_upper ys
 unfolding encode_with

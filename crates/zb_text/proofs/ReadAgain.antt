@@ -1,9 +1,9 @@
 -- What is printed reads as itself.
-use Rattle.std.proofs.Common.{◌≡◌, ℕ, ◌+◌, ◌*◌, ◌/◌, ◌%◌, ◌-◌, ◌^◌, ◌<◌, ◌≤◌, ◌==◌, ◌&&◌, ◌||◌, nat_le, nat_lt, List, [], ◌∷◌, ◌++◌, length, get_or, Bool, true, false, Option, Some, None, Result, Ok, Err, ◌⊎◌, inl, inr, refl, arith, lit<, ap, sym, ◌∙◌, append_assoc, decimal, codes, bytes_eq, zero, suc}
+use Rattle.std.proofs.Common.{◌≡◌, ℕ, ◌+◌, ◌*◌, ◌/◌, ◌%◌, ◌-◌, ◌^◌, ◌<◌, ◌≤◌, ◌==◌, ◌&&◌, ◌||◌, nat_le, nat_lt, List, [], ◌∷◌, ◌++◌, length, get_or, Bool, true, false, Option, Some, None, ◌⊎◌, inl, inr, refl, arith, lit<, ap, ◌∙◌, append_assoc, decimal, codes, bytes_eq, zero, suc}
 use Rattle.std.specs.Prelude.{if◌then◌else◌}
 use Rattle.std.specs.Char.{is_ascii_digit}
 use Rattle.std.specs.Int.{w16, w64, to_be_bytes, from_be_bytes}
-use Rattle.std.specs.List.{list_all, slice_split, join_with_byte, flat_map, AllByRecursion}
+use Rattle.std.specs.List.{list_all, AllByRecursion}
 use Rattle.std.specs.Option.{option_map}
 use Rattle.std.specs.Result.{result_ok}
 use Rattle.std.specs.Str.Lines.{lines, strip_carriage_return}
@@ -16,13 +16,13 @@ use Rattle.std.proofs.lemmas.List.Folds.{list_all-append}
 use Rattle.std.proofs.lemmas.List.Splits.{slice_split_none, slice_split_at}
 use Rattle.std.proofs.lemmas.List.Sums.{AllPass-from_list_all, list_all-from_AllPass}
 use Rattle.std.proofs.lemmas.Nat.{from_be_bytes-to_be_bytes_2, from_be_bytes-to_be_bytes_8}
-use Rattle.hex.specs.Hex.{decode_of, decode_sized, encode_with, encode_upper, upper_digits, IsBytes}
+use Rattle.hex.specs.Hex.{encode_with, encode_upper, upper_digits, IsBytes}
 use Rattle.hex.proofs.HexLemmas.{decode_of-encode_upper, decode_sized-twice, length-encode_with}
-use Rattle.zb_text.specs.Fields.{is_name_byte, is_name, name_of, eui_of, eui_text, short_of, short_text, key_of}
+use Rattle.zb_text.specs.Fields.{is_name_byte, is_name, name_of, eui_of, eui_text, short_of, short_text}
 use Rattle.zb_text.specs.Hexadecimal.{fixed_of, bytes_of, bytes_text}
-use Rattle.zb_text.specs.Numbers.{digits_after, up_to, is_ill_begun, number_of}
-use Rattle.zb_text.specs.Pages.{IsWord, IsLine, line_of_words, ended, page}
-use Rattle.zb_text.specs.Words.{parts, words}
+use Rattle.zb_text.specs.Numbers.{digits_after, is_ill_begun, number_of}
+use Rattle.zb_text.specs.Pages.{IsWord, IsLine, line_of_words, page}
+use Rattle.zb_text.specs.Words.{words}
 use Rattle.zb_text.proofs.LineCuts.{lines_front}
 use Rattle.zb_text.proofs.NameLemmas.{name_byte_is_ascii}
 

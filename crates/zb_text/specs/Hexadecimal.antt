@@ -1,5 +1,5 @@
 -- Hexadecimal digits, in either case where they are read and in upper case where they are written.
-use Rattle.std.specs.Prelude.{ℕ, ◌==◌, ◌*◌, ◌/◌, nat_lt, List, [], ◌∷◌, length, codes, bytes_eq, if◌then◌else◌, Option, Some, None}
+use Rattle.std.specs.Prelude.{ℕ, ◌==◌, ◌/◌, nat_lt, List, [], ◌∷◌, length, codes, bytes_eq, if◌then◌else◌, Option, Some, None}
 use Rattle.std.specs.Result.{result_ok}
 use Rattle.hex.specs.Hex.{decode_of, decode_sized, encode_upper}
 

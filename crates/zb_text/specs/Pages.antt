@@ -1,5 +1,5 @@
 -- What is printed and read again: words that need no quoting, lines of such words, and pages of lines.
-use Rattle.std.specs.Prelude.{◌≡◌, ℕ, nat_lt, List, [], ◌∷◌, ◌++◌, Bool, true}
+use Rattle.std.specs.Prelude.{◌≡◌, ℕ, nat_lt, List, [], ◌∷◌, ◌++◌, true}
 use Rattle.std.specs.List.{list_all, join_with_byte, flat_map}
 
 -- A word has no space, no line feed and no carriage return: all its bytes are above 20 hexadecimal.

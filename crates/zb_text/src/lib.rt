@@ -11,4 +11,6 @@ pub mod laws;
 pub mod lines;
 pub mod numbers;
 pub mod page;
+#[cfg(test)]
+mod tests;
 pub mod words;
