@@ -1,4 +1,5 @@
 pub mod DraftLemmas
+pub mod Lists
 pub mod PageLemmas
 pub mod ReadLemmas
 pub mod RoleLemmas

@@ -5,3 +5,4 @@ pub mod Plan
 pub mod Printed
 pub mod Reading
 pub mod Supplies
+pub mod Valid
