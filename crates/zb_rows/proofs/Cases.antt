@@ -1,0 +1,82 @@
+-- Consequences of the definitions that no worked run shows, each computed.
+use Rattle.std.specs.Prelude.{◌≡◌, ℕ, Bool, true, false, List, [], ◌∷◌, replicate, map, Option, Some, None, refl}
+use Rattle.zb_model.specs.Data.{Bytes, Duty, Centre, Device, Stage, Joined, Trust, Provisional, Verified, ForData, ForTransport, Nwk, Aps, Station, Sealing, Move, Draw, Install, Active, Row, Removed, Roll, Became, Moved, Edit}
+use Rattle.zb_model.specs.State.{SenderFloor, NetKey, LinkKey, PairKey, NodeState, new_node, applied, after_boot, active_row, code_row}
+use Rattle.zb_model.specs.Tools.{Tools}
+use Rattle.zb_model.specs.Rules.{Outcome, Does, Setting, unless, given, choose, centre_of, drop_old, drop_others}
+use Rattle.zb_model.specs.OwnEvents.{roll, knock}
+use Rattle.zb_model.specs.Judging.{candidates}
+use Rattle.zb_model.specs.Commands.{Heard, take_net_key}
+use Rattle.zb_model.specs.Answer.{changes}
+use Rattle.zb_model.specs.Secrets.{carried}
+use Rattle.std.specs.Prelude.{filter}
+use Rattle.zb_rows.proofs.Toy.{x, toy}
+
+-- A centre 1 and a device 2; keys; rows that hold them; a node without rows, and one with the network key 1 active.
+abbrev node : Duty → ℕ → ℕ → Station
+node duty eui short = record { name = []; eui = eui; short = short; duty = duty; out_block = 4; in_block = 4 }
+
+abbrev device : Setting
+device = record { me = node Device 2 258; stations = node Centre 1 0 ∷ node Device 2 258 ∷ [] }
+
+abbrev k : ℕ → Bytes
+k n = replicate 16 n
+
+abbrev net_at : ℕ → Bool → ℕ → NetKey
+net_at n live next = record { key = k n; sequence = n; live = live; started = true; limit = next; next = next; floors = [] }
+
+abbrev link_of : ℕ → ℕ → Trust → Bool → LinkKey
+link_of partner n trust live = record { partner = partner; key = k n; trust = trust; live = live; code = true; told = false; kept = 0; stored = 0 }
+
+abbrev bare : Duty → Stage → NodeState
+bare duty stage = record (new_node duty) { stage = stage }
+
+abbrev keyed_node : Duty → Stage → List LinkKey → NodeState
+keyed_node duty stage links = record (bare duty stage) { nets = net_at 1 true 7 ∷ []; active = Some (k 1); links = links }
+
+abbrev own_row : LinkKey
+own_row = link_of 1 5 Verified true
+
+abbrev from_centre : Heard
+from_centre = record { sender = 1; label = Some ForTransport; row = Some own_row; nwk_source = Some 1 }
+
+-- a boot takes the floors back to what was stored, of link keys too
+booted_link_floors : map (λ (r : LinkKey). r.kept) (after_boot (keyed_node Device Joined (record own_row { kept = 5; stored = 9 } ∷ []))).links ≡ 9 ∷ []
+unfolding after_boot
+booted_link_floors = refl
+
+-- of two live link keys of a source the newer one is tried first
+newest_candidate_first : map (λ (r : LinkKey). r.key) (candidates (keyed_node Device Joined (own_row ∷ link_of 1 6 Verified true ∷ [])) 1) ≡ k 6 ∷ k 5 ∷ []
+unfolding candidates
+newest_candidate_first = refl
+
+-- the first network key is active at once, also in a node that waits for none
+first_key_is_active : take_net_key device (bare Device Joined) from_centre (k 8) 3 2 1 ≡ Does (Install (k 8) 3 ∷ Active (k 8) ∷ []) None
+unfolding take_net_key unless choose centre_of drop_old
+first_key_is_active = refl
+
+-- the sequence of network keys wraps at 256
+sequence_wraps : roll (record (keyed_node Centre Stage.Fresh []) { nets = record (net_at 1 true 7) { sequence = 255 } ∷ [] }) (Some (k 8)) ≡ Does (Draw (k 8) ∷ Install (k 8) 0 ∷ Roll true ∷ []) None
+unfolding roll given unless active_row drop_old
+sequence_wraps = refl
+
+-- a pair ends with the removal of either
+pairs_end : map (λ (p : PairKey). p.key) (applied (Moved (Removed 4)) (record (bare Centre Stage.Fresh) { pairs = record { first = 2; second = 4; key = k 8 } ∷ record { first = 2; second = 7; key = k 9 } ∷ [] })).pairs ≡ k 9 ∷ []
+unfolding applied
+pairs_end = refl
+
+-- a knock that leaves all as it is changes nothing
+second_knock : filter (changes (keyed_node Device Stage.Knocked (link_of 1 5 Provisional true ∷ []))) (Row 1 (k 5) Provisional ∷ Became Stage.Knocked ∷ []) ≡ []
+second_knock = refl
+
+-- application data that spells a Transport-Key carries no key; a command does
+data_term : ℕ → Sealing
+data_term control = record { layer = Aps; base = k 1; label = ForData; source = 1; counter = 0; control = 37; header = control ∷ []; content = x "0503303132333435363738393A3B3C3D3E3F040000000000000001" }
+
+data_carries_nothing : carried toy (data_term 32) ≡ None
+unfolding carried toy data_term
+data_carries_nothing = refl
+
+command_carries : carried toy (data_term 33) ≡ Some (x "303132333435363738393A3B3C3D3E3F")
+unfolding carried toy data_term
+command_carries = refl

@@ -1,0 +1,4 @@
+mod Toy
+mod Terms
+mod Cases
+mod Rows
