@@ -1,3 +1,5 @@
+ghost use Rattle.std.specs.Prelude.{◌≤◌};
+
 use super::*;
 use std::process::Abort;
 use zb_cursor::has_bit;
@@ -39,7 +41,9 @@ fn the_longest_frame(rt: HostRuntime) {
 }
 
 // The number of bytes of a header whose extended header begins with this control byte.
-fn header_size(control: u8, extended: u8) -> usize {
+fn header_size(control: u8, extended: u8) -> usize
+    ensures { result ≤ 20 }
+{
     let ack = control & 3 == 2;
     let addressed = control & 3 == 0 || (ack && !has_bit(u16::from(control), 4));
     let grouped = (control >> 2) & 3 == 3;

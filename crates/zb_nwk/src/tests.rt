@@ -1,3 +1,5 @@
+ghost use Rattle.std.specs.Prelude.{◌≤◌};
+
 use super::*;
 use std::process::Abort;
 use zb_cursor::has_bit;
@@ -55,7 +57,9 @@ fn the_longest_frame(rt: HostRuntime) {
 }
 
 // The number of bytes of a header whose unread bytes are all 28, so that 40 relays follow where there is a source route.
-fn header_size(control: u16) -> usize {
+fn header_size(control: u16) -> usize
+    ensures { result ≤ 107 }
+{
     8 + 8 * usize::from(has_bit(control, 11))
         + 8 * usize::from(has_bit(control, 12))
         + usize::from(has_bit(control, 8))

@@ -34,7 +34,7 @@ front_leveled hd tl body mic bytes c size is parts four =
     let front : take (length (hd ++ au)) bytes ≡ hd ++ au = ap (take (length (hd ++ au))) (parts ∙ regroup hd au body mic) ∙ take_at (hd ++ au) (body ++ mic) (length (hd ++ au)) refl in
     rw (whole, place, front) (at_place-append real_level hd tl c)
 
-nwk_text : (bytes : List ℕ) (f : NwkFrame) (a : NwkAux) → nwk_shape.Spells bytes f → f.aux ≡ Some a → bytes ≡ nwk.header f.header ++ ((nwk.aux a ++ f.body.items) ++ f.mic)
+pub nwk_text : (bytes : List ℕ) (f : NwkFrame) (a : NwkAux) → nwk_shape.Spells bytes f → f.aux ≡ Some a → bytes ≡ nwk.header f.header ++ ((nwk.aux a ++ f.body.items) ++ f.mic)
 nwk_text bytes f a spells is = spells.is_frame.text ∙ ap (λ (o : Option NwkAux). nwk.header f.header ++ nwk.content o f.body.items f.mic) is
 
 pub nwk_front : (bytes : List ℕ) (f : NwkFrame) (a : NwkAux) → nwk_shape.Spells bytes f → f.aux ≡ Some a
@@ -45,12 +45,15 @@ nwk_front bytes f a spells is =
 pub nwk_room : (bytes : List ℕ) (f : NwkFrame) (a : NwkAux) → nwk_shape.Spells bytes f → f.aux ≡ Some a → 14 + length f.body.items + 4 ≤ length bytes
 nwk_room bytes f a spells is = omega (arith, parts_length (nwk.header f.header) (nwk.aux a) f.body.items f.mic bytes (nwk_text bytes f a spells is) spells.is_frame.in_range.mic)
 
-aps_text : (bytes : List ℕ) (f : ApsFrame) (a : ApsAux) → aps_shape.Spells bytes f → f.aux ≡ Some a → bytes ≡ aps.header f.header ++ ((aps.aux a ++ f.body.items) ++ f.mic)
+pub aps_text : (bytes : List ℕ) (f : ApsFrame) (a : ApsAux) → aps_shape.Spells bytes f → f.aux ≡ Some a → bytes ≡ aps.header f.header ++ ((aps.aux a ++ f.body.items) ++ f.mic)
 aps_text bytes f a spells is = spells.is_frame.text ∙ ap (λ (o : Option ApsAux). aps.header f.header ++ aps.content o f.body.items f.mic) is
 
 length-source : (o : Option Eui) → 5 + length (optional eui o) ≡ aps_size o
 length-source None = refl
 length-source (Some source) = refl
+
+pub aps_size_is : (a : ApsAux) → aps_size a.source ≡ length (a.control ∷ (number w32 a.counter ++ optional eui a.source))
+aps_size_is a = sym (length-source a.source) ∙ omega (arith, length-append (number w32 a.counter) (optional eui a.source))
 
 pub aps_front : (bytes : List ℕ) (f : ApsFrame) (a : ApsAux) → aps_shape.Spells bytes f → f.aux ≡ Some a
     → at_place real_level (length bytes - 4 - length f.body.items - aps_size a.source) (take (length bytes - 4 - length f.body.items) bytes) ≡ aps.header f.header ++ aps.aux (leveled_aps a)

@@ -131,3 +131,50 @@ opened_nwk bytes base = opened_seen (seen_nwk bytes) base None
 -- The same of an APS frame, which may leave its source out.
 unfoldable pub opened_aps : List ℕ → Key → Option Eui → Result Term OpenError
 opened_aps bytes base given = opened_seen (seen_aps bytes) base given
+
+-- The term is of a NWK frame: its header is that of a secured frame with the level that counts, and the term says what the header says.
+pub record IsNwkTerm (t : Term) (h : NwkHeader) (a : NwkAux) : Type 0 where
+  pub shaped : nwk_shape.IsHeader h
+  pub in_range : nwk_shape.HeaderInRange h
+  pub secured : bit h.control 9 ≡ true
+  pub aux_shaped : nwk_shape.IsAuxControl a.control
+  pub aux_in_range : nwk_shape.AuxInRange a
+  pub level : a.control % 8 ≡ 5
+  pub layer : t.layer ≡ Nwk
+  pub label : t.label ≡ Network
+  pub source : t.source ≡ a.source
+  pub counter : t.counter ≡ a.counter
+  pub control : t.control ≡ a.control
+  pub header : t.header.items ≡ nwk.header h ++ nwk.aux a
+
+-- The bytes open to the term under the base key: they are its bytes on the air, up to the level bits.
+pub record OpensNwk (bytes : List ℕ) (base : Key) (t : Term) : Type 0 where
+  pub header : NwkHeader
+  pub aux : NwkAux
+  pub is_term : IsNwkTerm t header aux
+  pub base_is : t.base ≡ base
+  pub fits : length bytes ≤ 127
+  pub same : at_place zero_level (length t.header.items - 14) bytes ≡ wire t
+
+-- The same at APS, where the header may leave the source out.
+pub record IsApsTerm (t : Term) (h : ApsHeader) (a : ApsAux) : Type 0 where
+  pub shaped : aps_shape.IsHeader h
+  pub in_range : aps_shape.HeaderInRange h
+  pub secured : bit h.control 5 ≡ true
+  pub aux_shaped : aps_shape.IsAux a
+  pub aux_in_range : aps_shape.AuxInRange a
+  pub level : a.control % 8 ≡ 5
+  pub layer : t.layer ≡ Aps
+  pub label : t.label ≡ label_of (aps_shape.key_id a.control)
+  pub counter : t.counter ≡ a.counter
+  pub control : t.control ≡ a.control
+  pub header : t.header.items ≡ aps.header h ++ aps.aux a
+
+pub record OpensAps (bytes : List ℕ) (base : Key) (given : Option Eui) (t : Term) : Type 0 where
+  pub header : ApsHeader
+  pub aux : ApsAux
+  pub is_term : IsApsTerm t header aux
+  pub source : source_of aux.source given ≡ Some t.source
+  pub base_is : t.base ≡ base
+  pub fits : length bytes ≤ 127
+  pub same : at_place zero_level (length t.header.items - aps_size aux.source) bytes ≡ wire t

@@ -4,6 +4,7 @@
 pub mod ciphers;
 pub mod envelope;
 pub mod key;
+mod laws;
 mod opening;
 mod sealing;
 pub mod term;
@@ -11,7 +12,11 @@ pub mod term;
 pub use ciphers::Ciphers;
 pub use envelope::{Envelope, OpenError};
 pub use key::{nonce, real_level, sealing_key, zero_level};
+pub use laws::wire_and_open;
 pub use opening::{look_aps, look_nwk, open_aps, open_aps_with, open_nwk, open_nwk_with};
 pub use sealing::{wire, wire_with};
 pub use term::Term;
 pub use zb_cursor::TooLong;
+
+#[cfg(test)]
+mod tests;

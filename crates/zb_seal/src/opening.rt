@@ -1,5 +1,5 @@
 //! From the bytes on the air to a term.
-ghost use Rattle.std.specs.Prelude.{◌≡◌, ◌+◌, ◌-◌, ◌≤◌, ◌<◌, ◌++◌, length, take, IfOk, IfSome, Some, None};
+ghost use Rattle.std.specs.Prelude.{◌≡◌, ◌+◌, ◌-◌, ◌≤◌, ◌<◌, ◌++◌, length, take, IfOk, IfSome, Some, None, Ok};
 ghost use Rattle.zb_base.specs.declared.label.Label.TheVariants.{Network};
 ghost use Rattle.zb_nwk.specs.Shape.{Spells as SpellsNwk};
 ghost use Rattle.zb_aps.specs.Shape.{key_id, Spells as SpellsAps};
@@ -7,7 +7,8 @@ ghost use Rattle.zb_seal.specs.Keys.{sealing_key as key_of};
 ghost use Rattle.zb_seal.specs.Wire.{at_place, real_level as restored};
 ghost use Rattle.zb_nwk.specs.Spelling.{header as header_of_nwk, aux as aux_of_nwk};
 ghost use Rattle.zb_aps.specs.Spelling.{header as header_of_aps, aux as aux_of_aps};
-ghost use Rattle.zb_seal.specs.Opening.{leveled_nwk, leveled_aps, aps_size as size_of_aps, nwk_envelope as envelope_of_nwk, aps_envelope as envelope_of_aps, seen_nwk, seen_aps, label_of as label_of_id, opened_nwk, opened_aps};
+ghost use Rattle.zb_seal.specs.Opening.{leveled_nwk, leveled_aps, aps_size as size_of_aps, nwk_envelope as envelope_of_nwk, aps_envelope as envelope_of_aps, seen_nwk, seen_aps, label_of as label_of_id, opened_nwk, opened_aps, OpensNwk, OpensAps};
+ghost use Rattle.zb_seal.specs.declared.term.Term.{Term};
 
 use crate::ciphers::Ciphers;
 use crate::envelope::{Envelope, OpenError};
@@ -167,7 +168,11 @@ pub fn open_nwk_with(bytes: &[u8], key: &Key, cipher: &Cipher) -> Result<Term, O
 /// The term of a NWK frame under a network key.
 pub fn open_nwk(bytes: &[u8], key: &Key) -> Result<Term, OpenError>
     ensures exact { result ≡ opened_nwk bytes.now key.now }
+    // What is answered is what the bytes open to, and what the bytes open to is answered.
+    ensures found { IfOk result (λ t. OpensNwk bytes.now key.now t) }
+    ensures only { (t : Term) → OpensNwk bytes.now key.now t → result ≡ Ok t }
 {
+    known_key(key);
     open_nwk_with(bytes, key, &Cipher::new(&key.0))
 }
 
@@ -186,13 +191,30 @@ pub fn open_aps_with(
     Ok(term)
 }
 
-/// The term of an APS frame under a link key. `source` is the source where the frame names none.
 #[tactic(auto, unfolding(crate::specs::Opening::opened_aps))]
-pub fn open_aps(bytes: &[u8], base: &Key, source: Option<Eui>) -> Result<Term, OpenError>
-    ensures exact { result ≡ opened_aps bytes.now base.now source }
+fn open_aps_once(bytes: &[u8], base: &Key, source: Option<Eui>) -> Result<Term, OpenError>
+    ensures { result ≡ opened_aps bytes.now base.now source }
 {
     let envelope = look_aps(bytes)?;
     let key = sealing_key(envelope.label, base);
     let term = envelope.open_with(base, &Cipher::new(&key.0), source)?;
     Ok(term)
+}
+
+/// The term of an APS frame under a link key. `source` is the source where the frame names none.
+pub fn open_aps(bytes: &[u8], base: &Key, source: Option<Eui>) -> Result<Term, OpenError>
+    ensures exact { result ≡ opened_aps bytes.now base.now source }
+    // What is answered is what the bytes open to, and what the bytes open to is answered.
+    ensures found { IfOk result (λ t. OpensAps bytes.now base.now source t) }
+    ensures only { (t : Term) → OpensAps bytes.now base.now source t → result ≡ Ok t }
+{
+    known_key(base);
+    open_aps_once(bytes, base, source)
+}
+
+// That a key has 16 bytes, for what is said of it.
+fn known_key(key: &Key)
+    ensures { length key.now.0 ≡ 16 }
+{
+    let _bytes = key.0;
 }

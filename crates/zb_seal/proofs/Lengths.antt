@@ -1,0 +1,51 @@
+-- Keys that are derived have 16 bytes, and a code has the length that is asked for.
+use Rattle.std.proofs.Common.{◌≡◌, ℕ, zero, suc, ◌+◌, ◌*◌, ◌/◌, ◌≤◌, List, [], ◌∷◌, ◌++◌, length, take, drop, map, replicate, refl, ◌∙◌, arith, length-take, length-drop, length-append}
+use Rattle.std.specs.List.{fold, range_with_len}
+use Rattle.zb_base.specs.declared.label.Label.{Label}
+use Rattle.zb_base.specs.declared.label.Label.TheVariants.{Data, Network, Transport, Load}
+use Rattle.zb_aes.proofs.Lengths.{length-enciphered}
+use Rattle.zb_aes.proofs.Xored.{length-xored}
+use Rattle.zb_aes.specs.Block.{enciphered}
+use Rattle.zb_aes.specs.Bytes.{xored}
+use Rattle.zb_mmo.specs.Hash.{blocks_of, mixed, hash, padded}
+use Rattle.zb_mmo.specs.Keyed.{keyed, inner_pad, outer_pad}
+use Rattle.zb_ccm.specs.Blocks.{chain, chained}
+use Rattle.zb_ccm.specs.Ccm.{authenticated_blocks, code, sealed, stream_block}
+use Rattle.zb_seal.specs.Keys.{sealing_key}
+
+length-mixed : (value block : List ℕ) → length value ≡ 16 → 16 ≤ length block → length (mixed value block) ≡ 16
+length-mixed value block h le = length-xored (enciphered value block) block (omega (arith, length-enciphered value block h)) ∙ length-enciphered value block h
+
+mixed_range : (bytes value : List ℕ) (a n : ℕ) → length value ≡ 16 → 16 * (a + n) ≤ length bytes → length (fold mixed value (map (λ i. take 16 (drop (16 * i) bytes)) (range_with_len a n))) ≡ 16
+mixed_range bytes value a zero h le = h
+mixed_range bytes value a (suc n) h le =
+    let block : List ℕ = take 16 (drop (16 * a) bytes) in
+    let long : 16 ≤ length block = omega (arith, length-take 16 (drop (16 * a) bytes), length-drop (16 * a) bytes) in
+    mixed_range bytes (mixed value block) (a + 1) n (length-mixed value block h long) (omega arith)
+
+length-hash : (bytes : List ℕ) → length (hash bytes) ≡ 16
+unfolding hash blocks_of
+length-hash bytes = mixed_range (padded bytes) (replicate 16 0) 0 (length (padded bytes) / 16) refl (omega arith)
+
+pub length-keyed : (key bytes : List ℕ) → length (keyed key bytes) ≡ 16
+unfolding keyed
+length-keyed key bytes = length-hash (outer_pad key ++ hash (inner_pad key ++ bytes))
+
+pub length-sealing_key : (label : Label) (base : List ℕ) → length base ≡ 16 → length (sealing_key label base) ≡ 16
+length-sealing_key Data base h = h
+length-sealing_key Network base h = h
+length-sealing_key Transport base h = length-keyed base (0 ∷ [])
+length-sealing_key Load base h = length-keyed base (2 ∷ [])
+
+length-chain : (key value : List ℕ) (blocks : List (List ℕ)) → length key ≡ 16 → length value ≡ 16 → length (chain key value blocks) ≡ 16
+length-chain key value [] h g = g
+length-chain key value (b ∷ bs) h g = length-chain key (chained key value b) bs h (length-enciphered key (xored value b) h)
+
+pub length-mic : (key nonce a message : List ℕ) → length key ≡ 16 → length (sealed key nonce a message 4).mic ≡ 4
+unfolding sealed code stream_block
+length-mic key nonce a message h =
+    let value : List ℕ = chain key (replicate 16 0) (authenticated_blocks nonce a message 4) in
+    let long : length value ≡ 16 = length-chain key (replicate 16 0) (authenticated_blocks nonce a message 4) h refl in
+    let stream : length (stream_block key nonce 0) ≡ 16 = length-enciphered key _ h in
+    let total = length-xored value (stream_block key nonce 0) (omega arith) in
+    omega (arith, length-take 4 (xored value (stream_block key nonce 0)))
