@@ -2,9 +2,9 @@ ghost use Rattle.std.specs.Prelude.{◌<◌, ◌^◌, length};
 ghost use Rattle.zb_cmd.specs.Shape.{IsCommand};
 
 use super::*;
-use arrayvec::ArrayVec;
 use std::process::Abort;
-use zb_base::{Eui, Frame, Key};
+use zb_base::{Eui, Key};
+use zb_cursor::frame_from;
 
 const DEVICE: Eui = Eui(0x0012_4B00_0000_0002);
 
@@ -79,10 +79,9 @@ fn tunnels(rt: HostRuntime) {
 
 #[test]
 fn a_tunnel_too_long_to_write(rt: HostRuntime) {
-    let mut inner: Frame = ArrayVec::new();
-    for place in 0..119u8 {
-        inner.push(if place == 2 { 0x30 } else { 0 });
-    }
+    let mut bytes = [0; 119];
+    bytes[2] = 0x30;
+    let inner = frame_from(&bytes);
     assert!(rt; inner_ok(&inner));
     let tunnel = Command::Tunnel {
         destination: DEVICE,
