@@ -11,7 +11,7 @@ find_map p view [] = refl
 find_map p view (x ∷ xs) = at_test (p (view x)) (find_map p view xs)
   where
     at_test : (b : Bool) → find p (map view xs) ≡ option_map view (find (λ y. p (view y)) xs)
-      → (if b then Some (view x) else find p (map view xs)) ≡ option_map view (if b then Some x else find (λ y. p (view y)) xs)
+        → (if b then Some (view x) else find p (map view xs)) ≡ option_map view (if b then Some x else find (λ y. p (view y)) xs)
     at_test true e = refl
     at_test false e = e
 

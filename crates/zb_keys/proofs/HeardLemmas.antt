@@ -22,11 +22,14 @@ pub sound_nets : (a : Contents) (rows : List NetRow) (key : Bytes) (f : NetKey �
     → length rows ≡ a.nets.len → map net_key rows ≡ at_net key f (map net_key a.nets.items) → IsSound a → IsSound (record a { nets = with_items a.nets rows })
 sound_nets a rows key f mild shows long is sound =
     let state : state_of (record a { nets = with_items a.nets rows }) ≡ record (state_of a) { nets = at_net key f (map net_key a.nets.items) } =
-        ap (λ l. record (state_of a) { nets = map net_key l }) (with_items_is a.nets rows long) ∙ ap (λ l. record (state_of a) { nets = l }) is in
+    ap (λ l. record (state_of a) { nets = map net_key l }) (with_items_is a.nets rows long) ∙ ap (λ l. record (state_of a) { nets = l }) is in
     record {
       rules = subst (λ s. keeps_rules s ≡ true) (sym state) (kept_by_map (λ (r : NetKey). if same_key r.key key then f r else r) (mild_at key f mild) (state_of a) sound.rules);
       forgets = subst Forgets (sym state) (shown_at key f f shows (map net_key a.nets.items) sound.forgets);
-      nets_room = sound.nets_room; links_room = sound.links_room; pairs_room = sound.pairs_room }
+      nets_room = sound.nets_room;
+      links_room = sound.links_room;
+      pairs_room = sound.pairs_room;
+    }
 
 pub state_nets : (a : Contents) (rows : List NetRow) (nets : List NetKey) → length rows ≡ a.nets.len → map net_key rows ≡ nets → state_of (record a { nets = with_items a.nets rows }) ≡ record (state_of a) { nets = nets }
 state_nets a rows nets long is = ap (λ l. record (state_of a) { nets = map net_key l }) (with_items_is a.nets rows long) ∙ ap (λ l. record (state_of a) { nets = l }) is
@@ -44,17 +47,20 @@ heard_shows sender kept r same = by_live r.live refl
     by_live : (b : Bool) → r.live ≡ b → shown_net (net_kept sender kept r) ≡ net_kept sender kept r
     by_live true live = rw live refl
     by_live false dead =
-      let empty : r.floors ≡ [] = ap (λ (x : NetKey). x.floors) (sym (rw dead at same)) in
-      rw (dead, empty) refl
+        let empty : r.floors ≡ [] = ap (λ (x : NetKey). x.floors) (sym (rw dead at same)) in
+        rw (dead, empty) refl
 
 pub link_heard : (a : Contents) (rows : List LinkRow) (partner : ℕ) (key : Bytes) (kept : ℕ) → length rows ≡ a.links.len → map link_key rows ≡ at_link partner key (link_kept kept) (map link_key a.links.items) → IsSound a → IsSound (record a { links = with_items a.links rows })
 link_heard a rows partner key kept long is sound =
     let state : state_of (record a { links = with_items a.links rows }) ≡ record (state_of a) { links = at_link partner key (link_kept kept) (map link_key a.links.items) } =
-        ap (λ l. record (state_of a) { links = map link_key l }) (with_items_is a.links rows long) ∙ ap (λ l. record (state_of a) { links = l }) is in
+    ap (λ l. record (state_of a) { links = map link_key l }) (with_items_is a.links rows long) ∙ ap (λ l. record (state_of a) { links = l }) is in
     record {
       rules = subst (λ s. keeps_rules s ≡ true) (sym state) (kept_by_links (λ (r : LinkKey). if is_link partner key r then link_kept kept r else r) (λ r. bare_same (is_link partner key r) r) (state_of a) sound.rules);
       forgets = subst Forgets (sym state) sound.forgets;
-      nets_room = sound.nets_room; links_room = sound.links_room; pairs_room = sound.pairs_room }
+      nets_room = sound.nets_room;
+      links_room = sound.links_room;
+      pairs_room = sound.pairs_room;
+    }
   where
     bare_same : (b : Bool) (r : LinkKey) → record (if b then link_kept kept r else r) { kept = 0; stored = 0 } ≡ record r { kept = 0; stored = 0 }
     bare_same true r = refl
@@ -69,5 +75,5 @@ unfolding counted next_counter stored_limit active_row keys_differ
 counted_nets s key active kept reserved =
     let apart = (both (all_apart (λ (a b : NetKey). same_key a.key b.key) s.nets) _ (rules_of s kept).keys).0 in
     let nets : at_net key counted_row s.nets ≡ at_net key (λ (r : NetKey). next_at (r.next + 1) r) s.nets =
-        at_net_found key counted_row (λ (r : NetKey). next_at (r.next + 1) r) s.nets apart (λ r found. let lt : r.next < r.limit = rw (active, found) at reserved in let t : nat_lt r.next r.limit ≡ true = lt-ltb _ _ lt in rw t refl) in
+    at_net_found key counted_row (λ (r : NetKey). next_at (r.next + 1) r) s.nets apart (λ r found. let lt : r.next < r.limit = rw (active, found) at reserved in let t : nat_lt r.next r.limit ≡ true = lt-ltb _ _ lt in rw t refl) in
     ap (λ l. record s { nets = l }) (nets ∙ ap (λ a. of_active (λ (r : NetKey). next_at (r.next + 1) r) a s.nets) (sym active))

@@ -8,3 +8,5 @@ pub mod FindLemmas
 pub mod HeardLemmas
 pub mod ReadLemmas
 pub mod PlanLemmas
+pub mod WritingLemmas
+pub mod RecordLemmas

@@ -14,7 +14,7 @@ use Rattle.zb_change.specs.declared.change.Change.{Change}
 use Rattle.zb_change.specs.declared.change.Change.TheVariants as change
 use Rattle.zb_change.specs.Changes.{edit, edits}
 use Rattle.zb_model.specs.Data.{Bytes, Move, DropNet, Edit, Moved, Active, Start, Install, Row, Live, Removed, Pair, Provisional, Unverified, Verified}
-use Rattle.zb_model.specs.State.{NodeState, NetKey, LinkKey, live_nets, same_key, net_of, has_net, has_link, is_live_of, is_unverified, live_of, last_where, other_user, current, offered, is_centre}
+use Rattle.zb_model.specs.State.{NodeState, NetKey, LinkKey, live_nets, same_key, net_of, has_net, has_link, is_live_of, is_unverified, live_of, last_where, newest, other_user, current, offered, is_centre}
 use Rattle.zb_model.specs.Fits.{keeps_rules, partners_agree, all_apart, like_rows, same_bool, most_links}
 use Rattle.zb_model.specs.Rules.{drop_old, first_drop, is_active, nets_full, links_full, drop_link, drop_partner, drop_row}
 use Rattle.zb_model.specs.Commands.{dropped_at, activates, has_key, verified_current}
@@ -39,8 +39,9 @@ adds_nothing n old = record { made = sym (append-nil (edits old)); room = omega 
 
 pub adds_then : {p q : List Edit} {m n : ℕ} (k : ℕ) (a b c : List Change) → m + n ≤ k → Adds p m a b → Adds q n b c → Adds (p ++ q) k a c
 adds_then {p} {q} k a b c few first second = record {
-    made = second.made ∙ ap (λ l. l ++ q) first.made ∙ append_assoc (edits a) p q;
-    room = omega (arith, first.room, second.room) }
+  made = second.made ∙ ap (λ l. l ++ q) first.made ∙ append_assoc (edits a) p q;
+  room = omega (arith, first.room, second.room);
+}
 
 pub adds_as : {p : List Edit} {m : ℕ} (q : List Edit) (n : ℕ) (a b : List Change) → p ≡ q → m ≤ n → Adds p m a b → Adds q n a b
 adds_as {p} {m} q n a b same few so = record { made = so.made ∙ ap (λ l. edits a ++ l) same; room = omega (arith, so.room) }
@@ -73,11 +74,12 @@ first_of p q [] = refl
 first_of p q (x ∷ xs) = at_test (p x) (first_of p q xs)
   where
     inner : (c : Bool) → first_drop (filter q (filter p xs)) ≡ to_drop (find (λ (r : NetKey). p r && q r) xs)
-      → first_drop (if c then x ∷ filter q (filter p xs) else filter q (filter p xs)) ≡ to_drop (if c then Some x else find (λ (r : NetKey). p r && q r) xs)
+        → first_drop (if c then x ∷ filter q (filter p xs) else filter q (filter p xs)) ≡ to_drop (if c then Some x else find (λ (r : NetKey). p r && q r) xs)
     inner true e = refl
     inner false e = e
+
     at_test : (b : Bool) → first_drop (filter q (filter p xs)) ≡ to_drop (find (λ (r : NetKey). p r && q r) xs)
-      → first_drop (filter q (if b then x ∷ filter p xs else filter p xs)) ≡ to_drop (if b && q x then Some x else find (λ (r : NetKey). p r && q r) xs)
+        → first_drop (filter q (if b then x ∷ filter p xs else filter p xs)) ≡ to_drop (if b && q x then Some x else find (λ (r : NetKey). p r && q r) xs)
     at_test true e = inner (q x) e
     at_test false e = e
 
@@ -96,8 +98,8 @@ unfolding drop_old
 drop_idle a n o is many found =
     let two : nat_le 2 (length (live_nets (state_of a))) ≡ true = le-leb 2 _ (omega (arith, is, live_count a)) in
     let row : to_drop (option_map net_key o) ≡ first_drop (filter (λ (r : NetKey). not (is_active (active_bytes a.active) r)) (live_nets (state_of a))) =
-        ap (λ x. to_drop (option_map net_key x)) found ∙ sym (ap to_drop (find_map (λ (r : NetKey). r.live && not (is_active (active_bytes a.active) r)) net_key a.nets.items))
-        ∙ sym (first_of (λ (r : NetKey). r.live) (λ (r : NetKey). not (is_active (active_bytes a.active) r)) (map net_key a.nets.items)) in
+    ap (λ x. to_drop (option_map net_key x)) found ∙ sym (ap to_drop (find_map (λ (r : NetKey). r.live && not (is_active (active_bytes a.active) r)) net_key a.nets.items))
+    ∙ sym (first_of (λ (r : NetKey). r.live) (λ (r : NetKey). not (is_active (active_bytes a.active) r)) (map net_key a.nets.items)) in
     rw two (ap moves row)
 
 -- the dropped row of a key, looked for from a place on
@@ -132,6 +134,13 @@ newest_found a sequence o found =
     ap (option_map net_key) found
     ∙ sym (find_map (λ (r : NetKey). r.live && nat_eq r.sequence sequence) net_key (reverse a.nets.items))
     ∙ ap (find (λ (r : NetKey). r.live && nat_eq r.sequence sequence)) (sym (reverse-map net_key a.nets.items))
+
+pub newest_is : (a : Contents) (o : Option NetRow) → o ≡ last_where (λ (r : NetRow). (net_key r).live) a.nets.items → option_map net_key o ≡ newest (state_of a)
+unfolding newest
+newest_is a o found =
+    ap (option_map net_key) found
+    ∙ sym (find_map (λ (r : NetKey). r.live) net_key (reverse a.nets.items))
+    ∙ ap (find (λ (r : NetKey). r.live)) (sym (reverse-map net_key a.nets.items))
 
 pub switch_found : (s : NodeState) (sequence : ℕ) (o : Option NetKey) → o ≡ live_of s sequence → switching_to s o ≡ switching s sequence
 unfolding switching
@@ -184,10 +193,10 @@ one_of_class partner class (r ∷ rs) apart =
     at_test (of_class partner class r) refl (not-true _ parts.0) (one_of_class partner class rs parts.1)
   where
     at_test : (b : Bool) → of_class partner class r ≡ b → list_any (λ (x : LinkKey). like_rows r x && same_bool (is_unverified r.trust) (is_unverified x.trust)) rs ≡ false
-      → length (filter (of_class partner class) rs) ≤ 1 → length (if of_class partner class r then r ∷ filter (of_class partner class) rs else filter (of_class partner class) rs) ≤ 1
+        → length (filter (of_class partner class) rs) ≤ 1 → length (if of_class partner class r then r ∷ filter (of_class partner class) rs else filter (of_class partner class) rs) ≤ 1
     at_test true is alone few =
-      let none : filter (of_class partner class) rs ≡ [] = none_pass (of_class partner class) (λ (x : LinkKey). like_rows r x && same_bool (is_unverified r.trust) (is_unverified x.trust)) (λ x passes. alike_of partner class r x is passes) rs alone in
-      rw (is, none) (omega arith)
+        let none : filter (of_class partner class) rs ≡ [] = none_pass (of_class partner class) (λ (x : LinkKey). like_rows r x && same_bool (is_unverified r.trust) (is_unverified x.trust)) (λ x passes. alike_of partner class r x is passes) rs alone in
+        rw (is, none) (omega arith)
     at_test false is alone few = rw is few
 
 two_classes : (partner : ℕ) (links : List LinkKey) → length (filter (is_live_of partner) links) ≤ length (filter (of_class partner true) links) + length (filter (of_class partner false) links)
@@ -195,7 +204,7 @@ two_classes partner [] = omega arith
 two_classes partner (r ∷ rs) = at_test (is_live_of partner r) (is_unverified r.trust) (two_classes partner rs)
   where
     at_test : (b u : Bool) → length (filter (is_live_of partner) rs) ≤ length (filter (of_class partner true) rs) + length (filter (of_class partner false) rs)
-      → length (if b then r ∷ filter (is_live_of partner) rs else filter (is_live_of partner) rs)
+        → length (if b then r ∷ filter (is_live_of partner) rs else filter (is_live_of partner) rs)
         ≤ length (if b && same_bool u true then r ∷ filter (of_class partner true) rs else filter (of_class partner true) rs) + length (if b && same_bool u false then r ∷ filter (of_class partner false) rs else filter (of_class partner false) rs)
     at_test true true few = omega arith
     at_test true false few = omega arith
@@ -227,8 +236,8 @@ drops_one partner rows i d x a b c lt live is so one =
     let before = filter (is_live_of partner) (map link_key (take i rows)) in
     let step = upto partner rows i d true lt live in
     let pieces : moves (map drop_link (filter (is_live_of partner) (map link_key (take (i + 1) rows)))) ≡ moves (map drop_link before) ++ x ∷ [] =
-        ap (λ l. moves (map drop_link l)) step ∙ ap moves (map_push drop_link before (link_key (get_or rows i d))) ∙ map_push Moved (map drop_link before) (drop_link (link_key (get_or rows i d)))
-        ∙ ap (λ e. moves (map drop_link before) ++ e ∷ []) (sym is) in
+    ap (λ l. moves (map drop_link l)) step ∙ ap moves (map_push drop_link before (link_key (get_or rows i d))) ∙ map_push Moved (map drop_link before) (drop_link (link_key (get_or rows i d)))
+    ∙ ap (λ e. moves (map drop_link before) ++ e ∷ []) (sym is) in
     let number : length before + 1 ≡ length (filter (is_live_of partner) (map link_key (take (i + 1) rows))) = sym (ap (length {A = LinkKey}) step ∙ length_push before (link_key (get_or rows i d))) in
     record { adds = adds_as _ _ a c (sym pieces) (omega (arith, number)) (adds_then (length before + 1) a b c (omega arith) so.adds one) }
 
@@ -242,10 +251,10 @@ pub drops_room : (partner : ℕ) (rows : List LinkRow) (i : ℕ) (d : LinkRow) (
 drops_room partner rows i d old new all lt live so room =
     let step = ap (length {A = LinkKey}) (upto partner rows i d true lt live) ∙ length_push _ _ in
     let part : length (filter (is_live_of partner) (map link_key (take (i + 1) rows))) ≤ length (filter (is_live_of partner) (map link_key rows)) =
-        let split : filter (is_live_of partner) (map link_key rows) ≡ filter (is_live_of partner) (map link_key (take (i + 1) rows)) ++ filter (is_live_of partner) (map link_key (drop (i + 1) rows)) =
-            ap (λ l. filter (is_live_of partner) (map link_key l)) (sym (take-append-drop (i + 1) rows)) ∙ ap (filter (is_live_of partner)) (map-append link_key (take (i + 1) rows) (drop (i + 1) rows))
-            ∙ filter-append (is_live_of partner) (map link_key (take (i + 1) rows)) (map link_key (drop (i + 1) rows)) in
-        omega (arith, ap (length {A = LinkKey}) split, length-append (filter (is_live_of partner) (map link_key (take (i + 1) rows))) (filter (is_live_of partner) (map link_key (drop (i + 1) rows)))) in
+    let split : filter (is_live_of partner) (map link_key rows) ≡ filter (is_live_of partner) (map link_key (take (i + 1) rows)) ++ filter (is_live_of partner) (map link_key (drop (i + 1) rows)) =
+    ap (λ l. filter (is_live_of partner) (map link_key l)) (sym (take-append-drop (i + 1) rows)) ∙ ap (filter (is_live_of partner)) (map-append link_key (take (i + 1) rows) (drop (i + 1) rows))
+    ∙ filter-append (is_live_of partner) (map link_key (take (i + 1) rows)) (map link_key (drop (i + 1) rows)) in
+    omega (arith, ap (length {A = LinkKey}) split, length-append (filter (is_live_of partner) (map link_key (take (i + 1) rows))) (filter (is_live_of partner) (map link_key (drop (i + 1) rows)))) in
     omega (arith, so.adds.room, all, step, part)
 
 pub drops_all : (a : Contents) (partner : ℕ) (n : ℕ) (old new : List Change) → IsSound a → length a.links.items ≤ n → Dropping partner a.links.items n old new → Adds (moves (drop_partner (state_of a) partner)) 2 old new
@@ -253,7 +262,7 @@ unfolding drop_partner
 drops_all a partner n old new sound long so =
     let whole : take n a.links.items ≡ a.links.items = take_all n a.links.items long in
     adds_as _ 2 old new (ap (λ l. moves (map drop_link (filter (is_live_of partner) (map link_key l)))) whole)
-      (omega (arith, few_live (state_of a) partner sound.rules, ap (λ l. length {A = LinkKey} (filter (is_live_of partner) (map link_key l))) whole)) so.adds
+    (omega (arith, few_live (state_of a) partner sound.rules, ap (λ l. length {A = LinkKey} (filter (is_live_of partner) (map link_key l))) whole)) so.adds
 
 pub taking_full : (s : NodeState) (partner : ℕ) (key : Bytes) (told : List Edit) → has_link partner key s.links ≡ false → most_links s.duty ≤ length s.links → taking s partner key told ≡ Err RowsFull
 taking_full s partner key told none many = let full : nat_le (most_links s.duty) (length s.links) ≡ true = le-leb _ _ many in rw (none, full) refl

@@ -205,36 +205,48 @@ fits_kept (Moved m) s fit kept = move_kept m s fit kept
 -- a change of one key's row
 pub mild_at : (key : Bytes) (f : NetKey → NetKey) → Mild f → Mild (λ (r : NetKey). if same_key r.key key then f r else r)
 mild_at key f mild = record {
-    key = λ r. key_of (same_key r.key key) r; live = λ r. live_of (same_key r.key key) r;
-    limit = λ r e. limit_of (same_key r.key key) r e; floors = λ r e. floors_of (same_key r.key key) r e }
+  key = λ r. key_of (same_key r.key key) r;
+  live = λ r. live_of (same_key r.key key) r;
+  limit = λ r e. limit_of (same_key r.key key) r e;
+  floors = λ r e. floors_of (same_key r.key key) r e;
+}
   where
     key_of : (b : Bool) (r : NetKey) → (if b then f r else r).key ≡ r.key
     key_of true r = mild.key r
     key_of false r = refl
+
     live_of : (b : Bool) (r : NetKey) → (if b then f r else r).live ≡ r.live
     live_of true r = mild.live r
     live_of false r = refl
+
     limit_of : (b : Bool) (r : NetKey) → limit_rule r ≡ true → limit_rule (if b then f r else r) ≡ true
     limit_of true r e = mild.limit r e
     limit_of false r e = e
+
     floors_of : (b : Bool) (r : NetKey) → floors_rule r ≡ true → floors_rule (if b then f r else r) ≡ true
     floors_of true r e = mild.floors r e
     floors_of false r e = e
 
 pub counted_is_mild : Mild counted_row
 counted_is_mild = record {
-    key = λ r. key_of (nat_lt r.next r.limit) r; live = λ r. live_of (nat_lt r.next r.limit) r;
-    limit = λ r e. limit_of (nat_lt r.next r.limit) r e; floors = λ r e. floors_of (nat_lt r.next r.limit) r e }
+  key = λ r. key_of (nat_lt r.next r.limit) r;
+  live = λ r. live_of (nat_lt r.next r.limit) r;
+  limit = λ r e. limit_of (nat_lt r.next r.limit) r e;
+  floors = λ r e. floors_of (nat_lt r.next r.limit) r e;
+}
   where
     key_of : (b : Bool) (r : NetKey) → (if b then next_at (r.next + 1) r else r).key ≡ r.key
     key_of true r = refl
     key_of false r = refl
+
     live_of : (b : Bool) (r : NetKey) → (if b then next_at (r.next + 1) r else r).live ≡ r.live
     live_of true r = refl
     live_of false r = refl
+
     limit_of : (b : Bool) (r : NetKey) → limit_rule r ≡ true → limit_rule (if b then next_at (r.next + 1) r else r) ≡ true
     limit_of true r e = e
     limit_of false r e = e
+
     floors_of : (b : Bool) (r : NetKey) → floors_rule r ≡ true → floors_rule (if b then next_at (r.next + 1) r else r) ≡ true
     floors_of true r e = e
     floors_of false r e = e
@@ -264,22 +276,25 @@ ascend_kept : (sender kept : ℕ) (fs : List SenderFloor) → senders_ascend (ma
 ascend_kept sender kept [] = refl
 ascend_kept sender kept (f ∷ fs) =
     let first : list_all (λ (g : SenderFloor). nat_lt (kept_at sender kept f).sender g.sender) (map (kept_at sender kept) fs) ≡ list_all (λ (g : SenderFloor). nat_lt f.sender g.sender) fs =
-        list_all-map (λ (g : SenderFloor). nat_lt (kept_at sender kept f).sender g.sender) (kept_at sender kept) fs
-        ∙ all_same (λ (g : SenderFloor). nat_lt (kept_at sender kept f).sender (kept_at sender kept g).sender) (λ (g : SenderFloor). nat_lt f.sender g.sender)
-            (λ g. ap (λ a. nat_lt a (kept_at sender kept g).sender) (kept_sender sender kept f) ∙ ap (nat_lt f.sender) (kept_sender sender kept g)) fs in
+    list_all-map (λ (g : SenderFloor). nat_lt (kept_at sender kept f).sender g.sender) (kept_at sender kept) fs
+    ∙ all_same (λ (g : SenderFloor). nat_lt (kept_at sender kept f).sender (kept_at sender kept g).sender) (λ (g : SenderFloor). nat_lt f.sender g.sender)
+    (λ g. ap (λ a. nat_lt a (kept_at sender kept g).sender) (kept_sender sender kept f) ∙ ap (nat_lt f.sender) (kept_sender sender kept g)) fs in
     ap (λ b. b && senders_ascend (map (kept_at sender kept) fs)) first ∙ ap (λ b. list_all (λ (g : SenderFloor). nat_lt f.sender g.sender) fs && b) (ascend_kept sender kept fs)
 
 pub heard_is_mild : (sender kept : ℕ) → Mild (net_kept sender kept)
 heard_is_mild sender kept = record {
-    key = λ r. refl; live = λ r. refl; limit = λ r e. e;
-    floors = λ r e.
+  key = λ r. refl;
+  live = λ r. refl;
+  limit = λ r e. e;
+  floors = λ r e.
       let long : nat_le (length (floor_kept sender kept r.floors)) most_senders ≡ nat_le (length r.floors) most_senders = ap (λ n. nat_le n most_senders) (length-map r.floors (kept_at sender kept)) in
       let stored : list_all (λ (f : SenderFloor). nat_lt 0 f.stored) (floor_kept sender kept r.floors) ≡ list_all (λ (f : SenderFloor). nat_lt 0 f.stored) r.floors =
-          list_all-map (λ (f : SenderFloor). nat_lt 0 f.stored) (kept_at sender kept) r.floors ∙ all_same (λ (f : SenderFloor). nat_lt 0 (kept_at sender kept f).stored) (λ (f : SenderFloor). nat_lt 0 f.stored) (λ f. ap (nat_lt 0) (kept_stored sender kept f)) r.floors in
+      list_all-map (λ (f : SenderFloor). nat_lt 0 f.stored) (kept_at sender kept) r.floors ∙ all_same (λ (f : SenderFloor). nat_lt 0 (kept_at sender kept f).stored) (λ (f : SenderFloor). nat_lt 0 f.stored) (λ f. ap (nat_lt 0) (kept_stored sender kept f)) r.floors in
       ap (λ b. b && (list_all (λ (f : SenderFloor). nat_lt 0 f.stored) (floor_kept sender kept r.floors) && senders_ascend (floor_kept sender kept r.floors))) long
       ∙ ap (λ b. nat_le (length r.floors) most_senders && (b && senders_ascend (floor_kept sender kept r.floors))) stored
       ∙ ap (λ b. nat_le (length r.floors) most_senders && (list_all (λ (f : SenderFloor). nat_lt 0 f.stored) r.floors && b)) (ascend_kept sender kept r.floors)
-      ∙ e }
+      ∙ e;
+}
 
 -- a change of link rows in their floors alone
 abbrev bare : LinkKey → LinkKey
@@ -294,21 +309,26 @@ kept_by_links g each s kept =
     let r = rules_of s kept in
     let now : NodeState = record s { links = map g s.links } in
     let keys : all_apart (λ (a b : LinkKey). same_key a.key b.key) (map g s.links) ≡ all_apart (λ (a b : LinkKey). same_key a.key b.key) s.links =
-        apart_map (λ (a b : LinkKey). same_key a.key b.key) g (λ a b. ap (λ (x : LinkKey). same_key x.key (g b).key) (each a) ∙ ap (λ (x : LinkKey). same_key a.key x.key) (each b)) s.links in
+    apart_map (λ (a b : LinkKey). same_key a.key b.key) g (λ a b. ap (λ (x : LinkKey). same_key x.key (g b).key) (each a) ∙ ap (λ (x : LinkKey). same_key a.key x.key) (each b)) s.links in
     let classes : all_apart (λ (a b : LinkKey). like_rows a b && same_bool (is_unverified a.trust) (is_unverified b.trust)) (map g s.links) ≡ all_apart (λ (a b : LinkKey). like_rows a b && same_bool (is_unverified a.trust) (is_unverified b.trust)) s.links =
-        apart_map (λ (a b : LinkKey). like_rows a b && same_bool (is_unverified a.trust) (is_unverified b.trust)) g
-          (λ a b. ap (λ (x : LinkKey). like_rows x (g b) && same_bool (is_unverified x.trust) (is_unverified (g b).trust)) (each a) ∙ ap (λ (x : LinkKey). like_rows a x && same_bool (is_unverified a.trust) (is_unverified x.trust)) (each b)) s.links in
+    apart_map (λ (a b : LinkKey). like_rows a b && same_bool (is_unverified a.trust) (is_unverified b.trust)) g
+    (λ a b. ap (λ (x : LinkKey). like_rows x (g b) && same_bool (is_unverified x.trust) (is_unverified (g b).trust)) (each a) ∙ ap (λ (x : LinkKey). like_rows a x && same_bool (is_unverified a.trust) (is_unverified x.trust)) (each b)) s.links in
     let tolds : all_apart (λ (a b : LinkKey). like_rows a b && not (same_bool a.told b.told)) (map g s.links) ≡ all_apart (λ (a b : LinkKey). like_rows a b && not (same_bool a.told b.told)) s.links =
-        apart_map (λ (a b : LinkKey). like_rows a b && not (same_bool a.told b.told)) g
-          (λ a b. ap (λ (x : LinkKey). like_rows x (g b) && not (same_bool x.told (g b).told)) (each a) ∙ ap (λ (x : LinkKey). like_rows a x && not (same_bool a.told x.told)) (each b)) s.links in
+    apart_map (λ (a b : LinkKey). like_rows a b && not (same_bool a.told b.told)) g
+    (λ a b. ap (λ (x : LinkKey). like_rows x (g b) && not (same_bool x.told (g b).told)) (each a) ∙ ap (λ (x : LinkKey). like_rows a x && not (same_bool a.told x.told)) (each b)) s.links in
     rules_back now (record {
       room = ap (λ n. nat_le (length s.nets) 256 && (nat_le n (most_links s.duty) && nat_le (length s.pairs) 256)) (length-map s.links g) ∙ r.room;
       keys = ap (λ b. all_apart (λ (a b : NetKey). same_key a.key b.key) s.nets && b) keys ∙ r.keys;
-      two = r.two; active = r.active;
+      two = r.two;
+      active = r.active;
       partners = ap (λ b. b && all_apart (λ (a b : LinkKey). like_rows a b && not (same_bool a.told b.told)) (map g s.links)) classes
-        ∙ ap (λ b. all_apart (λ (a b : LinkKey). like_rows a b && same_bool (is_unverified a.trust) (is_unverified b.trust)) s.links && b) tolds ∙ r.partners;
+          ∙ ap (λ b. all_apart (λ (a b : LinkKey). like_rows a b && same_bool (is_unverified a.trust) (is_unverified b.trust)) s.links && b) tolds ∙ r.partners;
       marks = all_map (link_rule s.duty) g (λ x e. ap (λ (y : LinkKey). link_rule s.duty y) (each x) ∙ e) s.links r.marks;
-      floors = r.floors; limits = r.limits; duty_kept = r.duty_kept; pairs_kept = r.pairs_kept })
+      floors = r.floors;
+      limits = r.limits;
+      duty_kept = r.duty_kept;
+      pairs_kept = r.pairs_kept;
+    })
 
 -- only one row has a key
 pub same_key_is : (a b : Bytes) → same_key a b ≡ true → a ≡ b
@@ -334,13 +354,13 @@ at_net_found key f g (r ∷ rs) apart each =
     at_test (same_key r.key key) refl parts.0 (λ e. at_net_found key f g rs parts.1 e) each
   where
     at_test : (b : Bool) → same_key r.key key ≡ b → not (list_any (λ (x : NetKey). same_key r.key x.key) rs) ≡ true
-      → (((x : NetKey) → find (λ (y : NetKey). same_key y.key key) rs ≡ Some x → f x ≡ g x) → at_net key f rs ≡ at_net key g rs)
-      → ((x : NetKey) → (if same_key r.key key then Some r else find (λ (y : NetKey). same_key y.key key) rs) ≡ Some x → f x ≡ g x)
-      → (if same_key r.key key then f r else r) ∷ at_net key f rs ≡ (if same_key r.key key then g r else r) ∷ at_net key g rs
+        → (((x : NetKey) → find (λ (y : NetKey). same_key y.key key) rs ≡ Some x → f x ≡ g x) → at_net key f rs ≡ at_net key g rs)
+        → ((x : NetKey) → (if same_key r.key key then Some r else find (λ (y : NetKey). same_key y.key key) rs) ≡ Some x → f x ≡ g x)
+        → (if same_key r.key key then f r else r) ∷ at_net key f rs ≡ (if same_key r.key key then g r else r) ∷ at_net key g rs
     at_test true is alone later each =
-      let here : f r ≡ g r = each r (rw is refl) in
-      let none : list_any (λ (x : NetKey). same_key x.key key) rs ≡ false =
-          any_same (λ (x : NetKey). same_key x.key key) (λ (x : NetKey). same_key r.key x.key) (λ x. same_key_sym x.key key ∙ ap (λ k. same_key k x.key) (sym (same_key_is r.key key is))) rs ∙ not-true _ alone in
-      rw is (ap (λ x. x ∷ at_net key f rs) here ∙ ap (λ l. g r ∷ l) (none_at key f rs none ∙ sym (none_at key g rs none)))
+        let here : f r ≡ g r = each r (rw is refl) in
+        let none : list_any (λ (x : NetKey). same_key x.key key) rs ≡ false =
+        any_same (λ (x : NetKey). same_key x.key key) (λ (x : NetKey). same_key r.key x.key) (λ x. same_key_sym x.key key ∙ ap (λ k. same_key k x.key) (sym (same_key_is r.key key is))) rs ∙ not-true _ alone in
+        rw is (ap (λ x. x ∷ at_net key f rs) here ∙ ap (λ l. g r ∷ l) (none_at key f rs none ∙ sym (none_at key g rs none)))
     at_test false is alone later each =
-      rw is (ap (λ l. r ∷ l) (later (λ x e. each x (rw is e))))
+        rw is (ap (λ l. r ∷ l) (later (λ x e. each x (rw is e))))

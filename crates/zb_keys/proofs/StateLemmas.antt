@@ -162,7 +162,7 @@ pub record Rooms (s : NodeState) : Type 0 where
   pub links : length s.links ≤ most_links s.duty
   pub pairs : length s.pairs ≤ most_pairs
 
-rooms_of : (s : NodeState) → rows_have_room s ≡ true → Rooms s
+pub rooms_of : (s : NodeState) → rows_have_room s ≡ true → Rooms s
 unfolding rows_have_room
 rooms_of s kept =
     let first = both (nat_le (length s.nets) most_nets) _ kept in

@@ -1,8 +1,9 @@
 //! The calls on tables that tell changes of rows, or why there are none. They change nothing. The draw of a new key and
 //! the state of the node are not among the changes: who calls adds them.
-ghost use Rattle.std.specs.Prelude.{◌≡◌};
+ghost use Rattle.std.specs.Prelude.{◌≡◌, ◌<◌, ◌≤◌, length};
+ghost use Rattle.zb_model.specs.Rules.{drop_old};
 ghost use Rattle.zb_change.specs.Changes.{edits};
-ghost use Rattle.zb_keys.specs.Planning.{Tells, installing, providing, offering, partnering, verifying, switching, dropping, pairing};
+ghost use Rattle.zb_keys.specs.Planning.{Adds, Tells, moves, activation, installing, providing, offering, partnering, verifying, switching, dropping, pairing};
 
 use crate::Tables;
 use zb_base::{Eui, Key};
@@ -84,5 +85,23 @@ impl Tables {
         ensures { Tells (λ changes. changes.items) result (partnering self.now partner.0 key.now.0) }
     {
         self.contents.partner(partner, key)
+    }
+
+    /// Adds the drop that makes room for a third network key in use: that of the one that isn't active, or of the first
+    /// where none is.
+    pub fn add_drop_old(&self, changes: &mut Changes)
+        requires { length changes.old.items < 16 }
+        ensures { Adds (moves (drop_old self.now)) 1 changes.old.items changes.new.items }
+    {
+        self.contents.add_drop_old(changes)
+    }
+
+    /// Adds what makes a network key the active one, if it isn't: the change itself, and where it starts to count if it
+    /// never was active.
+    pub fn add_activation(&self, changes: &mut Changes, key: &Key)
+        requires { length changes.old.items ≤ 14 }
+        ensures { Adds (activation self.now key.now.0) 2 changes.old.items changes.new.items }
+    {
+        self.contents.add_activation(changes, key)
     }
 }

@@ -11,9 +11,12 @@ ghost use Rattle.zb_model.specs.State.{applied, shown, at_net, next_counter, sto
 ghost use Rattle.zb_model.specs.Fits.{keeps_rules};
 
 use crate::link::{
-    current_row, drop_link, has_row, has_told, hear_link, offered_row, revive_link, store_link, tell_links, untell_links,
+    current_row, drop_link, has_row, has_told, hear_link, offered_row, revive_link, store_link,
+    tell_links, untell_links,
 };
-use crate::net::{count_net, drop_net, has_key, hear_net, key_place, key_row, reserve_net, start_net, store_net};
+use crate::net::{
+    count_net, drop_net, has_key, hear_net, key_place, key_row, reserve_net, start_net, store_net,
+};
 use crate::pair::{drop_pairs, has_pair};
 use crate::{LinkRow, NetRow, Pair};
 use zb_base::{Eui, Key, Layer, Role};
@@ -80,8 +83,16 @@ impl Contents {
         ensures { result ≡ outgoing_of Nwk block (state_of self.now) }
     {
         match self.active_row() {
-            Some(row) => Outgoing { next: row.next, limit: row.limit, block },
-            None => Outgoing { next: self.declared, limit: self.declared, block },
+            Some(row) => Outgoing {
+                next: row.next,
+                limit: row.limit,
+                block,
+            },
+            None => Outgoing {
+                next: self.declared,
+                limit: self.declared,
+                block,
+            },
         }
     }
 
@@ -90,7 +101,11 @@ impl Contents {
     fn outgoing_aps(&self, block: u32) -> Outgoing
         ensures { result ≡ outgoing_of Aps block (state_of self.now) }
     {
-        Outgoing { next: self.aps_next, limit: self.aps_limit, block }
+        Outgoing {
+            next: self.aps_next,
+            limit: self.aps_limit,
+            block,
+        }
     }
 
     /// Sets the outgoing NWK counter of the start, before there is a network key.

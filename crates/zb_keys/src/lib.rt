@@ -11,10 +11,12 @@ mod pair;
 mod payload;
 mod planning;
 mod reading;
+mod record;
 mod tables;
 mod writing;
 
 pub use link::LinkRow;
 pub use net::{NetRow, SenderFloor};
 pub use pair::Pair;
+pub use planning::add;
 pub use tables::Tables;

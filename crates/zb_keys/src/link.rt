@@ -223,14 +223,16 @@ pub(crate) fn offered_row<'a>(rows: &'a [LinkRow], partner: Eui) -> Option<&'a L
 pub(crate) fn live_row<'a>(rows: &'a [LinkRow], partner: Eui) -> Option<&'a LinkRow>
     ensures { option_copied result ≡ find (λ r. is_live_of partner.0 (link_key r)) rows.now }
 {
-    rows.iter().find(|row| row.live && row.partner.0 == partner.0)
+    rows.iter()
+        .find(|row| row.live && row.partner.0 == partner.0)
 }
 
 /// The first row with that key of another partner.
 pub(crate) fn other_row<'a>(rows: &'a [LinkRow], partner: Eui, key: &Key) -> Option<&'a LinkRow>
     ensures { option_copied result ≡ find (λ r. same_key (link_key r).key key.now.0 && not (nat_eq (link_key r).partner partner.0)) rows.now }
 {
-    rows.iter().find(|row| row.key == *key && row.partner.0 != partner.0)
+    rows.iter()
+        .find(|row| row.key == *key && row.partner.0 != partner.0)
 }
 
 /// Keeps what was accepted of a partner under a key.

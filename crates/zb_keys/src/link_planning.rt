@@ -92,7 +92,9 @@ impl Contents {
             return Some(KeyError::RowsFull);
         }
         match self.other_user(partner, key) {
-            Some(row) => Some(KeyError::KeyInUse { partner: row.partner }),
+            Some(row) => Some(KeyError::KeyInUse {
+                partner: row.partner,
+            }),
             None => None,
         }
     }
@@ -260,13 +262,7 @@ impl Contents {
         ensures { option_map link_key (option_copied result) ≡ verified_current (state_of self.now) partner.0 }
     {
         match self.current(partner) {
-            Some(row) => {
-                if row.is_verified() {
-                    Some(row)
-                } else {
-                    None
-                }
-            }
+            Some(row) => { if row.is_verified() { Some(row) } else { None } }
             None => None,
         }
     }

@@ -125,7 +125,10 @@ impl NetRow {
         ensures { result ≡ floor_of_row sender.0 (Some (net_key self.now)) }
     {
         match stored_floor(self.floors.as_slice(), sender) {
-            Some(floor) => Floor { kept: floor.kept, stored: floor.stored },
+            Some(floor) => Floor {
+                kept: floor.kept,
+                stored: floor.stored,
+            },
             None => Floor { kept: 0, stored: 0 },
         }
     }

@@ -43,5 +43,7 @@ pub(crate) fn pair_row<'a>(pairs: &'a [Pair], a: Eui, b: Eui) -> Option<&'a Pair
 {
     let first = a.0.min(b.0);
     let second = a.0.max(b.0);
-    pairs.iter().find(|pair| pair.first.0 == first && pair.second.0 == second)
+    pairs
+        .iter()
+        .find(|pair| pair.first.0 == first && pair.second.0 == second)
 }

@@ -9,7 +9,7 @@ ghost use Rattle.zb_model.specs.Data.{Install, Moved};
 ghost use Rattle.zb_model.specs.Answer.{is_active_key, start_for, first_counter, row_is_started};
 ghost use Rattle.zb_model.specs.Rules.{drop_old, is_active};
 ghost use Rattle.zb_model.specs.Commands.{activates, dropped_at};
-ghost use Rattle.zb_model.specs.State.{same_key, last_where};
+ghost use Rattle.zb_model.specs.State.{same_key, last_where, newest};
 
 use crate::NetRow;
 use crate::contents::Contents;
@@ -19,7 +19,7 @@ use zb_base::Key;
 use zb_change::{Change, Changes, KeyError, State};
 
 /// Adds a change, for which there is room.
-pub(crate) fn add(changes: &mut Changes, change: Change)
+pub fn add(changes: &mut Changes, change: Change)
     requires { length changes.old.items < 16 }
     ensures { Adds (edit change ∷ []) 1 changes.old.items changes.new.items }
 {
@@ -111,7 +111,7 @@ impl Contents {
     }
 
     /// Adds what makes a network key the active one.
-    fn add_activation(&self, changes: &mut Changes, key: &Key)
+    pub(crate) fn add_activation(&self, changes: &mut Changes, key: &Key)
         requires { length changes.old.items ≤ 14 }
         ensures { Adds (activation (state_of self.now) key.now.0) 2 changes.old.items changes.new.items }
     {
@@ -162,7 +162,9 @@ impl Contents {
         ensures { Tells (λ changes. changes.items) result (installing (state_of self.now) key.now.0 sequence) }
     {
         match dropped_place(self.nets.as_slice(), key) {
-            Some(place) => Err(KeyError::KeyOld { place: place as u32 }),
+            Some(place) => Err(KeyError::KeyOld {
+                place: place as u32,
+            }),
             None => self.install_undropped(key, sequence),
         }
     }
@@ -195,7 +197,13 @@ impl Contents {
     {
         let mut changes = ArrayVec::new();
         self.add_drop_old(&mut changes);
-        add(&mut changes, Change::Install { key: *key, sequence });
+        add(
+            &mut changes,
+            Change::Install {
+                key: *key,
+                sequence,
+            },
+        );
         self.add_taken(&mut changes, key);
         changes
     }
@@ -208,6 +216,13 @@ impl Contents {
             Some(row) => Ok(self.switched(&row.key)),
             None => Err(KeyError::NoRow),
         }
+    }
+
+    /// The newest network key in use.
+    pub(crate) fn newest(&self) -> Option<&NetRow>
+        ensures { option_map net_key (option_copied result) ≡ newest (state_of self.now) }
+    {
+        newest_live(self.nets.as_slice())
     }
 
     /// What a switch to a network key changes.
@@ -224,5 +239,14 @@ impl Contents {
 fn newest_row(rows: &[NetRow], sequence: u8) -> Option<&NetRow>
     ensures { option_copied result ≡ last_where (λ r. (net_key r).live && nat_eq (net_key r).sequence sequence) rows.now }
 {
-    rows.iter().rev().find(|row| row.live && row.sequence == sequence)
+    rows.iter()
+        .rev()
+        .find(|row| row.live && row.sequence == sequence)
+}
+
+/// The newest network key in use.
+fn newest_live(rows: &[NetRow]) -> Option<&NetRow>
+    ensures { option_copied result ≡ last_where (λ r. (net_key r).live) rows.now }
+{
+    rows.iter().rev().find(|row| row.live)
 }

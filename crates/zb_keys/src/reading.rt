@@ -5,7 +5,7 @@ ghost use Rattle.zb_change.specs.Changes.{duty, tier, stage, is_sending};
 ghost use Rattle.zb_keys.specs.Rows.{net_key, link_key, pair_key};
 ghost use Rattle.zb_keys.specs.Reading.{place_of_key, outgoing_of, floor_at, sender_at, heard_under, heard_from};
 ghost use Rattle.zb_model.specs.Data.{Nwk};
-ghost use Rattle.zb_model.specs.State.{next_counter, stored_limit, counted, with_declared, current, offered, pair_of};
+ghost use Rattle.zb_model.specs.State.{next_counter, stored_limit, counted, with_declared, current, offered, pair_of, active_row, newest};
 
 use crate::pair::pair_row;
 use crate::{LinkRow, NetRow, Pair, Tables};
@@ -75,6 +75,20 @@ impl Tables {
         ensures { result ≡ place_of_key self.now.active self.now.nets }
     {
         self.contents.active_place()
+    }
+
+    /// The row of the active network key.
+    pub fn active_row(&self) -> Option<&NetRow>
+        ensures { option_map net_key (option_copied result) ≡ active_row self.now }
+    {
+        self.contents.active_row()
+    }
+
+    /// The newest network key in use.
+    pub fn newest(&self) -> Option<&NetRow>
+        ensures { option_map net_key (option_copied result) ≡ newest self.now }
+    {
+        self.contents.newest()
     }
 
     /// The floor of a sender under the network key at a place: 0 and 0 where none was stored.

@@ -7,4 +7,3 @@ use Rattle.zb_keys.proofs.net.count_net.Given as goal
 
 abbrev pub invariant-loop-row : goal.invariant-loop-row
 invariant-loop-row l = Mapped net_key (λ (r : NetKey). if same_key r.key l.key.0 then counted_row r else r) l.row-index l.initial.rows l.rows
-

@@ -42,8 +42,9 @@ add-requires c =
 
 pub loop-row-preserved : goal.loop-row-preserved
 loop-row-preserved c = elim c.if-is_live_of.branch [
-      then-is_live_of w ↦ rw w.changes-is (drops_one c.args.partner.0 c.as_slice-row-items.result.now c.loop-row.row-index _ _ _ _ _ c.loop-row-test.true (sym c.is_live_of.ensures ∙ w.if-is_live_of.true) refl c.loop-row.invariant w.add.ensures)
-    | else-is_live_of w ↦ rw w.changes-is (drops_over c.args.partner.0 c.as_slice-row-items.result.now c.loop-row.row-index _ _ _ c.loop-row-test.true (sym c.is_live_of.ensures ∙ w.if-is_live_of.false) c.loop-row.invariant) ]
+  | then-is_live_of w ↦ rw w.changes-is (drops_one c.args.partner.0 c.as_slice-row-items.result.now c.loop-row.row-index _ _ _ _ _ c.loop-row-test.true (sym c.is_live_of.ensures ∙ w.if-is_live_of.true) refl c.loop-row.invariant w.add.ensures)
+  | else-is_live_of w ↦ rw w.changes-is (drops_over c.args.partner.0 c.as_slice-row-items.result.now c.loop-row.row-index _ _ _ c.loop-row-test.true (sym c.is_live_of.ensures ∙ w.if-is_live_of.false) c.loop-row.invariant)
+]
 
 pub returns : goal.returns
 returns c =
