@@ -1,0 +1,62 @@
+-- The order of a key's type tells keys apart by their bytes.
+use Rattle.std.proofs.Common.{◌≡◌, ℕ, ◌+◌, List, [], ◌∷◌, Bool, true, false, cond, ◌||◌, refl, ap, sym, ◌∙◌, bytes_eq}
+use Rattle.std.specs.List.{list_any}
+use Rattle.std.specs.declared.cmp.Ordering.{Ordering}
+use Rattle.std.specs.Ordering.{is_eq, nat_cmp}
+use Rattle.std.specs.BTreeMap.{is_at}
+use Rattle.std.specs.Cmp.Lexicographic.{slice_cmp, texts_ties}
+use Rattle.std.specs.Prelude.{sum_by, unwrap_or, Option, Some, None}
+use Rattle.std.specs.Option.{option_map}
+use Rattle.std.specs.Map.{lookup, remove_entry, values_of}
+use Rattle.std.proofs.lemmas.Map.Entries.{sum_by-remove_entry}
+use Rattle.std.proofs.lemmas.Slice.Eq.{bytes_eq-Decides}
+use Rattle.zb_base.specs.declared.key.Key.{Key}
+
+pub list_any_alike : {X : Type 0} (p q : X → Bool) → ((x : X) → p x ≡ q x) → (xs : List X) → list_any p xs ≡ list_any q xs
+list_any_alike p q alike [] = refl
+list_any_alike p q alike (x ∷ xs) = rw (alike x, list_any_alike p q alike xs) refl
+
+pub bytes_alike : (a b : List ℕ) → is_eq (slice_cmp nat_cmp a b) ≡ bytes_eq a b
+bytes_alike a b = sym (texts_ties a b)
+
+pub true_or : (same before : Bool) → cond same true before ≡ (before || same)
+true_or true true = refl
+true_or true false = refl
+true_or false true = refl
+true_or false false = refl
+
+pub both_or : (a b c d : Bool) → a ≡ b → c ≡ d → (a || c) ≡ (b || d)
+both_or a b c d e f = rw (e, f) refl
+
+one_way : (a b : Bool) → (a ≡ true → b ≡ true) → (b ≡ true → a ≡ true) → a ≡ b
+one_way true true f g = refl
+one_way true false f g = sym (f refl)
+one_way false true f g = g refl
+one_way false false f g = refl
+
+pub bytes_eq_sym : (a b : List ℕ) → bytes_eq a b ≡ bytes_eq b a
+bytes_eq_sym a b =
+    one_way (bytes_eq a b) (bytes_eq b a) (λ h. (bytes_eq-Decides b a).1 (sym ((bytes_eq-Decides a b).0 h))) (λ h. (bytes_eq-Decides a b).1 (sym ((bytes_eq-Decides b a).0 h)))
+
+-- After an insertion a set has what it had, and what was inserted.
+pub added_alike : {K : Type 0} (cmp : K → K → Ordering) (same : K → K → Bool) → ((a b : K) → is_eq (cmp a b) ≡ same a b) → ((a b : K) → same a b ≡ same b a)
+    → (old new : List K) (key q : K) → list_any (is_at (cmp q)) new ≡ cond (is_at (cmp key) q) true (list_any (is_at (cmp q)) old)
+    → list_any (same q) new ≡ (list_any (same q) old || same q key)
+added_alike cmp same alike turned old new key q updated =
+    sym (list_any_alike (is_at (cmp q)) (same q) (alike q) new)
+    ∙ (updated
+    ∙ (true_or (is_eq (cmp key q)) (list_any (is_at (cmp q)) old)
+    ∙ both_or _ _ _ _ (list_any_alike (is_at (cmp q)) (same q) (alike q) old) (alike key q ∙ turned key q)))
+
+-- The sizes of lists by their owner, after one was taken out.
+
+abbrev size_or_none : {K X : Type 0} (size : X → ℕ) (test : K → Bool) (es : List (K × X)) → ℕ
+size_or_none size test es = unwrap_or (option_map size (lookup test es)) 0
+
+pub taken_some : {K X : Type 0} (size : X → ℕ) (test : K → Bool) (es : List (K × X)) (x : X) → lookup test es ≡ Some x
+    → sum_by size (values_of (remove_entry test es)) + size x ≡ sum_by size (values_of es)
+taken_some size test es x found = ap (λ o. sum_by size (values_of (remove_entry test es)) + unwrap_or (option_map size o) 0) (sym found) ∙ sum_by-remove_entry size test es
+
+pub taken_none : {K X : Type 0} (size : X → ℕ) (test : K → Bool) (es : List (K × X)) → lookup test es ≡ None
+    → sum_by size (values_of (remove_entry test es)) + 0 ≡ sum_by size (values_of es)
+taken_none size test es found = ap (λ o. sum_by size (values_of (remove_entry test es)) + unwrap_or (option_map size o) 0) (sym found) ∙ sum_by-remove_entry size test es

@@ -1,0 +1,40 @@
+//! Sets of keys.
+ghost use Rattle.std.specs.Prelude.{◌≡◌, ◌||◌, ℕ, List, bytes_eq, IfOk, OnOk, false, not};
+ghost use Rattle.zb_watch.specs.Sets.{has};
+
+use std::alloc::{AllocError, Global};
+use std::collections::BTreeSet;
+use zb_base::Key;
+
+/// A set of keys.
+#[derive(Drop)]
+pub struct Keys {
+    pub keys: BTreeSet<Key>,
+}
+
+impl Keys {
+    /// No keys.
+    pub fn new(alloc: Global) -> Keys
+        ensures { (k : List ℕ) → has result k ≡ false }
+    {
+        Keys {
+            keys: BTreeSet::new(alloc),
+        }
+    }
+
+    /// Whether the set has the key.
+    pub fn has(&self, key: &Key) -> bool
+        ensures { result ≡ has self.now key.now.0 }
+    {
+        self.keys.contains(key)
+    }
+
+    /// Adds a key, and answers whether it is new.
+    pub fn add(&mut self, key: Key) -> Result<bool, AllocError>
+        ensures new { IfOk result (λ new. new ≡ not (has self.old key.0)) }
+        ensures adds { OnOk result ((k : List ℕ) → has self.new k ≡ (has self.old k || bytes_eq k key.0)) }
+    {
+        let new = self.keys.insert(key)?;
+        Ok(new)
+    }
+}

@@ -1,0 +1,55 @@
+//! Whether outsiders passed on a key of the network.
+ghost use Rattle.std.specs.Prelude.{◌≡◌, ◌||◌, ℕ, List, OnOk, bytes_eq};
+ghost use Rattle.zb_watch.specs.Sets.{has};
+
+use crate::keys::Keys;
+use std::alloc::{AllocError, Global};
+use zb_base::Key;
+
+/// The network's keys, and those that forged terms carry.
+#[derive(Drop)]
+pub struct Passing {
+    /// The keys that were given, drawn or entered as codes.
+    pub network: Keys,
+    /// The keys that forged terms carry.
+    pub forged: Keys,
+    /// Whether some key is among both.
+    pub passed_on: bool,
+}
+
+impl Passing {
+    /// Before the first line.
+    pub fn new(alloc: Global) -> Passing {
+        Passing {
+            network: Keys::new(alloc),
+            forged: Keys::new(alloc),
+            passed_on: false,
+        }
+    }
+
+    /// A key of the network.
+    pub fn network_key(&mut self, key: Key) -> Result<(), AllocError>
+        ensures network { OnOk result ((k : List ℕ) → has self.new.network k ≡ (has self.old.network k || bytes_eq k key.0)) }
+        ensures forged { self.new.forged ≡ self.old.forged }
+        ensures passed { self.new.passed_on ≡ (self.old.passed_on || has self.old.forged key.0) }
+    {
+        if self.forged.has(&key) {
+            self.passed_on = true;
+        }
+        self.network.add(key)?;
+        Ok(())
+    }
+
+    /// A key that a forged term carries.
+    pub fn forged_key(&mut self, key: Key) -> Result<(), AllocError>
+        ensures network { self.new.network ≡ self.old.network }
+        ensures forged { OnOk result ((k : List ℕ) → has self.new.forged k ≡ (has self.old.forged k || bytes_eq k key.0)) }
+        ensures passed { self.new.passed_on ≡ (self.old.passed_on || has self.old.network key.0) }
+    {
+        if self.network.has(&key) {
+            self.passed_on = true;
+        }
+        self.forged.add(key)?;
+        Ok(())
+    }
+}
