@@ -99,7 +99,13 @@ unfoldable pub PreAt : Tier → ℕ → Bytes → ℕ → NodeState → Type 0
 PreAt Nwk c base source s = On (RowPre c source) base s.nets
 PreAt Aps c base source s = Finds (LinkPre c) (is_link source base) s.links
 
+-- the base key of a NWK term is a live network key of the node
+unfoldable pub LiveAt : Tier → Sealing → NodeState → Type 0
+LiveAt Nwk t s = (r : NetKey) × In r (live_nets s) × (r.key ≡ t.base)
+LiveAt Aps t s = Unit {0}
+
 pub record Judged (layer : Tier) (s : NodeState) (t : Sealing) : Type 0 where
+  pub live : LiveAt layer t s
   pub at : t.layer ≡ layer
   pub small : t.counter < most
   pub pre : PreAt layer t.counter t.base t.source s
@@ -109,6 +115,14 @@ pub record Judged (layer : Tier) (s : NodeState) (t : Sealing) : Type 0 where
 usable-in : (s : NodeState) (b : Bool) (r : NetKey) → In r (cond b (live_nets s) []) → In r s.nets
 usable-in s true r i = in-filter (λ (r : NetKey). r.live) r s.nets i
 usable-in s false r i = absurd (nowhere r i)
+
+usable-live : (s : NodeState) (b : Bool) (r : NetKey) → In r (cond b (live_nets s) []) → In r (live_nets s)
+usable-live s true r i = i
+usable-live s false r i = absurd (nowhere r i)
+
+live-row : (s : NodeState) (q : ℕ) (r : NetKey) → usable_of s q ≡ Some r → In r (live_nets s)
+unfolding usable_of usable_nets
+live-row s q r e = usable-live s (may_use s) r (in-reverse r (cond (may_use s) (live_nets s) []) (found-element (λ (r : NetKey). nat_eq r.sequence q) (reverse (cond (may_use s) (live_nets s) [])) r e).0)
 
 usable-row : (s : NodeState) (q : ℕ) (r : NetKey) → usable_of s q ≡ Some r → In r s.nets
 unfolding usable_of usable_nets
@@ -130,9 +144,10 @@ row-pre s o r i c source e =
     (all-in (λ (x : NetKey). Sorted x.floors) s.nets o.floors r i, not-stale c source (find (of_sender source) r.floors) e)
 
 net-term : (tools : Tools) → Opens tools → (s : NodeState) → Sound s → (bytes : Bytes) (f : NwkSight) (aux : NwkAuxiliary) → tools.read_nwk bytes ≡ Some f → f.auxiliary ≡ Some aux
-    → (r : NetKey) → In r s.nets → nat_le most aux.counter ≡ false → nat_lt aux.counter (sender_floor aux.source r).kept ≡ false → (t : Sealing) → tools.open_nwk bytes r.key ≡ Some t → Judged Nwk s t
-unfolding PreAt
-net-term tools opens s o bytes f aux read shown r i most-ok fresh t opened = record {
+    → (r : NetKey) → In r s.nets → In r (live_nets s) → nat_le most aux.counter ≡ false → nat_lt aux.counter (sender_floor aux.source r).kept ≡ false → (t : Sealing) → tools.open_nwk bytes r.key ≡ Some t → Judged Nwk s t
+unfolding PreAt LiveAt
+net-term tools opens s o bytes f aux read shown r i alive most-ok fresh t opened = record {
+  live = (r, alive, sym facts.1);
   at = facts.0;
   small = subst (λ c. c < most) (sym facts.3) (leb-false most aux.counter most-ok);
   pre = subst (λ c. On (RowPre c t.source) t.base s.nets) (sym facts.3)
@@ -152,7 +167,7 @@ net-good tools opens c s o bytes f aux read shown =
     reject-good (Judged Nwk s) _ _ _ _ (λ x.
     reject-good (Judged Nwk s) _ _ _ _ (λ y.
     reject-good (Judged Nwk s) _ _ _ _ (λ z.
-    net-term tools opens s o bytes f aux read shown row (usable-row s aux.sequence row found) a b t opened)))))))
+    net-term tools opens s o bytes f aux read shown row (usable-row s aux.sequence row found) (live-row s aux.sequence row found) a b t opened)))))))
 
 -- a carrier: its term is judged
 abbrev pub IfTerm : NodeState → Option Sealing → Type 0
@@ -245,8 +260,9 @@ link-pre s o r source i c e =
 
 aps-term : (tools : Tools) → Opens tools → (c : Setting) (s : NodeState) → Sound s → (f : NwkSight) (bytes : Bytes) (a : ApsSight) (aux : ApsAuxiliary) → tools.read_aps bytes ≡ Some a → a.auxiliary ≡ Some aux
     → (source : ℕ) → aps_source c f aux ≡ Some source → (r : LinkKey) → In r (candidates s source) → nat_le most aux.counter ≡ false → nat_lt aux.counter r.kept ≡ false → (t : Sealing) → tools.open_aps bytes r.key source ≡ Some t → Judged Aps s t
-unfolding PreAt
+unfolding PreAt LiveAt
 aps-term tools opens c s o f bytes a aux read shown source from r i most-ok fresh t opened = record {
+  live = tt;
   at = facts.0;
   small = subst (λ c. c < most) (sym facts.3) (leb-false most aux.counter most-ok);
   pre = subst (λ c. Finds (LinkPre c) (is_link t.source t.base) s.links) (sym facts.3)

@@ -12,3 +12,10 @@ mod Sound
 mod Judged
 mod OnceGroups
 mod OnceRuns
+mod AnyLemmas
+mod Exposed
+mod Given
+mod Outsiders
+mod OutsiderRuns
+mod LawfulRuns
+mod CountedRuns

@@ -104,7 +104,7 @@ boot-fits h disks number n =
     (record { lines = Boot number n ∷ []; disks = with_disk disks n (record { armed = (disk_of disks n).armed; both_open = false }) })
     (fallen-fits h (disk_of disks n).armed number n) (tt, tt)
 
-step-fits : (tools : Tools) (w : World) → IsSchedule w → (h : List LogLine) (disks : List Disk) (number : ℕ) (act : Act) → NamesNode w act → ((n : ℕ) → Ordered (state_of h n)) → Fit h (step tools w h disks number act).lines
+pub step-fits : (tools : Tools) (w : World) → IsSchedule w → (h : List LogLine) (disks : List Disk) (number : ℕ) (act : Act) → NamesNode w act → ((n : ℕ) → Ordered (state_of h n)) → Fit h (step tools w h disks number act).lines
 unfolding step step_by forged_net forged_both forged_open
 step-fits tools w i h disks number (Own n task) named o = task-fits tools w i h disks number n task named (o n)
 step-fits tools w i h disks number (RollOver n) named o = task-fits tools w i h disks number n (DoRoll (supply w h)) named (o n)
@@ -121,7 +121,7 @@ step-fits tools w i h disks number (ForgeNet to from source key sequence counter
 step-fits tools w i h disks number (ForgeNetAps to from source key sequence counter label base aps_counter command) named o = (tt, (tt, (tt, tt)))
 step-fits tools w i h disks number (ForgeOpen to from source label base aps_counter command) named o = (tt, (tt, tt))
 
-groups-fit : (tools : Tools) (w : World) → IsSchedule w → (h : List LogLine) (disks : List Disk) (number : ℕ) (acts : List Act) → AllByRecursion (NamesNode w) acts → Inv tools h → Fit h (groups tools w h disks number acts)
+pub groups-fit : (tools : Tools) (w : World) → IsSchedule w → (h : List LogLine) (disks : List Disk) (number : ℕ) (acts : List Act) → AllByRecursion (NamesNode w) acts → Inv tools h → Fit h (groups tools w h disks number acts)
 unfolding groups
 groups-fit tools w i h disks number [] named inv = tt
 groups-fit tools w i h disks number (act ∷ acts) named inv =

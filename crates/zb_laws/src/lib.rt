@@ -2,12 +2,38 @@
 //! a function with an empty body; docs/THEOREMS.md says it in words.
 #![tactic(auto)]
 
+ghost use Rattle.std.specs.Prelude.{◌≡◌, ◌≤◌, ◌+◌, ◌++◌, min, ℕ, true, List, Option, Some, [], fold};
+ghost use Rattle.zb_laws.specs.Counting.{TakesNext};
+ghost use Rattle.zb_laws.specs.Lockout.{RefusesOutsiders};
 ghost use Rattle.zb_laws.specs.Opening.{Opens};
-ghost use Rattle.zb_model.specs.Claims.{Fresh, Once};
-ghost use Rattle.zb_model.specs.Play.{World};
+ghost use Rattle.zb_model.specs.Claims.{Each, Fresh, Lawful, Once};
+ghost use Rattle.zb_model.specs.Answer.{Answer, floor_for, reserve_of, stored_floor};
+ghost use Rattle.zb_model.specs.Data.{Sealing, Tier};
+ghost use Rattle.zb_model.specs.Lines.{LogLine};
+ghost use Rattle.zb_model.specs.Play.{World, stored_lines};
+ghost use Rattle.zb_model.specs.Readings.{heard_line, state_of};
+ghost use Rattle.zb_model.specs.Rules.{Sending, Setting};
 ghost use Rattle.zb_model.specs.Schedules.{IsSchedule};
+ghost use Rattle.zb_model.specs.Secrets.{private};
+ghost use Rattle.zb_model.specs.State.{NodeState, applied_all, most, next_counter, stored_limit};
 ghost use Rattle.zb_model.specs.Tools.{Tools};
-ghost use Rattle.zb_model.specs.Transcript.{transcript};
+ghost use Rattle.zb_model.specs.Transcript.{run_lines, transcript};
+
+/// What lines say of a node's state is changed by the lines that follow, one after the other.
+pub fn reading_goes_on()
+    ensures { (h g : List LogLine) (n : ℕ) → state_of (h ++ g) n ≡ fold (heard_line n) (state_of h n) g }
+{}
+
+/// The stored lines of an answer, its changes and their commit, change the node's state by these changes.
+pub fn stored_changes_are_read_back()
+    ensures { (h : List LogLine) (number n : ℕ) (a : Answer)
+        → state_of (h ++ stored_lines number n a) n ≡ applied_all a.edits (state_of h n) }
+{}
+
+/// A transcript has the start lines, one answer for each event in order, and the end line.
+pub fn transcripts_are_lawful()
+    ensures { (tools : Tools) (w : World) → Lawful tools w (transcript tools w) }
+{}
 
 /// No node ever seals two frames under one key with one nonce, whatever frames it is handed, however often it loses power,
 /// and whatever its disk leaves of a commit that was cut.
@@ -19,4 +45,31 @@ pub fn no_nonce_comes_again()
 /// included. `Opens` says that a frame which opens shows its base key, counter and source.
 pub fn no_counter_is_taken_twice()
     ensures { (tools : Tools) → Opens tools → (w : World) → IsSchedule w → Once (transcript tools w) }
+{}
+
+/// Where the end line says that forgery was private: after a device was removed, and until it is admitted again, a node none
+/// of whose live network keys is known outside accepts at NWK neither a term that the device sealed since nor one that was
+/// forged.
+pub fn outsiders_are_refused()
+    ensures { (tools : Tools) → Opens tools → (w : World) → IsSchedule w → private tools (run_lines tools w) ≡ true
+        → RefusesOutsiders tools [] (transcript tools w) }
+{}
+
+/// Each seal of a run has its node's EUI and the counter that comes next: under a network key that of the key's row, at APS
+/// the node's. The greatest counter is never used.
+pub fn each_seal_takes_the_next_counter()
+    ensures { (tools : Tools) (w : World) → IsSchedule w → Each TakesNext [] (transcript tools w) }
+{}
+
+/// A limit is reserved only where the counter has reached it, and is then one outgoing block ahead, or the greatest counter.
+pub fn a_reserve_is_one_block()
+    ensures { (c : Setting) (s : NodeState) (send : Option Sending) (layer : Tier) (v : ℕ) → reserve_of c s send layer ≡ Some v
+        → (next_counter layer s ≡ stored_limit layer s) × (v ≡ min (next_counter layer s + c.me.out_block) most) }
+{}
+
+/// A floor is stored only where the accepted counter isn't below the stored one, and is then one incoming block above the
+/// counter, or the greatest counter.
+pub fn a_floor_is_one_block()
+    ensures { (c : Setting) (s : NodeState) (t : Sealing) (v : ℕ) → floor_for c s t ≡ Some v
+        → (stored_floor t s ≤ t.counter) × (v ≡ min (t.counter + c.me.in_block) most) }
 {}

@@ -1,0 +1,16 @@
+-- The two halves of lockout, each for itself.
+use Rattle.std.specs.Prelude.{ℕ, List, [], ◌∷◌, ◌++◌, ⊤}
+use Rattle.zb_model.specs.Data.{Removed, Moved}
+use Rattle.zb_model.specs.Lines.{LogLine, Changed}
+use Rattle.zb_model.specs.Tools.{Tools}
+use Rattle.zb_model.specs.Claims.{Refuses}
+
+abbrev pub RefusesAfter : Tools → List LogLine → LogLine → List LogLine → Type 0
+RefusesAfter tools h (Changed e n (Moved (Removed d))) after = Refuses tools (h ++ Changed e n (Moved (Removed d)) ∷ []) after d
+RefusesAfter tools h _ after = ⊤
+
+-- After each removal, and up to the device's next admission: a node none of whose live network keys is known outside accepts at
+-- NWK neither a term that the device sealed since, nor one that was forged before.
+abbrev pub RefusesOutsiders : Tools → List LogLine → List LogLine → Type 0
+RefusesOutsiders tools h [] = ⊤
+RefusesOutsiders tools h (l ∷ ls) = RefusesAfter tools h l ls × RefusesOutsiders tools (h ++ l ∷ []) ls
