@@ -1,4 +1,6 @@
 pub mod DraftLemmas
+pub mod Finished
+pub mod Kept
 pub mod Lists
 pub mod PageLemmas
 pub mod ReadLemmas

@@ -51,7 +51,7 @@ abbrev pub seated : Member → Seat
 seated member = record { member = member; nwk_declared = false; aps_declared = false }
 
 abbrev pub seen_of : Plan → Seen
-seen_of p = record { seats = map seated p.members; draws = p.draws; acts = p.acts }
+seen_of p = record { seats = map seated p.members; draws = p.draws; acts = [] }
 
 -- An event is in its ranges and its nodes are declared with parts that it allows; an install code that it brings gives no
 -- link key that is another node's or a network key, and none of the supply or the well-known one.

@@ -249,11 +249,12 @@ impl Draft {
 }
 
 impl Draft {
-    ghost use Rattle.std.specs.Prelude.{◌≡◌, is_some, IfOk};
+    ghost use Rattle.std.specs.Prelude.{◌≡◌, is_some, IfOk, IsTrue, OnOk};
     ghost use Rattle.zb_sched.specs.Plan.{plan_of};
     ghost use Rattle.zb_sched_line.specs.Views.{act_of, sentence_of};
     ghost use Rattle.zb_sched.specs.Judge.{after_act, after_sentence, are_child_and_parent, are_partners, has_its_nodes, provision_clashes, role_named};
-    ghost use Rattle.zb_sched.specs.Reading.{after_line, finished, Steps};
+    ghost use Rattle.zb_sched.specs.Reading.{after_line, finished, has_centre, Steps};
+    ghost use Rattle.zb_sched.specs.Valid.{IsSchedule, IsSoFar};
 
     fn roles(&self, first: &Name, second: &Name) -> (Option<Role>, Option<Role>)
         ensures first { result.0 ≡ role_named first.now.bytes self.now.seats }
@@ -340,7 +341,8 @@ impl Draft {
 
     /// The schedule that was read.
     pub fn finish(self, alloc: Global) -> Result<Schedule, AllocError>
-        ensures { IfOk result (λ schedule. plan_of schedule ≡ finished self) }
+        ensures plan { IfOk result (λ schedule. plan_of schedule ≡ finished self) }
+        ensures valid { IsSoFar (finished self) → IsTrue (has_centre self.seats) → IfOk result (λ schedule. IsSchedule (plan_of schedule)) }
     {
         let Draft {
             entries,
@@ -382,7 +384,8 @@ impl Draft {
 
     /// Takes a line. After an error the schedule so far is not to be used any more.
     pub fn take(&mut self, text: &[u8]) -> Result<(), OrMemory<SchedCause>>
-        ensures { Steps result self.new (after_line self.old text.now) }
+        ensures exact { Steps result self.new (after_line self.old text.now) }
+        ensures kept { IsSoFar (finished self.old) → OnOk result (IsSoFar (finished self.new)) }
     {
         match read_line(text) {
             Some(line) => self.take_line(line),

@@ -5,6 +5,7 @@
 pub mod draft;
 pub mod entry;
 pub mod error;
+pub mod laws;
 mod reader;
 pub mod schedule;
 pub mod supply;

@@ -1,7 +1,9 @@
 //! The reader.
 
-ghost use Rattle.std.specs.Prelude.{◌≡◌, ◌-◌, ◌^◌, ◌<◌, length};
+ghost use Rattle.std.specs.Prelude.{◌≡◌, ◌-◌, ◌^◌, ◌<◌, length, IfOk};
+ghost use Rattle.zb_sched.specs.Plan.{plan_of};
 ghost use Rattle.zb_sched.specs.Reading.{Reads, schedule_of};
+ghost use Rattle.zb_sched.specs.Valid.{IsSchedule};
 
 use crate::draft::Draft;
 use crate::error::{SchedCause, SchedError};
@@ -14,6 +16,7 @@ use zb_text::lines::next_line;
 pub fn read(alloc: Global, text: &[u8]) -> Result<Schedule, OrMemory<SchedError>>
     requires { length text.now < 2 ^ 32 - 1 }
     ensures exact { Reads result (schedule_of text.now) }
+    ensures valid { IfOk result (λ schedule. IsSchedule (plan_of schedule)) }
 {
     let mut draft = Draft::new(alloc);
     let mut rest = text;

@@ -1,0 +1,43 @@
+-- A schedule at its beginning and at its end.
+use Rattle.std.proofs.Common.{◌≡◌, ◌≤◌, ◌||◌, List, [], ◌∷◌, Bool, true, Result, Ok, Err, map, refl, arith, ap, sym, ◌∙◌, subst}
+use Rattle.std.specs.Prelude.{OnOk}
+use Rattle.std.specs.List.{list_any}
+use Rattle.zb_base.specs.declared.fault.OrMemory.{OrMemory}
+use Rattle.zb_base.specs.declared.fault.OrMemory.TheVariants.{Fault, NoMemory}
+use Rattle.zb_sched_line.specs.Fits.{FitsSentence}
+use Rattle.zb_sched_line.specs.Said.{Sentence}
+use Rattle.zb_sched.specs.Judge.{Seat, Seen, after_sentence}
+use Rattle.zb_sched.specs.Plan.{Member, Plan}
+use Rattle.zb_sched.specs.Reading.{finished, has_centre, is_centre, start, Steps}
+use Rattle.zb_sched.specs.Valid.{IsSchedule, IsSoFar}
+use Rattle.zb_sched.specs.declared.error.SchedCause.{SchedCause}
+use Rattle.zb_sched.proofs.Kept.{kept}
+
+nothing_keeps : IsSoFar (finished start)
+nothing_keeps = record {
+  few_members = omega arith;
+  members = tt;
+  apart = tt;
+  keys = tt;
+  draws = tt;
+  draws_apart = tt;
+  few_acts = omega arith;
+  acts = tt;
+}
+
+pub start_keeps : (seen : Seen) → seen ≡ start → IsSoFar (finished seen)
+start_keeps seen e = subst (λ (s : Seen). IsSoFar (finished s)) (sym e) nothing_keeps
+
+-- a line that was taken keeps what every schedule keeps
+pub kept_by : (r : Result Unit (OrMemory SchedCause)) (seen next : Seen) (sentence : Sentence) → FitsSentence sentence → Steps r next (after_sentence seen sentence)
+    → IsSoFar (finished seen) → OnOk r (IsSoFar (finished next))
+kept_by (Ok done) seen next sentence fits step keeps = kept seen next sentence fits step keeps
+kept_by (Err (Fault cause)) seen next sentence fits step keeps = tt
+kept_by (Err NoMemory) seen next sentence fits step keeps = tt
+
+any_member : (seats : List Seat) → has_centre seats ≡ list_any (λ (m : Member). is_centre m.role) (map (λ (s : Seat). s.member) seats)
+any_member [] = refl
+any_member (s ∷ seats) = ap (λ b. is_centre s.member.role || b) (any_member seats)
+
+pub is_schedule : (seen : Seen) (p : Plan) → p ≡ finished seen → IsSoFar (finished seen) → has_centre seen.seats ≡ true → IsSchedule p
+is_schedule seen p e keeps centre = subst IsSchedule (sym e) (record { so_far = keeps; centre = sym (any_member seen.seats) ∙ centre })
