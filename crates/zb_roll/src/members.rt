@@ -1,0 +1,58 @@
+//! The devices that the new network key is sent to.
+ghost use Rattle.std.specs.Prelude.{◌≡◌, not, fold, filter, map, option_map, if◌then◌else◌};
+ghost use Rattle.zb_keys.specs.Rows.{link_key};
+ghost use Rattle.zb_model.specs.OwnEvents.{is_unfinished, is_waiting, least, next_member};
+
+use zb_base::Eui;
+use zb_change::Rollover;
+use zb_keys::{LinkRow, Tables};
+
+/// The device that is sent the new network key next: that of the smallest address among the live ones that weren't.
+pub fn next_member(tables: &Tables) -> Option<Eui>
+    ensures { option_map (λ e. e.0) result ≡ next_member tables.now }
+{
+    least_waiting(tables.links())
+}
+
+/// The smallest address of a device with a row that waits.
+fn least_waiting(rows: &[LinkRow]) -> Option<Eui>
+    ensures { option_map (λ e. e.0) result ≡ fold (λ best r. least best r.partner) None (filter is_waiting (map link_key rows.now)) }
+{
+    let mut best = None;
+    for row in rows {
+        best = with_row(best, row);
+    }
+    best
+}
+
+/// The smallest address so far and that of a row, if it waits.
+fn with_row(best: Option<Eui>, row: &LinkRow) -> Option<Eui>
+    ensures { option_map (λ e. e.0) result ≡ (if is_waiting (link_key row.now) then least (option_map (λ e. e.0) best) (link_key row.now).partner else option_map (λ e. e.0) best) }
+{
+    if row.live && !row.told {
+        Some(lesser(best, row.partner))
+    } else {
+        best
+    }
+}
+
+/// The smaller one of two addresses, if there is a first.
+fn lesser(best: Option<Eui>, other: Eui) -> Eui
+    ensures { Some result.0 ≡ least (option_map (λ e. e.0) best) other.0 }
+{
+    match best {
+        Some(best) => Eui(best.0.min(other.0)),
+        None => other,
+    }
+}
+
+/// Whether the network may switch: outside a rollover, and in one that reached every live device.
+#[tactic(auto, unfolding(zb_model::specs::OwnEvents::is_unfinished))]
+pub fn may_switch(tables: &Tables) -> bool
+    ensures { result ≡ not (is_unfinished tables.now) }
+{
+    match tables.rolling() {
+        Rollover::Idle => true,
+        Rollover::Sending => next_member(tables).is_none(),
+    }
+}
