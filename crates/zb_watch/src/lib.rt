@@ -6,6 +6,7 @@ pub mod carrying;
 pub mod exposure;
 pub mod holdings;
 pub mod keys;
+pub mod laws;
 pub mod nodes;
 pub mod origins;
 pub mod passing;
