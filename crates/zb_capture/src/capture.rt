@@ -1,0 +1,37 @@
+//! A capture.
+ghost use Rattle.std.specs.Prelude.{◌≡◌, ◌≤◌, [], length, vec_len, IfOk};
+ghost use Rattle.zb_capture.specs.Grammar.{IsCapture};
+
+use std::alloc::Global;
+use zb_base::{Eui, Frame, Key, List, NoMemory, Short};
+
+/// What is known of a network, and the frames that were caught in it. It has at most 256 keys and 100,000 frames: this
+/// is `IsCapture` of `specs/Grammar.antt`.
+#[derive(Debug, Drop)]
+pub struct Capture {
+    /// The given keys, link keys of install codes among them, in order; some may stand there twice.
+    pub keys: List<Key>,
+    /// The IEEE addresses of network addresses.
+    pub addrs: List<(Short, Eui)>,
+    /// The frames, in the order in which they were caught.
+    pub frames: List<Frame>,
+}
+
+impl Capture {
+    ghost use Rattle.std.specs.Prelude.{◌≡◌, ◌≤◌, [], length, vec_len, IfOk};
+    ghost use Rattle.zb_capture.specs.Grammar.{IsCapture};
+
+    /// The capture of some frames under some keys, which knows no addresses.
+    pub fn of(alloc: Global, keys: &[Key], frames: Vec<Frame>) -> Result<Capture, NoMemory>
+        requires keys { length keys.now ≤ 256 }
+        requires frames { vec_len frames ≤ 100000 }
+        ensures value { IfOk result (λ c. c ≡ record { keys = keys.now; addrs = []; frames = frames.items }) }
+        ensures valid { IfOk result (λ c. IsCapture c) }
+    {
+        Ok(Capture {
+            keys: List::from_vec(Vec::from_slice(alloc, keys)?),
+            addrs: List::from_vec(Vec::new(alloc)),
+            frames: List::from_vec(frames),
+        })
+    }
+}

@@ -1,0 +1,171 @@
+//! The capture that is being read: what the lines so far give.
+ghost use Rattle.std.specs.Prelude.{◌≡◌};
+ghost use Rattle.std.specs.List.{list_any};
+ghost use Rattle.zb_capture.specs.Grammar.{is_skipped, has_short};
+
+use crate::capture::Capture;
+use crate::fault::CaptureCause;
+use crate::fields::{addr, code, frame, key};
+use std::alloc::Global;
+use zb_base::{Eui, Frame, Key, List, OrMemory, Short};
+use zb_text::words::Words;
+
+/// The keys, addresses and frames of the lines so far.
+#[derive(Drop)]
+pub(crate) struct Draft {
+    pub keys: Vec<Key>,
+    pub addrs: Vec<(Short, Eui)>,
+    pub frames: Vec<Frame>,
+}
+
+impl Draft {
+    ghost use Rattle.std.specs.Prelude.{◌≡◌, ◌∷◌, Some, OnOk};
+    ghost use Rattle.zb_capture.specs.Drafts.{capture_of, Steps};
+    ghost use Rattle.zb_capture.specs.Grammar.{IsCapture, empty, key_in, code_in, addr_in, frame_in, with_key, with_code, with_addr, with_frame, with_words, with_line};
+    ghost use Rattle.zb_text.specs.Words.{left};
+
+    /// A draft of no lines.
+    pub fn new(alloc: Global) -> Draft
+        ensures { capture_of result ≡ empty }
+    {
+        Draft {
+            keys: Vec::new(alloc),
+            addrs: Vec::new(alloc),
+            frames: Vec::new(alloc),
+        }
+    }
+
+    /// The capture of all lines.
+    pub fn into_capture(self) -> Capture
+        ensures { result ≡ capture_of self }
+    {
+        let Draft {
+            keys,
+            addrs,
+            frames,
+        } = self;
+        Capture {
+            keys: List::from_vec(keys),
+            addrs: List::from_vec(addrs),
+            frames: List::from_vec(frames),
+        }
+    }
+
+    /// Takes one line.
+    #[tactic(auto, unfolding(crate::specs::Grammar::with_line))]
+    pub fn take_line(&mut self, line: &[u8]) -> Result<(), OrMemory<CaptureCause>>
+        ensures exact { Steps result (capture_of self.new) (with_line (capture_of self.old) line.now) }
+        ensures valid { OnOk result (IsCapture (capture_of self.old) → IsCapture (capture_of self.new)) }
+    {
+        if skips(line) {
+            return Ok(());
+        }
+        let mut words = Words::new(line);
+        let Some(kind) = words.word() else {
+            return Err(OrMemory::Fault(CaptureCause::Syntax));
+        };
+        self.take_words(kind, &mut words)
+    }
+
+    fn take_words(
+        &mut self,
+        kind: &[u8],
+        words: &mut Words<'_>,
+    ) -> Result<(), OrMemory<CaptureCause>>
+        ensures exact { Steps result (capture_of self.new) (with_words (capture_of self.old) (kind.now ∷ left words.old)) }
+        ensures valid { OnOk result (IsCapture (capture_of self.old) → IsCapture (capture_of self.new)) }
+    {
+        if kind == b"frame".as_slice() {
+            self.take_frame(words)
+        } else if kind == b"key".as_slice() {
+            self.take_key(words)
+        } else if kind == b"code".as_slice() {
+            self.take_code(words)
+        } else if kind == b"addr".as_slice() {
+            self.take_addr(words)
+        } else {
+            Err(OrMemory::Fault(CaptureCause::Syntax))
+        }
+    }
+
+    fn take_key(&mut self, words: &mut Words<'_>) -> Result<(), OrMemory<CaptureCause>>
+        ensures exact { Steps result (capture_of self.new) (with_key (capture_of self.old) (key_in (left words.old))) }
+        ensures valid { OnOk result (IsCapture (capture_of self.old) → IsCapture (capture_of self.new)) }
+    {
+        let Some(key) = key(words) else {
+            return Err(OrMemory::Fault(CaptureCause::Syntax));
+        };
+        self.add_key(key)
+    }
+
+    fn take_code(&mut self, words: &mut Words<'_>) -> Result<(), OrMemory<CaptureCause>>
+        ensures exact { Steps result (capture_of self.new) (with_code (capture_of self.old) (code_in (left words.old))) }
+        ensures valid { OnOk result (IsCapture (capture_of self.old) → IsCapture (capture_of self.new)) }
+    {
+        let Some(judged) = code(words) else {
+            return Err(OrMemory::Fault(CaptureCause::Syntax));
+        };
+        let Some(key) = judged else {
+            return Err(OrMemory::Fault(CaptureCause::BadCode));
+        };
+        self.add_key(key)
+    }
+
+    /// Adds a given key, of at most 256.
+    fn add_key(&mut self, key: Key) -> Result<(), OrMemory<CaptureCause>>
+        ensures exact { Steps result (capture_of self.new) (with_key (capture_of self.old) (Some key)) }
+        ensures valid { OnOk result (IsCapture (capture_of self.old) → IsCapture (capture_of self.new)) }
+    {
+        if self.keys.len() >= 256 {
+            return Err(OrMemory::Fault(CaptureCause::TooMany));
+        }
+        self.keys.push(key)?;
+        Ok(())
+    }
+
+    /// Adds an address that no line before has.
+    fn take_addr(&mut self, words: &mut Words<'_>) -> Result<(), OrMemory<CaptureCause>>
+        ensures exact { Steps result (capture_of self.new) (with_addr (capture_of self.old) (addr_in (left words.old))) }
+        ensures valid { OnOk result (IsCapture (capture_of self.old) → IsCapture (capture_of self.new)) }
+    {
+        let Some(addr) = addr(words) else {
+            return Err(OrMemory::Fault(CaptureCause::Syntax));
+        };
+        if has_short(self.addrs.as_slice(), addr.0) {
+            return Err(OrMemory::Fault(CaptureCause::AddressTaken));
+        }
+        self.addrs.push(addr)?;
+        Ok(())
+    }
+
+    /// Adds a frame, of at most 100,000.
+    fn take_frame(&mut self, words: &mut Words<'_>) -> Result<(), OrMemory<CaptureCause>>
+        ensures exact { Steps result (capture_of self.new) (with_frame (capture_of self.old) (frame_in (left words.old))) }
+        ensures valid { OnOk result (IsCapture (capture_of self.old) → IsCapture (capture_of self.new)) }
+    {
+        let Some(frame) = frame(words) else {
+            return Err(OrMemory::Fault(CaptureCause::Syntax));
+        };
+        if self.frames.len() >= 100_000 {
+            return Err(OrMemory::Fault(CaptureCause::TooMany));
+        }
+        self.frames.push(frame)?;
+        Ok(())
+    }
+}
+
+fn skips(line: &[u8]) -> bool
+    ensures { result ≡ is_skipped line.now }
+{
+    match line {
+        [] => true,
+        [first, ..] => *first == b'#',
+    }
+}
+
+/// Whether one of the addresses has this network address.
+fn has_short(addrs: &[(Short, Eui)], short: Short) -> bool
+    ensures { result ≡ list_any (has_short short) addrs.now }
+{
+    addrs.iter().any(|addr| addr.0.0 == short.0)
+}

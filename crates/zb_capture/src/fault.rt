@@ -1,0 +1,44 @@
+//! Why a text is no capture.
+use std::error::Error;
+use std::fmt;
+
+/// What is wrong with a line, in the order in which it is tried.
+#[derive(Clone, Copy, Debug, PartialEq, Eq)]
+pub enum CaptureCause {
+    /// It is none of the lines of a capture.
+    Syntax,
+    /// The digits of a `code` line are no install code.
+    BadCode,
+    /// It is the 257th `key` or `code` line, or the 100,001st `frame` line.
+    TooMany,
+    /// An `addr` line before it has the same network address.
+    AddressTaken,
+}
+
+impl fmt::Display for CaptureCause {
+    fn fmt<W: fmt::Write>(&self, f: &mut fmt::Formatter<W>) -> fmt::Result {
+        match self {
+            CaptureCause::Syntax => f.write_str("syntax"),
+            CaptureCause::BadCode => f.write_str("bad-code"),
+            CaptureCause::TooMany => f.write_str("too-many"),
+            CaptureCause::AddressTaken => f.write_str("address-taken"),
+        }
+    }
+}
+
+/// The first bad line of a text, from 1, and the first cause of it.
+#[derive(Clone, Copy, Debug, PartialEq, Eq)]
+pub struct CaptureError {
+    pub line: u32,
+    pub cause: CaptureCause,
+}
+
+impl fmt::Display for CaptureError {
+    fn fmt<W: fmt::Write>(&self, f: &mut fmt::Formatter<W>) -> fmt::Result {
+        let line = self.line;
+        write!(f, "{line} ")?;
+        self.cause.fmt(f)
+    }
+}
+
+impl Error for CaptureError {}

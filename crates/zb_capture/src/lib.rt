@@ -1,0 +1,16 @@
+//! Captures: a text with the keys, the install codes and the addresses that are known, and the frames that were
+//! caught on the air.
+//!
+//! A capture has lines `key KEY`, `code HEX`, `addr SHORT EUI` and `frame HEX`. Empty lines and lines that begin with
+//! `#` are skipped, and count as lines.
+#![tactic(auto)]
+
+mod capture;
+mod draft;
+mod fault;
+mod fields;
+mod reading;
+
+pub use capture::Capture;
+pub use fault::{CaptureCause, CaptureError};
+pub use reading::read_capture;
