@@ -1,7 +1,8 @@
 //! Reads transcripts of worked runs back, prints their lines again and compares; then tries each line with a fault in
-//! it. For each file it writes how many lines there are, whether the printed text is the same, and of how many changed
-//! lines each was refused: with a carriage return, without its line feed, with two spaces, with a word dropped, with its
-//! last word doubled, and, where it has such digits, with hexadecimal digits in lower case.
+//! it, and runs a watch over the lines. For each file it writes how many lines there are, whether the printed text is the
+//! same, of how many changed lines each was refused (with a carriage return, without its line feed, with two spaces, with
+//! a word dropped, with its last word doubled, and, where it has such digits, with hexadecimal digits in lower case), and
+//! the two words of the watch.
 #![tactic(auto)]
 
 use std::alloc::{AllocError, Global};
@@ -9,6 +10,7 @@ use std::{env, fs, io};
 use zb_base::OrMemory;
 use zb_trace::{Line, put_line};
 use zb_trace_reader::{TraceError, read_lines};
+use zb_watch::Watch;
 
 fn main(rt: HostRuntime) -> io::Result<()> {
     for name in env::args(&rt)?.skip(1) {
@@ -29,8 +31,9 @@ fn report(rt: &(impl Print + AllocGlobal), name: &str, bytes: &[u8]) -> io::Resu
                 rt.alloc(),
                 bytes,
             )?;
+            let (ideal, private) = watched(rt.alloc(), lines.as_slice())?;
             println!(rt;
-                "{name}: {count} lines, {word}; refused {returns} {unended} {spaces} {dropped} {doubled} {lower}"
+                "{name}: {count} lines, {word}; refused {returns} {unended} {spaces} {dropped} {doubled} {lower}; {ideal} {private}"
             )
         }
         Err(OrMemory::Fault(TraceError { line })) => println!(rt; "{name}: bad line {line}"),
@@ -44,6 +47,28 @@ fn read_whole(alloc: Global, bytes: &[u8]) -> Result<Vec<Line>, OrMemory<TraceEr
     } else {
         Err(OrMemory::NoMemory)
     }
+}
+
+/// The two words of a watch over the lines.
+fn watched(alloc: Global, lines: &[Line]) -> Result<(&'static str, &'static str), AllocError> {
+    let mut watch = new_watch(alloc)?;
+    for line in lines {
+        if watch.line(alloc, line).is_err() {
+            return Err(AllocError);
+        }
+    }
+    Ok((yes_or_no(watch.ideal()), yes_or_no(watch.private())))
+}
+
+fn new_watch(alloc: Global) -> Result<Watch, AllocError> {
+    match Watch::new(alloc) {
+        Ok(watch) => Ok(watch),
+        Err(_) => Err(AllocError),
+    }
+}
+
+fn yes_or_no(answer: bool) -> &'static str {
+    if answer { "yes" } else { "no" }
 }
 
 /// Whether the lines have this text.
