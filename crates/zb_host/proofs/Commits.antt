@@ -1,0 +1,204 @@
+-- What commits make of a host.
+use Rattle.std.proofs.Common.{◌≡◌, ◌≢◌, ◌≤◌, ◌<◌, ◌⊎◌, ◌++◌, ◌==◌, ◌||◌, inl, inr, List, [], ◌∷◌, ℕ, length, get_or, Bool, true, false, Option, Some, None, Result, Ok, Err, IfErr, IsTrue, refl, sym, ◌∙◌, ap, subst, arith, append_assoc, append-nil}
+use Rattle.std.specs.List.{concat}
+use Rattle.std.proofs.lemmas.Bool.{or_parts}
+use Rattle.zb_base.specs.Outside.{Rose}
+use Rattle.zb_disk.specs.View.{Telling, View, LeavesOnly}
+use Rattle.zb_disk.proofs.Moments.{started, weakened}
+use Rattle.zb_store.specs.declared.fault.StoreFault.{StoreFault}
+use Rattle.zb_store.specs.declared.fault.StoreFault.TheVariants.{Disk, NoRecord, TooLarge, NoMemory, Worn}
+use Rattle.zb_store.specs.Layout.{Standing, IsWhole}
+use Rattle.zb_store.specs.Store.{Place, place_of, IsReady, IsHeld, IsWholeEither, appended, replaced}
+use Rattle.zb_store.specs.Faults.{IsPutFault, IsAppendFault}
+use Rattle.zb_change.specs.declared.change.Change.{Change}
+use Rattle.zb_host.specs.declared.fault.HostFault.{HostFault}
+use Rattle.zb_host.specs.declared.fault.HostFault.TheVariants.{Disk as disk_of, NoMemory as no_memory, NoRecord as no_record, BadRecord as bad_record, Worn as worn_out}
+use Rattle.arrayvec.specs.declared.array_vec.ArrayVec.{ArrayVec}
+use Rattle.zb_host.specs.Plans.{Restored, gives}
+use Rattle.zb_host.specs.HostFaults.{host_fault, IsHandleFault}
+use Rattle.zb_host.specs.Hosts.{Restoring, Gives, StandsFor, StandsForEither, Hosted, IsCurrent, is_full, writes_whole, next_standing, IsCommitFault, IsCommit, CommitStop, IsWorn}
+
+-- a record that fits makes no fault of its size
+pub put_faults : (store : Place) (content : List ℕ) (old new : View) (r : Result Place StoreFault) → length content ≤ 49152
+    → IfErr r (IsPutFault store content old new) → IfErr r (IsCommitFault true store old new)
+put_faults store content old new (Ok after) small fault = tt
+put_faults store content old new (Err Disk) small fault = fault
+put_faults store content old new (Err NoRecord) small fault = fault
+put_faults store content old new (Err (TooLarge len)) small fault = omega (arith, fault.1)
+put_faults store content old new (Err NoMemory) small fault = fault
+put_faults store content old new (Err Worn) small fault = (refl, fault.1)
+
+pub append_faults : (store : Place) (payload : List ℕ) (old new : View) (r : Result Place StoreFault) → length payload ≤ 481
+    → IfErr r (IsAppendFault payload old new) → IfErr r (IsCommitFault false store old new)
+append_faults store payload old new (Ok after) small fault = tt
+append_faults store payload old new (Err Disk) small fault = fault
+append_faults store payload old new (Err NoRecord) small fault = fault
+append_faults store payload old new (Err (TooLarge len)) small fault = omega (arith, fault.1)
+append_faults store payload old new (Err NoMemory) small fault = fault
+append_faults store payload old new (Err Worn) small fault = absurd fault
+
+-- the payloads with one more
+concat_snoc : (ps : List (List ℕ)) (p : List ℕ) → concat (ps ++ p ∷ []) ≡ concat ps ++ p
+concat_snoc [] p = append-nil p
+concat_snoc (q ∷ ps) p = ap (λ (l : List ℕ). q ++ l) (concat_snoc ps p) ∙ sym (append_assoc q (concat ps) p)
+
+-- what the next commit leaves gives the new core
+pub next_gives : (restored : Restoring) (whole : Bool) (s : Standing) (content payload : List ℕ)
+    → restored content [] ≡ gives content → (whole ≡ false → restored s.content (concat s.payloads ++ payload) ≡ gives content)
+    → Gives restored (next_standing whole s content payload) content
+next_gives restored true s content payload keeps adds = keeps
+next_gives restored false s content payload keeps adds = ap (restored s.content) (concat_snoc s.payloads payload) ∙ adds refl
+
+-- and its record isn't of the first version
+pub next_later : (whole : Bool) (s : Standing) (content payload : List ℕ) → get_or content 0 0 ≢ 1 → (whole ≡ false → get_or s.content 0 0 ≢ 1)
+    → get_or (next_standing whole s content payload).content 0 0 ≢ 1
+next_later true s content payload newest later = newest
+next_later false s content payload newest later = later refl
+
+-- a host whose next commit is an entry has no record of the first version
+pub entry_later : {C : Type 0} (host : Hosted C) (s : Standing) → (host.whole ≡ false → get_or s.content 0 0 ≢ 1) → writes_whole host ≡ false → get_or s.content 0 0 ≢ 1
+entry_later host s later whole = later (or_parts host.whole (is_full host.store) whole).0
+
+-- the images of a store stand for the cores of a host
+pub commit_moments : (restored : Restoring) (old new : View) (s next : Standing) (w content : List ℕ) → Gives restored s w → Gives restored next content
+    → LeavesOnly old new (IsWholeEither s next) → LeavesOnly old new (StandsForEither restored w content)
+commit_moments restored old new s next w content before after leaves = weakened old new (IsWholeEither s next) (StandsForEither restored w content) each leaves
+  where
+    each : (c : List ℕ) → IsWholeEither s next c → StandsForEither restored w content c
+    each c (inl is) = inl (s, is, before)
+    each c (inr is) = inr (next, is, after)
+
+-- no call, and the core's record is as it was
+pub idle_moments : (restored : Restoring) (v : View) (s : Standing) (w content : List ℕ) → ((c : List ℕ) → v.since v.moment c → v.images c) → IsHeld s v → Gives restored s w
+    → LeavesOnly v v (StandsForEither restored w content)
+idle_moments restored v s w content only_now held before = started v (StandsForEither restored w content) only_now (λ c is. inl (s, held.whole c is, before))
+
+-- one store of a host that is up
+pub some_is : (p q : Place) (o : Option Place) → o ≡ Some p → o ≡ Some q → p ≡ q
+some_is p q o first second = some_inj (sym first ∙ second)
+  where
+    value : Option Place → Place
+    value (Some x) = x
+    value None = p
+
+    some_inj : Some p ≡ Some q → p ≡ q
+    some_inj e = ap value e
+
+-- no entry is the whole record
+abbrev Absent : Bool → Type 0
+Absent true = ⊥
+Absent false = Unit {0}
+
+pub no_whole : {A : Type 0} → false ≡ true → A
+no_whole e = absurd (subst Absent e tt)
+
+-- what a core's laws say of the core after a plan
+pub record Leading {C : Type 0} (restored : Restoring) (recorded : C → List ℕ) (before after : C) (payload : List ℕ) : Type 0 where
+  pub keeps : restored (recorded after) [] ≡ gives (recorded after)
+  pub newest : get_or (recorded after) 0 0 ≢ 1
+  pub adds : (r q : List ℕ) → get_or r 0 0 ≢ 1 → restored r q ≡ gives (recorded before) → restored r (q ++ payload) ≡ gives (recorded after)
+
+-- the store of a host that is up is ready
+pub host_ready : {C : Type 0} (restored : Restoring) (recorded : C → List ℕ) (s : Standing) (host : Hosted C) (store : Place) (v : View) → host.store ≡ Some store
+    → IsCurrent restored recorded s host v → IsReady store s v
+host_ready restored recorded s host store v is current = record {
+  place = some_is store (place_of s) host.store is current.place;
+  held = current.held;
+}
+
+pub host_leads : {C : Type 0} (restored : Restoring) (recorded : C → List ℕ) (s : Standing) (host : Hosted C) (core : C) (payload : List ℕ) (v : View)
+    → Leading restored recorded host.core core payload → IsCurrent restored recorded s host v
+    → Gives restored (next_standing (writes_whole host) s (recorded core) payload) (recorded core)
+host_leads restored recorded s host core payload v laws current =
+    next_gives restored (writes_whole host) s (recorded core) payload laws.keeps (λ off. laws.adds s.content (concat s.payloads) (entry_later host s current.later off) current.gives_it)
+
+pub host_moments : {C : Type 0} (restored : Restoring) (recorded : C → List ℕ) (tells : Telling) (s : Standing) (host : Hosted C) (core : C) (store : Place) (payload : List ℕ) (old new : View) (r : Result Place StoreFault)
+    → host.store ≡ Some store → Leading restored recorded host.core core payload → IsCommit tells (writes_whole host) (recorded core) payload store old new r
+    → IsCurrent restored recorded s host old → IsTrue tells.content → LeavesOnly old new (StandsForEither restored (recorded host.core) (recorded core))
+host_moments restored recorded tells s host core store payload old new r is laws commit current told =
+    commit_moments restored old new s (next_standing (writes_whole host) s (recorded core) payload) (recorded host.core) (recorded core) current.gives_it
+    (host_leads restored recorded s host core payload old laws current) (commit.moments s (host_ready restored recorded s host store old is current) told)
+
+pub host_kept : {C : Type 0} (restored : Restoring) (recorded : C → List ℕ) (tells : Telling) (s : Standing) (host : Hosted C) (core : C) (store after : Place) (payload : List ℕ) (old new : View)
+    → host.store ≡ Some store → Leading restored recorded host.core core payload → IsCommit tells (writes_whole host) (recorded core) payload store old new (Ok after)
+    → IsCurrent restored recorded s host old → IsTrue tells.content
+    → IsCurrent restored recorded (next_standing (writes_whole host) s (recorded core) payload) (record { core = core; whole = false; store = Some after }) new
+host_kept {C} restored recorded tells s host core store after payload old new is laws commit current told =
+    let ready = commit.ready s (host_ready restored recorded s host store old is current) told in
+    record {
+      place = ap (λ (p : Place). Some p) ready.place;
+      held = ready.held;
+      gives_it = host_leads restored recorded s host core payload old laws current;
+      later = λ off. next_later (writes_whole host) s (recorded core) payload laws.newest (entry_later host s current.later);
+    }
+
+pub host_stopped : {C : Type 0} (restored : Restoring) (recorded : C → List ℕ) (tells : Telling) (s : Standing) (host : Hosted C) (core : C) (store : Place) (payload : List ℕ) (old new : View) (f : StoreFault)
+    → host.store ≡ Some store → f ≡ Disk → IsCommit tells (writes_whole host) (recorded core) payload store old new (Err f)
+    → IsCurrent restored recorded s host old → IsTrue tells.content → IsTrue tells.steady
+    → CommitStop tells (writes_whole host) s (recorded core) payload old new
+host_stopped restored recorded tells s host core store payload old new f is disk commit current told steady =
+    commit.stopped (ap (λ (g : StoreFault). Err g) disk) s (host_ready restored recorded s host store old is current) told steady
+
+-- the changes of a fault
+abbrev pub changes_of : HostFault → List Change
+changes_of (disk_of changes) = changes.items
+changes_of no_memory = []
+changes_of no_record = []
+changes_of (bad_record at) = []
+changes_of worn_out = []
+
+pub same_changes : (d e : HostFault) → d ≡ e → changes_of d ≡ changes_of e
+same_changes d e same = ap changes_of same
+
+-- a commit for which there is no generation doesn't go through, and its fault isn't the disk's
+abbrev Went : Result Place StoreFault → Type 0
+Went (Ok after) = Unit {0}
+Went (Err f) = ⊥
+
+pub went_not_worn : {C : Type 0} (tells : Telling) (host : Hosted C) (store after : Place) (content payload : List ℕ) (old new : View) → host.store ≡ Some store
+    → IsCommit tells (writes_whole host) content payload store old new (Ok after) → IsWorn host → ⊥
+went_not_worn tells host store after content payload old new is commit worn =
+    subst Went (commit.worn worn.0 (ap (λ (p : Place). p.generation) (some_is store worn.1.0 host.store is worn.1.1) ∙ worn.1.2)) tt
+
+abbrev IsOther : Result Place StoreFault → Type 0
+IsOther (Ok after) = Unit {0}
+IsOther (Err Disk) = Unit {0}
+IsOther (Err NoRecord) = Unit {0}
+IsOther (Err (TooLarge len)) = Unit {0}
+IsOther (Err NoMemory) = Unit {0}
+IsOther (Err Worn) = ⊥
+
+pub disk_not_worn : {C : Type 0} (tells : Telling) (host : Hosted C) (store : Place) (content payload : List ℕ) (old new : View) (f : StoreFault) → host.store ≡ Some store → f ≡ Disk
+    → IsCommit tells (writes_whole host) content payload store old new (Err f) → IsWorn host → ⊥
+disk_not_worn tells host store content payload old new f is disk commit worn =
+    subst IsOther (sym (ap (λ (g : StoreFault). Err g) disk) ∙ commit.worn worn.0 (ap (λ (p : Place). p.generation) (some_is store worn.1.0 host.store is worn.1.1) ∙ worn.1.2)) tt
+
+-- the fault of a host for one of its store
+pub named : (f : StoreFault) (changes : ArrayVec Change 16 (Unit {0})) → (host_fault f changes ≡ disk_of changes) ⊎ (host_fault f changes ≡ worn_out)
+named Disk changes = inl refl
+named NoRecord changes = inr refl
+named (TooLarge len) changes = inr refl
+named NoMemory changes = inr refl
+named Worn changes = inr refl
+
+abbrev IsDisks : HostFault → Type 0
+IsDisks (disk_of changes) = Unit {0}
+IsDisks no_memory = ⊥
+IsDisks no_record = ⊥
+IsDisks (bad_record at) = ⊥
+IsDisks worn_out = ⊥
+
+pub of_disk : (f : StoreFault) (changes others : ArrayVec Change 16 (Unit {0})) → host_fault f changes ≡ disk_of others → (f ≡ Disk) × (changes.items ≡ others.items)
+of_disk Disk changes others e = (refl, same_changes (disk_of changes) (disk_of others) e)
+of_disk NoRecord changes others e = absurd (subst IsDisks (sym e) tt)
+of_disk (TooLarge len) changes others e = absurd (subst IsDisks (sym e) tt)
+of_disk NoMemory changes others e = absurd (subst IsDisks (sym e) tt)
+of_disk Worn changes others e = absurd (subst IsDisks (sym e) tt)
+
+pub handled : (whole : Bool) (store : Place) (o : Option Place) (old new : View) (f : StoreFault) (changes : ArrayVec Change 16 (Unit {0})) → o ≡ Some store
+    → IsCommitFault whole store old new f → IsHandleFault whole o old new (host_fault f changes)
+handled whole store o old new Disk changes is fault = fault
+handled whole store o old new NoRecord changes is fault = absurd fault
+handled whole store o old new (TooLarge len) changes is fault = absurd fault
+handled whole store o old new NoMemory changes is fault = absurd fault
+handled whole store o old new Worn changes is fault = (fault.0, (store, is, fault.1))

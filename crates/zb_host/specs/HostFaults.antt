@@ -1,0 +1,39 @@
+-- When each fault of a host comes.
+use Rattle.std.specs.Prelude.{ℕ, ◌≡◌, List, [], Bool, true, Option, Some, None, IsTrue}
+use Rattle.std.specs.List.{concat}
+use Rattle.zb_base.specs.Outside.{Rose}
+use Rattle.zb_disk.specs.View.{Telling, View}
+use Rattle.zb_store.specs.Layout.{Standing, stands}
+use Rattle.zb_store.specs.Store.{Place}
+use Rattle.zb_host.specs.declared.fault.HostFault.{HostFault}
+use Rattle.zb_host.specs.declared.fault.HostFault.TheVariants.{Disk, NoMemory, NoRecord, BadRecord, Worn}
+use Rattle.arrayvec.specs.declared.array_vec.ArrayVec.{ArrayVec}
+use Rattle.zb_change.specs.declared.change.Change.{Change}
+use Rattle.zb_store.specs.declared.fault.StoreFault.{StoreFault}
+use Rattle.zb_store.specs.declared.fault.StoreFault.TheVariants.{Disk as store_disk, NoRecord as store_no_record, TooLarge as store_too_large, NoMemory as store_no_memory, Worn as store_worn}
+use Rattle.zb_host.specs.Plans.{bad}
+use Rattle.zb_host.specs.Hosts.{Restoring}
+
+-- of `handle`: the disk, where its count of faults rose, or the last generation where the whole record is written
+abbrev pub IsHandleFault : Bool → Option Place → View → View → HostFault → Type 0
+IsHandleFault whole store old new (Disk changes) = Rose old.faults new.faults
+IsHandleFault whole store old new NoMemory = ⊥
+IsHandleFault whole store old new NoRecord = ⊥
+IsHandleFault whole store old new (BadRecord at) = ⊥
+IsHandleFault whole store old new Worn = (whole ≡ true) × ((p : Place) × (store ≡ Some p) × (p.generation ≡ 18446744073709551615))
+
+-- of `boot`: the disk, want of memory, no open slot, or what stands gives no core
+abbrev pub IsBootFault : Telling → Restoring → View → View → HostFault → Type 0
+IsBootFault tells restored old new (Disk changes) = Rose old.faults new.faults × (changes.items ≡ [])
+IsBootFault tells restored old new NoMemory = Unit {0}
+IsBootFault tells restored old new NoRecord = IsTrue tells.content → stands old.seen ≡ None
+IsBootFault tells restored old new (BadRecord at) = IsTrue tells.content → (s : Standing) × (stands old.seen ≡ Some s) × (restored s.content (concat s.payloads) ≡ bad at)
+IsBootFault tells restored old new Worn = ⊥
+
+-- the fault of a host whose commit failed
+abbrev pub host_fault : StoreFault → ArrayVec Change 16 (Unit {0}) → HostFault
+host_fault store_disk changes = Disk changes
+host_fault store_no_record changes = Worn
+host_fault (store_too_large len) changes = Worn
+host_fault store_no_memory changes = Worn
+host_fault store_worn changes = Worn

@@ -1,0 +1,4 @@
+pub mod Plans
+pub mod Hosts
+pub mod HostFaults
+pub mod Lives

@@ -1,0 +1,183 @@
+//! The host: a core, its store, and the rule that what goes out is stored first.
+ghost use Rattle.std.specs.Prelude.{if◌then◌else◌, Some, None, ◌≡◌, ◌≢◌, ◌==◌, ◌≤◌, ◌⊎◌, [], List, ℕ, length, get_or, Bool, true, false, is_some, IsTrue, IfOk, IfErr, OnOk, OnErr};
+ghost use Rattle.zb_disk.specs.View.{LeavesOnly};
+ghost use Rattle.zb_store.specs.Layout.{Standing, stands};
+ghost use Rattle.zb_store.specs.Steps.{WentThrough};
+ghost use Rattle.zb_store.specs.Store.{place_of, AllWhole, WasThere, both_gates_open, OpenStop};
+ghost use Rattle.zb_host.specs.declared.plan.Plan.{Plan as plan};
+ghost use Rattle.zb_host.specs.Hosts.{Gives, IsCurrent, StandsForEither, writes_whole, next_standing, commit_calls, CommitStop, IsWorn};
+ghost use Rattle.zb_host.specs.HostFaults.{IsHandleFault, IsBootFault, host_fault};
+
+use crate::commit::commit;
+use crate::{Core, HostFault};
+use std::alloc::Global;
+use std::marker::Model;
+use zb_base::{Config, OrMemory};
+use zb_change::{Changes, KeyError};
+use zb_disk::Disk;
+use zb_store::{Store, StoreFault};
+
+/// A node's core over its store.
+#[derive(Drop)]
+pub struct Host<C: Core> {
+    core: C,
+    // Whether the next commit writes the whole record: what stands is of the first version.
+    whole: bool,
+    // It is there while the host is up.
+    store: Option<Store>,
+    // Room for a record.
+    room: Vec<u8>,
+}
+
+impl<C: Core> Model for Host<C> {
+    ghost use Rattle.zb_host.specs.Hosts.{Hosted};
+    ghost use Rattle.std.specs.Prelude.{◌≤◌, length};
+
+    ghost Value = { Hosted C };
+
+    ghost view = { λ h. record { core = h.core; whole = h.whole; store = h.store } };
+
+    ghost invariant = { λ h. 49152 ≤ length h.room.items };
+}
+
+impl<C: Core> Host<C> {
+    /// Handles an event: what goes out is answered once its changes are stored, by one entry, or by the whole record
+    /// where 32 entries stand. After a fault the host is down. It takes no memory.
+    pub fn handle<D: Disk>(
+        &mut self,
+        disk: &mut D,
+        event: &C::Event,
+    ) -> Result<(Changes, C::Out), HostFault>
+        requires up { IsTrue (is_some self.old.store) }
+
+        // The changes and what goes out are those of a plan of the core, and the core is the one after it.
+        ensures planned { (p : plan C.Out) × C.is_plan self.old.core p × C.is_after self.old.core p self.new.core
+            × IfOk result (λ r. (r.0 ≡ p.changes) × (r.1 ≡ p.out)) × IfErr result (λ e. (e ≡ HostFault.Disk p.changes) ⊎ (e ≡ HostFault.Worn)) }
+
+        // A crash at any moment leaves the old record's core or the new one's.
+        ensures moments { (s : Standing) → IsCurrent C.restored C.recorded s self.old (D.state disk.old) → IsTrue D.tells.content
+            → LeavesOnly (D.state disk.old) (D.state disk.new) (StandsForEither C.restored (C.recorded self.old.core) (C.recorded self.new.core)) }
+
+        // What goes out goes out where every image stands for the new.
+        ensures kept { IfOk result (λ r. r.0.items ≢ [] → (s : Standing) → IsCurrent C.restored C.recorded s self.old (D.state disk.old) → IsTrue D.tells.content
+            → IsCurrent C.restored C.recorded (next_standing (writes_whole self.old) s (C.recorded self.new.core) (C.payload r.0.items)) self.new (D.state disk.new)) }
+        ensures through { IfOk result (λ r. r.0.items ≢ [] → WentThrough D.tells (commit_calls (writes_whole self.old)) (D.state disk.old) (D.state disk.new)) }
+
+        // Without changes there is no call to the disk.
+        ensures idle { IfOk result (λ r. r.0.items ≡ [] → disk.new ≡ disk.old) }
+        ensures idle_store { IfOk result (λ r. r.0.items ≡ [] → self.new.store ≡ self.old.store) }
+        ensures idle_whole { IfOk result (λ r. r.0.items ≡ [] → self.new.whole ≡ self.old.whole) }
+        ensures idle_kept { IfOk result (λ r. r.0.items ≡ [] → (s : Standing) → IsCurrent C.restored C.recorded s self.old (D.state disk.old)
+            → IsCurrent C.restored C.recorded s self.new (D.state disk.new)) }
+
+        // Where the disk failed, it stopped at one of the calls, and an image in which the gate is open stands for the new.
+        ensures stopped { IfErr result (λ e. (changes : _) → e ≡ HostFault.Disk changes → (s : Standing) → IsCurrent C.restored C.recorded s self.old (D.state disk.old)
+            → IsTrue D.tells.content → IsTrue D.tells.steady
+            → CommitStop D.tells (writes_whole self.old) s (C.recorded self.new.core) (C.payload changes.items) (D.state disk.old) (D.state disk.new)
+            × Gives C.restored (next_standing (writes_whole self.old) s (C.recorded self.new.core) (C.payload changes.items)) (C.recorded self.new.core)) }
+
+        // After a commit the next one is an entry, unless 32 stand. No whole record is stored once the generations are used up.
+        ensures entry_next { IfOk result (λ r. r.0.items ≢ [] → self.new.whole ≡ false) }
+        ensures not_worn { IfOk result (λ r. r.0.items ≢ [] → IsWorn self.old → ⊥) }
+        ensures not_worn_disk { IfErr result (λ e. (changes : _) → e ≡ HostFault.Disk changes → IsWorn self.old → ⊥) }
+
+        ensures up { OnOk result (IsTrue (is_some self.new.store)) }
+        ensures down { OnErr result (self.new.store ≡ None) }
+        ensures faults { IfErr result (IsHandleFault (writes_whole self.old) self.old.store (D.state disk.old) (D.state disk.new)) }
+        ensures count { (D.state disk.old).faults ≤ (D.state disk.new).faults }
+    {
+        let plan = self.core.plan(event);
+        self.core.apply(&plan);
+        if plan.changes.is_empty() {
+            return Ok((plan.changes, plan.out));
+        }
+        let store = self.store.take().unwrap();
+        match commit(
+            store,
+            disk,
+            self.whole,
+            &mut self.room,
+            &self.core,
+            &plan.changes,
+        ) {
+            Ok(store) => {
+                self.store = Some(store);
+                self.whole = false;
+                Ok((plan.changes, plan.out))
+            }
+            Err(fault) => Err(fault_of(fault, plan.changes)),
+        }
+    }
+
+    /// Makes the host of the node whose record and entries stand on the disk.
+    pub fn boot<D: Disk>(alloc: Global, config: &Config, disk: &mut D) -> Result<Host<C>, HostFault>
+        // Its core is that of the record and the entries that the disk as it reads stands for.
+        ensures answer { IfOk result (λ h. IsTrue D.tells.content → (s : Standing) × (stands (D.state disk.old).seen ≡ Some s)
+            × Gives C.restored s (C.recorded h.core) × (h.store ≡ Some (place_of s)) × (h.whole ≡ (get_or s.content 0 0 == 1))) }
+        ensures ready { IfOk result (λ h. AllWhole (D.state disk.old) → IsTrue D.tells.content → (s : Standing) → stands (D.state disk.old).seen ≡ Some s
+            → IsCurrent C.restored C.recorded s h (D.state disk.new)) }
+
+        // Each image at each moment stands for what one at entry stood for.
+        ensures moments { AllWhole (D.state disk.old) → IsTrue D.tells.content → LeavesOnly (D.state disk.old) (D.state disk.new) (WasThere (D.state disk.old)) }
+        ensures through { OnOk result (IsTrue D.tells.content
+            → WentThrough D.tells (if both_gates_open (D.state disk.old).seen then 3 else 1) (D.state disk.old) (D.state disk.new)) }
+        ensures stopped { IfErr result (λ e. (changes : _) → e ≡ HostFault.Disk changes → AllWhole (D.state disk.old) → IsTrue D.tells.content → IsTrue D.tells.steady
+            → (s : Standing) → stands (D.state disk.old).seen ≡ Some s → OpenStop D.tells s (D.state disk.old) (D.state disk.new)) }
+        ensures faults { IfErr result (IsBootFault D.tells C.restored (D.state disk.old) (D.state disk.new)) }
+        ensures count { (D.state disk.old).faults ≤ (D.state disk.new).faults }
+    {
+        let mut room = match Vec::with_capacity(alloc, 49_152) {
+            Ok(room) => room,
+            Err(_) => return Err(HostFault::NoMemory),
+        };
+        room.resize(49_152, 0).unwrap();
+        let (store, record, payloads) = match Store::open(alloc, disk) {
+            Ok(opened) => opened,
+            Err(StoreFault::Disk) => {
+                return Err(HostFault::Disk {
+                    changes: Changes::new(),
+                });
+            }
+            Err(StoreFault::NoRecord) => return Err(HostFault::NoRecord),
+            Err(_) => return Err(HostFault::NoMemory),
+        };
+        match C::restore(alloc, config, &record, &payloads, &mut room) {
+            Ok(core) => Ok(Host {
+                core,
+                whole: record.first() == Some(&1),
+                store: Some(store),
+                room,
+            }),
+            Err(OrMemory::Fault(KeyError::BadRecord { at })) => Err(HostFault::BadRecord { at }),
+            Err(_) => Err(HostFault::NoMemory),
+        }
+    }
+
+    /// Whether no fault has come.
+    pub fn is_up(&self) -> bool
+        ensures { result ≡ is_some self.now.store }
+    {
+        self.store.is_some()
+    }
+
+    /// The core of a host that is up.
+    pub fn core(&self) -> &C
+        requires { IsTrue (is_some self.now.store) }
+        ensures { result.now ≡ self.now.core }
+    {
+        &self.core
+    }
+}
+
+// The fault of a host whose commit failed. A commit has no faults but these two.
+fn fault_of(fault: StoreFault, changes: Changes) -> HostFault
+    ensures { result ≡ host_fault fault changes }
+{
+    match fault {
+        StoreFault::Disk => HostFault::Disk { changes },
+        StoreFault::NoRecord
+        | StoreFault::TooLarge { .. }
+        | StoreFault::NoMemory
+        | StoreFault::Worn => HostFault::Worn,
+    }
+}

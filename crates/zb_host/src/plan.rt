@@ -1,0 +1,91 @@
+//! What a host needs of a node's policy.
+ghost use Rattle.std.specs.Prelude.{◌≡◌, ◌≢◌, ◌≤◌, ◌++◌, List, [], ℕ, length, take, get_or, IfOk, IfErr};
+ghost use Rattle.zb_change.specs.declared.change.Change.{Change as change};
+ghost use Rattle.zb_host.specs.Plans.{Restored, gives, IsRestoreFault};
+
+use std::alloc::Global;
+use zb_base::{Config, OrMemory};
+use zb_change::{Changes, KeyError};
+
+/// What an event leads to: the changes of the stable state, and what goes out once they are stored.
+#[derive(Drop)]
+pub struct Plan<O> {
+    /// The changes, in order.
+    pub changes: Changes,
+    /// What goes out.
+    pub out: O,
+}
+
+/// A node's policy over its tables. It keeps nothing stable but what its record has.
+pub trait Core: Drop {
+    ghost use Rattle.zb_host.specs.declared.plan.Plan.{Plan};
+
+    /// What happens to the node.
+    type Event;
+
+    /// What goes out.
+    type Out: Drop;
+
+    /// The core's record.
+    ghost recorded: { Self → List ℕ };
+
+    /// This is a plan of the core.
+    ghost is_plan: { Self → Plan Self.Out → Type 0 };
+
+    /// What applying it makes of the core.
+    ghost is_after: { Self → Plan Self.Out → Self → Type 0 };
+
+    /// How changes are spelled in an entry.
+    ghost payload: { List change → List ℕ };
+
+    /// The record of the core that a record and the payloads behind it give.
+    ghost restored: { List ℕ → List ℕ → Restored };
+
+    /// Plans an event and changes nothing.
+    fn plan(&self, event: &Self::Event) -> Plan<Self::Out>
+        ensures { is_plan self.now result };
+
+    /// Makes the changes of a plan of this core.
+    fn apply(&mut self, plan: &Plan<Self::Out>)
+        requires { is_plan self.old plan.now }
+        ensures { is_after self.old plan.now self.new };
+
+    /// Writes the record, for which there are 49,152 bytes of room, and answers its length.
+    fn record(&self, into: &mut [u8]) -> u32
+        requires { 49152 ≤ length into.old }
+        ensures len { result ≡ length (recorded self.now) }
+        ensures small { result ≤ 49152 }
+        ensures bytes { take result into.new ≡ recorded self.now };
+
+    /// Writes the payload of changes, for which there are 481 bytes of room, and answers its length.
+    fn change_bytes(changes: &Changes, into: &mut [u8]) -> u32
+        requires { 481 ≤ length into.old }
+        ensures len { result ≡ length (payload changes.now.items) }
+        ensures small { result ≤ 481 }
+        ensures bytes { take result into.new ≡ payload changes.now.items };
+
+    /// Makes the core of a node from a record and the payloads behind it. `room` has 49,152 bytes.
+    fn restore(
+        alloc: Global,
+        config: &Config,
+        content: &[u8],
+        payloads: &[u8],
+        room: &mut [u8],
+    ) -> Result<Self, OrMemory<KeyError>>
+        requires { 49152 ≤ length room.old }
+        ensures core { IfOk result (λ c. restored content.now payloads.now ≡ gives (recorded c)) }
+        ensures fault { IfErr result (IsRestoreFault (restored content.now payloads.now)) };
+
+    /// An entry behind a record that isn't of the first version leads from the core to the one after the plan.
+    ghost adds: { (c d : Self) (p : Plan Self.Out) (r q : List ℕ) → is_plan c p → is_after c p d → get_or r 0 0 ≢ 1
+        → restored r q ≡ gives (recorded c) → restored r (q ++ payload p.changes.items) ≡ gives (recorded d) };
+
+    /// A record alone gives the core that wrote it, and it isn't of the first version.
+    ghost keeps: { (c : Self) → restored (recorded c) [] ≡ gives (recorded c) };
+
+    /// The version that is written.
+    ghost newest: { (c : Self) → get_or (recorded c) 0 0 ≢ 1 };
+
+    /// A plan without changes leaves the record.
+    ghost idle: { (c d : Self) (p : Plan Self.Out) → is_plan c p → is_after c p d → p.changes.items ≡ [] → recorded d ≡ recorded c };
+}
