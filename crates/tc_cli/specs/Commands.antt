@@ -7,7 +7,8 @@ use Rattle.zb_model.specs.Data.{Bytes}
 use Rattle.zb_model.specs.FirstPath.{Plan, transcript}
 use Rattle.zb_player.specs.Text.{text}
 use Rattle.zb_player.specs.Wire.{wire}
-use Rattle.zb_reader.specs.Grammar.{schedule}
+use Rattle.zb_reader.specs.Reading.{schedule}
+use Rattle.zb_sched.specs.declared.error.SchedError.{SchedError}
 
 -- `play` plays the schedule on its input; `install CODE` writes the link key of an install code
 pub data Task : Type 0 where
@@ -22,9 +23,9 @@ task_of words = None
 
 -- What each command writes where nothing fails
 
-abbrev pub played_text : Option Plan → Bytes
-played_text None = []
-played_text (Some plan) = text (transcript wire plan)
+abbrev pub played_text : Result Plan SchedError → Bytes
+played_text (Ok plan) = text (transcript wire plan)
+played_text (Err e) = []
 
 -- the transcript of the schedule that the input is
 abbrev pub play_output : Bytes → Bytes

@@ -9,9 +9,10 @@ use Rattle.zb_model.specs.Lines.{LogLine}
 use Rattle.zb_model.specs.FirstPath.{Plan, Lawful, Fresh, Counted}
 use Rattle.zb_player.specs.Text.{text}
 use Rattle.zb_player.specs.Wire.{wire}
-use Rattle.zb_reader.specs.Grammar.{schedule}
+use Rattle.zb_reader.specs.Reading.{schedule}
+use Rattle.zb_sched.specs.declared.error.SchedError.{SchedError}
 use Rattle.tc_cli.specs.Commands.{play_output, install_output}
-use Rattle.tc_cli.specs.Statuses.{cause_of}
+use Rattle.tc_cli.specs.Statuses.{cause_of, schedule_cause}
 use Rattle.tc_cli.specs.declared.status.Status.{Status}
 use Rattle.tc_cli.specs.declared.status.Status.TheVariants as status
 use Rattle.tc_cli.specs.declared.status.Cause.{Cause}
@@ -32,7 +33,7 @@ pub record IsRun (plan : Plan) (written : Bytes) : Type 0 where
 -- The input is a schedule, it was read to its end, and its run was written.
 pub record Played (input : Bytes) (before after : Option Bytes) : Type 0 where
   pub plan : Plan
-  pub reads : schedule input ≡ Some plan
+  pub reads : schedule input ≡ Ok plan
   pub run : IsRun plan (play_output input)
   pub written : Appends before after (play_output input)
 
@@ -45,6 +46,10 @@ pub record Installed (code : Bytes) (before after : Option Bytes) : Type 0 where
 -- The code is refused for what is wrong with it.
 abbrev pub IsRefused : Bytes → ℕ → Cause → Type 0
 IsRefused code line c = (line ≡ 1) × ((e : CodeError) × (code_of_text code ≡ Err e) × (c ≡ cause_of e))
+
+-- The input is refused at its first bad line, for the first of its causes.
+abbrev pub IsRefusedInput : Bytes → ℕ → Cause → Type 0
+IsRefusedInput input line c = ((e : SchedError) × (schedule input ≡ Err e) × (line ≡ e.line) × (c ≡ schedule_cause e.cause))
 
 -- these answers come before anything is written
 abbrev pub WritesNothing : Status → Option Bytes → Option Bytes → Type 0

@@ -3,6 +3,8 @@ use Rattle.std.specs.Prelude.{ℕ, ◌++◌, [], codes, decimal}
 use Rattle.zb_install.specs.declared.code_error.CodeError.{CodeError}
 use Rattle.zb_install.specs.declared.code_error.CodeError.TheVariants as code
 use Rattle.zb_model.specs.Data.{Bytes}
+use Rattle.zb_sched.specs.declared.error.SchedCause.{SchedCause}
+use Rattle.zb_sched.specs.declared.error.SchedCause.TheVariants as fault
 use Rattle.zb_text.specs.Fields.{short_text}
 use Rattle.zb_text.specs.Words.{then}
 use Rattle.tc_cli.specs.declared.status.Status.{Status}
@@ -21,6 +23,14 @@ number_of (status.TooLong limit) = 9
 
 abbrev pub cause_text : Cause → Bytes
 cause_text cause.Syntax = then (codes "syntax")
+cause_text cause.DuplicateNode = then (codes "duplicate-node")
+cause_text cause.DuplicateCode = then (codes "duplicate-code")
+cause_text cause.DrawRepeated = then (codes "draw-repeated")
+cause_text cause.UnknownNode = then (codes "unknown-node")
+cause_text cause.NoCentre = then (codes "no-centre")
+cause_text cause.BadCode = then (codes "bad-code")
+cause_text cause.Block = then (codes "block")
+cause_text cause.TooMany = then (codes "too-many")
 cause_text (cause.NotHex at) = then (codes "not-hex") ++ then (decimal at)
 cause_text (cause.Length len) = then (codes "length") ++ then (decimal len)
 cause_text (cause.Crc kept found) = then (codes "crc") ++ then (short_text kept) ++ then (short_text found)
@@ -39,3 +49,15 @@ abbrev pub cause_of : CodeError → Cause
 cause_of (code.NotHex at) = cause.NotHex at
 cause_of (code.Length len) = cause.Length len
 cause_of (code.Crc kept found) = cause.Crc kept found
+
+-- what is wrong with a line of a schedule
+abbrev pub schedule_cause : SchedCause → Cause
+schedule_cause fault.Syntax = cause.Syntax
+schedule_cause fault.DuplicateNode = cause.DuplicateNode
+schedule_cause fault.DuplicateCode = cause.DuplicateCode
+schedule_cause fault.DrawRepeated = cause.DrawRepeated
+schedule_cause fault.UnknownNode = cause.UnknownNode
+schedule_cause fault.NoCentre = cause.NoCentre
+schedule_cause fault.BadCode = cause.BadCode
+schedule_cause fault.Block = cause.Block
+schedule_cause fault.TooMany = cause.TooMany

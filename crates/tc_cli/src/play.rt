@@ -6,9 +6,8 @@ ghost use Rattle.zb_model.specs.FirstPath.{transcript};
 ghost use Rattle.zb_player.specs.Text.{text};
 ghost use Rattle.zb_player.specs.Views.{plan_of, IsPlayable};
 ghost use Rattle.zb_player.specs.Wire.{wire};
-ghost use Rattle.zb_reader.specs.Grammar.{schedule};
 ghost use Rattle.tc_cli.specs.Commands.{play_output};
-ghost use Rattle.tc_cli.specs.Outcomes.{longest, Played, WritesNothing, WritesFront, PlayEnds, StopsEarly};
+ghost use Rattle.tc_cli.specs.Outcomes.{longest, IsRefusedInput, Played, WritesNothing, WritesFront, PlayEnds, StopsEarly};
 ghost use Rattle.tc_cli.specs.declared.status.Cause.{Cause as CauseValue};
 
 use crate::input::{InputFault, LONGEST, read_input};
@@ -41,9 +40,9 @@ pub(crate) fn play_input<R: Source, W: Sink>(alloc: Global, input: &mut R, outpu
     };
     match read(alloc, bytes.as_slice()) {
         Ok(script) => play_script(alloc, &script, output),
-        Err(OrMemory::Fault(_)) => Status::Refused {
-            line: 1,
-            cause: Cause::Syntax,
+        Err(OrMemory::Fault(fault)) => Status::Refused {
+            line: fault.line,
+            cause: Cause::from(fault.cause),
         },
         Err(OrMemory::NoMemory) => Status::NoMemory,
     }

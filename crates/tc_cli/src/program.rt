@@ -1,12 +1,14 @@
 //! The top call: one command over a source and a sink.
-ghost use Rattle.std.specs.Prelude.{◌≡◌, ◌⊎◌, ◌<◌, ◌≤◌, ℕ, List, Some, None, Ok, IfSome, length, map, string_bytes};
+ghost use Rattle.std.specs.Prelude.{◌≡◌, ◌⊎◌, ◌<◌, ◌≤◌, ℕ, List, Some, None, Ok, Err, IfSome, length, map, string_bytes};
 ghost use Rattle.std.specs.Io.KnownBytes.{IsAtEnd};
 ghost use Rattle.zb_base.specs.Outside.{Rose};
 ghost use Rattle.zb_install.specs.Code.{code_of_text};
 ghost use Rattle.zb_model.specs.FirstPath.{Plan};
-ghost use Rattle.zb_reader.specs.Grammar.{schedule};
+ghost use Rattle.zb_reader.specs.Reading.{schedule};
+ghost use Rattle.zb_sched.specs.declared.error.SchedError.{SchedError};
 ghost use Rattle.tc_cli.specs.Commands.{Playing, Installing, task_of, play_output, install_output};
-ghost use Rattle.tc_cli.specs.Outcomes.{longest, Played, Installed, IsRefused, WritesNothing, WritesFront};
+ghost use Rattle.tc_cli.specs.Outcomes.{longest, IsRefusedInput, Played, Installed, IsRefused, WritesNothing, WritesFront};
+ghost use Rattle.tc_cli.specs.Statuses.{schedule_cause};
 ghost use Rattle.tc_cli.specs.declared.status.Cause.{Cause};
 
 use crate::command::{Command, read_words};
@@ -51,13 +53,13 @@ pub(crate) fn run<T: Threads + Sync, R: Source, W: Sink>(
     // but the refusal where they aren't.
     ensures no_command { task_of (map string_bytes words.now) ≡ None → result ≡ Status.Usage }
     ensures plays { (bytes : List ℕ) (plan : Plan) → task_of (map string_bytes words.now) ≡ Some Playing → R.rest input.old ≡ Some bytes
-        → length bytes ≤ longest → schedule bytes ≡ Some plan
+        → length bytes ≤ longest → schedule bytes ≡ Ok plan
         → (Rose (R.faults input.old) (R.faults input.new) → ⊥) → (Rose (W.faults output.old) (W.faults output.new) → ⊥)
         → (result ≡ Status.Ok) ⊎ (result ≡ Status.NoMemory) }
     ensures refuses { (bytes : List ℕ) → task_of (map string_bytes words.now) ≡ Some Playing → R.rest input.old ≡ Some bytes
         → length bytes ≤ longest → schedule bytes ≡ None
         → (Rose (R.faults input.old) (R.faults input.new) → ⊥) → (Rose (W.faults output.old) (W.faults output.new) → ⊥)
-        → (result ≡ Status.Refused 1 Cause.Syntax) ⊎ (result ≡ Status.NoMemory) }
+        → (result ≡ Status.Refused e.line (schedule_cause e.cause)) ⊎ (result ≡ Status.NoMemory) }
     ensures limits { (bytes : List ℕ) → task_of (map string_bytes words.now) ≡ Some Playing → R.rest input.old ≡ Some bytes
         → longest < length bytes
         → (Rose (R.faults input.old) (R.faults input.new) → ⊥)

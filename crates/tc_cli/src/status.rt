@@ -8,6 +8,7 @@ ghost use Rattle.zb_text.specs.Words.{then};
 use arrayvec::ArrayString;
 use itoa::Buffer;
 use zb_install::CodeError;
+use zb_sched::SchedCause;
 
 /// The end of a run. Its number is the status of the process.
 #[derive(Clone, Copy, Debug, PartialEq, Eq)]
@@ -31,14 +32,51 @@ pub enum Status {
 /// Why an input or a word is refused.
 #[derive(Clone, Copy, Debug, PartialEq, Eq)]
 pub enum Cause {
-    /// The input has a line that breaks a rule, or no centre.
+    /// The line is of no form that the command takes, or a declaration behind an event.
     Syntax,
+    /// A name, EUI or short address is taken, or a declaration stands twice for one node.
+    DuplicateNode,
+    /// The link key of an install code is known to others.
+    DuplicateCode,
+    /// A key of the supply or a network key is known already.
+    DrawRepeated,
+    /// A node isn't declared, or its part doesn't allow the line.
+    UnknownNode,
+    /// No node is the centre.
+    NoCentre,
+    /// Bytes are no install code.
+    BadCode,
+    /// A block of counters is out of its range.
+    Block,
+    /// The 65th node, or the 100,001st event.
+    TooMany,
     /// The code has an odd number of characters, `at`, or the one at `at` is no hexadecimal digit.
     NotHex { at: u32 },
     /// The code has a length that no install code has.
     Length { len: u32 },
     /// The code's last two bytes are `kept`, and the CRC of the others is `found`.
     Crc { kept: u16, found: u16 },
+}
+
+impl From<SchedCause> for Cause {
+    ghost use Rattle.std.specs.Prelude.{◌≡◌};
+    ghost use Rattle.tc_cli.specs.Statuses.{schedule_cause};
+
+    ghost from_gives = { λ e c. c ≡ schedule_cause e };
+
+    fn from(cause: SchedCause) -> Cause {
+        match cause {
+            SchedCause::Syntax => Cause::Syntax,
+            SchedCause::DuplicateNode => Cause::DuplicateNode,
+            SchedCause::DuplicateCode => Cause::DuplicateCode,
+            SchedCause::DrawRepeated => Cause::DrawRepeated,
+            SchedCause::UnknownNode => Cause::UnknownNode,
+            SchedCause::NoCentre => Cause::NoCentre,
+            SchedCause::BadCode => Cause::BadCode,
+            SchedCause::Block => Cause::Block,
+            SchedCause::TooMany => Cause::TooMany,
+        }
+    }
 }
 
 impl From<CodeError> for Cause {
@@ -112,6 +150,14 @@ impl Cause {
     {
         match self {
             Cause::Syntax => add_word(text, "syntax"),
+            Cause::DuplicateNode => add_word(text, "duplicate-node"),
+            Cause::DuplicateCode => add_word(text, "duplicate-code"),
+            Cause::DrawRepeated => add_word(text, "draw-repeated"),
+            Cause::UnknownNode => add_word(text, "unknown-node"),
+            Cause::NoCentre => add_word(text, "no-centre"),
+            Cause::BadCode => add_word(text, "bad-code"),
+            Cause::Block => add_word(text, "block"),
+            Cause::TooMany => add_word(text, "too-many"),
             Cause::NotHex { at } => {
                 add_word(text, "not-hex");
                 add_number(text, *at);

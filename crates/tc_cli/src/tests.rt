@@ -105,32 +105,95 @@ fn comments_empty_lines_carriage_returns_and_a_last_line_without_an_end_are_read
 }
 
 #[test]
-fn other_lines_are_refused(rt: HostRuntime) -> Result<(), Fail> {
-    let inputs: [&[u8]; 20] = [
-        b"boom\n",
-        b"",
-        b"# no centre\n",
-        b"node d device 00124B0000000002 1A2B 4 2\n",
-        b"node c centre 00124B0000000001 0000 0 2\n",
-        b"node c centre 00124B0000000001 0000 65537 2\n",
-        b"node c centre 00124B0000000001 0000 4 1025\n",
-        b"node c centre 00124B0000000001 0001 4 2\n",
-        b"node c centre 0000000000000000 0000 4 2\n",
-        b"node c centre FFFFFFFFFFFFFFFF 0000 4 2\n",
-        b"node c centre 00124B0000000001 0000 4 02\n",
-        b"node c centre 00124B0000000001 0000 4 2 \n",
-        b"node c centre 00124B0000000001 0000 4 2\nnode e centre 00124B0000000002 1A2B 4 2\n",
-        b"node c centre 00124B0000000001 0000 4 2\nnode d device 00124B0000000001 1A2B 4 2\n",
-        b"node c centre 00124B0000000001 0000 4 2\nnetkey d 000102030405060708090A0B0C0D0E0F 0\n",
-        b"node c centre 00124B0000000001 0000 4 2\nnetkey c 5A6967426565416C6C69616E63653039 0\n",
-        b"node c centre 00124B0000000001 0000 4 2\nnetkey c 000102030405060708090A0B0C0D0E0F 256\n",
-        b"node c centre 00124B0000000001 0000 4 2\nsay c 0000 -\nnode d device 00124B0000000002 1A2B 4 2\n",
-        b"node c centre 00124B0000000001 0000 4 2\nsay d 0000 -\n",
-        b"node c centre 00124B0000000001 0000 4 2\r\r\n",
+fn other_lines_are_refused_at_the_first_bad_one(rt: HostRuntime) -> Result<(), Fail> {
+    let inputs: [(&[u8], &str); 23] = [
+        (b"boom\n", "refused 1 syntax"),
+        (b"", "refused 1 no-centre"),
+        (b"# no centre\n", "refused 2 no-centre"),
+        (
+            b"node d device 00124B0000000002 1A2B 4 2\n",
+            "refused 2 no-centre",
+        ),
+        (
+            b"node c centre 00124B0000000001 0000 0 2\n",
+            "refused 1 block",
+        ),
+        (
+            b"node c centre 00124B0000000001 0000 65537 2\n",
+            "refused 1 block",
+        ),
+        (
+            b"node c centre 00124B0000000001 0000 4 1025\n",
+            "refused 1 block",
+        ),
+        (
+            b"node c centre 00124B0000000001 0001 4 2\n",
+            "refused 1 syntax",
+        ),
+        (
+            b"node c centre 0000000000000000 0000 4 2\n",
+            "refused 1 syntax",
+        ),
+        (
+            b"node c centre FFFFFFFFFFFFFFFF 0000 4 2\n",
+            "refused 1 syntax",
+        ),
+        (
+            b"node c centre 00124B0000000001 0000 4 02\n",
+            "refused 1 syntax",
+        ),
+        (
+            b"node c centre 00124B0000000001 0000 4 2 \n",
+            "refused 1 syntax",
+        ),
+        (
+            b"node c centre 00124B0000000001 0000 4 2\nnode e centre 00124B0000000002 0000 4 2\n",
+            "refused 2 duplicate-node",
+        ),
+        (
+            b"node c centre 00124B0000000001 0000 4 2\nnode d device 00124B0000000001 1A2B 4 2\n",
+            "refused 2 duplicate-node",
+        ),
+        (
+            b"node c centre 00124B0000000001 0000 4 2\nnetkey d 000102030405060708090A0B0C0D0E0F 0\n",
+            "refused 2 unknown-node",
+        ),
+        (
+            b"node c centre 00124B0000000001 0000 4 2\nnetkey c 5A6967426565416C6C69616E63653039 0\n",
+            "refused 2 draw-repeated",
+        ),
+        (
+            b"node c centre 00124B0000000001 0000 4 2\nnetkey c 000102030405060708090A0B0C0D0E0F 256\n",
+            "refused 2 syntax",
+        ),
+        (
+            b"node c centre 00124B0000000001 0000 4 2\nsay c 0000 -\nnode d device 00124B0000000002 1A2B 4 2\n",
+            "refused 3 syntax",
+        ),
+        (
+            b"node c centre 00124B0000000001 0000 4 2\nsay d 0000 -\n",
+            "refused 2 unknown-node",
+        ),
+        (
+            b"node c centre 00124B0000000001 0000 4 2\r\r\n",
+            "refused 1 syntax",
+        ),
+        (
+            b"node c centre 00124B0000000001 0000 4 2\nboom c\nsay d 0000 -\n",
+            "refused 2 syntax",
+        ),
+        (
+            b"node c centre 00124B0000000001 0000 4 2\ncounter c nwk 0\nboom\n",
+            "refused 2 syntax",
+        ),
+        (
+            b"node c centre 00124B0000000001 0000 4 2\nsay d 0000 -\ntimer c\n",
+            "refused 2 unknown-node",
+        ),
     ];
-    for input in inputs {
+    for (input, text) in inputs {
         let ran = over(&rt, &["play"], input, &[], &[])?;
-        assert_eq!(rt; ran.status, REFUSED);
+        assert_eq!(rt; ran.status.text().as_str(), text);
         assert_eq!(rt; ran.sink.taken().len(), 0);
     }
     Ok(())
@@ -182,7 +245,7 @@ fn an_input_of_line_feeds_is_too_long_past_the_longest(rt: HostRuntime) -> Resul
     assert_eq!(rt; long.status, Status::TooLong { limit: 16_777_216 });
     let _ = input.pop();
     let short = over(&rt, &["play"], input.as_slice(), &[], &[])?;
-    assert_eq!(rt; short.status, REFUSED);
+    assert_eq!(rt; short.status.text().as_str(), "refused 16777217 no-centre");
     assert_eq!(rt; short.sink.taken().len(), 0);
     Ok(())
 }

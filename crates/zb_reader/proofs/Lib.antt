@@ -1,1 +1,1 @@
-pub mod DraftLemmas
+pub mod Playable

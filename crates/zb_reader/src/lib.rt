@@ -1,8 +1,8 @@
-//! Reads the schedules that `zb_player` plays.
+//! Reads the schedules that `zb_player` plays: those of `zb_sched` whose lines are nodes, network keys and sayings.
 #![tactic(auto)]
 
-mod draft;
-mod fields;
-mod schedule;
+mod forms;
+mod reading;
+mod script;
 
-pub use schedule::{Malformed, read};
+pub use reading::read;

@@ -7,5 +7,5 @@ returns-in-Ok-read-clause-played g c = λ ended. (
   c.in-Ok.ensures.end,
   told_all (g.R.Source.rest c.args.input.now) c.in-Ok.bytes.items c.as_slice.result.now (plan_of c.in-Ok-read.script)
       (g.W.Sink.taken c.args.output.now) (g.W.Sink.taken c.play_script.new.output) c.in-Ok.ensures.whole c.as_slice.ensures.value
-      c.in-Ok-read.ensures.read c.in-Ok-read.ensures.playable (played_ends _ _ _ _ _ _ ended c.play_script.ensures.cases),
+      c.in-Ok-read.ensures.exact.0 c.in-Ok-read.ensures.exact.1 (played_ends _ _ _ _ _ _ ended c.play_script.ensures.cases),
 )

@@ -1,0 +1,71 @@
+-- The schedules that the player plays: schedules whose lines are nodes, network keys, sayings and comments. A line of
+-- another form is a fault of syntax here, whatever else is wrong with it.
+use Rattle.std.specs.Prelude.{ℕ, ◌+◌, nat_lt, Bool, true, false, if◌then◌else◌, List, [], ◌∷◌, map, Option, Some, None, Result, Ok, Err}
+use Rattle.std.specs.List.{flat_map}
+use Rattle.std.specs.Str.Lines.{lines}
+use Rattle.zb_model.specs.FirstPath.{HeldKey, Holder, Saying, Plan}
+use Rattle.zb_player.specs.Views.{duty_of}
+use Rattle.zb_sched.specs.Plan as sched
+use Rattle.zb_sched.specs.Reading.{schedule_of}
+use Rattle.zb_sched.specs.declared.error.SchedCause.TheVariants.{Syntax}
+use Rattle.zb_sched.specs.declared.error.SchedError.{SchedError}
+use Rattle.zb_sched_line.specs.Grammar.{meaning_of}
+use Rattle.zb_sched_line.specs.Said.{Bytes, Act, Says, Sentence, Quiet, Introduces, Holds, Happens}
+
+-- the forms that are played
+abbrev pub is_saying : Act → Bool
+is_saying (Says name to bytes) = true
+is_saying act = false
+
+abbrev pub is_played : Sentence → Bool
+is_played Quiet = true
+is_played (Introduces name role eui short out_block in_block) = true
+is_played (Holds name key sequence) = true
+is_played (Happens act) = is_saying act
+is_played sentence = false
+
+-- a line that means nothing is no line of any form: that is found where the schedule is read
+abbrev pub is_played_line : Option Sentence → Bool
+is_played_line None = true
+is_played_line (Some sentence) = is_played sentence
+
+-- the first line of another form, from the one of that number on
+abbrev pub first_unplayed : ℕ → List Bytes → Option ℕ
+first_unplayed number [] = None
+first_unplayed number (line ∷ more) = if is_played_line (meaning_of line) then first_unplayed (number + 1) more else Some number
+
+abbrev pub no_form : ℕ → SchedError
+no_form line = record { line = line; cause = Syntax }
+
+-- the first fault of both: of the schedule, and of a line of another form
+abbrev pub first_fault : Result sched.Plan SchedError → Option ℕ → Result sched.Plan SchedError
+first_fault read None = read
+first_fault (Ok plan) (Some line) = Err (no_form line)
+first_fault (Err e) (Some line) = if nat_lt e.line line then Err e else Err (no_form line)
+
+-- what such a schedule declares and says
+
+abbrev pub held : Option (Bytes × ℕ) → Option HeldKey
+held None = None
+held (Some network) = Some (record { key = network.0; sequence = network.1 })
+
+abbrev pub holder : sched.Member → Holder
+holder m = record {
+  station = record { name = m.name; eui = m.eui; short = m.short; duty = duty_of m.role; out_block = m.out_block; in_block = m.in_block };
+  net = held m.network;
+}
+
+abbrev pub sayings : Act → List Saying
+sayings (Says name to bytes) = record { name = name; to = to; payload = bytes } ∷ []
+sayings act = []
+
+abbrev pub script : sched.Plan → Plan
+script plan = record { holders = map holder plan.members; sayings = flat_map sayings plan.acts }
+
+abbrev pub scripted : Result sched.Plan SchedError → Result Plan SchedError
+scripted (Ok plan) = Ok (script plan)
+scripted (Err e) = Err e
+
+-- the schedule that a text is, or its first bad line and the first cause of that
+unfoldable pub schedule : Bytes → Result Plan SchedError
+schedule text = scripted (first_fault (schedule_of text) (first_unplayed 1 (lines text)))
