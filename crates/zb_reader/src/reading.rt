@@ -3,7 +3,7 @@ ghost use Rattle.std.specs.Prelude.{◌≡◌, ◌<◌, ◌^◌, ◌-◌, Ok, le
 ghost use Rattle.zb_reader.specs.Answers.{Reads};
 ghost use Rattle.zb_reader.specs.Reading.{schedule, script, no_form as no_form_at};
 ghost use Rattle.zb_sched.specs.Plan.{plan_of as whole};
-ghost use Rattle.zb_reader.specs.Kept.{IsKept};
+ghost use Rattle.zb_sched.specs.Valid.{IsSchedule};
 
 use crate::forms::first_unplayed;
 use crate::script::script_of;
@@ -14,7 +14,7 @@ use zb_sched::{SchedCause, SchedError, Schedule};
 
 /// Reads a schedule that can be played. The error is the first bad line with the first of its causes; a line of a form
 /// that isn't played is a fault of syntax.
-#[tactic(auto, unfolding(crate::specs::Reading::schedule))]
+#[tactic(auto, using(crate::proofs::Playable::all_played), unfolding(crate::specs::Reading::schedule))]
 pub fn read(alloc: Global, text: &[u8]) -> Result<Script, OrMemory<SchedError>>
     requires { length text.now < 2 ^ 32 - 1 }
     ensures exact { Reads result (schedule text.now) }
@@ -34,7 +34,7 @@ pub fn read(alloc: Global, text: &[u8]) -> Result<Script, OrMemory<SchedError>>
 }
 
 fn taken(alloc: Global, schedule: Schedule) -> Result<Script, OrMemory<SchedError>>
-    requires { IsKept (whole schedule) }
+    requires { IsSchedule (whole schedule) }
     ensures { Reads result (Ok (script (whole schedule))) }
 {
     match script_of(alloc, schedule) {

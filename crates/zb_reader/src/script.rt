@@ -1,9 +1,8 @@
 //! What the player takes of a schedule.
-ghost use Rattle.std.specs.Prelude.{◌≡◌, ◌<◌, ◌^◌, map, IfOk};
+ghost use Rattle.std.specs.Prelude.{◌≡◌, map, IfOk};
 ghost use Rattle.std.specs.List.{flat_map};
 ghost use Rattle.std.specs.Option.{option_map};
-ghost use Rattle.zb_model.specs.FirstPath.{HaveAddresses};
-ghost use Rattle.zb_player.specs.Views.{plan_of, holder_of, holders_of, held_of, sayings_of};
+ghost use Rattle.zb_player.specs.Views.{plan_of, holders_of, held_of, sayings_of};
 ghost use Rattle.zb_reader.specs.Reading.{holder, held, sayings, script};
 ghost use Rattle.zb_sched.specs.Plan.{plan_of as whole, member_of};
 ghost use Rattle.zb_sched_line.specs.Views.{act_of};
@@ -15,8 +14,7 @@ use zb_sched::{Event, Schedule};
 
 /// The nodes with their network keys, and what is said.
 pub(crate) fn script_of(alloc: Global, schedule: Schedule) -> Result<Script, AllocError>
-    ensures taken { IfOk result (λ taken. plan_of taken ≡ script (whole schedule)) }
-    ensures addresses { IfOk result (λ taken. HaveAddresses (plan_of taken).holders) }
+    ensures { IfOk result (λ taken. plan_of taken ≡ script (whole schedule)) }
 {
     let Schedule {
         nodes,
@@ -32,28 +30,18 @@ pub(crate) fn script_of(alloc: Global, schedule: Schedule) -> Result<Script, All
 }
 
 fn nodes_of(alloc: Global, nodes: &[zb_sched::Node]) -> Result<Vec<Node>, AllocError>
-    ensures taken { IfOk result (λ taken. holders_of taken.items ≡ map holder (map member_of nodes.now)) }
-    ensures addresses { IfOk result (λ taken. HaveAddresses (holders_of taken.items)) }
+    ensures { IfOk result (λ taken. holders_of taken.items ≡ map holder (map member_of nodes.now)) }
 {
     let mut taken = Vec::with_capacity(alloc, nodes.len())?;
     for node in nodes {
-        taken.push(node_of(node))?;
+        taken.push(Node {
+            peer: node.peer,
+            out_block: node.out_block,
+            in_block: node.in_block,
+            network: network_of(&node.network),
+        })?;
     }
     Ok(taken)
-}
-
-fn node_of(node: &zb_sched::Node) -> Node
-    ensures taken { holder_of result ≡ holder (member_of node.now) }
-    ensures address { result.peer.eui.0 < 2 ^ 64 }
-{
-    let peer = node.peer;
-    let _eui: u64 = peer.eui.0;
-    Node {
-        peer,
-        out_block: node.out_block,
-        in_block: node.in_block,
-        network: network_of(&node.network),
-    }
 }
 
 fn network_of(network: &Option<(Key, u8)>) -> Option<NetworkKey>
