@@ -25,7 +25,7 @@ pub(crate) fn play_input<R: Source, W: Sink>(alloc: Global, input: &mut R, outpu
     ensures read_fault { result ≡ Status.ReadFault → Rose (R.faults input.old) (R.faults input.new) }
     ensures write_fault { result ≡ Status.WriteFault → Rose (W.faults output.old) (W.faults output.new) }
     ensures refused { (line : ℕ) (cause : CauseValue) → result ≡ Status.Refused line cause
-        → (line ≡ 1) × (cause ≡ Cause.Syntax) × IfSome (R.rest input.old) (λ bytes. schedule bytes ≡ None) }
+        → IfSome (R.rest input.old) (λ bytes. IsRefusedInput bytes line cause) }
     ensures too_long { (limit : ℕ) → result ≡ Status.TooLong limit
         → (limit ≡ longest) × IfSome (R.rest input.old) (λ bytes. longest < length bytes) }
     ensures stops { (bytes : List ℕ) → R.rest input.old ≡ Some bytes → longest < length bytes → StopsEarly result }

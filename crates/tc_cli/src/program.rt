@@ -38,7 +38,7 @@ pub(crate) fn run<T: Threads + Sync, R: Source, W: Sink>(
     ensures read_fault { result ≡ Status.ReadFault → Rose (R.faults input.old) (R.faults input.new) }
     ensures write_fault { result ≡ Status.WriteFault → Rose (W.faults output.old) (W.faults output.new) }
     ensures refused_input { (line : ℕ) (cause : Cause) → result ≡ Status.Refused line cause → task_of (map string_bytes words.now) ≡ Some Playing
-        → (line ≡ 1) × (cause ≡ Cause.Syntax) × IfSome (R.rest input.old) (λ bytes. schedule bytes ≡ None) }
+        → IfSome (R.rest input.old) (λ bytes. IsRefusedInput bytes line cause) }
     ensures refused_code { (line : ℕ) (cause : Cause) (code : List ℕ) → result ≡ Status.Refused line cause
         → task_of (map string_bytes words.now) ≡ Some (Installing code) → IsRefused code line cause }
     ensures too_long { (limit : ℕ) → result ≡ Status.TooLong limit
@@ -56,8 +56,8 @@ pub(crate) fn run<T: Threads + Sync, R: Source, W: Sink>(
         → length bytes ≤ longest → schedule bytes ≡ Ok plan
         → (Rose (R.faults input.old) (R.faults input.new) → ⊥) → (Rose (W.faults output.old) (W.faults output.new) → ⊥)
         → (result ≡ Status.Ok) ⊎ (result ≡ Status.NoMemory) }
-    ensures refuses { (bytes : List ℕ) → task_of (map string_bytes words.now) ≡ Some Playing → R.rest input.old ≡ Some bytes
-        → length bytes ≤ longest → schedule bytes ≡ None
+    ensures refuses { (bytes : List ℕ) (e : SchedError) → task_of (map string_bytes words.now) ≡ Some Playing → R.rest input.old ≡ Some bytes
+        → length bytes ≤ longest → schedule bytes ≡ Err e
         → (Rose (R.faults input.old) (R.faults input.new) → ⊥) → (Rose (W.faults output.old) (W.faults output.new) → ⊥)
         → (result ≡ Status.Refused e.line (schedule_cause e.cause)) ⊎ (result ≡ Status.NoMemory) }
     ensures limits { (bytes : List ℕ) → task_of (map string_bytes words.now) ≡ Some Playing → R.rest input.old ≡ Some bytes
