@@ -14,4 +14,5 @@ mod writer;
 pub use error::{SchedCause, SchedError};
 pub use reader::read;
 pub use schedule::{Node, Schedule};
+pub use writer::write;
 pub use zb_sched_line::Event;
