@@ -184,7 +184,7 @@ fn other_lines_are_refused_at_the_first_bad_one(rt: HostRuntime) -> Result<(), F
         ),
         (
             b"node c centre 00124B0000000001 0000 4 2\ncounter c nwk 0\nboom\n",
-            "refused 2 syntax",
+            "refused 3 syntax",
         ),
         (
             b"node c centre 00124B0000000001 0000 4 2\nsay d 0000 -\ntimer c\n",

@@ -1,6 +1,6 @@
--- The schedules that the player plays: schedules whose lines are nodes, network keys, sayings and comments. A line of
--- another form is a fault of syntax here, whatever else is wrong with it.
-use Rattle.std.specs.Prelude.{ℕ, ◌+◌, nat_lt, Bool, true, false, if◌then◌else◌, List, [], ◌∷◌, map, Option, Some, None, Result, Ok, Err}
+-- The schedules that the player plays: schedules whose lines are nodes, network keys, sayings and comments. In a schedule
+-- without another fault, a line of another form is a fault of syntax here.
+use Rattle.std.specs.Prelude.{ℕ, ◌+◌, Bool, true, false, if◌then◌else◌, List, [], ◌∷◌, map, Option, Some, None, Result, Ok, Err}
 use Rattle.std.specs.List.{flat_map}
 use Rattle.std.specs.Str.Lines.{lines}
 use Rattle.zb_model.specs.FirstPath.{HeldKey, Holder, Saying, Plan}
@@ -37,11 +37,11 @@ first_unplayed number (line ∷ more) = if is_played_line (meaning_of line) then
 abbrev pub no_form : ℕ → SchedError
 no_form line = record { line = line; cause = Syntax }
 
--- the first fault of both: of the schedule, and of a line of another form
+-- a fault of the schedule itself comes first; a schedule that has none is refused at its first line of another form
 abbrev pub first_fault : Result sched.Plan SchedError → Option ℕ → Result sched.Plan SchedError
-first_fault read None = read
+first_fault (Ok plan) None = Ok plan
 first_fault (Ok plan) (Some line) = Err (no_form line)
-first_fault (Err e) (Some line) = if nat_lt e.line line then Err e else Err (no_form line)
+first_fault (Err e) unplayed = Err e
 
 -- what such a schedule declares and says
 

@@ -12,23 +12,19 @@ use zb_base::OrMemory;
 use zb_player::Script;
 use zb_sched::{SchedCause, SchedError, Schedule};
 
-/// Reads a schedule that can be played. The error is the first bad line with the first of its causes; a line of a form
-/// that isn't played is a fault of syntax.
+/// Reads a schedule that can be played. The error is the first bad line with the first of its causes; in a schedule, the
+/// first line of a form that isn't played is a fault of syntax.
 #[tactic(auto, using(crate::proofs::Playable::all_played), unfolding(crate::specs::Reading::schedule))]
 pub fn read(alloc: Global, text: &[u8]) -> Result<Script, OrMemory<SchedError>>
     requires { length text.now < 2 ^ 32 - 1 }
     ensures exact { Reads result (schedule text.now) }
 {
-    let unplayed = first_unplayed(text);
     match zb_sched::read(alloc, text) {
-        Ok(schedule) => match unplayed {
+        Ok(schedule) => match first_unplayed(text) {
             Some(line) => Err(no_form(line)),
             None => taken(alloc, schedule),
         },
-        Err(OrMemory::Fault(fault)) => match unplayed {
-            Some(line) if line <= fault.line => Err(no_form(line)),
-            _ => Err(OrMemory::Fault(fault)),
-        },
+        Err(OrMemory::Fault(fault)) => Err(OrMemory::Fault(fault)),
         Err(OrMemory::NoMemory) => Err(OrMemory::NoMemory),
     }
 }
