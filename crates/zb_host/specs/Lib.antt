@@ -1,4 +1,5 @@
 pub mod Plans
 pub mod Hosts
 pub mod HostFaults
+pub mod Calls
 pub mod Lives

@@ -1,59 +1,93 @@
--- What a node lives through from one boot to the next.
-use Rattle.std.specs.Prelude.{ℕ, ◌≡◌, ◌++◌, List, [], ◌∷◌, Bool, true, false, Some}
-use Rattle.zb_disk.specs.View.{View, LeavesOnly}
-use Rattle.zb_store.specs.Layout.{Standing, IsWhole, stands}
-use Rattle.zb_host.specs.Hosts.{Restoring, Gives, StandsFor, StandsForEither}
+-- What a node lives through: calls of its host, and crashes at any moment of them and between them.
+use Rattle.std.specs.Prelude.{ℕ, ◌≡◌, ◌++◌, List, [], ◌∷◌, Bool, true, false, Option, Some, None, Result, Ok, Err, is_some, IsTrue}
+use Rattle.zb_host.specs.declared.fault.HostFault.{HostFault}
+use Rattle.zb_host.specs.declared.fault.HostFault.TheVariants.{Disk, NoMemory, NoRecord, BadRecord, Worn}
+use Rattle.zb_host.specs.Hosts.{Hosted}
+use Rattle.zb_host.specs.Calls.{Words, Handled, IsHandled, IsBooted}
 
--- an event: the record of the core that it leads to, whether what it sends went out, and the disk after it
-pub record Event (D : Type 0) : Type 0 where
+-- a call: its answer, with the host that it leaves or makes, and the disk that it leaves
+pub data Call (C D O : Type 0) : Type 0 where
+  handle : Handled O → Hosted C → D → Call C D O
+  boot : Result (Hosted C) HostFault → D → Call C D O
+
+abbrev pub host_after : {C D O : Type 0} → Call C D O → Option (Hosted C)
+host_after (handle result after disk) = Some after
+host_after (boot (Ok host) disk) = Some host
+host_after (boot (Err fault) disk) = None
+
+abbrev pub disk_after : {C D O : Type 0} → Call C D O → D
+disk_after (handle result after disk) = disk
+disk_after (boot result disk) = disk
+
+-- the call keeps its contract; `handle` is called of a host that is up, and `boot` at any time
+abbrev pub IsCall : {C D O : Type 0} → Words C D → Option (Hosted C) → D → Call C D O → Type 0
+IsCall words host old (boot result disk) = IsBooted words old result disk
+IsCall words (Some host) old (handle result after disk) = IsTrue (is_some host.store) × IsHandled words host old result after disk
+IsCall words None old (handle result after disk) = ⊥
+
+-- A step: a call returns; or a crash cuts it short at a moment of it, and it never returns; or a crash comes between two
+-- calls. With a crash comes the disk that it leaves. The host is gone.
+pub data Step (C D O : Type 0) : Type 0 where
+  returns : Call C D O → Step C D O
+  cut_short : Call C D O → D → Step C D O
+  crash : D → Step C D O
+
+-- what a crash at a moment of a call leaves is one of the images of that moment, and between two calls one of the images
+abbrev pub AreSteps : {C D O : Type 0} → Words C D → Option (Hosted C) → D → List (Step C D O) → Type 0
+AreSteps words host disk [] = Unit {0}
+AreSteps words host disk (returns call ∷ steps) = IsCall words host disk call × AreSteps words (host_after call) (disk_after call) steps
+AreSteps words host disk (cut_short call left ∷ steps) = IsCall words host disk call
+    × ((c : List ℕ) → (words.state left).images c → (words.state (disk_after call)).since (words.state disk).moment c) × AreSteps words None left steps
+AreSteps words host disk (crash left ∷ steps) = ((c : List ℕ) → (words.state left).images c → (words.state disk).images c) × AreSteps words None left steps
+
+-- an event that was handled: the record of the core that it leads to, and whether what it sends was handed out
+pub record Event : Type 0 where
   pub after : List ℕ
   pub out : Bool
-  pub disk : D
-
--- what a host tells of an event: a crash at any moment of it leaves the record before or after it, and what it sends goes
--- out only where each image stands for the record after it
-pub record IsEvent {D : Type 0} (restored : Restoring) (state : D → View) (before : List ℕ) (old : D) (e : Event D) : Type 0 where
-  pub leaves : LeavesOnly (state old) (state e.disk) (StandsForEither restored before e.after)
-  pub stands_for : e.out ≡ true → (c : List ℕ) → (state e.disk).images c → StandsFor restored e.after c
-
--- events one after the other; after one from which nothing went out the host is down, and there is no other
-abbrev pub AreEvents : {D : Type 0} → Restoring → (D → View) → List ℕ → D → List (Event D) → Type 0
-AreEvents restored state before disk [] = Unit {0}
-AreEvents restored state before disk (e ∷ []) = IsEvent restored state before disk e
-AreEvents restored state before disk (e ∷ f ∷ es) = IsEvent restored state before disk e × (e.out ≡ true) × AreEvents restored state e.after e.disk (f ∷ es)
-
--- the one where something went out, else the other
-abbrev pub WhereOut : Bool → Type 0 → Type 0 → Type 0
-WhereOut true went stayed = went
-WhereOut false went stayed = stayed
-
--- What a crash leaves: an image of the disk after the last event, and where nothing went out from that, one of any moment
--- of it.
-abbrev pub Leaves : {D : Type 0} → (D → View) → D → List (Event D) → List ℕ → Type 0
-Leaves state disk [] c = (state disk).images c
-Leaves state disk (e ∷ []) c = WhereOut e.out ((state e.disk).images c) ((state e.disk).since (state disk).moment c)
-Leaves state disk (e ∷ f ∷ es) c = Leaves state e.disk (f ∷ es) c
-
--- the next boot that answers: its disk stands for what the crash left, and its record is that of what stands
-pub record IsNextBoot {D : Type 0} (restored : Restoring) (state : D → View) (old : D) (es : List (Event D)) (disk : D) (booted : List ℕ) : Type 0 where
-  pub left : (c : List ℕ) → (state disk).images c → (s : Standing) × IsWhole s c × ((d : List ℕ) × Leaves state old es d × IsWhole s d)
-  pub reads : (state disk).images (state disk).seen
-  pub answer : (s : Standing) × (stands (state disk).seen ≡ Some s) × Gives restored s booted
 
 -- the record of the core after events
-abbrev pub record_after : {D : Type 0} → List ℕ → List (Event D) → List ℕ
+abbrev pub record_after : List ℕ → List Event → List ℕ
 record_after before [] = before
 record_after before (e ∷ es) = record_after e.after es
 
--- nothing went out from these
-abbrev pub NoneOut : {D : Type 0} → List (Event D) → Type 0
+-- nothing was handed out from these
+abbrev pub NoneOut : List Event → Type 0
 NoneOut [] = Unit {0}
 NoneOut (e ∷ es) = (e.out ≡ false) × NoneOut es
 
--- the record of the core after the first of the events, and from the others nothing went out
-pub record IsAfterFirst {D : Type 0} (before : List ℕ) (es : List (Event D)) (booted : List ℕ) : Type 0 where
-  pub first : List (Event D)
-  pub others : List (Event D)
+-- the record of the core after the first of the events, and from the others nothing was handed out
+pub record IsAfterFirst (before : List ℕ) (es : List Event) (booted : List ℕ) : Type 0 where
+  pub first : List Event
+  pub others : List Event
   pub all : es ≡ first ++ others
   pub record_is : booted ≡ record_after before first
   pub none_out : NoneOut others
+
+-- a boot failed for the disk or for want of memory: the record isn't lost
+abbrev pub IsSpared : HostFault → Type 0
+IsSpared (Disk changes) = Unit {0}
+IsSpared NoMemory = Unit {0}
+IsSpared NoRecord = ⊥
+IsSpared (BadRecord at) = ⊥
+IsSpared Worn = ⊥
+
+-- After a boot whose core has this record, and these events since: each boot answers the core of the record after the
+-- first of the events since the boot before it, and nothing was handed out from the others.
+abbrev pub EachGoesOn : {C D O : Type 0} → (C → List ℕ) → List ℕ → List Event → List (Step C D O) → Type 0
+EachGoesOn recorded booted es [] = Unit {0}
+EachGoesOn recorded booted es (returns (boot (Ok host) disk) ∷ steps) = IsAfterFirst booted es (recorded host.core) × EachGoesOn recorded (recorded host.core) [] steps
+EachGoesOn recorded booted es (returns (boot (Err fault) disk) ∷ steps) = IsSpared fault × EachGoesOn recorded booted es steps
+EachGoesOn recorded booted es (returns (handle (Ok r) after disk) ∷ steps) = EachGoesOn recorded booted (es ++ record { after = recorded after.core; out = true } ∷ []) steps
+EachGoesOn recorded booted es (returns (handle (Err fault) after disk) ∷ steps) = EachGoesOn recorded booted (es ++ record { after = recorded after.core; out = false } ∷ []) steps
+EachGoesOn recorded booted es (cut_short (handle result after disk) left ∷ steps) = EachGoesOn recorded booted (es ++ record { after = recorded after.core; out = false } ∷ []) steps
+EachGoesOn recorded booted es (cut_short (boot result disk) left ∷ steps) = EachGoesOn recorded booted es steps
+EachGoesOn recorded booted es (crash left ∷ steps) = EachGoesOn recorded booted es steps
+
+-- from the first boot that answers
+abbrev pub EachBootGoesOn : {C D O : Type 0} → (C → List ℕ) → List (Step C D O) → Type 0
+EachBootGoesOn recorded [] = Unit {0}
+EachBootGoesOn recorded (returns (boot (Ok host) disk) ∷ steps) = EachGoesOn recorded (recorded host.core) [] steps
+EachBootGoesOn recorded (returns (boot (Err fault) disk) ∷ steps) = EachBootGoesOn recorded steps
+EachBootGoesOn recorded (returns (handle result after disk) ∷ steps) = EachBootGoesOn recorded steps
+EachBootGoesOn recorded (cut_short call left ∷ steps) = EachBootGoesOn recorded steps
+EachBootGoesOn recorded (crash left ∷ steps) = EachBootGoesOn recorded steps

@@ -1,23 +1,39 @@
 //! Why a host's call failed.
+use std::error::Error;
+use std::fmt;
 use zb_change::Changes;
 
-/// Why a host's call failed.
-#[derive(Drop)]
+/// Why a host's call failed. After a failed `handle` the host is down, and the node boots again from its disk.
+#[derive(Debug, Drop, PartialEq, Eq)]
 pub enum HostFault {
-    /// The disk failed.
+    /// The disk failed. What is committed shows at the next boot.
     Disk {
         /// The changes that were to be stored: none in `boot`.
         changes: Changes,
     },
-    /// There was no memory left.
+    /// There was no memory left. It comes from `boot` alone.
     NoMemory,
-    /// No record stands on the disk.
+    /// No slot of the disk stands open. It comes from `boot` alone.
     NoRecord,
-    /// What stands is no record of such a node, or has an entry that doesn't fit.
+    /// What stands is no record of such a node, or an entry behind it doesn't fit. It comes from `boot` alone.
     BadRecord {
-        /// The place of the fault; in the entries it counts on from the record's length.
+        /// The place of the fault, in bytes from 0; in the entries it counts on from the record's length.
         at: u32,
     },
-    /// The last generation of the store is used up.
+    /// The whole record was to be written, and the last generation of the store is used up. Nothing was written.
     Worn,
 }
+
+impl fmt::Display for HostFault {
+    fn fmt<W: fmt::Write>(&self, f: &mut fmt::Formatter<W>) -> fmt::Result {
+        match self {
+            HostFault::Disk { .. } => write!(f, "the disk failed"),
+            HostFault::NoMemory => write!(f, "no memory"),
+            HostFault::NoRecord => write!(f, "no record stands on the disk"),
+            HostFault::BadRecord { at } => write!(f, "no record of this node, at byte {at}"),
+            HostFault::Worn => write!(f, "the last generation is used up"),
+        }
+    }
+}
+
+impl Error for HostFault {}

@@ -6,7 +6,8 @@ ghost use Rattle.zb_store.specs.Steps.{WentThrough};
 ghost use Rattle.zb_store.specs.Store.{place_of, AllWhole, WasThere, both_gates_open, OpenStop};
 ghost use Rattle.zb_host.specs.declared.plan.Plan.{Plan as plan};
 ghost use Rattle.zb_host.specs.Hosts.{Gives, IsCurrent, StandsForEither, writes_whole, next_standing, commit_calls, CommitStop, IsWorn};
-ghost use Rattle.zb_host.specs.HostFaults.{IsHandleFault, IsBootFault, host_fault};
+ghost use Rattle.zb_host.specs.HostFaults.{IsHandleFault, host_fault};
+ghost use Rattle.zb_host.specs.Calls.{IsHandled, IsBooted};
 
 use crate::commit::commit;
 use crate::{Core, HostFault};
@@ -51,24 +52,18 @@ impl<C: Core> Host<C> {
         requires up { IsTrue (is_some self.old.store) }
 
         // The changes and what goes out are those of a plan of the core, and the core is the one after it.
-        ensures planned { (p : plan C.Out) × C.is_plan self.old.core p × C.is_after self.old.core p self.new.core
+        ensures planned { (p : plan C.Out) × C.is_plan self.old.core event.now p × C.is_after self.old.core p self.new.core
             × IfOk result (λ r. (r.0 ≡ p.changes) × (r.1 ≡ p.out)) × IfErr result (λ e. (e ≡ HostFault.Disk p.changes) ⊎ (e ≡ HostFault.Worn)) }
 
-        // A crash at any moment leaves the old record's core or the new one's.
-        ensures moments { (s : Standing) → IsCurrent C.restored C.recorded s self.old (D.state disk.old) → IsTrue D.tells.content
-            → LeavesOnly (D.state disk.old) (D.state disk.new) (StandsForEither C.restored (C.recorded self.old.core) (C.recorded self.new.core)) }
-
-        // What goes out goes out where every image stands for the new.
-        ensures kept { IfOk result (λ r. r.0.items ≢ [] → (s : Standing) → IsCurrent C.restored C.recorded s self.old (D.state disk.old) → IsTrue D.tells.content
-            → IsCurrent C.restored C.recorded (next_standing (writes_whole self.old) s (C.recorded self.new.core) (C.payload r.0.items)) self.new (D.state disk.new)) }
+        // A crash at any moment leaves the old record's core or the new one's. What goes out goes out where every image
+        // stands for the new. After a fault the host is down.
+        ensures step { IsHandled (record { tells = D.tells; state = D.state; restored = C.restored; recorded = C.recorded; payload = C.payload }) self.old disk.old result self.new disk.new }
         ensures through { IfOk result (λ r. r.0.items ≢ [] → WentThrough D.tells (commit_calls (writes_whole self.old)) (D.state disk.old) (D.state disk.new)) }
 
         // Without changes there is no call to the disk.
         ensures idle { IfOk result (λ r. r.0.items ≡ [] → disk.new ≡ disk.old) }
         ensures idle_store { IfOk result (λ r. r.0.items ≡ [] → self.new.store ≡ self.old.store) }
         ensures idle_whole { IfOk result (λ r. r.0.items ≡ [] → self.new.whole ≡ self.old.whole) }
-        ensures idle_kept { IfOk result (λ r. r.0.items ≡ [] → (s : Standing) → IsCurrent C.restored C.recorded s self.old (D.state disk.old)
-            → IsCurrent C.restored C.recorded s self.new (D.state disk.new)) }
 
         // Where the disk failed, it stopped at one of the calls, and an image in which the gate is open stands for the new.
         ensures stopped { IfErr result (λ e. (changes : _) → e ≡ HostFault.Disk changes → (s : Standing) → IsCurrent C.restored C.recorded s self.old (D.state disk.old)
@@ -82,7 +77,6 @@ impl<C: Core> Host<C> {
         ensures not_worn_disk { IfErr result (λ e. (changes : _) → e ≡ HostFault.Disk changes → IsWorn self.old → ⊥) }
 
         ensures up { OnOk result (IsTrue (is_some self.new.store)) }
-        ensures down { OnErr result (self.new.store ≡ None) }
         ensures faults { IfErr result (IsHandleFault (writes_whole self.old) self.old.store (D.state disk.old) (D.state disk.new)) }
         ensures count { (D.state disk.old).faults ≤ (D.state disk.new).faults }
     {
@@ -111,19 +105,13 @@ impl<C: Core> Host<C> {
 
     /// Makes the host of the node whose record and entries stand on the disk.
     pub fn boot<D: Disk>(alloc: Global, config: &Config, disk: &mut D) -> Result<Host<C>, HostFault>
-        // Its core is that of the record and the entries that the disk as it reads stands for.
-        ensures answer { IfOk result (λ h. IsTrue D.tells.content → (s : Standing) × (stands (D.state disk.old).seen ≡ Some s)
-            × Gives C.restored s (C.recorded h.core) × (h.store ≡ Some (place_of s)) × (h.whole ≡ (get_or s.content 0 0 == 1))) }
-        ensures ready { IfOk result (λ h. AllWhole (D.state disk.old) → IsTrue D.tells.content → (s : Standing) → stands (D.state disk.old).seen ≡ Some s
-            → IsCurrent C.restored C.recorded s h (D.state disk.new)) }
-
-        // Each image at each moment stands for what one at entry stood for.
-        ensures moments { AllWhole (D.state disk.old) → IsTrue D.tells.content → LeavesOnly (D.state disk.old) (D.state disk.new) (WasThere (D.state disk.old)) }
+        // Its core is that of the record and the entries that the disk as it reads stands for, and then every image stands
+        // for them. Each image at each moment stands for what one at entry stood for.
+        ensures step { IsBooted (record { tells = D.tells; state = D.state; restored = C.restored; recorded = C.recorded; payload = C.payload }) disk.old result disk.new }
         ensures through { OnOk result (IsTrue D.tells.content
             → WentThrough D.tells (if both_gates_open (D.state disk.old).seen then 3 else 1) (D.state disk.old) (D.state disk.new)) }
         ensures stopped { IfErr result (λ e. (changes : _) → e ≡ HostFault.Disk changes → AllWhole (D.state disk.old) → IsTrue D.tells.content → IsTrue D.tells.steady
             → (s : Standing) → stands (D.state disk.old).seen ≡ Some s → OpenStop D.tells s (D.state disk.old) (D.state disk.new)) }
-        ensures faults { IfErr result (IsBootFault D.tells C.restored (D.state disk.old) (D.state disk.new)) }
         ensures count { (D.state disk.old).faults ≤ (D.state disk.new).faults }
     {
         let mut room = match Vec::with_capacity(alloc, 49_152) {

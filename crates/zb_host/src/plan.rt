@@ -16,7 +16,8 @@ pub struct Plan<O> {
     pub out: O,
 }
 
-/// A node's policy over its tables. It keeps nothing stable but what its record has.
+/// A node's policy over its tables. It keeps nothing stable but what its record has, and it is of one role: a record of
+/// another role is bad at the byte of the role.
 pub trait Core: Drop {
     ghost use Rattle.zb_host.specs.declared.plan.Plan.{Plan};
 
@@ -29,8 +30,8 @@ pub trait Core: Drop {
     /// The core's record.
     ghost recorded: { Self → List ℕ };
 
-    /// This is a plan of the core.
-    ghost is_plan: { Self → Plan Self.Out → Type 0 };
+    /// This is a plan of the core for the event.
+    ghost is_plan: { Self → Self.Event → Plan Self.Out → Type 0 };
 
     /// What applying it makes of the core.
     ghost is_after: { Self → Plan Self.Out → Self → Type 0 };
@@ -43,11 +44,11 @@ pub trait Core: Drop {
 
     /// Plans an event and changes nothing.
     fn plan(&self, event: &Self::Event) -> Plan<Self::Out>
-        ensures { is_plan self.now result };
+        ensures { is_plan self.now event.now result };
 
     /// Makes the changes of a plan of this core.
     fn apply(&mut self, plan: &Plan<Self::Out>)
-        requires { is_plan self.old plan.now }
+        requires { (e : Self.Event) × is_plan self.old e plan.now }
         ensures { is_after self.old plan.now self.new };
 
     /// Writes the record, for which there are 49,152 bytes of room, and answers its length.
@@ -77,7 +78,7 @@ pub trait Core: Drop {
         ensures fault { IfErr result (IsRestoreFault (restored content.now payloads.now)) };
 
     /// An entry behind a record that isn't of the first version leads from the core to the one after the plan.
-    ghost adds: { (c d : Self) (p : Plan Self.Out) (r q : List ℕ) → is_plan c p → is_after c p d → get_or r 0 0 ≢ 1
+    ghost adds: { (c d : Self) (e : Self.Event) (p : Plan Self.Out) (r q : List ℕ) → is_plan c e p → is_after c p d → get_or r 0 0 ≢ 1
         → restored r q ≡ gives (recorded c) → restored r (q ++ payload p.changes.items) ≡ gives (recorded d) };
 
     /// A record alone gives the core that wrote it, and it isn't of the first version.
@@ -87,5 +88,5 @@ pub trait Core: Drop {
     ghost newest: { (c : Self) → get_or (recorded c) 0 0 ≢ 1 };
 
     /// A plan without changes leaves the record.
-    ghost idle: { (c d : Self) (p : Plan Self.Out) → is_plan c p → is_after c p d → p.changes.items ≡ [] → recorded d ≡ recorded c };
+    ghost idle: { (c d : Self) (e : Self.Event) (p : Plan Self.Out) → is_plan c e p → is_after c p d → p.changes.items ≡ [] → recorded d ≡ recorded c };
 }

@@ -1,0 +1,10 @@
+use Rattle.std.proofs.Common.{◌≡◌, rules}
+use Rattle.zb_host.proofs.host.Host.boot.Goals as goal
+
+pub returns-in-Ok-restore-clause-step : goal.returns-in-Ok-restore-clause-step
+returns-in-Ok-restore-clause-step g c = record {
+  answer = search rules;
+  ready = search rules;
+  moments = c.in-Ok-open.ensures.moments;
+  faults = tt;
+}

@@ -1,0 +1,49 @@
+-- What the calls of a host promise to the next call, and to whoever comes after a crash.
+use Rattle.std.specs.Prelude.{ℕ, ◌≡◌, ◌≢◌, ◌==◌, List, [], get_or, Option, Some, None, Result, IfOk, IfErr, OnErr, IsTrue}
+use Rattle.arrayvec.specs.declared.array_vec.ArrayVec.{ArrayVec}
+use Rattle.zb_change.specs.declared.change.Change.{Change}
+use Rattle.zb_disk.specs.View.{Telling, View, LeavesOnly}
+use Rattle.zb_store.specs.Layout.{Standing, stands}
+use Rattle.zb_store.specs.Store.{place_of, AllWhole, WasThere}
+use Rattle.zb_host.specs.declared.fault.HostFault.{HostFault}
+use Rattle.zb_host.specs.Hosts.{Restoring, Gives, StandsForEither, Hosted, IsCurrent, writes_whole, next_standing}
+use Rattle.zb_host.specs.HostFaults.{IsBootFault}
+
+-- what a law on calls has of a core and of a disk: their ghost members
+pub record Words (C D : Type 0) : Type 1 where
+  pub tells : Telling
+  pub state : D → View
+  pub restored : Restoring
+  pub recorded : C → List ℕ
+  pub payload : List Change → List ℕ
+
+-- what `handle` answers: the changes and what goes out, or why not
+abbrev pub Handled : Type 0 → Type 0
+Handled O = Result (ArrayVec Change 16 (Unit {0}) × O) HostFault
+
+-- a call of `handle`
+pub record IsHandled {C D O : Type 0} (words : Words C D) (before : Hosted C) (old : D) (result : Handled O) (after : Hosted C) (new : D) : Type 0 where
+  -- a crash at any moment leaves the old record's core or the new one's
+  pub moments : (s : Standing) → IsCurrent words.restored words.recorded s before (words.state old) → IsTrue words.tells.content
+      → LeavesOnly (words.state old) (words.state new) (StandsForEither words.restored (words.recorded before.core) (words.recorded after.core))
+  -- what goes out goes out where every image stands for the new, with its changes in one commit
+  pub kept : IfOk result (λ r. r.0.items ≢ [] → (s : Standing) → IsCurrent words.restored words.recorded s before (words.state old) → IsTrue words.tells.content
+      → IsCurrent words.restored words.recorded (next_standing (writes_whole before) s (words.recorded after.core) (words.payload r.0.items)) after (words.state new))
+  -- and without changes where every image stands for the same as before
+  pub idle_kept : IfOk result (λ r. r.0.items ≡ [] → (s : Standing) → IsCurrent words.restored words.recorded s before (words.state old)
+      → IsCurrent words.restored words.recorded s after (words.state new))
+  -- after a fault it is down
+  pub down : OnErr result (after.store ≡ None)
+
+-- a call of `boot`
+pub record IsBooted {C D : Type 0} (words : Words C D) (old : D) (result : Result (Hosted C) HostFault) (new : D) : Type 0 where
+  -- its core is that of the record and the entries that the disk as it reads stands for
+  pub answer : IfOk result (λ h. IsTrue words.tells.content → (s : Standing) × (stands (words.state old).seen ≡ Some s)
+      × Gives words.restored s (words.recorded h.core) × (h.store ≡ Some (place_of s)) × (h.whole ≡ (get_or s.content 0 0 == 1)))
+  -- and every image stands for them
+  pub ready : IfOk result (λ h. AllWhole (words.state old) → IsTrue words.tells.content → (s : Standing) → stands (words.state old).seen ≡ Some s
+      → IsCurrent words.restored words.recorded s h (words.state new))
+  -- each image at each moment stands for what one at entry stood for
+  pub moments : AllWhole (words.state old) → IsTrue words.tells.content → LeavesOnly (words.state old) (words.state new) (WasThere (words.state old))
+  -- when each fault comes
+  pub faults : IfErr result (IsBootFault words.tells words.restored (words.state old) (words.state new))
