@@ -1,22 +1,21 @@
 -- What commits make of a host.
-use Rattle.std.proofs.Common.{◌≡◌, ◌≢◌, ◌≤◌, ◌<◌, ◌⊎◌, ◌++◌, ◌==◌, ◌||◌, inl, inr, List, [], ◌∷◌, ℕ, length, get_or, Bool, true, false, Option, Some, None, Result, Ok, Err, IfErr, IsTrue, refl, sym, ◌∙◌, ap, subst, arith, append_assoc, append-nil}
+use Rattle.std.proofs.Common.{◌≡◌, ◌≢◌, ◌≤◌, ◌⊎◌, ◌++◌, inl, inr, List, [], ◌∷◌, ℕ, length, get_or, Bool, true, false, Option, Some, None, Result, Ok, Err, IfErr, IsTrue, refl, sym, ◌∙◌, ap, subst, arith, append_assoc, append-nil}
 use Rattle.std.specs.List.{concat}
 use Rattle.std.proofs.lemmas.Bool.{or_parts}
-use Rattle.zb_base.specs.Outside.{Rose}
-use Rattle.zb_disk.specs.View.{Telling, View, LeavesOnly}
+use Rattle.zb_disk.specs.View.{Telling, View, IsStill, LeavesOnly}
 use Rattle.zb_disk.proofs.Moments.{started, weakened}
 use Rattle.zb_store.specs.declared.fault.StoreFault.{StoreFault}
 use Rattle.zb_store.specs.declared.fault.StoreFault.TheVariants.{Disk, NoRecord, TooLarge, NoMemory, Worn}
-use Rattle.zb_store.specs.Layout.{Standing, IsWhole}
-use Rattle.zb_store.specs.Store.{Place, place_of, IsReady, IsHeld, IsWholeEither, appended, replaced}
+use Rattle.zb_store.specs.Layout.{Standing}
+use Rattle.zb_store.specs.Store.{Place, place_of, IsReady, IsHeld, IsWholeEither}
 use Rattle.zb_store.specs.Faults.{IsPutFault, IsAppendFault}
 use Rattle.zb_change.specs.declared.change.Change.{Change}
 use Rattle.zb_host.specs.declared.fault.HostFault.{HostFault}
 use Rattle.zb_host.specs.declared.fault.HostFault.TheVariants.{Disk as disk_of, NoMemory as no_memory, NoRecord as no_record, BadRecord as bad_record, Worn as worn_out}
 use Rattle.arrayvec.specs.declared.array_vec.ArrayVec.{ArrayVec}
-use Rattle.zb_host.specs.Plans.{Restored, gives}
+use Rattle.zb_host.specs.Plans.{gives}
 use Rattle.zb_host.specs.HostFaults.{host_fault, IsHandleFault}
-use Rattle.zb_host.specs.Hosts.{Restoring, Gives, StandsFor, StandsForEither, Hosted, IsCurrent, is_full, writes_whole, next_standing, IsCommitFault, IsCommit, CommitStop, IsWorn}
+use Rattle.zb_host.specs.Hosts.{Restoring, Gives, StandsForEither, Hosted, IsCurrent, is_full, writes_whole, next_standing, IsCommitFault, IsCommit, CommitStop, IsWorn}
 
 -- a record that fits makes no fault of its size
 pub put_faults : (store : Place) (content : List ℕ) (old new : View) (r : Result Place StoreFault) → length content ≤ 49152
@@ -36,6 +35,19 @@ append_faults store payload old new (Err NoRecord) small fault = fault
 append_faults store payload old new (Err (TooLarge len)) small fault = omega (arith, fault.1)
 append_faults store payload old new (Err NoMemory) small fault = fault
 append_faults store payload old new (Err Worn) small fault = absurd fault
+
+-- where the generations are used up nothing was written
+abbrev IsWornOut : Result Place StoreFault → Type 0
+IsWornOut (Ok after) = ⊥
+IsWornOut (Err Disk) = ⊥
+IsWornOut (Err NoRecord) = ⊥
+IsWornOut (Err (TooLarge len)) = ⊥
+IsWornOut (Err NoMemory) = ⊥
+IsWornOut (Err Worn) = Unit {0}
+
+pub put_untouched : (old new : View) (r : Result Place StoreFault) → r ≡ Err Worn → IfErr r (λ fault. (fault ≡ Disk → ⊥) → IsStill old new) → IsStill old new
+put_untouched old new r worn still = subst (λ (x : Result Place StoreFault). IfErr x (λ fault. (fault ≡ Disk → ⊥) → IsStill old new)) worn still
+    (λ e. subst IsWornOut (ap (λ (f : StoreFault). Err f) e) tt)
 
 -- the payloads with one more
 concat_snoc : (ps : List (List ℕ)) (p : List ℕ) → concat (ps ++ p ∷ []) ≡ concat ps ++ p
@@ -91,6 +103,9 @@ Absent false = Unit {0}
 
 pub no_whole : {A : Type 0} → false ≡ true → A
 no_whole e = absurd (subst Absent e tt)
+
+pub append_untouched : (store : Place) (payload : List ℕ) (old new : View) (r : Result Place StoreFault) → r ≡ Err Worn → IfErr r (IsCommitFault false store old new) → IsStill old new
+append_untouched store payload old new r worn fault = no_whole (subst (λ (x : Result Place StoreFault). IfErr x (IsCommitFault false store old new)) worn fault).0
 
 -- what a core's laws say of the core after a plan
 pub record Leading {C : Type 0} (restored : Restoring) (recorded : C → List ℕ) (before after : C) (payload : List ℕ) : Type 0 where
@@ -194,6 +209,14 @@ of_disk NoRecord changes others e = absurd (subst IsDisks (sym e) tt)
 of_disk (TooLarge len) changes others e = absurd (subst IsDisks (sym e) tt)
 of_disk NoMemory changes others e = absurd (subst IsDisks (sym e) tt)
 of_disk Worn changes others e = absurd (subst IsDisks (sym e) tt)
+
+pub of_worn : (whole : Bool) (store : Place) (old new : View) (f : StoreFault) (changes : ArrayVec Change 16 (Unit {0})) → host_fault f changes ≡ worn_out
+    → IsCommitFault whole store old new f → f ≡ Worn
+of_worn whole store old new Disk changes is fault = absurd (subst IsDisks is tt)
+of_worn whole store old new NoRecord changes is fault = absurd fault
+of_worn whole store old new (TooLarge len) changes is fault = absurd fault
+of_worn whole store old new NoMemory changes is fault = absurd fault
+of_worn whole store old new Worn changes is fault = refl
 
 pub handled : (whole : Bool) (store : Place) (o : Option Place) (old new : View) (f : StoreFault) (changes : ArrayVec Change 16 (Unit {0})) → o ≡ Some store
     → IsCommitFault whole store old new f → IsHandleFault whole o old new (host_fault f changes)

@@ -1,17 +1,17 @@
 -- What was handed out stands at the next boot.
-use Rattle.std.proofs.Common.{◌≡◌, ◌≢◌, ◌⊎◌, ◌++◌, inl, inr, List, [], ◌∷◌, ℕ, Bool, true, false, Option, Some, None, Result, Ok, Err, is_some, IsTrue, refl, sym, ◌∙◌, ap, subst, append-nil}
+use Rattle.std.proofs.Common.{◌≡◌, ◌≢◌, ◌++◌, inl, inr, List, [], ◌∷◌, ℕ, Bool, true, false, Option, Some, None, Ok, Err, is_some, IsTrue, refl, sym, ◌∙◌, ap, subst, append-nil}
 use Rattle.std.specs.List.{concat}
-use Rattle.zb_disk.specs.View.{View, LeavesOnly}
+use Rattle.zb_disk.specs.View.{View}
 use Rattle.zb_store.specs.Layout.{Standing, IsWhole, stands}
-use Rattle.zb_store.specs.Store.{AllWhole, WasThere, place_of}
+use Rattle.zb_store.specs.Store.{AllWhole, WasThere}
 use Rattle.zb_change.specs.declared.change.Change.{Change}
 use Rattle.zb_host.specs.declared.fault.HostFault.{HostFault}
 use Rattle.zb_host.specs.declared.fault.HostFault.TheVariants.{Disk, NoMemory, NoRecord, BadRecord, Worn}
 use Rattle.zb_host.specs.Plans.{Restored, gives, bad}
 use Rattle.zb_host.specs.HostFaults.{IsBootFault}
 use Rattle.zb_host.specs.Hosts.{Restoring, Gives, StandsFor, StandsForEither, Hosted, IsCurrent}
-use Rattle.zb_host.specs.Calls.{Words, Handled, IsHandled, IsBooted}
-use Rattle.zb_host.specs.Lives.{Call, handle, boot, host_after, disk_after, IsCall, Step, returns, cut_short, crash, AreSteps, Event, record_after, NoneOut, IsAfterFirst, IsSpared, EachGoesOn, EachBootGoesOn}
+use Rattle.zb_host.specs.Calls.{Words, IsBooted}
+use Rattle.zb_host.specs.Lives.{handle, boot, Step, returns, cut_short, crash, AreSteps, Event, record_after, IsAfterFirst, IsSpared, EachGoesOn, EachBootGoesOn}
 
 -- one more event
 abbrev event : List ℕ → Bool → Event
@@ -178,13 +178,13 @@ later words told reads booted es (Some host) disk (returns (handle (Ok r) after 
     let w = words.recorded after.core in
     let more = es ++ event w true ∷ [] in
     later words told reads booted more (Some after) new steps (on_left words after new booted more next (all_of_them booted es w true))
-      (λ is_up. (next.0, next.1, sym (after_snoc booted es (event w true)))) life.1
+    (λ is_up. (next.0, next.1, sym (after_snoc booted es (event w true)))) life.1
 later words told reads booted es (Some host) disk (returns (handle (Err fault) after new) ∷ steps) images running life =
     let on = running life.0.0 in
     let leaves = life.0.1.moments on.0 on.1 told in
     let w = words.recorded after.core in
     later words told reads booted (es ++ event w false ∷ []) (Some after) new steps
-      (λ c is. after_handle words.restored booted es (words.recorded host.core) w c on.2 (leaves.now c is)) (λ is_up. not_running after.store life.0.1.down is_up) life.1
+    (λ c is. after_handle words.restored booted es (words.recorded host.core) w c on.2 (leaves.now c is)) (λ is_up. not_running after.store life.0.1.down is_up) life.1
 later words told reads booted es None disk (returns (handle (Ok r) after new) ∷ steps) images running life = absurd life.0
 later words told reads booted es None disk (returns (handle (Err fault) after new) ∷ steps) images running life = absurd life.0
 later words told reads booted es (Some host) disk (cut_short (handle result after new) left ∷ steps) images running life =
@@ -192,7 +192,7 @@ later words told reads booted es (Some host) disk (cut_short (handle result afte
     let leaves = life.0.1.moments on.0 on.1 told in
     let w = words.recorded after.core in
     later words told reads booted (es ++ event w false ∷ []) None left steps
-      (λ c is. after_handle words.restored booted es (words.recorded host.core) w c on.2 (leaves.each c (life.1 c is))) tt life.2
+    (λ c is. after_handle words.restored booted es (words.recorded host.core) w c on.2 (leaves.each c (life.1 c is))) tt life.2
 later words told reads booted es None disk (cut_short (handle result after new) left ∷ steps) images running life = absurd life.0
 later words told reads booted es host disk (cut_short (boot result new) left ∷ steps) images running life =
     let leaves = life.0.moments (all_whole words.restored booted es (words.state disk) images) told in

@@ -1,5 +1,5 @@
 -- What the calls of a host promise to the next call, and to whoever comes after a crash.
-use Rattle.std.specs.Prelude.{ℕ, ◌≡◌, ◌≢◌, ◌==◌, List, [], get_or, Option, Some, None, Result, IfOk, IfErr, OnErr, IsTrue}
+use Rattle.std.specs.Prelude.{ℕ, ◌≡◌, ◌≢◌, ◌==◌, List, [], get_or, Some, None, Result, IfOk, IfErr, OnErr, IsTrue}
 use Rattle.arrayvec.specs.declared.array_vec.ArrayVec.{ArrayVec}
 use Rattle.zb_change.specs.declared.change.Change.{Change}
 use Rattle.zb_disk.specs.View.{Telling, View, LeavesOnly}

@@ -1,5 +1,5 @@
 -- When each fault of a host comes.
-use Rattle.std.specs.Prelude.{ℕ, ◌≡◌, List, [], Bool, true, Option, Some, None, IsTrue}
+use Rattle.std.specs.Prelude.{◌≡◌, [], Bool, true, Option, Some, None, IsTrue}
 use Rattle.std.specs.List.{concat}
 use Rattle.zb_base.specs.Outside.{Rose}
 use Rattle.zb_disk.specs.View.{Telling, View}

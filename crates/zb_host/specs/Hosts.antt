@@ -1,8 +1,8 @@
 -- What a host promises of its disk.
-use Rattle.std.specs.Prelude.{ℕ, ◌≡◌, ◌≢◌, ◌≤◌, ◌==◌, ◌||◌, ◌⊎◌, List, get_or, Option, Some, None, Bool, true, false, if◌then◌else◌, Result, Err, IfOk, IfErr, OnOk, IsErrOf, IsTrue}
+use Rattle.std.specs.Prelude.{ℕ, ◌≡◌, ◌≢◌, ◌≤◌, ◌==◌, ◌||◌, ◌⊎◌, List, get_or, Option, Some, None, Bool, true, false, Result, Err, IfOk, IfErr, OnOk, IsErrOf, IsTrue}
 use Rattle.std.specs.List.{concat}
 use Rattle.zb_base.specs.Outside.{Rose}
-use Rattle.zb_disk.specs.View.{Telling, View, LeavesOnly}
+use Rattle.zb_disk.specs.View.{Telling, View, IsStill, LeavesOnly}
 use Rattle.zb_store.specs.declared.fault.StoreFault.{StoreFault}
 use Rattle.zb_store.specs.declared.fault.StoreFault.TheVariants.{Disk, NoRecord, TooLarge, NoMemory, Worn}
 use Rattle.zb_store.specs.Layout.{Standing, IsWhole}
@@ -84,4 +84,5 @@ pub record IsCommit (tells : Telling) (whole : Bool) (content payload : List ℕ
   pub stopped : IsErrOf result Disk → (s : Standing) → IsReady store s old → IsTrue tells.content → IsTrue tells.steady → CommitStop tells whole s content payload old new
   pub faults : IfErr result (IsCommitFault whole store old new)
   pub worn : whole ≡ true → store.generation ≡ 18446744073709551615 → result ≡ Err Worn
+  pub untouched : IsErrOf result Worn → IsStill old new
   pub count : old.faults ≤ new.faults

@@ -1,6 +1,6 @@
 //! The host: a core, its store, and the rule that what goes out is stored first.
 ghost use Rattle.std.specs.Prelude.{if◌then◌else◌, Some, None, ◌≡◌, ◌≢◌, ◌==◌, ◌≤◌, ◌⊎◌, [], List, ℕ, length, get_or, Bool, true, false, is_some, IsTrue, IfOk, IfErr, OnOk, OnErr};
-ghost use Rattle.zb_disk.specs.View.{LeavesOnly};
+ghost use Rattle.zb_disk.specs.View.{IsStill};
 ghost use Rattle.zb_store.specs.Layout.{Standing, stands};
 ghost use Rattle.zb_store.specs.Steps.{WentThrough};
 ghost use Rattle.zb_store.specs.Store.{place_of, AllWhole, WasThere, both_gates_open, OpenStop};
@@ -71,9 +71,11 @@ impl<C: Core> Host<C> {
             → CommitStop D.tells (writes_whole self.old) s (C.recorded self.new.core) (C.payload changes.items) (D.state disk.old) (D.state disk.new)
             × Gives C.restored (next_standing (writes_whole self.old) s (C.recorded self.new.core) (C.payload changes.items)) (C.recorded self.new.core)) }
 
-        // After a commit the next one is an entry, unless 32 stand. No whole record is stored once the generations are used up.
+        // After a commit the next one is an entry, unless 32 stand. Where the whole record would need one generation more
+        // than there are, nothing is stored, and the disk is left as it was.
         ensures entry_next { IfOk result (λ r. r.0.items ≢ [] → self.new.whole ≡ false) }
         ensures not_worn { IfOk result (λ r. r.0.items ≢ [] → IsWorn self.old → ⊥) }
+        ensures worn { IfErr result (λ e. e ≡ HostFault.Worn → IsStill (D.state disk.old) (D.state disk.new)) }
         ensures not_worn_disk { IfErr result (λ e. (changes : _) → e ≡ HostFault.Disk changes → IsWorn self.old → ⊥) }
 
         ensures up { OnOk result (IsTrue (is_some self.new.store)) }

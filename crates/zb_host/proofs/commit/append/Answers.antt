@@ -1,6 +1,6 @@
-use Rattle.std.proofs.Common.{◌≡◌, ◌≤◌, List, ℕ, length, take, true, false, ap, subst, arith}
+use Rattle.std.proofs.Common.{◌≤◌, List, ℕ, length, take, false, ap, subst, arith}
 use Rattle.zb_host.specs.Hosts.{IsCommit}
-use Rattle.zb_host.proofs.Commits.{append_faults, no_whole}
+use Rattle.zb_host.proofs.Commits.{append_faults, append_untouched, no_whole}
 use Rattle.zb_host.proofs.commit.append.Goals as goal
 
 pub returns : goal.returns
@@ -16,6 +16,7 @@ returns g c = λ content.
       stopped = c.append.ensures.stopped;
       faults = append_faults c.args.store bytes old new c.append.result short c.append.ensures.faults;
       worn = λ whole. no_whole whole;
+      untouched = λ worn. append_untouched c.args.store bytes old new c.append.result worn (append_faults c.args.store bytes old new c.append.result short c.append.ensures.faults);
       count = c.append.ensures.count;
     } in
     subst (λ (p : List ℕ). IsCommit g.D.Disk.tells false content p c.args.store old new c.append.result) c.change_bytes-len.ensures.bytes it

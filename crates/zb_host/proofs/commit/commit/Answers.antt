@@ -1,4 +1,4 @@
-use Rattle.std.proofs.Common.{◌≡◌, ◌==◌, ◌||◌, List, ℕ, Bool, true, false, sym, ◌∙◌, ap, subst}
+use Rattle.std.proofs.Common.{◌≡◌, ◌==◌, ◌||◌, ℕ, Bool, true, false, sym, ◌∙◌, ap, subst}
 use Rattle.zb_host.specs.Hosts.{IsCommit}
 use Rattle.zb_host.proofs.commit.commit.Goals as goal
 

@@ -1,6 +1,6 @@
-use Rattle.std.proofs.Common.{◌≡◌, ◌≤◌, List, ℕ, length, take, true, false, ap, subst, arith}
+use Rattle.std.proofs.Common.{◌≤◌, List, ℕ, length, take, true, ap, subst, arith}
 use Rattle.zb_host.specs.Hosts.{IsCommit}
-use Rattle.zb_host.proofs.Commits.{put_faults}
+use Rattle.zb_host.proofs.Commits.{put_faults, put_untouched}
 use Rattle.zb_host.proofs.commit.put.Goals as goal
 
 pub returns : goal.returns
@@ -16,6 +16,7 @@ returns g c = λ payload.
       stopped = c.put.ensures.stopped;
       faults = put_faults c.args.store bytes old new c.put.result small c.put.ensures.faults;
       worn = λ whole generation. c.put.ensures.worn small generation;
+      untouched = λ worn. put_untouched old new c.put.result worn c.put.ensures.untouched;
       count = c.put.ensures.count;
     } in
     subst (λ (w : List ℕ). IsCommit g.D.Disk.tells true w payload c.args.store old new c.put.result) c.record-len.ensures.bytes it

@@ -1,4 +1,4 @@
-use Rattle.std.proofs.Common.{◌≡◌, rules}
+use Rattle.std.proofs.Common.{rules}
 use Rattle.zb_host.proofs.host.Host.boot.Goals as goal
 
 pub returns-in-Ok-restore-clause-step : goal.returns-in-Ok-restore-clause-step

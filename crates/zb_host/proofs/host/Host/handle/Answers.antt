@@ -1,12 +1,12 @@
-use Rattle.std.proofs.Common.{rules, Some, ◌≡◌, ◌≢◌, ◌==◌, ◌||◌, ◌⊎◌, inl, inr, [], List, ℕ, length, get_or, Bool, true, false, Option, Ok, Err, Result, refl, sym, ◌∙◌, ap, subst}
+use Rattle.std.proofs.Common.{rules, ◌≡◌, ◌==◌, ◌||◌, ◌⊎◌, List, Bool, Option, Ok, Err, Result, refl, sym, ◌∙◌, ap, subst}
 use Rattle.zb_store.specs.Store.{Place}
 use Rattle.zb_change.specs.declared.change.Change.{Change}
 use Rattle.zb_host.specs.declared.fault.HostFault.{HostFault}
 use Rattle.zb_host.specs.declared.fault.HostFault.TheVariants.{Disk as disk_of, Worn as worn_out}
 use Rattle.zb_store.specs.declared.fault.StoreFault.{StoreFault}
 use Rattle.zb_host.specs.HostFaults.{IsHandleFault}
-use Rattle.zb_host.specs.Hosts.{Hosted, IsCurrent, IsCommit, is_full, writes_whole, next_standing, CommitStop, Gives}
-use Rattle.zb_host.proofs.Commits.{Leading, host_moments, host_kept, host_stopped, host_leads, went_not_worn, disk_not_worn, named, of_disk, handled}
+use Rattle.zb_host.specs.Hosts.{Hosted, IsCommit, is_full, writes_whole, next_standing, CommitStop, Gives}
+use Rattle.zb_host.proofs.Commits.{Leading, host_moments, host_kept, host_stopped, host_leads, went_not_worn, disk_not_worn, named, of_disk, of_worn, handled}
 use Rattle.zb_host.proofs.host.Host.handle.Goals as goal
 
 pub returns-then-is_empty-clause-planned : goal.returns-then-is_empty-clause-planned
@@ -107,6 +107,7 @@ returns-in-Err g c =
           );
       entry_next = tt;
       not_worn = tt;
+      worn = λ is_worn. commit.untouched (ap (λ (x : StoreFault). Err x) (of_worn (writes_whole host) c.unwrap-store.result old new f p.changes (sym c.fault_of.ensures ∙ is_worn) commit.faults));
       not_worn_disk = λ changes fault worn. disk_not_worn g.D.Disk.tells host c.unwrap-store.result (g.C.Core.recorded after) payload old new f is (of_disk f p.changes changes (sym c.fault_of.ensures ∙ fault)).0 commit worn;
       up = tt;
       faults = subst (IsHandleFault (writes_whole host) host.store old new) (sym c.fault_of.ensures) (handled (writes_whole host) c.unwrap-store.result host.store old new f p.changes is commit.faults);
