@@ -1,13 +1,13 @@
 -- Keys that come out: more lines, more terms and more keys to start from give no less.
-use Rattle.std.proofs.Common.{◌≡◌, ℕ, zero, suc, ◌<◌, ◌≤◌, ◌+◌, Bool, true, false, cond, ◌||◌, List, [], ◌∷◌, ◌++◌, length, Option, Some, None, option_to_list, fold, flat_map, nat_eq, refl, sym, ap, ◌∙◌, subst, le_of_suc-le-suc, not-suc-le-zero, length-append, le-add_right, ◌⊎◌, inl, inr, ⊎_elim}
+use Rattle.std.proofs.Common.{◌≡◌, ℕ, zero, suc, ◌≤◌, Bool, true, false, cond, ◌||◌, List, [], ◌∷◌, ◌++◌, length, Option, Some, None, option_to_list, fold, flat_map, refl, sym, ap, ◌∙◌, subst, append_assoc, le_of_suc-le-suc, not-suc-le-zero, length-append, le-add_right, ◌⊎◌, inl, inr, ⊎_elim}
 use Rattle.std.proofs.lemmas.Bool.{false≢true, or_cases}
 use Rattle.std.proofs.lemmas.List.Sums.{fold-append}
-use Rattle.std.specs.List.{list_any, Any}
-use Rattle.zb_model.specs.Data.{Bytes, Sealing}
+use Rattle.zb_model.specs.Data.{Bytes, Station, Sealing}
 use Rattle.zb_model.specs.Lines.{LogLine}
 use Rattle.zb_model.specs.State.{same_key}
 use Rattle.zb_model.specs.Tools.{Tools}
-use Rattle.zb_model.specs.Secrets.{holds, with_key, carried, terms_in, terms_of, opened_by, a_round, rounds, exposed, ever_in, ever, centre_in, removed_in, removed_devices, outside, well_known}
+use Rattle.zb_model.specs.Readings.{station_line}
+use Rattle.zb_model.specs.Secrets.{holds, with_key, carried, terms_in, terms_of, opened_by, a_round, rounds, exposed, ever_in, ever_from, ever, removed_in, removed_devices, outside, well_known}
 use Rattle.zb_model.specs.Claims.{Among}
 use Rattle.zb_laws.proofs.Basics.{same_key-eq, same_key-refl, flat_map-append}
 use Rattle.zb_laws.proofs.Judged.{In}
@@ -150,29 +150,33 @@ flat-mono f g [] ys w k e = absurd (false≢true e)
 flat-mono f g (x ∷ xs) ys w k e =
     ⊎_elim (λ a. holds-left (g x) (flat_map g (xs ++ ys)) k (w x k a)) (λ a. holds-right (g x) (flat_map g (xs ++ ys)) k (flat-mono f g xs ys w k a)) (holds-cases (f x) (flat_map f xs) k e)
 
-ever-mono : (h g : List LogLine) (d : ℕ) → centre_in (h ++ g) ≡ centre_in h → Within (ever h d) (ever (h ++ g) d)
+ever-append : (known : List Station) (d : ℕ) (h g : List LogLine) → ever_from known d (h ++ g) ≡ ever_from known d h ++ ever_from (fold station_line known h) d g
+ever-append known d [] g = refl
+ever-append known d (l ∷ ls) g =
+    ap (λ x. ever_in known d l ++ x) (ever-append (station_line known l) d ls g)
+    ∙ sym (append_assoc (ever_in known d l) (ever_from (station_line known l) d ls) (ever_from (fold station_line (station_line known l) ls) d g))
+
+pub ever-mono : (h g : List LogLine) (d : ℕ) → Within (ever h d) (ever (h ++ g) d)
 unfolding ever
-ever-mono h g d same k e =
-    subst (λ c. holds (flat_map (ever_in c d) (h ++ g)) k ≡ true) (sym same)
-    (subst (λ l. holds l k ≡ true) (sym (flat_map-append (ever_in (centre_in h) d) h g)) (holds-left (flat_map (ever_in (centre_in h) d) h) (flat_map (ever_in (centre_in h) d) g) k e))
+ever-mono h g d k e = subst (λ l. holds l k ≡ true) (sym (ever-append [] d h g)) (holds-left (ever_from [] d h) (ever_from (fold station_line [] h) d g) k e)
 
 removed-append : (h g : List LogLine) → removed_devices (h ++ g) ≡ removed_devices h ++ removed_devices g
 unfolding removed_devices
 removed-append h g = flat_map-append removed_in h g
 
-pub outside-mono : (h g : List LogLine) → centre_in (h ++ g) ≡ centre_in h → Within (outside h) (outside (h ++ g))
+pub outside-mono : (h g : List LogLine) → Within (outside h) (outside (h ++ g))
 unfolding outside
-outside-mono h g same k e = ⊎_elim (λ a. or-left (same_key k well_known) later a) (λ a. or-right (same_key k well_known) later (more a)) (or_cases (same_key k well_known) (holds (flat_map (ever h) (removed_devices h)) k) e)
+outside-mono h g k e = ⊎_elim (λ a. or-left (same_key k well_known) later a) (λ a. or-right (same_key k well_known) later (more a)) (or_cases (same_key k well_known) (holds (flat_map (ever h) (removed_devices h)) k) e)
   where
     later : Bool
     later = holds (flat_map (ever (h ++ g)) (removed_devices (h ++ g))) k
 
     more : holds (flat_map (ever h) (removed_devices h)) k ≡ true → later ≡ true
     more a = subst (λ ds. holds (flat_map (ever (h ++ g)) ds) k ≡ true) (sym (removed-append h g))
-        (flat-mono (ever h) (ever (h ++ g)) (removed_devices h) (removed_devices g) (λ d. ever-mono h g d same) k a)
+        (flat-mono (ever h) (ever (h ++ g)) (removed_devices h) (removed_devices g) (λ d. ever-mono h g d) k a)
 
-pub known-mono : (tools : Tools) (h g : List LogLine) → centre_in (h ++ g) ≡ centre_in h → Within (exposed tools h (outside h)) (exposed tools (h ++ g) (outside (h ++ g)))
-known-mono tools h g same = exposed-mono tools h g (outside h) (outside (h ++ g)) (outside-mono h g same)
+pub known-mono : (tools : Tools) (h g : List LogLine) → Within (exposed tools h (outside h)) (exposed tools (h ++ g) (outside (h ++ g)))
+known-mono tools h g = exposed-mono tools h g (outside h) (outside (h ++ g)) (outside-mono h g)
 
 -- what a removed device ever held is known outside
 pub ever-outside : (tools : Tools) (h : List LogLine) (d : ℕ) → In d (removed_devices h) → Within (ever h d) (exposed tools h (outside h))

@@ -1,14 +1,13 @@
 -- A node's network keys were given to it or installed: each is among the keys that it ever had, and so is the base key of what it
 -- seals.
-use Rattle.std.proofs.Common.{◌≡◌, ℕ, ◌<◌, ◌+◌, min, max, Bool, true, false, cond, List, [], ◌∷◌, ◌++◌, map, Option, Some, None, find, flat_map, fold, nat_eq, refl, sym, ap, ◌∙◌, subst, eqb-true, append_assoc, ⊎_elim}
+use Rattle.std.proofs.Common.{◌≡◌, ℕ, ◌+◌, max, Bool, true, false, cond, List, [], ◌∷◌, ◌++◌, map, Option, Some, None, flat_map, fold, nat_eq, refl, sym, subst, append_assoc, ⊎_elim}
 use Rattle.std.proofs.lemmas.Bool.{false≢true}
 use Rattle.std.specs.List.{AllByRecursion}
-use Rattle.zb_model.specs.Data.{Bytes, Duty, Tier, Nwk, Aps, Sealing, Move, Draw, DropNet, DropLink, Install, Active, Row, Pair, Became, Live, Removed, Roll, Told, Untold, Edit, Reserve, Floor, Start, Moved}
-use Rattle.zb_model.specs.Lines.{LogLine, Declared, GivenNet, GivenLink, Counter, Changed, Commit, Accept, Refuse, Seal, Forge, Send, Inject, Stopped, DownReset, DownDisk, Boot, Dump, End}
+use Rattle.zb_model.specs.Data.{Bytes, Duty, Tier, Nwk, Aps, Station, Sealing, Move, Draw, DropNet, DropLink, Install, Active, Row, Pair, Became, Live, Removed, Roll, Told, Untold, Edit, Reserve, Floor, Start, Moved}
+use Rattle.zb_model.specs.Lines.{LogLine, GivenNet, Counter, Changed, Accept, Seal, Boot}
 use Rattle.zb_model.specs.State.{NetKey, NodeState, new_node, same_key, has_net, at_net, of_active, new_net, given_net, reserved, started_at, dropped_net, net_floor, net_kept, next_at, booted_net, declared_at, applied, moved, sealed, sealed_at, after_boot, heard, accepted, with_given_net, with_given_link, with_declared}
-use Rattle.zb_model.specs.Readings.{state_of, heard_line, after, speaker}
-use Rattle.zb_model.specs.Secrets.{holds, ever_in, ever_moved, ever, centre_in}
-use Rattle.zb_laws.proofs.Basics.{nat_eq-refl, state-snoc, flat_map-append, append-nil'}
+use Rattle.zb_model.specs.Readings.{state_of, heard_line, after, speaker, station_line}
+use Rattle.zb_model.specs.Secrets.{holds, ever_in, ever_from, ever}
 use Rattle.zb_laws.proofs.FreshLines.{all-append, all-map}
 use Rattle.zb_laws.proofs.Exposed.{Within, holds-left, holds-right, holds-one, holds-cases}
 
@@ -121,17 +120,21 @@ within-none : (b : Bool) (xs : List Bytes) → Within (cond b [] []) xs
 within-none true xs k e = absurd (false≢true e)
 within-none false xs k e = absurd (false≢true e)
 
-given-ever : (c n : ℕ) (l : LogLine) → Within (cond (nat_eq (speaker l) n) (given_key l) []) (ever_in c n l)
+given-ever : (known : List Station) (n : ℕ) (l : LogLine) → Within (cond (nat_eq (speaker l) n) (given_key l) []) (ever_in known n l)
 unfolding speaker
-given-ever c n (GivenNet m key q) k e = e
-given-ever c n (Changed ev m (Moved (Install key q))) k e = e
-given-ever c n l k e = within-none (nat_eq (speaker l) n) (ever_in c n l) k e
+given-ever known n (GivenNet m key q) k e = e
+given-ever known n (Changed ev m (Moved (Install key q))) k e = e
+given-ever known n l k e = within-none (nat_eq (speaker l) n) (ever_in known n l) k e
 
-within-lines : (f g : LogLine → List Bytes) → ((l : LogLine) → Within (f l) (g l)) → (h : List LogLine) → Within (flat_map f h) (flat_map g h)
-within-lines f g w [] k e = e
-within-lines f g w (l ∷ ls) k e =
-    ⊎_elim (λ a. holds-left (g l) (flat_map g ls) k (w l k a)) (λ a. holds-right (g l) (flat_map g ls) k (within-lines f g w ls k a)) (holds-cases (f l) (flat_map f ls) k e)
+within-from : (known : List Station) (n : ℕ) (h : List LogLine) → Within (givens n h) (ever_from known n h)
+within-from known n [] k e = e
+within-from known n (l ∷ ls) k e =
+    ⊎_elim (λ a. holds-left (ever_in known n l) later k (given-ever known n l k a)) (λ a. holds-right (ever_in known n l) later k (within-from (station_line known l) n ls k a))
+    (holds-cases (cond (nat_eq (speaker l) n) (given_key l) []) (givens n ls) k e)
+  where
+    later : List Bytes
+    later = ever_from (station_line known l) n ls
 
 pub given-within : (h : List LogLine) (n : ℕ) → Within (givens n h) (ever h n)
 unfolding ever
-given-within h n = within-lines (λ l. cond (nat_eq (speaker l) n) (given_key l) []) (ever_in (centre_in h) n) (given-ever (centre_in h) n) h
+given-within h n = within-from [] n h

@@ -1,24 +1,22 @@
 -- What removed devices seal, and what is forged, is sealed under keys that are known outside.
-use Rattle.std.proofs.Common.{◌≡◌, ℕ, ◌<◌, ◌≤◌, ◌+◌, Bool, true, false, cond, not, ◌&&◌, ◌||◌, List, [], ◌∷◌, ◌++◌, map, filter, Option, Some, None, find, flat_map, fold, nat_eq, refl, sym, ap, ◌∙◌, subst, arith, eqb-true, append_assoc, ◌⊎◌, inl, inr, ⊎_elim, ne_eqb, eq-eqb}
+use Rattle.std.proofs.Common.{◌≡◌, ℕ, Bool, true, false, cond, ◌||◌, List, [], ◌∷◌, ◌++◌, Option, Some, None, find, flat_map, nat_eq, refl, sym, ap, ◌∙◌, subst, eqb-true, append_assoc, ◌⊎◌, inl, inr, ⊎_elim, eq-eqb}
 use Rattle.std.proofs.lemmas.Bool.{false≢true, and_parts}
-use Rattle.std.proofs.lemmas.List.Sums.{fold-append}
-use Rattle.std.specs.List.{AllByRecursion, list_any, Any}
-use Rattle.zb_model.specs.Data.{Bytes, Tier, Nwk, Aps, Station, Sealing, Live, Removed, Moved, Edit}
+use Rattle.std.specs.List.{AllByRecursion, list_any}
+use Rattle.zb_model.specs.Data.{Bytes, Tier, Nwk, Aps, Sealing, Removed, Moved}
 use Rattle.zb_model.specs.Lines.{LogLine, Declared, Changed, Accept, Seal, Forge}
-use Rattle.zb_model.specs.State.{NetKey, NodeState, same_key, live_nets}
+use Rattle.zb_model.specs.State.{NetKey}
 use Rattle.zb_model.specs.Tools.{Tools}
-use Rattle.zb_model.specs.Rules.{centre_of}
-use Rattle.zb_model.specs.Readings.{state_of, speaker, station_line, stations_of}
-use Rattle.zb_model.specs.Secrets.{holds, ever, outside, exposed, removed_in, removed_devices, centre_in, each_line, based_line}
-use Rattle.zb_model.specs.Claims.{Each, Among, HasTerm, HoldsNoneKnown, before_group, event_of, seals_of, forges_in, is_live_line, until_live, RefusesLine, Refuses}
+use Rattle.zb_model.specs.Readings.{state_of, speaker}
+use Rattle.zb_model.specs.Secrets.{holds, ever, outside, exposed, removed_in, removed_devices, each_line, based_line}
+use Rattle.zb_model.specs.Claims.{Each, HoldsNoneKnown, before_group, seals_of, forges_in, is_live_line, until_live, RefusesLine}
 use Rattle.zb_laws.specs.Lockout.{RefusesAfter, RefusesOutsiders}
-use Rattle.zb_laws.proofs.Basics.{append-nil', flat_map-append, nat_eq-refl, same_key-eq}
-use Rattle.zb_laws.proofs.Nets.{Holds, On, at_key, Gives}
-use Rattle.zb_laws.proofs.Counters.{SealFitsAt, SealFits, StateFits, LineFits, found-key}
+use Rattle.zb_laws.proofs.Basics.{append-nil', flat_map-append, same_key-eq}
+use Rattle.zb_laws.proofs.Nets.{Holds, at_key, Gives}
+use Rattle.zb_laws.proofs.Counters.{SealFitsAt, LineFits, found-key}
 use Rattle.zb_laws.proofs.FreshLines.{all-append, all-map}
-use Rattle.zb_laws.proofs.Judged.{In, all-in, LiveAt, found-element}
+use Rattle.zb_laws.proofs.Judged.{In, all-in, found-element}
 use Rattle.zb_laws.proofs.AnyLemmas.{any-in}
-use Rattle.zb_laws.proofs.Exposed.{Within, known-mono, ever-outside, holds-among, holds-left}
+use Rattle.zb_laws.proofs.Exposed.{known-mono, ever-outside}
 use Rattle.zb_laws.proofs.Given.{nets-given, given-within, givens}
 
 -- The terms that devices seal after their removal
@@ -112,17 +110,8 @@ unfoldable pub NotDeclared : LogLine → Type 0
 NotDeclared (Declared p) = ⊥
 NotDeclared _ = Unit {0}
 
-no-station : (ps : List Station) (l : LogLine) → NotDeclared l → station_line ps l ≡ ps
-unfolding NotDeclared
-no-station ps (Declared p) k = absurd k
-no-station ps _ k = refl
-
-same-centre : (h : List LogLine) (l : LogLine) → NotDeclared l → centre_in (h ++ l ∷ []) ≡ centre_in h
-unfolding centre_in stations_of
-same-centre h l k = ap centre_of (fold-append station_line [] h (l ∷ []) ∙ no-station (fold station_line [] h) l k)
-
 known-snoc : (tools : Tools) (h : List LogLine) (l : LogLine) → NotDeclared l → (t : Sealing) → Known tools h t → Known tools (h ++ l ∷ []) t
-known-snoc tools h l k t p e = known-mono tools h (l ∷ []) (same-centre h l k) t.base (p e)
+known-snoc tools h l k t p e = known-mono tools h (l ∷ []) t.base (p e)
 
 -- the base key of a NWK seal was given to its node
 holds-row : (c : ℕ) (keys : List Bytes) (base : Bytes) (nets : List NetKey) → AllByRecursion (λ (r : NetKey). holds keys r.key ≡ true) nets → (o : Option NetKey) → find (at_key base) nets ≡ o → Holds (Gives c) o → holds keys base ≡ true
@@ -156,7 +145,7 @@ unfolding NotDeclared speaker
 new-seals tools h (Seal e n t) k f = by-test (list_any (λ x. nat_eq x n) (removals h)) refl
   where
     known : list_any (λ x. nat_eq x n) (removals h) ≡ true → Known tools (h ++ Seal e n t ∷ []) t
-    known q layer = known-mono tools h (Seal e n t ∷ []) (same-centre h (Seal e n t) tt) t.base (ever-outside tools h n (gone q) t.base (seal-given h n t.layer t f.fits layer))
+    known q layer = known-mono tools h (Seal e n t ∷ []) t.base (ever-outside tools h n (gone q) t.base (seal-given h n t.layer t f.fits layer))
       where
         gone : list_any (λ x. nat_eq x n) (removals h) ≡ true → In n (removed_devices h)
         gone q = removed-gone n h (true-gone n (removals h) q)
@@ -168,7 +157,7 @@ new-seals tools h l k f = tt
 
 new-forges : (tools : Tools) (h : List LogLine) (l : LogLine) → NotDeclared l → Based tools h l → AllByRecursion (Known tools (h ++ l ∷ [])) (forges_in l)
 unfolding NotDeclared
-new-forges tools h (Forge e t) k b = ((λ layer. known-mono tools h (Forge e t ∷ []) (same-centre h (Forge e t) tt) t.base b), tt)
+new-forges tools h (Forge e t) k b = ((λ layer. known-mono tools h (Forge e t ∷ []) t.base b), tt)
 new-forges tools h l k b = tt
 
 pub bad-snoc : (tools : Tools) (h : List LogLine) (l : LogLine) → NotDeclared l → LineFits h l → Based tools h l → Bad tools h → Bad tools (h ++ l ∷ [])

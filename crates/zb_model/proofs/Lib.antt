@@ -4,3 +4,4 @@ mod Toy
 mod Terms
 mod Rows
 mod Refusals
+mod Cases

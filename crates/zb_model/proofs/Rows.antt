@@ -36,3 +36,4 @@ mod PairRemoved
 mod DataIsNoCommand
 mod MadeForTwo
 mod MadeForEight
+mod KeyComesInUnseen

@@ -3,10 +3,10 @@ use Rattle.std.specs.Prelude.{ℕ, ◌%◌, Bool, true, false, not, if◌then◌
 use Rattle.std.specs.List.{list_any, list_all}
 use Rattle.zb_model.specs.Data.{Bytes, Duty, Centre, Router, Device, Tier, Nwk, Aps, Purpose, ForData, ForNetwork, ForTransport, ForLoad, Provisional, Station, Sealing, Move, Draw, Install, Row, Pair, Removed, Moved, Order, TransportNet, TransportApp, TransportLink}
 use Rattle.zb_model.specs.Lines.{LogLine, GivenNet, GivenLink, Changed, Accept, Seal, Forge}
-use Rattle.zb_model.specs.State.{same_key}
+use Rattle.zb_model.specs.State.{same_key, is_centre}
 use Rattle.zb_model.specs.Tools.{Tools, ApsSight, ApsAuxiliary, OrderSight, Known, Unknown, Broken}
 use Rattle.zb_model.specs.Rules.{station_of, centre_of}
-use Rattle.zb_model.specs.Readings.{stations_of, alike_tier}
+use Rattle.zb_model.specs.Readings.{station_line, stations_of, alike_tier}
 
 -- Sets of keys, as lists without repeats
 
@@ -79,25 +79,38 @@ unfoldable pub exposed : Tools → List LogLine → List Bytes → List Bytes
 exposed tools h from = rounds (length h) tools (terms_of h) from
 
 -- The keys that a node ever held: those of its given, install and row lines, of the centre's rows with it, and of its pairs.
+-- Who the centre is, a line knows from the lines before it: it is the first node that they declare as one.
 
-abbrev pub ever_moved : ℕ → ℕ → ℕ → Move → List Bytes
-ever_moved centre d n (Install key sequence) = if nat_eq n d then key ∷ [] else []
-ever_moved centre d n (Row partner key trust) = if nat_eq n d || (nat_eq n centre && nat_eq partner d) then key ∷ [] else []
-ever_moved centre d n (Pair first second key) = if nat_eq first d || nat_eq second d then key ∷ [] else []
-ever_moved centre d n _ = []
+abbrev pub is_the_centre : List Station → ℕ → Bool
+is_the_centre known n = is_eui (find (λ (p : Station). is_centre p.duty) known)
+  where
+    is_eui : Option Station → Bool
+    is_eui None = false
+    is_eui (Some p) = nat_eq p.eui n
 
-abbrev pub ever_in : ℕ → ℕ → LogLine → List Bytes
-ever_in centre d (GivenNet n key sequence) = if nat_eq n d then key ∷ [] else []
-ever_in centre d (GivenLink n partner key) = if nat_eq n d then key ∷ [] else []
-ever_in centre d (Changed e n (Moved move)) = ever_moved centre d n move
-ever_in centre d _ = []
+abbrev pub ever_moved : List Station → ℕ → ℕ → Move → List Bytes
+ever_moved known d n (Install key sequence) = if nat_eq n d then key ∷ [] else []
+ever_moved known d n (Row partner key trust) = if nat_eq n d || (is_the_centre known n && nat_eq partner d) then key ∷ [] else []
+ever_moved known d n (Pair first second key) = if nat_eq first d || nat_eq second d then key ∷ [] else []
+ever_moved known d n _ = []
+
+abbrev pub ever_in : List Station → ℕ → LogLine → List Bytes
+ever_in known d (GivenNet n key sequence) = if nat_eq n d then key ∷ [] else []
+ever_in known d (GivenLink n partner key) = if nat_eq n d then key ∷ [] else []
+ever_in known d (Changed e n (Moved move)) = ever_moved known d n move
+ever_in known d _ = []
+
+-- behind lines that declare these nodes
+abbrev pub ever_from : List Station → ℕ → List LogLine → List Bytes
+ever_from known d [] = []
+ever_from known d (l ∷ ls) = ever_in known d l ++ ever_from (station_line known l) d ls
+
+unfoldable pub ever : List LogLine → ℕ → List Bytes
+ever h d = ever_from [] d h
 
 -- the centre of a transcript: the first node that is declared as one
 unfoldable pub centre_in : List LogLine → ℕ
 centre_in h = centre_of (stations_of h)
-
-unfoldable pub ever : List LogLine → ℕ → List Bytes
-ever h d = flat_map (ever_in (centre_in h) d) h
 
 -- The link key that everybody knows (ZigBeeAlliance09).
 abbrev pub well_known : Bytes

@@ -1,16 +1,16 @@
 -- Consequences of the definitions that no worked run shows, each computed.
-use Rattle.std.specs.Prelude.{◌≡◌, ℕ, Bool, true, false, List, [], ◌∷◌, replicate, map, Option, Some, None, refl}
-use Rattle.zb_model.specs.Data.{Bytes, Duty, Centre, Device, Stage, Joined, Trust, Provisional, Verified, ForData, ForTransport, Nwk, Aps, Station, Sealing, Move, Draw, Install, Active, Row, Removed, Roll, Became, Moved, Edit}
-use Rattle.zb_model.specs.State.{SenderFloor, NetKey, LinkKey, PairKey, NodeState, new_node, applied, after_boot, active_row, code_row}
-use Rattle.zb_model.specs.Tools.{Tools}
-use Rattle.zb_model.specs.Rules.{Outcome, Does, Setting, unless, given, choose, centre_of, drop_old, drop_others}
-use Rattle.zb_model.specs.OwnEvents.{roll, knock}
+use Rattle.std.specs.Prelude.{◌≡◌, ℕ, Bool, true, false, List, [], ◌∷◌, replicate, map, Some, None, refl}
+use Rattle.zb_model.specs.Data.{Bytes, nobody, Duty, Centre, Device, Stage, Joined, Trust, Provisional, Verified, ForData, ForTransport, Aps, Station, Sealing, Draw, Install, Active, Row, Removed, Roll, Became, Moved}
+use Rattle.zb_model.specs.State.{NetKey, LinkKey, PairKey, NodeState, new_node, applied, after_boot, active_row}
+use Rattle.zb_model.specs.Rules.{Does, Setting, unless, given, choose, centre_of, drop_old}
+use Rattle.zb_model.specs.OwnEvents.{roll}
 use Rattle.zb_model.specs.Judging.{candidates}
 use Rattle.zb_model.specs.Commands.{Heard, take_net_key}
 use Rattle.zb_model.specs.Answer.{changes}
-use Rattle.zb_model.specs.Secrets.{carried}
+use Rattle.zb_model.specs.Lines.{LogLine, Declared, Changed}
+use Rattle.zb_model.specs.Secrets.{carried, ever}
 use Rattle.std.specs.Prelude.{filter}
-use Rattle.zb_rows.proofs.Toy.{x, toy}
+use Rattle.zb_model.proofs.Toy.{x, toy}
 
 -- A centre 1 and a device 2; keys; rows that hold them; a node without rows, and one with the network key 1 active.
 abbrev node : Duty → ℕ → ℕ → Station
@@ -80,3 +80,15 @@ data_carries_nothing = refl
 command_carries : carried toy (data_term 33) ≡ Some (x "303132333435363738393A3B3C3D3E3F")
 unfolding carried toy data_term
 command_carries = refl
+
+-- a row of the centre is its partner's too from where the centre is declared on, and no row of an undeclared node is
+late_centre : List LogLine
+late_centre = Changed 1 1 (Moved (Row 2 (k 5) Provisional)) ∷ Declared (node Centre 1 0) ∷ Changed 2 1 (Moved (Row 2 (k 6) Provisional)) ∷ []
+
+centre_known_at_the_line : ever late_centre 2 ≡ k 6 ∷ []
+unfolding ever late_centre
+centre_known_at_the_line = refl
+
+row_of_nobody : ever (Changed 1 nobody (Moved (Row 2 (k 5) Provisional)) ∷ []) 2 ≡ []
+unfolding ever
+row_of_nobody = refl

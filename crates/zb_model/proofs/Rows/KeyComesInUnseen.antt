@@ -1,8 +1,8 @@
 -- A key that is drawn later comes in with an injected frame, and a stop cuts the acceptance off: not ideal.
 use Rattle.std.specs.Prelude.{◌≡◌, true, false, List, [], ◌∷◌, Some, None, refl}
-use Rattle.zb_model.specs.Data.{Duty, Stage, Reason, Nwk, Aps, ForData, ForNetwork, ForTransport, ForLoad, Provisional, Unverified, Verified, Station, Draw, DropNet, DropLink, Install, Active, Row, Pair, Became, Live, Removed, Roll, Told, Untold, Reserve, Floor, Start, Moved, AtNwk, AtAps, AtEvent, SayTo, TellTo, DoKnock, DoRejoin, DoTimer, AskFor, HasChild, DoProvision, DoRemove, DoSwitch, DoAgain, DoShare}
-use Rattle.zb_model.specs.Lines.{LogLine, Declared, GivenNet, GivenLink, Counter, Changed, Commit, Accept, Refuse, Seal, Forge, Send, Inject, Stopped, DownReset, DownDisk, Boot, Dump, End}
-use Rattle.zb_model.specs.Play.{World, Member, Own, RollOver, Deliver, Reset, PowerOn, ShowRecord, ArmStop, ArmFail, InjectBytes, ForgeNet, ForgeNetAps, ForgeOpen, start, disk_of, with_disk, stands, leaves_both, stored_lines, told_lines, group_of, cut_of, setting_of, supply, task_step, forged_net, forged_both, forged_open, step_by, step, groups}
+use Rattle.zb_model.specs.Data.{Duty, Stage, Nwk, Aps, ForNetwork, Provisional, Station, Draw, DropLink, Install, Active, Row, Became, Live, Removed, Roll, Reserve, Floor, Start, Moved, DoKnock, DoProvision, DoRemove}
+use Rattle.zb_model.specs.Lines.{LogLine, Declared, GivenNet, GivenLink, Changed, Commit, Seal, Send, Inject, Stopped, End}
+use Rattle.zb_model.specs.Play.{World, Own, RollOver, Deliver, ArmStop, InjectBytes, start, disk_of, with_disk, stands, leaves_both, stored_lines, told_lines, group_of, cut_of, setting_of, supply, task_step, forged_net, forged_both, forged_open, step_by, step, groups}
 use Rattle.zb_model.specs.Transcript.{end_line, run_lines, transcript}
 use Rattle.zb_model.specs.Answer.{plan_of, part_of, may_seal, out_of, edits_of, answer_by, reserve_of, stored_floor, floor_of, counting_of, answer, answered}
 use Rattle.zb_model.specs.Claims.{nonce, stamp, sealed_terms, before_group}
@@ -16,8 +16,8 @@ use Rattle.zb_model.specs.Rules.{unless, given, choose, station_of, station_at, 
 use Rattle.zb_model.specs.Secrets.{carried, terms_of, a_round, rounds, exposed, centre_in, ever, removed_devices, outside, network_keys, each_line, same_term, bases, codes_of, came_by, ideal_line, ideal, passes_on, private}
 use Rattle.zb_model.specs.State.{active_row, usable_nets, usable_active, newest, usable_of, live_of, current, offered, is_live, is_known, is_told, code_row, other_user, pair_of, next_counter, stored_limit, sender_floor, applied, applied_all, sealed, counted, heard, accepted, after_boot, shown, with_given_net, with_given_link, with_declared}
 use Rattle.zb_model.specs.Tools.{sealing_key}
-use Rattle.zb_rows.proofs.Toy.{x, toy}
-use Rattle.zb_rows.proofs.Terms.{term}
+use Rattle.zb_model.proofs.Toy.{x, toy}
+use Rattle.zb_model.proofs.Terms.{term}
 
 abbrev c_station : Station
 c_station = record { name = x "63"; eui = 5149012952875009; short = 0; duty = Duty.Centre; out_block = 16; in_block = 4 }

@@ -1,4 +1,0 @@
-mod Toy
-mod Terms
-mod Cases
-mod Rows
