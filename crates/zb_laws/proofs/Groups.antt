@@ -67,7 +67,7 @@ lines-keep Φ n h (l ∷ ls) a p =
     subst (λ x. Φ (state_of x n)) (append_assoc h (l ∷ []) ls)
     (lines-keep Φ n (h ++ l ∷ []) ls a.1 (subst Φ (sym (state-snoc h l n)) (heard-keeps Φ n l (state_of h n) (λ e. a.0 (state_of h n) p) p)))
 
-changed-line : (number n : ℕ) (e : Edit) (s : NodeState) → heard_line n s (Changed number n e) ≡ applied e s
+pub changed-line : (number n : ℕ) (e : Edit) (s : NodeState) → heard_line n s (Changed number n e) ≡ applied e s
 unfolding heard_line speaker after
 changed-line number n e s = ap (λ b. cond b (applied e s) s) (nat_eq-refl n)
 
@@ -164,7 +164,7 @@ limit-is s r e = ap (λ o. limit_of s.declared o) e
 abbrev FoundRow : Bytes → List NetKey → NetKey → Type 0
 FoundRow key nets r = find (at_key key) nets ≡ Some r
 
-active-found-at : (o : Option Bytes) (s : NodeState) (r : NetKey) → net_of_active o s ≡ Some r → FoundRow r.key s.nets r
+pub active-found-at : (o : Option Bytes) (s : NodeState) (r : NetKey) → net_of_active o s ≡ Some r → FoundRow r.key s.nets r
 active-found-at None s r e = absurd (Rattle.zb_laws.proofs.Counters.none-some r e)
 active-found-at (Some key) s r e = subst (λ k. FoundRow k s.nets r) (sym (same_key-eq r.key key (found-key key s.nets r e))) e
 

@@ -41,7 +41,7 @@ nowhere : {X : Type 0} (x : X) → In x [] → ⊥
 unfolding In
 nowhere x i = i
 
-in-reverse : {X : Type 0} (x : X) (xs : List X) → In x (reverse xs) → In x xs
+pub in-reverse : {X : Type 0} (x : X) (xs : List X) → In x (reverse xs) → In x xs
 in-reverse x xs i = ⊎_elim (λ j. j) (λ j. absurd (nowhere x j)) (in-aux x xs [] i)
 
 -- what is found is an element and passes the test

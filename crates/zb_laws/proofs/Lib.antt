@@ -1,15 +1,15 @@
-mod Basics
-mod Nets
-mod Counters
-mod FreshLines
-mod Groups
-mod GroupSeals
-mod Runs
+pub mod Basics
+pub mod Nets
+pub mod Counters
+pub mod FreshLines
+pub mod Groups
+pub mod GroupSeals
+pub mod Runs
 mod Finds
 mod FloorRows
 mod OnceLines
-mod Sound
-mod Judged
+pub mod Sound
+pub mod Judged
 mod OnceGroups
 mod OnceRuns
 mod AnyLemmas
