@@ -1,5 +1,5 @@
 -- Elements of a list, by their place and by recursion.
-use Rattle.std.proofs.Common.{◌≡◌, ℕ, zero, suc, ◌<◌, List, [], ◌∷◌, length, get_or, refl, sym, ap, ◌∙◌, subst, zero-lt-suc, suc-le-suc, not-suc-le-zero, le_of_suc-le-suc, ◌⊎◌, inl, inr}
+use Rattle.std.proofs.Common.{◌≡◌, ℕ, zero, suc, ◌<◌, List, [], ◌∷◌, length, get_or, refl, subst, zero-lt-suc, suc-le-suc, not-suc-le-zero, le_of_suc-le-suc, inl, inr}
 use Rattle.std.specs.List.{Any}
 use Rattle.zb_laws.proofs.Judged.{In}
 

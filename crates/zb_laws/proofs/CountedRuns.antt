@@ -1,9 +1,9 @@
 -- Each seal takes the counter that comes next; a reserve and a floor are one block.
-use Rattle.std.proofs.Common.{◌≡◌, ℕ, ◌<◌, ◌≤◌, ◌+◌, min, Bool, true, false, cond, ◌&&◌, List, [], ◌∷◌, ◌++◌, length, Option, Some, None, option_map, find, nat_eq, nat_le, refl, sym, ap, ◌∙◌, subst, eqb-true, leb-true}
-use Rattle.std.proofs.lemmas.Bool.{false≢true, and_parts}
-use Rattle.zb_model.specs.Data.{Bytes, Tier, Nwk, Aps, Sealing}
+use Rattle.std.proofs.Common.{◌≡◌, ℕ, ◌≤◌, ◌+◌, min, Bool, true, false, cond, ◌&&◌, List, [], ◌∷◌, ◌++◌, length, Option, Some, None, option_map, find, nat_eq, nat_le, refl, sym, ap, subst, eqb-true, leb-true}
+use Rattle.std.proofs.lemmas.Bool.{and_parts}
+use Rattle.zb_model.specs.Data.{Tier, Nwk, Aps, Sealing}
 use Rattle.zb_model.specs.Lines.{LogLine, Seal}
-use Rattle.zb_model.specs.State.{most, NetKey, NodeState, net_of, next_counter, stored_limit}
+use Rattle.zb_model.specs.State.{most, NetKey, NodeState, next_counter, stored_limit}
 use Rattle.zb_model.specs.Tools.{Tools}
 use Rattle.zb_model.specs.Rules.{Setting, Sending}
 use Rattle.zb_model.specs.Answer.{seals_at, may_seal, reserve_of, stored_floor, floor_for}
@@ -14,8 +14,8 @@ use Rattle.zb_model.specs.Transcript.{run_lines, transcript, end_line}
 use Rattle.zb_model.specs.Claims.{Each}
 use Rattle.zb_laws.specs.Counting.{NextIs, TakesNext}
 use Rattle.zb_laws.proofs.Basics.{each-append}
-use Rattle.zb_laws.proofs.Nets.{Holds, On, at_key, Gives}
-use Rattle.zb_laws.proofs.Counters.{SealFitsAt, SealFits, StateFits, LineFits}
+use Rattle.zb_laws.proofs.Nets.{Holds, at_key, Gives}
+use Rattle.zb_laws.proofs.Counters.{SealFitsAt, LineFits}
 use Rattle.zb_laws.proofs.Groups.{plain}
 use Rattle.zb_laws.proofs.Runs.{groups-fit, start-plain, start-inv}
 

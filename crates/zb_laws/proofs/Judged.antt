@@ -7,7 +7,7 @@ use Rattle.zb_model.specs.Data.{Bytes, Tier, Nwk, Aps, Sealing, Spot, Reason, Ta
 use Rattle.zb_model.specs.State.{most, SenderFloor, NetKey, LinkKey, NodeState, is_link, is_live_of, sender_floor, floor_of_sender, usable_of, usable_nets, live_nets, may_use}
 use Rattle.zb_model.specs.Tools.{Tools, NwkSight, NwkAuxiliary, ApsSight, ApsAuxiliary, OrderSight, Known, Unknown, Broken, LeaveSight, Leave, Other, NoCommand}
 use Rattle.zb_laws.specs.Opening.{Opens, shown_source}
-use Rattle.zb_model.specs.Rules.{Setting, Plan, Does, station_at}
+use Rattle.zb_model.specs.Rules.{Setting, Plan, Does}
 use Rattle.zb_model.specs.Judging.{Verdict, Not, Good, reject, need, judge_net, Carrier, carrier, judge_security, judge_nwk, payload_of, candidates, opens_with, chosen, chosen_row, aps_source, Unsealed, judge_aps}
 use Rattle.zb_model.specs.Answer.{comes_to, stopped_at, nwk_command, aps_command, clear_part, sealed_part, by_security, aps_part, net_part, received_as, plan_of}
 use Rattle.zb_laws.proofs.Finds.{IfOf, Finds, finds-some}
@@ -27,7 +27,7 @@ in-filter-cons x y true ys zs k (inl e) = inl e
 in-filter-cons x y true ys zs k (inr i) = inr (k i)
 in-filter-cons x y false ys zs k i = inr (k i)
 
-in-filter : {X : Type 0} (test : X → Bool) (x : X) (xs : List X) → In x (filter test xs) → In x xs
+pub in-filter : {X : Type 0} (test : X → Bool) (x : X) (xs : List X) → In x (filter test xs) → In x xs
 unfolding In
 in-filter test x [] i = i
 in-filter test x (y ∷ ys) i = in-filter-cons x y (test y) ys (filter test ys) (in-filter test x ys) i
@@ -37,7 +37,7 @@ unfolding In
 in-aux x [] ys i = inr i
 in-aux x (z ∷ xs) ys i = ⊎_elim (λ j. inl (inr j)) (λ j. ⊎_elim (λ e. inl (inl e)) (λ k. inr k) j) (in-aux x xs (z ∷ ys) i)
 
-nowhere : {X : Type 0} (x : X) → In x [] → ⊥
+pub nowhere : {X : Type 0} (x : X) → In x [] → ⊥
 unfolding In
 nowhere x i = i
 

@@ -5,7 +5,7 @@ use Rattle.zb_model.specs.Lines.{LogLine}
 use Rattle.zb_model.specs.Tools.{Tools}
 use Rattle.zb_model.specs.Answer.{Counting, counting_of, plan_of}
 use Rattle.zb_model.specs.Readings.{state_of}
-use Rattle.zb_model.specs.Play.{World, Act, Own, RollOver, Deliver, Reset, PowerOn, ShowRecord, ArmStop, ArmFail, InjectBytes, ForgeNet, ForgeNetAps, ForgeOpen, Step, Disk, setting_of, supply, frame_at, task_step, deliver_step, step_by, step, groups, start}
+use Rattle.zb_model.specs.Play.{World, Act, Own, RollOver, Deliver, Reset, PowerOn, ShowRecord, ArmStop, ArmFail, InjectBytes, ForgeNet, ForgeNetAps, ForgeOpen, Disk, setting_of, supply, frame_at, task_step, deliver_step, step_by, step, groups, start}
 use Rattle.zb_model.specs.Transcript.{run_lines, transcript}
 use Rattle.zb_model.specs.Claims.{Answers, LawfulFrom, Lawful}
 

@@ -19,3 +19,6 @@ mod Outsiders
 mod OutsiderRuns
 mod LawfulRuns
 mod CountedRuns
+mod LockoutDeeds
+mod ConfirmsLines
+mod ConfirmsRuns

@@ -1,26 +1,26 @@
 -- Whole runs: no node that holds no key known outside accepts what outsiders sealed or forged.
 use Rattle.std.proofs.Common.{◌≡◌, ℕ, ◌<◌, ◌≤◌, ◌+◌, Bool, true, false, cond, not, List, [], ◌∷◌, ◌++◌, map, filter, length, Option, Some, None, nat_eq, flat_map, refl, sym, ap, ◌∙◌, subst, arith, append_assoc, ◌⊎◌, inl, inr, ⊎_elim, ne_eqb, eq-eqb}
-use Rattle.std.proofs.lemmas.Bool.{false≢true, and_parts}
+use Rattle.std.proofs.lemmas.Bool.{and_parts}
 use Rattle.std.specs.List.{AllByRecursion}
-use Rattle.zb_model.specs.Data.{Bytes, Duty, Tier, Nwk, Aps, Station, Sealing, Task, Received, DoRoll, Edit, Spot, Reason, Down, NoFrame, WrongState}
-use Rattle.zb_model.specs.Lines.{LogLine, Declared, GivenNet, GivenLink, Counter, Changed, Commit, Accept, Refuse, Seal, Forge, Send, Inject, Stopped, DownReset, DownDisk, Boot, Dump, End}
-use Rattle.zb_model.specs.State.{NetKey, NodeState, live_nets}
+use Rattle.zb_model.specs.Data.{Bytes, Tier, Nwk, Aps, Station, Sealing, Task, Received, DoRoll, Edit, Spot, Reason, Down, NoFrame, WrongState}
+use Rattle.zb_model.specs.Lines.{LogLine, Declared, GivenNet, GivenLink, Counter, Changed, Commit, Accept, Refuse, Seal, Forge, Send, Stopped, DownReset, DownDisk, Boot}
+use Rattle.zb_model.specs.State.{NetKey, live_nets}
 use Rattle.zb_model.specs.Tools.{Tools}
-use Rattle.zb_model.specs.Rules.{Setting, Plan, centre_of}
+use Rattle.zb_model.specs.Rules.{Plan, centre_of}
 use Rattle.zb_model.specs.Answer.{Answer, answer_by, plan_of, counting_of}
 use Rattle.zb_model.specs.Readings.{state_of, is_up, air}
-use Rattle.zb_model.specs.Play.{World, Member, Act, Own, RollOver, Deliver, Reset, PowerOn, ShowRecord, ArmStop, ArmFail, InjectBytes, ForgeNet, ForgeNetAps, ForgeOpen, Step, Disk, Armed, NotArmed, StopAfter, FailAt, Calls, stations, setting_of, net_line, link_line, limit_line, start, disk_of, with_disk, falls, stands, calls_for, leaves_both, BootCalls, change_lines, commit_lines, refuse_lines, send_lines, stored_lines, told_lines, group_of, cut_of, fallen_line, answer_step, boot_step, refused_step, answer_counted, task_step, deliver_step, frame_at, supply, forged_net, forged_both, forged_open, step_by, step, groups}
-use Rattle.zb_model.specs.Schedules.{Names, NamesNode, IsSchedule}
+use Rattle.zb_model.specs.Play.{World, Member, Act, Own, RollOver, Deliver, Reset, PowerOn, ShowRecord, ArmStop, ArmFail, InjectBytes, ForgeNet, ForgeNetAps, ForgeOpen, Step, Disk, Armed, NotArmed, StopAfter, FailAt, Calls, stations, setting_of, net_line, link_line, limit_line, start, disk_of, with_disk, falls, stands, calls_for, leaves_both, BootCalls, commit_lines, refuse_lines, send_lines, stored_lines, told_lines, group_of, cut_of, fallen_line, answer_step, boot_step, refused_step, answer_counted, task_step, deliver_step, frame_at, supply, forged_net, forged_both, forged_open, step_by, step, groups}
+use Rattle.zb_model.specs.Schedules.{NamesNode, IsSchedule}
 use Rattle.zb_model.specs.Secrets.{holds, exposed, outside, each_line, based_line, private, passes_on}
 use Rattle.zb_model.specs.Transcript.{run_lines, transcript, end_line}
 use Rattle.zb_model.specs.Claims.{Each, Among, HoldsNoneKnown, before_group, event_of, forges_in}
 use Rattle.zb_laws.specs.Opening.{Opens}
 use Rattle.zb_laws.specs.Lockout.{RefusesOutsiders}
 use Rattle.zb_laws.proofs.Basics.{each-append, append-nil', flat_map-append}
-use Rattle.zb_laws.proofs.Counters.{LineFits, Ordered}
+use Rattle.zb_laws.proofs.Counters.{LineFits}
 use Rattle.zb_laws.proofs.FreshLines.{all-append, all-map, Inv, inv-lines}
-use Rattle.zb_laws.proofs.Runs.{Me, me-of, step-fits, start-inv}
-use Rattle.zb_laws.proofs.Judged.{In, all-in, LiveAt, Judged, AcceptsFit, plan-accepts}
+use Rattle.zb_laws.proofs.Runs.{step-fits, start-inv}
+use Rattle.zb_laws.proofs.Judged.{In, all-in, LiveAt, AcceptsFit, plan-accepts}
 use Rattle.zb_laws.proofs.Sound.{sound}
 use Rattle.zb_laws.proofs.Exposed.{holds-among}
 use Rattle.zb_laws.proofs.Outsiders.{late, late-append, removals, Known, Bad, NotDeclared, Based, bad-lines, based-each, NoOutsider, refuses-outsiders}
@@ -94,7 +94,7 @@ either : (P : List LogLine → Type 0) (b : Bool) (x y : Step) → P x.lines →
 either P true x y p q = p
 either P false x y p q = q
 
-abbrev AllTagged : ℕ → List LogLine → Type 0
+abbrev pub AllTagged : ℕ → List LogLine → Type 0
 AllTagged number ls = AllByRecursion (Tagged number) ls
 
 cut_step : List LogLine → List Disk → ℕ → ℕ → Answer → Step
@@ -120,7 +120,7 @@ deliver-tagged : (tools : Tools) (w : World) (h : List LogLine) (disks : List Di
 deliver-tagged tools w h disks number n None = refused-tagged disks number n (cond (is_up h n) NoFrame Down)
 deliver-tagged tools w h disks number n (Some bytes) = task-tagged tools w h disks number n (Received bytes (supply w h))
 
-step-tagged : (tools : Tools) (w : World) (h : List LogLine) (disks : List Disk) (number : ℕ) (act : Act) → AllTagged number (step tools w h disks number act).lines
+pub step-tagged : (tools : Tools) (w : World) (h : List LogLine) (disks : List Disk) (number : ℕ) (act : Act) → AllTagged number (step tools w h disks number act).lines
 unfolding step step_by forged_net forged_both forged_open NotDeclared
 step-tagged tools w h disks number (Own n task) = task-tagged tools w h disks number n task
 step-tagged tools w h disks number (RollOver n) = task-tagged tools w h disks number n (DoRoll (supply w h))
@@ -146,7 +146,7 @@ step-tagged tools w h disks number (ForgeOpen to from source label base aps_coun
 abbrev pub Earlier : ℕ → LogLine → Type 0
 Earlier number l = event_of l < number
 
-filter-append : (test : LogLine → Bool) (xs ys : List LogLine) → filter test (xs ++ ys) ≡ filter test xs ++ filter test ys
+pub filter-append : (test : LogLine → Bool) (xs ys : List LogLine) → filter test (xs ++ ys) ≡ filter test xs ++ filter test ys
 filter-append test [] ys = refl
 filter-append test (x ∷ xs) ys = by-test (test x) (filter-append test xs ys)
   where
@@ -362,7 +362,7 @@ later-number number h a = all-map (Earlier number) (Earlier (number + 1)) (λ l 
 tagged-earlier : (number : ℕ) (g : List LogLine) → AllTagged number g → AllByRecursion (Earlier (number + 1)) g
 tagged-earlier number g a = all-map (Tagged number) (Earlier (number + 1)) (λ l t. omega (arith, t.event)) g a
 
-undeclared : (number : ℕ) (g : List LogLine) → AllTagged number g → AllByRecursion NotDeclared g
+pub undeclared : (number : ℕ) (g : List LogLine) → AllTagged number g → AllByRecursion NotDeclared g
 undeclared number g a = all-map (Tagged number) NotDeclared (λ l t. t.nothing) g a
 
 groups-safe : (tools : Tools) → Opens tools → (w : World) → IsSchedule w → (h : List LogLine) (disks : List Disk) (number : ℕ) (acts : List Act) → AllByRecursion (NamesNode w) acts → Inv tools h → AllByRecursion (Earlier number) h → Bad tools h
@@ -390,14 +390,14 @@ groups-safe tools opens w i h disks number (act ∷ acts) named inv earlier bad 
 
 -- The start: lines of no event, without seals, forged or accepted terms
 
-unfoldable Beginning : LogLine → Type 0
+unfoldable pub Beginning : LogLine → Type 0
 Beginning (Declared p) = Unit {0}
 Beginning (GivenNet n key q) = Unit {0}
 Beginning (GivenLink n p key) = Unit {0}
 Beginning (Counter n layer v) = Unit {0}
 Beginning _ = ⊥
 
-start-begins : (w : World) → AllByRecursion Beginning (start w)
+pub start-begins : (w : World) → AllByRecursion Beginning (start w)
 unfolding start Beginning
 start-begins w =
     all-append Beginning (map Declared (stations w)) (nets ++ (links ++ limits)) (declared (stations w))

@@ -20,11 +20,11 @@ use Rattle.zb_laws.proofs.GroupSeals.{group-fits, cut-plain, fallen-plain}
 
 -- A declared node is found with its EUI.
 
-abbrev FoundIs : {X : Type 0} → (X → Type 0) → Option X → Type 0
+abbrev pub FoundIs : {X : Type 0} → (X → Type 0) → Option X → Type 0
 FoundIs P None = Unit {0}
 FoundIs P (Some x) = P x
 
-found-is : {X : Type 0} (P : X → Type 0) (test : X → Bool) (xs : List X) → AllByRecursion P xs → FoundIs (λ x. P x × (test x ≡ true)) (find test xs)
+pub found-is : {X : Type 0} (P : X → Type 0) (test : X → Bool) (xs : List X) → AllByRecursion P xs → FoundIs (λ x. P x × (test x ≡ true)) (find test xs)
 found-is P test [] a = tt
 found-is P test (x ∷ xs) a = first P test x (find test xs) (test x) refl a.0 (found-is P test xs a.1)
   where
@@ -37,7 +37,7 @@ pub record IsStation (p : Station) : Type 0 where
   pub out_block : 0 < p.out_block
   pub in_block : 0 < p.in_block
 
-are-stations : (ms : List Member) → AllByRecursion IsMember ms → AllByRecursion IsStation (map (λ (m : Member). m.station) ms)
+pub are-stations : (ms : List Member) → AllByRecursion IsMember ms → AllByRecursion IsStation (map (λ (m : Member). m.station) ms)
 are-stations [] a = tt
 are-stations (m ∷ ms) a = (record { eui = a.0.eui; out_block = a.0.out_block; in_block = a.0.in_block }, are-stations ms a.1)
 

@@ -1,5 +1,5 @@
 -- The counters of whole runs, in words of their own.
-use Rattle.std.specs.Prelude.{ℕ, ◌≡◌, ◌<◌, List, [], ◌∷◌, ◌++◌, Option, Some, option_map, ⊤}
+use Rattle.std.specs.Prelude.{◌≡◌, ◌<◌, List, Some, option_map, ⊤}
 use Rattle.zb_model.specs.Data.{Tier, Nwk, Aps, Sealing}
 use Rattle.zb_model.specs.Lines.{LogLine, Seal}
 use Rattle.zb_model.specs.State.{most, NetKey, NodeState, net_of}

@@ -1,3 +1,4 @@
 pub mod Opening
 pub mod Lockout
 pub mod Counting
+pub mod Commanding

@@ -1,5 +1,5 @@
 -- The two halves of lockout, each for itself.
-use Rattle.std.specs.Prelude.{ℕ, List, [], ◌∷◌, ◌++◌, ⊤}
+use Rattle.std.specs.Prelude.{List, [], ◌∷◌, ◌++◌, ⊤}
 use Rattle.zb_model.specs.Data.{Removed, Moved}
 use Rattle.zb_model.specs.Lines.{LogLine, Changed}
 use Rattle.zb_model.specs.Tools.{Tools}

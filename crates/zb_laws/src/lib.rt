@@ -3,10 +3,11 @@
 #![tactic(auto)]
 
 ghost use Rattle.std.specs.Prelude.{◌≡◌, ◌≤◌, ◌+◌, ◌++◌, min, ℕ, true, List, Option, Some, [], fold};
+ghost use Rattle.zb_laws.specs.Commanding.{OneCentre, SpellsConfirm};
 ghost use Rattle.zb_laws.specs.Counting.{TakesNext};
 ghost use Rattle.zb_laws.specs.Lockout.{RefusesOutsiders};
 ghost use Rattle.zb_laws.specs.Opening.{Opens};
-ghost use Rattle.zb_model.specs.Claims.{Each, Fresh, Lawful, Once};
+ghost use Rattle.zb_model.specs.Claims.{Confirms, Each, Fresh, Lawful, Once};
 ghost use Rattle.zb_model.specs.Answer.{Answer, floor_for, reserve_of, stored_floor};
 ghost use Rattle.zb_model.specs.Data.{Sealing, Tier};
 ghost use Rattle.zb_model.specs.Lines.{LogLine};
@@ -45,6 +46,13 @@ pub fn no_nonce_comes_again()
 /// included. `Opens` says that a frame which opens shows its base key, counter and source.
 pub fn no_counter_is_taken_twice()
     ensures { (tools : Tools) → Opens tools → (w : World) → IsSchedule w → Once (transcript tools w) }
+{}
+
+/// Each Confirm-Key that a node seals for a device is the centre's, and is sealed under a key that the centre stored as the
+/// device's verified one before, by a commit, and that nothing has unsettled since. `OneCentre` is of the schedule: one declared
+/// centre. `SpellsConfirm` is of the spelling: no other command reads as a Confirm-Key.
+pub fn only_stored_keys_are_confirmed()
+    ensures { (tools : Tools) → Opens tools → SpellsConfirm tools → (w : World) → IsSchedule w → OneCentre w → Confirms tools (transcript tools w) }
 {}
 
 /// Where the end line says that forgery was private: after a device was removed, and until it is admitted again, a node none
