@@ -1,3 +1,4 @@
+pub mod Kinds
 pub mod Text
 pub mod Views
 pub mod Writing

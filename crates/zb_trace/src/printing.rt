@@ -1,8 +1,9 @@
 //! The text of a line.
-ghost use Rattle.std.specs.Prelude.{◌≡◌, ◌++◌, [], OnOk, OnErr, IfOk};
+ghost use Rattle.std.specs.Prelude.{◌≡◌, ◌++◌, ◌||◌, [], OnOk, OnErr, IfOk, false};
 ghost use Rattle.std.specs.Io.KnownBytes.{Appends};
 ghost use Rattle.zb_base.specs.Outside.{AppendsFront};
 ghost use Rattle.zb_trace.specs.Writing.{IsCause};
+ghost use Rattle.zb_trace.specs.Kinds.{is_of_counters, is_of_keys, is_of_devices, is_of_frames};
 ghost use Rattle.zb_trace.specs.Text as spec;
 
 use crate::Line;
@@ -47,6 +48,16 @@ pub fn put_line(out: &mut Vec<u8>, line: &Line) -> Result<(), AllocError>
             sender,
             value,
         } => put_floor(out, *event, node, *layer, key, *sender, *value),
+        _ => put_key_line(out, line),
+    }
+}
+
+/// Prints a line on network keys, or a later one.
+fn put_key_line(out: &mut Vec<u8>, line: &Line) -> Result<(), AllocError>
+    requires { is_of_counters line.now ≡ false }
+    ensures { OnOk result (out.new.items ≡ out.old.items ++ spec.text line.now) }
+{
+    match line {
         Line::Draw { event, key } => put_draw(out, *event, key),
         Line::DropNet { event, node, key } => put_drop_net(out, *event, node, key),
         Line::DropLink {
@@ -68,6 +79,16 @@ pub fn put_line(out: &mut Vec<u8>, line: &Line) -> Result<(), AllocError>
             key,
             value,
         } => put_start(out, *event, node, key, *value),
+        _ => put_device_line(out, line),
+    }
+}
+
+/// Prints a line on link keys and devices, or a later one.
+fn put_device_line(out: &mut Vec<u8>, line: &Line) -> Result<(), AllocError>
+    requires { (is_of_counters line.now || is_of_keys line.now) ≡ false }
+    ensures { OnOk result (out.new.items ≡ out.old.items ++ spec.text line.now) }
+{
+    match line {
         Line::Row {
             event,
             node,
@@ -92,6 +113,16 @@ pub fn put_line(out: &mut Vec<u8>, line: &Line) -> Result<(), AllocError>
         } => put_roll(out, *event, node, *rollover),
         Line::Told { event, device } => put_told(out, *event, *device),
         Line::Untold { event, device } => put_untold(out, *event, *device),
+        _ => put_frame_line(out, line),
+    }
+}
+
+/// Prints a line on a commit or a frame, or a later one.
+fn put_frame_line(out: &mut Vec<u8>, line: &Line) -> Result<(), AllocError>
+    requires { (is_of_counters line.now || (is_of_keys line.now || is_of_devices line.now)) ≡ false }
+    ensures { OnOk result (out.new.items ≡ out.old.items ++ spec.text line.now) }
+{
+    match line {
         Line::Commit { event, node } => put_commit(out, *event, node),
         Line::Accept { event, node, term } => put_accept(out, *event, node, term),
         Line::Refuse {
@@ -112,6 +143,16 @@ pub fn put_line(out: &mut Vec<u8>, line: &Line) -> Result<(), AllocError>
             frame,
             bytes,
         } => put_inject(out, *event, *frame, bytes),
+        _ => put_last_line(out, line),
+    }
+}
+
+/// Prints a line on power and disks, or the end.
+fn put_last_line(out: &mut Vec<u8>, line: &Line) -> Result<(), AllocError>
+    requires { (is_of_counters line.now || (is_of_keys line.now || (is_of_devices line.now || is_of_frames line.now))) ≡ false }
+    ensures { OnOk result (out.new.items ≡ out.old.items ++ spec.text line.now) }
+{
+    match line {
         Line::Stopped { event, node } => put_stopped(out, *event, node),
         Line::DownReset { event, node } => put_down_reset(out, *event, node),
         Line::DownDisk { event, node } => put_down_disk(out, *event, node),
@@ -125,6 +166,7 @@ pub fn put_line(out: &mut Vec<u8>, line: &Line) -> Result<(), AllocError>
             ideal,
             private,
         } => put_end(out, *events, *seals, *accepts, *refusals, *ideal, *private),
+        _ => Ok(()),
     }
 }
 
