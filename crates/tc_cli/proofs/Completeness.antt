@@ -1,68 +1,68 @@
--- No other answer comes where the input is right, or where it is wrong.
-use Rattle.std.proofs.Common.{◌≡◌, ◌⊎◌, inl, inr, ℕ, ◌<◌, ◌≤◌, length, Option, None, Some, IfSome, Result, Ok, Err, refl, sym, ap, ◌∙◌, subst, arith}
+-- What the end of a command says of its status.
+use Rattle.std.proofs.Common.{◌≡◌, ◌⊎◌, inl, inr, ℕ, Option, None, Some, IfSome, refl, sym, ap, ◌∙◌, subst}
+use Rattle.std.specs.Io.KnownBytes.{Appends, Keeps}
 use Rattle.zb_base.specs.Outside.{Rose}
 use Rattle.zb_model.specs.Data.{Bytes}
-use Rattle.zb_model.specs.FirstPath.{Plan}
-use Rattle.zb_reader.specs.Reading.{schedule}
-use Rattle.zb_sched.specs.declared.error.SchedError.{SchedError}
-use Rattle.tc_cli.specs.Outcomes.{longest, IsRefusedInput, Played}
-use Rattle.tc_cli.specs.Statuses.{schedule_cause}
+use Rattle.tc_cli.specs.Answers.{Answer, Writes, Refuses, Exceeds, longest, output_of, status_of}
+use Rattle.tc_cli.specs.Outcomes.{Ends, IsBegun, IsWritten, WritesFront, WritesNothing}
+use Rattle.tc_cli.specs.declared.status.Cause.{Cause}
 use Rattle.tc_cli.specs.declared.status.Status.{Status}
 use Rattle.tc_cli.specs.declared.status.Status.TheVariants as status
-use Rattle.tc_cli.specs.declared.status.Cause.{Cause}
 
-abbrev right : Plan → Result Plan SchedError
-right plan = Ok plan
+-- where nothing fails, the status is that of the answer, or no memory
+pub completes : (s : Status) (a : Answer) (before after : Option Bytes) (old new : ℕ) → Ends s (Some a) before after old new → (s ≡ status.ReadFault → ⊥)
+    → (Rose old new → ⊥) → (s ≡ status_of a) ⊎ (s ≡ status.NoMemory)
+completes status.Ok (Writes output) before after old new ends no_read no_write = inl refl
+completes status.Ok (Refuses line cause) before after old new ends no_read no_write = absurd ends
+completes status.Ok Exceeds before after old new ends no_read no_write = absurd ends
+completes status.Usage a before after old new ends no_read no_write = absurd ends
+completes status.ReadFault a before after old new ends no_read no_write = absurd (no_read refl)
+completes status.WriteFault a before after old new ends no_read no_write = absurd (no_write ends.1)
+completes (status.Refused line cause) a before after old new ends no_read no_write = inl (sym (ap status_of ends.0))
+completes status.NoMemory a before after old new ends no_read no_write = inr refl
+completes (status.TooLong limit) a before after old new ends no_read no_write = inl (ap status.TooLong ends.0 ∙ sym (ap status_of ends.1))
 
-abbrev wrong : SchedError → Result Plan SchedError
-wrong e = Err e
+-- a command never ends with `Usage`
+pub is_used : (s : Status) (wanted : Option Answer) (before after : Option Bytes) (old new : ℕ) → Ends s wanted before after old new → s ≡ status.Usage → ⊥
+is_used s wanted before after old new ends is = subst (λ (x : Status). Ends x wanted before after old new) is ends
 
-ok_err : (plan : Plan) (e : SchedError) → right plan ≡ wrong e → ⊥
-ok_err plan e same = cc
+pub written : (s : Status) (wanted : Option Answer) (before after : Option Bytes) (old new : ℕ) → Ends s wanted before after old new → s ≡ status.Ok
+    → IfSome wanted (λ answer. IsWritten answer before after)
+written s wanted before after old new ends is = subst (λ (x : Status). Ends x wanted before after old new) is ends
 
-same_err : (a b : SchedError) → wrong a ≡ wrong b → a ≡ b
-same_err a b same = cc
+pub write_failed : (s : Status) (wanted : Option Answer) (before after : Option Bytes) (old new : ℕ) → Ends s wanted before after old new → s ≡ status.WriteFault → Rose old new
+write_failed s wanted before after old new ends is =
+    let at : Ends status.WriteFault wanted before after old new = subst (λ (x : Status). Ends x wanted before after old new) is ends in at.1
 
-known : (P : Bytes → Type 0) (rest : Option Bytes) (bytes : Bytes) → rest ≡ Some bytes → IfSome rest P → P bytes
-known P rest bytes is h = subst (λ (o : Option Bytes). IfSome o P) is h
+pub refused : (s : Status) (wanted : Option Answer) (before after : Option Bytes) (old new line : ℕ) (cause : Cause) → Ends s wanted before after old new
+    → s ≡ status.Refused line cause → IfSome wanted (λ answer. answer ≡ Refuses line cause)
+refused s wanted before after old new line cause ends is =
+    let at : Ends (status.Refused line cause) wanted before after old new = subst (λ (x : Status). Ends x wanted before after old new) is ends in at.0
 
-pub plays : (s : Status) (rest : Option Bytes) (bytes : Bytes) (plan : Plan) (r0 r1 w0 w1 : ℕ) → rest ≡ Some bytes
-    → (s ≡ status.Usage → ⊥) → (s ≡ status.ReadFault → Rose r0 r1) → (s ≡ status.WriteFault → Rose w0 w1)
-    → ((line : ℕ) (c : Cause) → s ≡ status.Refused line c → IfSome rest (λ input. IsRefusedInput input line c))
-    → ((limit : ℕ) → s ≡ status.TooLong limit → (limit ≡ longest) × IfSome rest (λ input. longest < length input))
-    → length bytes ≤ longest → schedule bytes ≡ Ok plan → (Rose r0 r1 → ⊥) → (Rose w0 w1 → ⊥)
-    → (s ≡ status.Ok) ⊎ (s ≡ status.NoMemory)
-plays status.Ok rest bytes plan r0 r1 w0 w1 is usage read write refused long short reads no_read no_write = inl refl
-plays status.Usage rest bytes plan r0 r1 w0 w1 is usage read write refused long short reads no_read no_write = absurd (usage refl)
-plays status.ReadFault rest bytes plan r0 r1 w0 w1 is usage read write refused long short reads no_read no_write = absurd (no_read (read refl))
-plays status.WriteFault rest bytes plan r0 r1 w0 w1 is usage read write refused long short reads no_read no_write = absurd (no_write (write refl))
-plays (status.Refused line c) rest bytes plan r0 r1 w0 w1 is usage read write refused long short reads no_read no_write =
-    let h = known (λ input. IsRefusedInput input line c) rest bytes is (refused line c refl) in
-    absurd (ok_err plan h.0 (sym reads ∙ h.1))
-plays status.NoMemory rest bytes plan r0 r1 w0 w1 is usage read write refused long short reads no_read no_write = inr refl
-plays (status.TooLong limit) rest bytes plan r0 r1 w0 w1 is usage read write refused long short reads no_read no_write =
-    let h : longest < length bytes = known (λ input. longest < length input) rest bytes is (long limit refl).1 in
-    absurd (omega arith)
+pub too_long : (s : Status) (wanted : Option Answer) (before after : Option Bytes) (old new limit : ℕ) → Ends s wanted before after old new
+    → s ≡ status.TooLong limit → (limit ≡ longest) × IfSome wanted (λ answer. answer ≡ Exceeds)
+too_long s wanted before after old new limit ends is =
+    let at : Ends (status.TooLong limit) wanted before after old new = subst (λ (x : Status). Ends x wanted before after old new) is ends in (at.0, at.1)
 
-pub refuses : (s : Status) (rest : Option Bytes) (bytes : Bytes) (e : SchedError) (before after : Option Bytes) (r0 r1 w0 w1 : ℕ) → rest ≡ Some bytes
-    → (s ≡ status.Usage → ⊥) → (s ≡ status.ReadFault → Rose r0 r1) → (s ≡ status.WriteFault → Rose w0 w1)
-    → (s ≡ status.Ok → IfSome rest (λ input. Played input before after))
-    → ((line : ℕ) (c : Cause) → s ≡ status.Refused line c → IfSome rest (λ input. IsRefusedInput input line c))
-    → ((limit : ℕ) → s ≡ status.TooLong limit → (limit ≡ longest) × IfSome rest (λ input. longest < length input))
-    → length bytes ≤ longest → schedule bytes ≡ Err e → (Rose r0 r1 → ⊥) → (Rose w0 w1 → ⊥)
-    → (s ≡ status.Refused e.line (schedule_cause e.cause)) ⊎ (s ≡ status.NoMemory)
-refuses status.Ok rest bytes e before after r0 r1 w0 w1 is usage read write played refused long short reads no_read no_write =
-    let h = known (λ input. Played input before after) rest bytes is (played refl) in
-    absurd (ok_err h.plan e (sym h.reads ∙ reads))
-refuses status.Usage rest bytes e before after r0 r1 w0 w1 is usage read write played refused long short reads no_read no_write = absurd (usage refl)
-refuses status.ReadFault rest bytes e before after r0 r1 w0 w1 is usage read write played refused long short reads no_read no_write = absurd (no_read (read refl))
-refuses status.WriteFault rest bytes e before after r0 r1 w0 w1 is usage read write played refused long short reads no_read no_write = absurd (no_write (write refl))
-refuses (status.Refused line c) rest bytes e before after r0 r1 w0 w1 is usage read write played refused long short reads no_read no_write =
-    let h = known (λ input. IsRefusedInput input line c) rest bytes is (refused line c refl) in
-    let same : h.0 ≡ e = same_err h.0 e (sym h.1 ∙ reads) in
-    inl (ap (λ l. status.Refused l c) (h.2 ∙ ap (λ (x : SchedError). x.line) same)
-    ∙ ap (status.Refused e.line) (h.3 ∙ ap (λ (x : SchedError). schedule_cause x.cause) same))
-refuses status.NoMemory rest bytes e before after r0 r1 w0 w1 is usage read write played refused long short reads no_read no_write = inr refl
-refuses (status.TooLong limit) rest bytes e before after r0 r1 w0 w1 is usage read write played refused long short reads no_read no_write =
-    let h : longest < length bytes = known (λ input. longest < length input) rest bytes is (long limit refl).1 in
-    absurd (omega arith)
+pub nothing : (s : Status) (wanted : Option Answer) (before after : Option Bytes) (old new : ℕ) → Ends s wanted before after old new → WritesNothing s before after
+nothing status.Ok wanted before after old new ends = tt
+nothing status.Usage wanted before after old new ends = absurd ends
+nothing status.ReadFault wanted before after old new ends = ends
+nothing status.WriteFault wanted before after old new ends = tt
+nothing (status.Refused line cause) wanted before after old new ends = ends.1
+nothing status.NoMemory wanted before after old new ends = tt
+nothing (status.TooLong limit) wanted before after old new ends = ends.2
+
+if_all : {X : Type 0} (P : X → Type 0) (o : Option X) → ((x : X) → P x) → IfSome o P
+if_all P None f = tt
+if_all P (Some x) f = f x
+
+pub front : (s : Status) (wanted : Option Answer) (before after : Option Bytes) (old new : ℕ) → Ends s wanted before after old new
+    → IfSome wanted (λ answer. WritesFront s answer before after)
+front status.Ok wanted before after old new ends = if_all (λ answer. WritesFront status.Ok answer before after) wanted (λ answer. tt)
+front status.Usage wanted before after old new ends = absurd ends
+front status.ReadFault wanted before after old new ends = if_all (λ answer. WritesFront status.ReadFault answer before after) wanted (λ answer. tt)
+front status.WriteFault wanted before after old new ends = ends.0
+front (status.Refused line cause) wanted before after old new ends = if_all (λ answer. WritesFront (status.Refused line cause) answer before after) wanted (λ answer. tt)
+front status.NoMemory wanted before after old new ends = ends
+front (status.TooLong limit) wanted before after old new ends = if_all (λ answer. WritesFront (status.TooLong limit) answer before after) wanted (λ answer. tt)

@@ -1,3 +1,3 @@
+pub mod Completeness
 pub mod DigitLemmas
 pub mod PlayedRuns
-pub mod Completeness

@@ -1,25 +1,59 @@
--- What the answers of the program mean.
-use Rattle.std.specs.Prelude.{◌≡◌, ℕ, List, Option, Some, Ok, Err}
-use Rattle.std.specs.Io.KnownBytes.{Appends, Keeps}
+-- What the ends of the program mean.
+use Rattle.std.specs.Prelude.{◌≡◌, ℕ, List, Option, Ok, IfSome}
+use Rattle.std.specs.Io.KnownBytes.{Appends, IsAtEnd, Keeps}
 use Rattle.zb_base.specs.Outside.{AppendsFront, Rose}
-use Rattle.zb_install.specs.Code.{code_of_text}
-use Rattle.zb_install.specs.declared.code_error.CodeError.{CodeError}
 use Rattle.zb_model.specs.Data.{Bytes}
 use Rattle.zb_model.specs.Lines.{LogLine}
 use Rattle.zb_model.specs.FirstPath.{Plan, Lawful, Fresh, Counted}
 use Rattle.zb_player.specs.Text.{text}
 use Rattle.zb_player.specs.Wire.{wire}
 use Rattle.zb_reader.specs.Reading.{schedule}
-use Rattle.zb_sched.specs.declared.error.SchedError.{SchedError}
-use Rattle.tc_cli.specs.Commands.{play_output, install_output}
-use Rattle.tc_cli.specs.Statuses.{cause_of, schedule_cause}
+use Rattle.tc_cli.specs.Answers.{Answer, Writes, Refuses, Exceeds, longest, output_of}
+use Rattle.tc_cli.specs.Commands.{Task, Playing, Installing, Making}
 use Rattle.tc_cli.specs.declared.status.Status.{Status}
 use Rattle.tc_cli.specs.declared.status.Status.TheVariants as status
-use Rattle.tc_cli.specs.declared.status.Cause.{Cause}
 
--- The longest input, in bytes.
-abbrev pub longest : ℕ
-longest = 16777216
+-- The answer is an output, and that was written.
+abbrev pub IsWritten : Answer → Option Bytes → Option Bytes → Type 0
+IsWritten (Writes output) before after = Appends before after output
+IsWritten (Refuses line cause) before after = ⊥
+IsWritten Exceeds before after = ⊥
+
+-- A front of the answer's output was written.
+abbrev pub IsBegun : Answer → Option Bytes → Option Bytes → Type 0
+IsBegun answer before after = AppendsFront before after (output_of answer)
+
+-- How a command ends whose answer is wanted, where that is known: what the sink took before and after, and its count of
+-- faults.
+abbrev pub Ends : Status → Option Answer → Option Bytes → Option Bytes → ℕ → ℕ → Type 0
+Ends status.Ok wanted before after old new = IfSome wanted (λ answer. IsWritten answer before after)
+Ends status.Usage wanted before after old new = ⊥
+Ends status.ReadFault wanted before after old new = Keeps before after
+Ends status.WriteFault wanted before after old new = IfSome wanted (λ answer. IsBegun answer before after) × Rose old new
+Ends (status.Refused line cause) wanted before after old new = IfSome wanted (λ answer. answer ≡ Refuses line cause) × Keeps before after
+Ends status.NoMemory wanted before after old new = IfSome wanted (λ answer. IsBegun answer before after)
+Ends (status.TooLong limit) wanted before after old new = (limit ≡ longest) × IfSome wanted (λ answer. answer ≡ Exceeds) × Keeps before after
+
+-- Nothing is left to come of the input of a command that has one.
+abbrev pub ReadsToEnd : Task → Option Bytes → Type 0
+ReadsToEnd Playing left = IsAtEnd left
+ReadsToEnd (Installing code) left = Unit {0}
+ReadsToEnd (Making count) left = Unit {0}
+
+-- What the statuses say of the bytes written: nothing was, or a front of the output.
+abbrev pub WritesNothing : Status → Option Bytes → Option Bytes → Type 0
+WritesNothing status.Ok before after = Unit {0}
+WritesNothing status.Usage before after = Keeps before after
+WritesNothing status.ReadFault before after = Keeps before after
+WritesNothing status.WriteFault before after = Unit {0}
+WritesNothing (status.Refused line cause) before after = Keeps before after
+WritesNothing status.NoMemory before after = Unit {0}
+WritesNothing (status.TooLong limit) before after = Keeps before after
+
+abbrev pub WritesFront : Status → Answer → Option Bytes → Option Bytes → Type 0
+WritesFront status.WriteFault answer before after = IsBegun answer before after
+WritesFront status.NoMemory answer before after = IsBegun answer before after
+WritesFront s answer before after = Unit {0}
 
 -- A schedule was played: what was written is the text of lines that are a lawful run of it, in which no node seals twice
 -- under one key and nonce, and each seal has its node's next counter.
@@ -30,53 +64,10 @@ pub record IsRun (plan : Plan) (written : Bytes) : Type 0 where
   pub fresh : Fresh lines
   pub counted : Counted lines
 
--- The input is a schedule, it was read to its end, and its run was written.
+-- The input is a schedule, and its run was written.
 pub record Played (input : Bytes) (before after : Option Bytes) : Type 0 where
   pub plan : Plan
+  pub output : Bytes
   pub reads : schedule input ≡ Ok plan
-  pub run : IsRun plan (play_output input)
-  pub written : Appends before after (play_output input)
-
--- The code is an install code, and its link key was written.
-pub record Installed (code : Bytes) (before after : Option Bytes) : Type 0 where
-  pub bytes : Bytes
-  pub is_code : code_of_text code ≡ Ok bytes
-  pub written : Appends before after (install_output code)
-
--- The code is refused for what is wrong with it.
-abbrev pub IsRefused : Bytes → ℕ → Cause → Type 0
-IsRefused code line c = (line ≡ 1) × ((e : CodeError) × (code_of_text code ≡ Err e) × (c ≡ cause_of e))
-
--- The input is refused at its first bad line, for the first of its causes.
-abbrev pub IsRefusedInput : Bytes → ℕ → Cause → Type 0
-IsRefusedInput input line c = ((e : SchedError) × (schedule input ≡ Err e) × (line ≡ e.line) × (c ≡ schedule_cause e.cause))
-
--- these answers come before anything is written
-abbrev pub WritesNothing : Status → Option Bytes → Option Bytes → Type 0
-WritesNothing status.Ok before after = Unit {0}
-WritesNothing status.Usage before after = Keeps before after
-WritesNothing status.ReadFault before after = Keeps before after
-WritesNothing status.WriteFault before after = Unit {0}
-WritesNothing (status.Refused line c) before after = Keeps before after
-WritesNothing status.NoMemory before after = Unit {0}
-WritesNothing (status.TooLong limit) before after = Keeps before after
-
--- at these answers a front of the output was written
-abbrev pub WritesFront : Status → Option Bytes → Option Bytes → Bytes → Type 0
-WritesFront status.WriteFault before after output = AppendsFront before after output
-WritesFront status.NoMemory before after output = AppendsFront before after output
-WritesFront s before after output = Unit {0}
-
--- how playing a schedule ends, for the text of its run
-abbrev pub PlayEnds : Status → Option Bytes → Option Bytes → ℕ → ℕ → Bytes → Type 0
-PlayEnds status.Ok before after old new output = Appends before after output
-PlayEnds status.WriteFault before after old new output = AppendsFront before after output × Rose old new
-PlayEnds status.NoMemory before after old new output = AppendsFront before after output
-PlayEnds s before after old new output = ⊥
-
--- these answers come before the input is known whole
-abbrev pub StopsEarly : Status → Type 0
-StopsEarly status.ReadFault = Unit {0}
-StopsEarly status.NoMemory = Unit {0}
-StopsEarly (status.TooLong limit) = Unit {0}
-StopsEarly s = ⊥
+  pub run : IsRun plan output
+  pub written : Appends before after output

@@ -1,14 +1,16 @@
 -- A command of the program as a task.
-use Rattle.std.specs.Prelude.{◌<◌, ◌^◌, ◌-◌, length, ⊤}
-use Rattle.tc_cli.specs.Commands.{Task, Playing, Installing}
+use Rattle.std.specs.Prelude.{◌<◌, ◌≤◌, ◌^◌, ◌-◌, length, ⊤}
+use Rattle.tc_cli.specs.Commands.{Task, Playing, Installing, Making}
 use Rattle.tc_cli.specs.declared.command.Command.{Command}
-use Rattle.tc_cli.specs.declared.command.Command.TheVariants.{Play, Install}
+use Rattle.tc_cli.specs.declared.command.Command.TheVariants.{Play, Install, Make}
 
 abbrev pub task : Command → Task
 task Play = Playing
 task (Install code) = Installing code.now
+task (Make count) = Making count
 
--- a code has fewer than 2^32 - 1 bytes
-abbrev pub IsShort : Command → Type 0
-IsShort Play = ⊤
-IsShort (Install code) = length code.now < 2 ^ 32 - 1
+-- A code has fewer than 2^32 - 1 bytes; a made schedule has 1 to 60 routers and devices.
+abbrev pub Fits : Command → Type 0
+Fits Play = ⊤
+Fits (Install code) = length code.now < 2 ^ 32 - 1
+Fits (Make count) = (1 ≤ count) × (count ≤ 60)

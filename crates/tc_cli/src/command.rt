@@ -1,8 +1,10 @@
 //! The words of the command line.
-ghost use Rattle.std.specs.Prelude.{◌≡◌, map, string_bytes, IfSome};
+ghost use Rattle.std.specs.Prelude.{◌≡◌, map, string_bytes, IfSome, ◌≤◌};
 ghost use Rattle.std.specs.Option.{option_map};
-ghost use Rattle.tc_cli.specs.Commands.{task_of};
-ghost use Rattle.tc_cli.specs.Words.{task, IsShort};
+ghost use Rattle.tc_cli.specs.Commands.{count_of, lone_word, task_of, word_and_operand};
+ghost use Rattle.tc_cli.specs.Words.{task, Fits};
+
+use zb_text::numbers::number;
 
 /// A command of the program.
 #[derive(Drop)]
@@ -11,20 +13,54 @@ pub(crate) enum Command<'a> {
     Play,
     /// Writes the link key of an install code.
     Install { code: &'a str },
+    /// Writes the made schedule for so many routers and devices.
+    Make { count: u32 },
 }
 
 /// The command that the words after the program's name are.
 pub(crate) fn read_words<'a>(words: &'a [String]) -> Option<Command<'a>>
     ensures value { option_map task result ≡ task_of (map string_bytes words.now) }
-    ensures short { IfSome result IsShort }
+    ensures fits { IfSome result Fits }
 {
     match words {
-        [word] if word.as_str() == "play" => Some(Command::Play),
-        [word, code] if word.as_str() == "install" && code.len() < 4_294_967_295 => {
-            Some(Command::Install {
-                code: code.as_str(),
-            })
-        }
+        [word] => lone(word.as_str()),
+        [word, operand] => with_operand(word.as_str(), operand.as_str()),
         _ => None,
+    }
+}
+
+fn lone<'a>(word: &str) -> Option<Command<'a>>
+    ensures value { option_map task result ≡ lone_word word.now }
+    ensures fits { IfSome result Fits }
+{
+    if word == "play" {
+        Some(Command::Play)
+    } else {
+        None
+    }
+}
+
+fn with_operand<'a>(word: &str, operand: &'a str) -> Option<Command<'a>>
+    ensures value { option_map task result ≡ word_and_operand word.now operand.now }
+    ensures fits { IfSome result Fits }
+{
+    if word == "install" && operand.len() < 4_294_967_295 {
+        Some(Command::Install { code: operand })
+    } else if word == "make" {
+        let count = count(operand, 60)?;
+        Some(Command::Make { count })
+    } else {
+        None
+    }
+}
+
+/// The number from 1 to `limit` that a word is.
+fn count(word: &str, limit: u32) -> Option<u32>
+    ensures value { result ≡ count_of limit word.now }
+    ensures range { IfSome result (λ count. (1 ≤ count) × (count ≤ limit)) }
+{
+    match number(limit, word.as_bytes()) {
+        Some(0) | None => None,
+        Some(count) => Some(count),
     }
 }

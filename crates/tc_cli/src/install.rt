@@ -1,10 +1,9 @@
 //! The command `install`.
-ghost use Rattle.std.specs.Prelude.{◌≡◌, ◌<◌, ◌-◌, ◌^◌, ◌∷◌, ◌++◌, [], ℕ, length, IfOk};
+ghost use Rattle.std.specs.Prelude.{◌≡◌, ◌<◌, ◌-◌, ◌^◌, ◌∷◌, ◌++◌, [], length, IfOk, Some};
 ghost use Rattle.hex.specs.Hex.{encode_upper};
-ghost use Rattle.zb_base.specs.Outside.{Rose};
-ghost use Rattle.tc_cli.specs.Commands.{install_output};
-ghost use Rattle.tc_cli.specs.Outcomes.{Installed, IsRefused, WritesNothing, WritesFront};
-ghost use Rattle.tc_cli.specs.declared.status.Cause.{Cause as CauseValue};
+ghost use Rattle.zb_install.specs.Code.{code_of_text};
+ghost use Rattle.tc_cli.specs.Answers.{install_answer};
+ghost use Rattle.tc_cli.specs.Outcomes.{Ends};
 
 use crate::status::{Cause, Status};
 use std::alloc::{AllocError, Global};
@@ -16,14 +15,8 @@ use zb_text::page::{end_line, hand_out};
 /// Writes the link key of an install code.
 pub(crate) fn install_code<W: Sink>(alloc: Global, code: &str, output: &mut W) -> Status
     requires { length code.now < 2 ^ 32 - 1 }
-    ensures installed { result ≡ Status.Ok → Installed code.now (W.taken output.old) (W.taken output.new) }
-    ensures usage { result ≡ Status.Usage → ⊥ }
+    ensures ends { Ends result (Some (install_answer (code_of_text code.now))) (W.taken output.old) (W.taken output.new) (W.faults output.old) (W.faults output.new) }
     ensures read_fault { result ≡ Status.ReadFault → ⊥ }
-    ensures write_fault { result ≡ Status.WriteFault → Rose (W.faults output.old) (W.faults output.new) }
-    ensures refused { (line : ℕ) (cause : CauseValue) → result ≡ Status.Refused line cause → IsRefused code.now line cause }
-    ensures too_long { (limit : ℕ) → result ≡ Status.TooLong limit → ⊥ }
-    ensures nothing { WritesNothing result (W.taken output.old) (W.taken output.new) }
-    ensures front { WritesFront result (W.taken output.old) (W.taken output.new) (install_output code.now) }
 {
     let code = match InstallCode::from_hex(code) {
         Ok(code) => code,

@@ -4,6 +4,7 @@
 mod command;
 mod input;
 mod install;
+mod make;
 mod play;
 mod program;
 mod status;

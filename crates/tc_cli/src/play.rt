@@ -1,14 +1,14 @@
 //! The command `play`.
-ghost use Rattle.std.specs.Prelude.{◌≡◌, ◌<◌, ℕ, List, Some, None, IfSome, length};
+ghost use Rattle.std.specs.Prelude.{◌≡◌, Some, IfSome};
 ghost use Rattle.std.specs.Io.KnownBytes.{IsAtEnd};
 ghost use Rattle.zb_base.specs.Outside.{Rose};
 ghost use Rattle.zb_model.specs.FirstPath.{transcript};
 ghost use Rattle.zb_player.specs.Text.{text};
 ghost use Rattle.zb_player.specs.Views.{plan_of, IsPlayable};
 ghost use Rattle.zb_player.specs.Wire.{wire};
-ghost use Rattle.tc_cli.specs.Commands.{play_output};
-ghost use Rattle.tc_cli.specs.Outcomes.{longest, IsRefusedInput, Played, WritesNothing, WritesFront, PlayEnds, StopsEarly};
-ghost use Rattle.tc_cli.specs.declared.status.Cause.{Cause as CauseValue};
+ghost use Rattle.tc_cli.specs.Answers.{wanted, Writes};
+ghost use Rattle.tc_cli.specs.Commands.{Playing};
+ghost use Rattle.tc_cli.specs.Outcomes.{Ends, Played};
 
 use crate::input::{InputFault, LONGEST, read_input};
 use crate::status::{Cause, Status};
@@ -19,18 +19,10 @@ use zb_reader::read;
 
 /// Plays the schedule on the input, and writes its transcript.
 pub(crate) fn play_input<R: Source, W: Sink>(alloc: Global, input: &mut R, output: &mut W) -> Status
-    ensures played { result ≡ Status.Ok → IsAtEnd (R.rest input.new)
-        × IfSome (R.rest input.old) (λ bytes. Played bytes (W.taken output.old) (W.taken output.new)) }
-    ensures usage { result ≡ Status.Usage → ⊥ }
+    ensures ends { Ends result (wanted Playing (R.rest input.old)) (W.taken output.old) (W.taken output.new) (W.faults output.old) (W.faults output.new) }
+    ensures end { result ≡ Status.Ok → IsAtEnd (R.rest input.new) }
+    ensures played { result ≡ Status.Ok → IfSome (R.rest input.old) (λ bytes. Played bytes (W.taken output.old) (W.taken output.new)) }
     ensures read_fault { result ≡ Status.ReadFault → Rose (R.faults input.old) (R.faults input.new) }
-    ensures write_fault { result ≡ Status.WriteFault → Rose (W.faults output.old) (W.faults output.new) }
-    ensures refused { (line : ℕ) (cause : CauseValue) → result ≡ Status.Refused line cause
-        → IfSome (R.rest input.old) (λ bytes. IsRefusedInput bytes line cause) }
-    ensures too_long { (limit : ℕ) → result ≡ Status.TooLong limit
-        → (limit ≡ longest) × IfSome (R.rest input.old) (λ bytes. longest < length bytes) }
-    ensures stops { (bytes : List ℕ) → R.rest input.old ≡ Some bytes → longest < length bytes → StopsEarly result }
-    ensures nothing { WritesNothing result (W.taken output.old) (W.taken output.new) }
-    ensures front { IfSome (R.rest input.old) (λ bytes. WritesFront result (W.taken output.old) (W.taken output.new) (play_output bytes)) }
 {
     let bytes = match read_input(alloc, input) {
         Ok(bytes) => bytes,
@@ -51,7 +43,8 @@ pub(crate) fn play_input<R: Source, W: Sink>(alloc: Global, input: &mut R, outpu
 /// Plays a schedule.
 fn play_script<W: Sink>(alloc: Global, script: &Script, output: &mut W) -> Status
     requires { IsPlayable (plan_of script.now) }
-    ensures cases { PlayEnds result (W.taken output.old) (W.taken output.new) (W.faults output.old) (W.faults output.new) (text (transcript wire (plan_of script.now))) }
+    ensures ends { Ends result (Some (Writes (text (transcript wire (plan_of script.now))))) (W.taken output.old) (W.taken output.new) (W.faults output.old) (W.faults output.new) }
+    ensures read_fault { result ≡ Status.ReadFault → ⊥ }
 {
     match play(alloc, script, output) {
         Ok(()) => Status::Ok,

@@ -1,18 +1,16 @@
 //! The top call: one command over a source and a sink.
-ghost use Rattle.std.specs.Prelude.{◌≡◌, ◌⊎◌, ◌<◌, ◌≤◌, ℕ, List, Some, None, Ok, Err, IfSome, length, map, string_bytes};
+ghost use Rattle.std.specs.Prelude.{◌≡◌, ◌⊎◌, ℕ, Some, None, IfSome, map, string_bytes};
 ghost use Rattle.std.specs.Io.KnownBytes.{IsAtEnd};
 ghost use Rattle.zb_base.specs.Outside.{Rose};
-ghost use Rattle.zb_install.specs.Code.{code_of_text};
-ghost use Rattle.zb_model.specs.FirstPath.{Plan};
-ghost use Rattle.zb_reader.specs.Reading.{schedule};
-ghost use Rattle.zb_sched.specs.declared.error.SchedError.{SchedError};
-ghost use Rattle.tc_cli.specs.Commands.{Playing, Installing, task_of, play_output, install_output};
-ghost use Rattle.tc_cli.specs.Outcomes.{longest, IsRefusedInput, Played, Installed, IsRefused, WritesNothing, WritesFront};
-ghost use Rattle.tc_cli.specs.Statuses.{schedule_cause};
+ghost use Rattle.tc_cli.specs.Answers.{Answer, Refuses, Exceeds, longest, status_of, wanted};
+ghost use Rattle.tc_cli.specs.Commands.{Task, Playing, task_of};
+ghost use Rattle.tc_cli.specs.Outcomes.{Ends, IsWritten, Played, ReadsToEnd, WritesFront, WritesNothing};
+ghost use Rattle.tc_cli.specs.Words.{task, Fits};
 ghost use Rattle.tc_cli.specs.declared.status.Cause.{Cause};
 
 use crate::command::{Command, read_words};
 use crate::install::install_code;
+use crate::make::make_schedule;
 use crate::play::play_input;
 use crate::status::Status;
 use std::alloc::Global;
@@ -21,56 +19,62 @@ use zb_base::{Sink, Source};
 
 /// Runs the command that the words after the program's name are.
 pub(crate) fn run<T: Threads + Sync, R: Source, W: Sink>(
-    _rt: &T,
+    rt: &T,
     alloc: Global,
     words: &[String],
     input: &mut R,
     output: &mut W,
 ) -> Status
-    // At Ok of `play` the input was read to its end and is a schedule, and its run was written.
-    ensures played { result ≡ Status.Ok → task_of (map string_bytes words.now) ≡ Some Playing
-        → IsAtEnd (R.rest input.new) × IfSome (R.rest input.old) (λ bytes. Played bytes (W.taken output.old) (W.taken output.new)) }
-    // At Ok of `install` the word is an install code, and its link key was written.
-    ensures installed { (code : List ℕ) → result ≡ Status.Ok → task_of (map string_bytes words.now) ≡ Some (Installing code)
-        → Installed code (W.taken output.old) (W.taken output.new) }
-    // The cause of each other answer.
+    // `Usage` comes exactly where the words are no command.
     ensures usage { result ≡ Status.Usage → task_of (map string_bytes words.now) ≡ None }
+    ensures no_command { task_of (map string_bytes words.now) ≡ None → result ≡ Status.Usage }
+    // At Ok the output that is wanted of the command was written, and its input was read to its end.
+    ensures done { (job : Task) → task_of (map string_bytes words.now) ≡ Some job → result ≡ Status.Ok
+        → IfSome (wanted job (R.rest input.old)) (λ answer. IsWritten answer (W.taken output.old) (W.taken output.new)) }
+    ensures end { (job : Task) → task_of (map string_bytes words.now) ≡ Some job → result ≡ Status.Ok → ReadsToEnd job (R.rest input.new) }
+    // What `play` wrote is a lawful run of the schedule that its input is.
+    ensures played { task_of (map string_bytes words.now) ≡ Some Playing → result ≡ Status.Ok
+        → IfSome (R.rest input.old) (λ bytes. Played bytes (W.taken output.old) (W.taken output.new)) }
+    // The cause of each other answer.
     ensures read_fault { result ≡ Status.ReadFault → Rose (R.faults input.old) (R.faults input.new) }
     ensures write_fault { result ≡ Status.WriteFault → Rose (W.faults output.old) (W.faults output.new) }
-    ensures refused_input { (line : ℕ) (cause : Cause) → result ≡ Status.Refused line cause → task_of (map string_bytes words.now) ≡ Some Playing
-        → IfSome (R.rest input.old) (λ bytes. IsRefusedInput bytes line cause) }
-    ensures refused_code { (line : ℕ) (cause : Cause) (code : List ℕ) → result ≡ Status.Refused line cause
-        → task_of (map string_bytes words.now) ≡ Some (Installing code) → IsRefused code line cause }
-    ensures too_long { (limit : ℕ) → result ≡ Status.TooLong limit
-        → (task_of (map string_bytes words.now) ≡ Some Playing) × (limit ≡ longest) × IfSome (R.rest input.old) (λ bytes. longest < length bytes) }
+    ensures refused { (job : Task) (line : ℕ) (cause : Cause) → task_of (map string_bytes words.now) ≡ Some job → result ≡ Status.Refused line cause
+        → IfSome (wanted job (R.rest input.old)) (λ answer. answer ≡ Refuses line cause) }
+    ensures too_long { (job : Task) (limit : ℕ) → task_of (map string_bytes words.now) ≡ Some job → result ≡ Status.TooLong limit
+        → (limit ≡ longest) × IfSome (wanted job (R.rest input.old)) (λ answer. answer ≡ Exceeds) }
     // What was written at these.
     ensures nothing { WritesNothing result (W.taken output.old) (W.taken output.new) }
-    ensures front_played { task_of (map string_bytes words.now) ≡ Some Playing
-        → IfSome (R.rest input.old) (λ bytes. WritesFront result (W.taken output.old) (W.taken output.new) (play_output bytes)) }
-    ensures front_installed { (code : List ℕ) → task_of (map string_bytes words.now) ≡ Some (Installing code)
-        → WritesFront result (W.taken output.old) (W.taken output.new) (install_output code) }
-    // No other answer comes, but for want of memory, where the words and the input are right and nothing fails; and none
-    // but the refusal where they aren't.
-    ensures no_command { task_of (map string_bytes words.now) ≡ None → result ≡ Status.Usage }
-    ensures plays { (bytes : List ℕ) (plan : Plan) → task_of (map string_bytes words.now) ≡ Some Playing → R.rest input.old ≡ Some bytes
-        → length bytes ≤ longest → schedule bytes ≡ Ok plan
+    ensures front { (job : Task) → task_of (map string_bytes words.now) ≡ Some job
+        → IfSome (wanted job (R.rest input.old)) (λ answer. WritesFront result answer (W.taken output.old) (W.taken output.new)) }
+    // Where neither the source nor the sink fails, no other status comes than that of the answer, but for want of memory.
+    ensures complete { (job : Task) (answer : Answer) → task_of (map string_bytes words.now) ≡ Some job → wanted job (R.rest input.old) ≡ Some answer
         → (Rose (R.faults input.old) (R.faults input.new) → ⊥) → (Rose (W.faults output.old) (W.faults output.new) → ⊥)
-        → (result ≡ Status.Ok) ⊎ (result ≡ Status.NoMemory) }
-    ensures refuses { (bytes : List ℕ) (e : SchedError) → task_of (map string_bytes words.now) ≡ Some Playing → R.rest input.old ≡ Some bytes
-        → length bytes ≤ longest → schedule bytes ≡ Err e
-        → (Rose (R.faults input.old) (R.faults input.new) → ⊥) → (Rose (W.faults output.old) (W.faults output.new) → ⊥)
-        → (result ≡ Status.Refused e.line (schedule_cause e.cause)) ⊎ (result ≡ Status.NoMemory) }
-    ensures limits { (bytes : List ℕ) → task_of (map string_bytes words.now) ≡ Some Playing → R.rest input.old ≡ Some bytes
-        → longest < length bytes
-        → (Rose (R.faults input.old) (R.faults input.new) → ⊥)
-        → (result ≡ Status.TooLong longest) ⊎ (result ≡ Status.NoMemory) }
-    ensures installs { (code bytes : List ℕ) → task_of (map string_bytes words.now) ≡ Some (Installing code) → code_of_text code ≡ Ok bytes
-        → (Rose (W.faults output.old) (W.faults output.new) → ⊥)
-        → (result ≡ Status.Ok) ⊎ (result ≡ Status.NoMemory) }
+        → (result ≡ status_of answer) ⊎ (result ≡ Status.NoMemory) }
 {
     match read_words(words) {
         None => Status::Usage,
-        Some(Command::Play) => play_input(alloc, input, output),
-        Some(Command::Install { code }) => install_code(alloc, code, output),
+        Some(command) => carry_out(rt, alloc, command, input, output),
+    }
+}
+
+/// Carries out a command.
+fn carry_out<T: Threads + Sync, R: Source, W: Sink>(
+    _rt: &T,
+    alloc: Global,
+    command: Command,
+    input: &mut R,
+    output: &mut W,
+) -> Status
+    requires { Fits command }
+    ensures ends { Ends result (wanted (task command.entry) (R.rest input.old)) (W.taken output.old) (W.taken output.new) (W.faults output.old) (W.faults output.new) }
+    ensures end { result ≡ Status.Ok → ReadsToEnd (task command.entry) (R.rest input.new) }
+    ensures played { task command.entry ≡ Playing → result ≡ Status.Ok
+        → IfSome (R.rest input.old) (λ bytes. Played bytes (W.taken output.old) (W.taken output.new)) }
+    ensures read_fault { result ≡ Status.ReadFault → Rose (R.faults input.old) (R.faults input.new) }
+{
+    match command {
+        Command::Play => play_input(alloc, input, output),
+        Command::Install { code } => install_code(alloc, code, output),
+        Command::Make { count } => make_schedule(alloc, count, output),
     }
 }

@@ -43,6 +43,66 @@ const WITHOUT_A_KEY_PLAYED: &[u8] = b"0 node c centre 00124B0000000001 0000 4 2
 end 3 2 0 1 yes yes
 ";
 
+const MADE_FOR_ONE: &[u8] = b"node c centre 00124B0000000001 0000 8 4
+node d1 router 00124B0000000101 1001 8 4
+code d1 3E00EF2F895F40D67F5BB8E81F09A5A10FD8
+netkey c 2C840EC3CE9A7F3B181BE188EF711A1E 0
+draw 984CE172B9216F419F445367456D5619
+draw 314A42A3DA86B001387BFDB80E0CFE42
+provision d1 3E00EF2F895F40D67F5BB8E81F09A5A10FD8
+knock d1
+child c d1 join
+deliver 1 d1
+timer d1
+deliver 2 c
+deliver 3 d1
+timer d1
+deliver 4 c
+deliver 5 d1
+deliver 4 c
+say d1 FFFF DC
+say d1 FFFF EE
+say d1 FFFF 4B
+stop c 4 50
+say c FFFF 00
+boot c
+deliver 7 d1
+timer d1
+say d1 FFFF 70
+deliver 6 c
+say d1 FFFF 78
+deliver 9 c
+say d1 FFFF 6C
+say c FFFF DB
+reset c
+boot c
+say d1 FFFF A1
+stop c 2 5E
+say c FFFF 00
+boot c
+deliver 8 c
+reset d1
+boot d1
+reset c
+boot c
+stop d1 3 1E
+say d1 FFFF 00
+boot d1
+remove d1 via c
+roll
+switch
+deliver 11 d1
+deliver 13 c
+deliver 16 d1
+deliver 11 c
+deliver 12 d1
+deliver 9 d1
+deliver 20 d1
+deliver 16 d1
+deliver 15 c
+deliver 6 c
+";
+
 const REFUSED: Status = Status::Refused {
     line: 1,
     cause: Cause::Syntax,
@@ -201,13 +261,20 @@ fn other_lines_are_refused_at_the_first_bad_one(rt: HostRuntime) -> Result<(), F
 
 #[test]
 fn other_words_are_no_command(rt: HostRuntime) -> Result<(), Fail> {
-    let wrong: [&[&str]; 6] = [
+    let wrong: [&[&str]; 13] = [
         &[],
         &["play", "now"],
         &["install"],
         &["install", "00", "00"],
         &["help"],
         &["Play"],
+        &["make"],
+        &["make", "0"],
+        &["make", "61"],
+        &["make", "061"],
+        &["make", ""],
+        &["make", "4294967297"],
+        &["make", "1", "1"],
     ];
     for words in wrong {
         let ran = over(&rt, words, TWO_FRAMES, &[], &[])?;
@@ -288,6 +355,22 @@ fn other_codes_are_refused_for_what_is_wrong(rt: HostRuntime) -> Result<(), Fail
         over(&rt, &["install", "83FED3407A932B70"], b"", &[], &[])?.status,
         Status::Ok
     );
+    Ok(())
+}
+
+#[test]
+fn a_made_schedule_is_written(rt: HostRuntime) -> Result<(), Fail> {
+    let ran = over(&rt, &["make", "1"], b"", &[], &[])?;
+    assert_eq!(rt; ran.status, Status::Ok);
+    assert_eq!(rt; ran.sink.taken(), MADE_FOR_ONE);
+    Ok(())
+}
+
+#[test]
+fn a_made_schedule_is_not_written_where_the_sink_fails(rt: HostRuntime) -> Result<(), Fail> {
+    let ran = over(&rt, &["make", "1"], b"", &[], &[1])?;
+    assert_eq!(rt; ran.status, Status::WriteFault);
+    assert_eq!(rt; ran.sink.taken().len(), 0);
     Ok(())
 }
 

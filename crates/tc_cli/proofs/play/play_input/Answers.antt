@@ -1,11 +1,17 @@
+use Rattle.std.proofs.Common.{Some}
+use Rattle.zb_model.specs.FirstPath.{transcript}
+use Rattle.zb_player.specs.Text.{text}
 use Rattle.zb_player.specs.Views.{plan_of}
-use Rattle.tc_cli.proofs.PlayedRuns.{told_all, played_ends}
+use Rattle.zb_player.specs.Wire.{wire}
+use Rattle.tc_cli.specs.Answers.{Writes}
+use Rattle.tc_cli.proofs.Completeness.{written}
+use Rattle.tc_cli.proofs.PlayedRuns.{told}
 use Rattle.tc_cli.proofs.play.play_input.Goals as goal
 
 pub returns-in-Ok-read-clause-played : goal.returns-in-Ok-read-clause-played
-returns-in-Ok-read-clause-played g c = λ ended. (
-  c.in-Ok.ensures.end,
-  told_all (g.R.Source.rest c.args.input.now) c.in-Ok.bytes.items c.as_slice.result.now (plan_of c.in-Ok-read.script)
-      (g.W.Sink.taken c.args.output.now) (g.W.Sink.taken c.play_script.new.output) c.in-Ok.ensures.whole c.as_slice.ensures.value
-      c.in-Ok-read.ensures.exact.0 c.in-Ok-read.ensures.exact.1 (played_ends _ _ _ _ _ _ ended c.play_script.ensures.cases),
-)
+returns-in-Ok-read-clause-played g c = λ ended.
+    told (g.R.Source.rest c.args.input.now) c.in-Ok.bytes.items c.as_slice.result.now (plan_of c.in-Ok-read.script)
+    (g.W.Sink.taken c.args.output.now) (g.W.Sink.taken c.play_script.new.output) c.in-Ok.ensures.whole c.as_slice.ensures.value
+    c.in-Ok-read.ensures.exact.0 c.in-Ok-read.ensures.exact.1
+    (written c.play_script.result (Some (Writes (text (transcript wire (plan_of c.in-Ok-read.script))))) (g.W.Sink.taken c.args.output.now) (g.W.Sink.taken c.play_script.new.output)
+    (g.W.Sink.faults c.args.output.now) (g.W.Sink.faults c.play_script.new.output) c.play_script.ensures.ends ended)
