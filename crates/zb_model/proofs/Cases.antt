@@ -61,7 +61,7 @@ unfolding roll given unless active_row drop_old
 sequence_wraps = refl
 
 -- a pair ends with the removal of either
-pairs_end : map (λ (p : PairKey). p.key) (applied (Moved (Removed 4)) (record (bare Centre Stage.Fresh) { pairs = record { first = 2; second = 4; key = k 8 } ∷ record { first = 2; second = 7; key = k 9 } ∷ [] })).pairs ≡ k 9 ∷ []
+pairs_end : map (λ (p : PairKey). p.key) (applied (Moved (Removed 4)) (record (bare Centre Stage.Fresh) { pairs = record { first = 2; second = 4; key = k 8 } ∷ record { first = 4; second = 7; key = k 9 } ∷ record { first = 2; second = 7; key = k 10 } ∷ [] })).pairs ≡ k 10 ∷ []
 unfolding applied
 pairs_end = refl
 
