@@ -1,5 +1,5 @@
 -- One layer of a frame under the keys of a ring (this project's profile).
-use Rattle.std.specs.Prelude.{ℕ, ◌+◌, List, [], ◌∷◌, Option, Some, None, Result, Ok, Err}
+use Rattle.std.specs.Prelude.{ℕ, ◌+◌, Bool, true, false, List, [], ◌∷◌, Option, Some, None, Result, Ok, Err}
 use Rattle.zb_base.specs.declared.address.Eui.{Eui}
 use Rattle.zb_base.specs.declared.key.Key.{Key}
 use Rattle.zb_seal.specs.Keys.{sealing_key}
@@ -55,3 +55,11 @@ clear (Opened key term) body = Some term.content.items
 clear Malformed body = None
 clear NoSource body = None
 clear (Closed s source) body = None
+
+-- whether no key opened a secured layer
+abbrev pub is_closed : Finding → Bool
+is_closed (Closed s source) = true
+is_closed Malformed = false
+is_closed NotSecured = false
+is_closed NoSource = false
+is_closed (Opened key term) = false

@@ -70,3 +70,12 @@ sight_of addrs keys nwk (Ok frame) = record { nwk = nwk; below = option_map (bel
 -- what a frame shows
 unfoldable pub sight : List (Short × Eui) → List Key → List ℕ → Sight
 sight addrs keys bytes = sight_of addrs keys (found_nwk keys bytes) (nwk_reading.frame_of bytes)
+
+-- the payload of a frame's data, where it is known, and the source of an APS frame in it that names none
+abbrev pub payload_in : Finding → Result NwkFrame NwkError → Option (List ℕ)
+payload_in nwk (Err fault) = None
+payload_in nwk (Ok frame) = data_in nwk frame
+
+abbrev pub given_in : List (Short × Eui) → Result NwkFrame NwkError → Option Eui
+given_in addrs (Err fault) = None
+given_in addrs (Ok frame) = source_known addrs frame.header

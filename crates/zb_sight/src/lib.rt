@@ -3,9 +3,11 @@
 #![tactic(auto)]
 
 mod carried;
+mod further;
 mod layer;
 mod sight;
 
 pub use carried::{Carried, carried_keys};
+pub use further::show_more;
 pub use layer::Finding;
 pub use sight::{Below, Sight, show};

@@ -2,7 +2,8 @@
 ghost use Rattle.std.specs.Prelude.{◌≡◌, ◌<◌, ◌≤◌, ◌^◌, length, IfSome, Ok};
 ghost use Rattle.std.specs.Option.{option_map, option_copied};
 ghost use Rattle.zb_aps.specs.Reading as reading;
-ghost use Rattle.zb_sight.specs.Layers.{found_nwk, found_aps};
+ghost use Rattle.zb_nwk.specs.Reading as nwk_reading;
+ghost use Rattle.zb_sight.specs.Layers.{found_nwk, found_aps, is_closed};
 ghost use Rattle.zb_sight.specs.Sights.{source_known, addr_of, data_in, command_in, tunnelled, tunnel_of, below, sight_of, sight};
 
 use crate::layer::{Finding, clear, look, try_keys};
@@ -37,9 +38,39 @@ pub fn show(addrs: &[(Short, Eui)], keys: &[Ciphers], frame: &Frame) -> Sight
     ensures { result ≡ sight addrs.now keys.now frame.now.items }
 {
     let nwk = find_nwk(keys, frame.as_slice());
+    sight_under(addrs, keys, nwk, frame)
+}
+
+/// What a frame shows whose NWK layer is found to be this.
+#[tactic(auto, using(crate::proofs::MoreKeys::closed_sight))]
+pub(crate) fn sight_under(
+    addrs: &[(Short, Eui)],
+    keys: &[Ciphers],
+    nwk: Finding,
+    frame: &Frame,
+) -> Sight
+    requires { length keys.now < 2 ^ 32 }
+    ensures { result ≡ sight_of addrs.now keys.now nwk (nwk_reading.frame_of frame.now.items) }
+{
+    if is_closed(&nwk) {
+        return Sight { nwk, below: None };
+    }
     match zb_nwk::read(frame.as_slice()) {
         Err(_) => Sight { nwk, below: None },
         Ok(read) => look_below(addrs, keys, nwk, &read),
+    }
+}
+
+/// Whether no key opened a secured layer.
+fn is_closed(finding: &Finding) -> bool
+    ensures { result ≡ is_closed finding.now }
+{
+    match finding {
+        Finding::Closed { .. } => true,
+        Finding::Malformed => false,
+        Finding::NotSecured => false,
+        Finding::NoSource => false,
+        Finding::Opened { .. } => false,
     }
 }
 
@@ -74,7 +105,7 @@ fn look_below(addrs: &[(Short, Eui)], keys: &[Ciphers], nwk: Finding, frame: &Nw
 }
 
 /// The payload of a data frame, where it is known.
-fn data_in<'a>(nwk: &'a Finding, frame: &'a NwkFrame) -> Option<&'a [u8]>
+pub(crate) fn data_in<'a>(nwk: &'a Finding, frame: &'a NwkFrame) -> Option<&'a [u8]>
     ensures { option_copied result ≡ data_in nwk.now frame.now }
 {
     if frame.header.control & 3 == 0 {
@@ -85,7 +116,7 @@ fn data_in<'a>(nwk: &'a Finding, frame: &'a NwkFrame) -> Option<&'a [u8]>
 }
 
 /// The source of an APS frame that names none: the IEEE address of the NWK source, where it is in the frame or known.
-fn source_known(addrs: &[(Short, Eui)], header: &NwkHeader) -> Option<Eui>
+pub(crate) fn source_known(addrs: &[(Short, Eui)], header: &NwkHeader) -> Option<Eui>
     ensures { result ≡ source_known addrs.now header.now }
 {
     match header.source_eui {
@@ -114,7 +145,11 @@ fn show_payload(keys: &[Ciphers], given: Option<Eui>, payload: &[u8]) -> Below
     Below { aps, inner }
 }
 
-fn find_inner(keys: &[Ciphers], given: Option<Eui>, frame: Option<Frame>) -> Option<Finding>
+pub(crate) fn find_inner(
+    keys: &[Ciphers],
+    given: Option<Eui>,
+    frame: Option<Frame>,
+) -> Option<Finding>
     requires { length keys.now < 2 ^ 32 }
     ensures { result ≡ option_map (λ inner. found_aps keys.now given inner.items) frame }
 {
@@ -125,7 +160,7 @@ fn find_inner(keys: &[Ciphers], given: Option<Eui>, frame: Option<Frame>) -> Opt
 }
 
 /// The frame in a Tunnel, where an APS command is one and is known in clear.
-fn tunnelled(aps: &Finding, payload: &[u8]) -> Option<Frame>
+pub(crate) fn tunnelled(aps: &Finding, payload: &[u8]) -> Option<Frame>
     ensures { result ≡ tunnelled aps.now (reading.frame_of payload.now) }
 {
     match zb_aps::read(payload) {

@@ -1,0 +1,17 @@
+use Rattle.std.proofs.Common.{◌≡◌, ◌≢◌, ℕ, ◌+◌, ◌-◌, ◌<◌, ◌≤◌, length, take}
+use Rattle.zb_ring.specs.Pieces.{AllSee, IsCut}
+use Rattle.zb_ring.specs.Rings.{keys_of, ring_after}
+use Rattle.zb_ring.proofs.rounds.open_all.Given as goal
+
+abbrev pub invariant-rounds : goal.invariant-rounds
+invariant-rounds g l = record {
+  ring : l.ring ≡ ring_after l.capture l.rounds;
+  pieces : IsCut l.capture l.pieces.items;
+  known : l.known ≤ length l.ring;
+  seen : AllSee l.capture.addrs (take l.known (keys_of l.ring)) l.pieces.items;
+  grew : l.rounds ≤ length l.ring;
+  first : (n : ℕ) → 0 < n → n < l.rounds + 1 → ring_after l.capture n ≢ ring_after l.capture (n - 1);
+}
+
+abbrev pub decreases-rounds : goal.decreases-rounds
+decreases-rounds g l = 300257 - length l.ring
