@@ -1,0 +1,7 @@
+mod Shown
+mod Sections
+mod Calls
+mod Same
+mod Started
+mod Events
+mod Unique

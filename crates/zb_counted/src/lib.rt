@@ -1,0 +1,25 @@
+//! The counters of whole runs: the transcript of a schedule is counted, and it is the only list of lines that is lawful and
+//! counted. Each law stands as the contract of a function with an empty body; docs/THEOREMS.md says it in words.
+#![tactic(auto)]
+
+ghost use Rattle.std.specs.Prelude.{◌≡◌, List};
+ghost use Rattle.zb_counted.specs.Counted.{Counted};
+ghost use Rattle.zb_laws.specs.Opening.{Opens};
+ghost use Rattle.zb_model.specs.Claims.{Lawful};
+ghost use Rattle.zb_model.specs.Lines.{LogLine};
+ghost use Rattle.zb_model.specs.Play.{World};
+ghost use Rattle.zb_model.specs.Tools.{Tools};
+ghost use Rattle.zb_model.specs.Transcript.{transcript};
+
+/// In the transcript of each schedule every counter is the next, and reserves, floors and starts stand exactly where they
+/// must, with the values that they must have; where a stop or failure cuts a group short, in the group that it cuts.
+pub fn transcripts_are_counted()
+    ensures { (tools : Tools) → Opens tools → (w : World) → Counted tools w (transcript tools w) }
+{}
+
+/// Lines that are lawful and counted for a schedule are its transcript: the policy and the counters together leave nothing
+/// open, to the last byte.
+pub fn lawful_and_counted_lines_are_the_transcript()
+    ensures { (tools : Tools) → Opens tools → (w : World) (lines : List LogLine) → Lawful tools w lines → Counted tools w lines
+        → lines ≡ transcript tools w }
+{}
