@@ -6,3 +6,4 @@ pub mod Links
 pub mod Rows
 pub mod Pairs
 pub mod FitLaws
+pub mod Shown

@@ -10,3 +10,4 @@ pub mod ReadLemmas
 pub mod PlanLemmas
 pub mod WritingLemmas
 pub mod RecordLemmas
+pub mod FittingLemmas

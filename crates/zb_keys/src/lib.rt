@@ -4,6 +4,7 @@
 
 mod calls;
 mod contents;
+mod fitting;
 mod link;
 mod link_planning;
 mod net;
@@ -12,6 +13,7 @@ mod payload;
 mod planning;
 mod reading;
 mod record;
+mod redo;
 mod tables;
 mod writing;
 

@@ -108,7 +108,7 @@ impl Contents {
 
     /// Whether a link key has a row, in use or dropped.
     #[tactic(auto, using(crate::proofs::Mapping::any_map))]
-    fn has_link(&self, partner: Eui, key: &Key) -> bool
+    pub(crate) fn has_link(&self, partner: Eui, key: &Key) -> bool
         ensures { result ≡ has_link partner.0 key.now.0 (state_of self.now).links }
     {
         has_row(self.links.as_slice(), partner, key)

@@ -27,7 +27,7 @@ pub fn add(changes: &mut Changes, change: Change)
 }
 
 /// How many network keys are in use.
-fn count_live(rows: &[NetRow]) -> usize
+pub(crate) fn count_live(rows: &[NetRow]) -> usize
     ensures { result ≡ length (filter (λ r. (net_key r).live) rows.now) }
 {
     let mut count = 0;
@@ -57,7 +57,7 @@ fn is_active(active: &Option<Key>, row: &NetRow) -> bool
 }
 
 /// Whether that key is the active one.
-fn is_key(active: &Option<Key>, key: &Key) -> bool
+pub(crate) fn is_key(active: &Option<Key>, key: &Key) -> bool
     ensures { result ≡ is_active_key (active_bytes active.now) key.now.0 }
 {
     match active {

@@ -1,0 +1,422 @@
+//! Whether a change that is read from a disk fits: it may be made, and the rules for records stand after it.
+ghost use Rattle.std.specs.Prelude.{◌≡◌, ◌≤◌, ◌&&◌, ◌||◌, not, map, option_map, find, is_none, is_some, length, nat_eq, nat_le, nat_lt};
+ghost use Rattle.std.specs.List.{list_any};
+ghost use Rattle.std.specs.Option.{option_copied};
+ghost use Rattle.zb_change.specs.Changes.{edit, is_sending, stage, tier, trust};
+ghost use Rattle.zb_fits.specs.Fitting.{leaves_rules, move_leaves, floor_has_room, is_rival, key_is_used};
+ghost use Rattle.zb_keys.specs.Rows.{net_key, link_key, heard_floor};
+ghost use Rattle.zb_keys.specs.Tables.{state_of, IsSound};
+ghost use Rattle.zb_model.specs.Data.{Reserve, Floor, Row};
+ghost use Rattle.zb_model.specs.Fits.{fits, may_change, live_net, live_link, row_is_live, net_stored, net_limit, link_stored, is_fresh, most_nets, most_links, most_pairs, most_senders};
+ghost use Rattle.zb_model.specs.State.{active_row, has_link, is_centre, is_link, is_live, live_nets, net_of, pair_of, same_key};
+
+use crate::contents::Contents;
+use crate::link::{has_live, has_row, link_room};
+use crate::net::{has_key, key_row};
+use crate::pair::pair_row;
+use crate::planning::{count_live, is_key};
+use crate::{LinkRow, NetRow, SenderFloor};
+use zb_base::{Eui, Key, Layer, Role};
+use zb_change::{Attribute, Change, Rollover, State};
+
+impl Contents {
+    /// Whether a change fits.
+    pub(crate) fn fits(&self, change: &Change) -> bool
+        requires { IsSound self.now }
+        ensures { result ≡ fits (edit change.now) (state_of self.now) }
+    {
+        self.may_change(change) && self.leaves_rules(change)
+    }
+
+    /// Whether a change may be made: the rows that it names are there, and nothing is lowered.
+    fn may_change(&self, change: &Change) -> bool
+        ensures { result ≡ may_change (edit change.now) (state_of self.now) }
+    {
+        match *change {
+            Change::Reserve { layer, limit } => self.may_reserve(layer, limit),
+            Change::Floor {
+                layer,
+                key,
+                sender,
+                value,
+            } => self.may_store(layer, &key, sender, value),
+            Change::Draw { key: _ } => true,
+            Change::DropNet { key } => self.has_live_net(&key),
+            Change::DropLink { partner, key } => self.has_live_link(partner, &key),
+            Change::Install { key, sequence: _ } => !self.has_net(&key),
+            Change::Active { key } => self.has_live_net(&key),
+            Change::Start { key, value } => self.may_start(&key, value),
+            Change::Row {
+                partner: _,
+                key: _,
+                attribute: _,
+            } => true,
+            Change::Pair {
+                first,
+                second,
+                key: _,
+            } => self.is_unpaired(first, second),
+            Change::State { state: _ } => true,
+            Change::Live { device } => self.has_device(device),
+            Change::Removed { device } => self.lacks_device(device),
+            Change::Roll { rollover: _ } => true,
+            Change::Told { device } => self.has_device(device),
+            Change::Untold { device } => self.has_device(device),
+        }
+    }
+
+    /// Whether the rules for records stand after a change that may be made.
+    #[tactic(auto, unfolding(zb_fits::specs::Fitting::leaves_rules))]
+    fn leaves_rules(&self, change: &Change) -> bool
+        ensures { result ≡ leaves_rules (edit change.now) (state_of self.now) }
+    {
+        match *change {
+            Change::Floor {
+                layer,
+                key,
+                sender,
+                value,
+            } => self.has_floor_room(layer, &key, sender, value),
+            Change::DropNet { key } => !is_key(&self.active, &key),
+            Change::Install {
+                key: _,
+                sequence: _,
+            } => self.has_net_room(),
+            Change::Row {
+                partner,
+                key,
+                attribute,
+            } => self.has_link_room(partner, &key, attribute),
+            Change::Pair {
+                first,
+                second,
+                key: _,
+            } => self.has_pair_room(first, second),
+            Change::State { state } => self.may_enter(state),
+            Change::Roll { rollover } => self.may_roll(rollover),
+            _ => true,
+        }
+    }
+
+    /// Whether the node is the centre.
+    fn is_centre(&self) -> bool
+        ensures { result ≡ is_centre (state_of self.now).duty }
+    {
+        matches!(self.role, Role::Centre)
+    }
+
+    /// The row of a network key.
+    #[tactic(auto, using(crate::proofs::FindLemmas::find_map))]
+    fn net_row(&self, key: &Key) -> Option<&NetRow>
+        ensures { option_map net_key (option_copied result) ≡ net_of key.now.0 (state_of self.now) }
+    {
+        key_row(self.nets.as_slice(), key)
+    }
+
+    /// Whether a network key is in use.
+    fn has_live_net(&self, key: &Key) -> bool
+        ensures { result ≡ live_net key.now.0 (state_of self.now) }
+    {
+        is_live_row(self.net_row(key))
+    }
+
+    /// Whether a network key has a row.
+    #[tactic(auto, using(crate::proofs::Mapping::any_map))]
+    fn has_net(&self, key: &Key) -> bool
+        ensures { result ≡ list_any (λ r. same_key r.key key.now.0) (state_of self.now).nets }
+    {
+        has_key(self.nets.as_slice(), key)
+    }
+
+    /// Whether a link key is in use.
+    #[tactic(auto, using(crate::proofs::Mapping::any_map))]
+    fn has_live_link(&self, partner: Eui, key: &Key) -> bool
+        ensures { result ≡ live_link partner.0 key.now.0 (state_of self.now) }
+    {
+        has_live_row(self.links.as_slice(), partner, key)
+    }
+
+    /// Whether a limit isn't below the one that stands.
+    fn may_reserve(&self, layer: Layer, limit: u32) -> bool
+        ensures { result ≡ may_change (Reserve (tier layer) limit) (state_of self.now) }
+    {
+        match layer {
+            Layer::Nwk => self.has_active() && self.outgoing_nwk(1).limit <= limit,
+            Layer::Aps => self.aps_limit <= limit,
+        }
+    }
+
+    /// Whether there is an active network key.
+    fn has_active(&self) -> bool
+        ensures { result ≡ is_some (active_row (state_of self.now)) }
+    {
+        match self.active_row() {
+            Some(_) => true,
+            None => false,
+        }
+    }
+
+    /// Whether a floor isn't below the one that stands, under a key in use.
+    fn may_store(&self, layer: Layer, key: &Key, sender: Eui, value: u32) -> bool
+        ensures { result ≡ may_change (Floor (tier layer) key.now.0 sender.0 value) (state_of self.now) }
+    {
+        match layer {
+            Layer::Nwk => {
+                self.has_live_net(key) && stored_in(self.net_row(key), sender) <= value
+            }
+            Layer::Aps => self.has_live_link(sender, key) && self.link_stored(sender, key) <= value,
+        }
+    }
+
+    /// The stored floor of a link key: 0 where there is no row.
+    #[tactic(auto, using(crate::proofs::FindLemmas::find_map))]
+    fn link_stored(&self, partner: Eui, key: &Key) -> u32
+        ensures { result ≡ link_stored (find (is_link partner.0 key.now.0) (state_of self.now).links) }
+    {
+        stored_of(link_row(self.links.as_slice(), partner, key))
+    }
+
+    /// Whether a first counter isn't below the limit of its network key.
+    fn may_start(&self, key: &Key, value: u32) -> bool
+        ensures { result ≡ (list_any (λ r. same_key r.key key.now.0) (state_of self.now).nets && nat_le (net_limit (net_of key.now.0 (state_of self.now))) value) }
+    {
+        self.has_net(key) && limit_in(self.net_row(key)) <= value
+    }
+
+    /// Whether two devices have no key.
+    #[tactic(auto, unfolding(zb_model::specs::State::pair_of), using(crate::proofs::FindLemmas::find_map))]
+    fn is_unpaired(&self, first: Eui, second: Eui) -> bool
+        ensures { result ≡ is_none (pair_of (state_of self.now) first.0 second.0) }
+    {
+        match pair_row(self.pairs.as_slice(), first, second) {
+            Some(_) => false,
+            None => true,
+        }
+    }
+
+    /// Whether the node is the centre, and a device is live.
+    #[tactic(auto, unfolding(zb_model::specs::State::is_live), using(crate::proofs::Mapping::any_map))]
+    fn has_device(&self, device: Eui) -> bool
+        ensures { result ≡ (is_centre (state_of self.now).duty && is_live (state_of self.now) device.0) }
+    {
+        self.is_centre() && has_live(self.links.as_slice(), device)
+    }
+
+    /// Whether the node is the centre, and a device isn't live.
+    #[tactic(auto, unfolding(zb_model::specs::State::is_live), using(crate::proofs::Mapping::any_map))]
+    fn lacks_device(&self, device: Eui) -> bool
+        ensures { result ≡ (is_centre (state_of self.now).duty && not (is_live (state_of self.now) device.0)) }
+    {
+        self.is_centre() && !has_live(self.links.as_slice(), device)
+    }
+
+    /// Whether a floor has a place.
+    #[tactic(auto, unfolding(zb_fits::specs::Fitting::leaves_rules))]
+    fn has_floor_room(&self, layer: Layer, key: &Key, sender: Eui, value: u32) -> bool
+        ensures { result ≡ leaves_rules (Floor (tier layer) key.now.0 sender.0 value) (state_of self.now) }
+    {
+        match layer {
+            Layer::Nwk => has_room_in(self.net_row(key), sender, value),
+            Layer::Aps => true,
+        }
+    }
+
+    /// Whether there is room for another network key, and less than two are in use.
+    fn has_net_room(&self) -> bool
+        ensures { result ≡ (nat_lt (length (state_of self.now).nets) most_nets && nat_lt (length (live_nets (state_of self.now))) 2) }
+    {
+        self.has_net_slot() && self.has_few_live()
+    }
+
+    /// Whether there is room for another network key.
+    fn has_net_slot(&self) -> bool
+        ensures { result ≡ nat_lt (length (state_of self.now).nets) most_nets }
+    {
+        self.nets.as_slice().len() < 256
+    }
+
+    /// Whether less than two network keys are in use.
+    fn has_few_live(&self) -> bool
+        ensures { result ≡ nat_lt (length (live_nets (state_of self.now))) 2 }
+    {
+        count_live(self.nets.as_slice()) < 2
+    }
+
+    /// Whether a link key has a row or room for one, and no rival.
+    fn has_link_room(&self, partner: Eui, key: &Key, attribute: Attribute) -> bool
+        ensures { result ≡ move_leaves (Row partner.0 key.now.0 (trust attribute)) (state_of self.now) }
+    {
+        self.may_hold(partner, key) && !self.has_rival(partner, key, attribute)
+    }
+
+    /// Whether a link key has a row or room for one.
+    fn may_hold(&self, partner: Eui, key: &Key) -> bool
+        ensures { result ≡ (has_link partner.0 key.now.0 (state_of self.now).links || (nat_lt (length (state_of self.now).links) (most_links (state_of self.now).duty) && not (key_is_used key.now.0 (state_of self.now).links))) }
+    {
+        self.has_link(partner, key) || self.may_add_link(key)
+    }
+
+    /// Whether there is room for another link key, which isn't used.
+    fn may_add_link(&self, key: &Key) -> bool
+        ensures { result ≡ (nat_lt (length (state_of self.now).links) (most_links (state_of self.now).duty) && not (key_is_used key.now.0 (state_of self.now).links)) }
+    {
+        self.has_link_slot() && !self.uses_key(key)
+    }
+
+    /// Whether there is room for another link key.
+    fn has_link_slot(&self) -> bool
+        ensures { result ≡ nat_lt (length (state_of self.now).links) (most_links (state_of self.now).duty) }
+    {
+        self.links.as_slice().len() < link_room(self.role)
+    }
+
+    /// Whether a link key has a row of whatever partner.
+    #[tactic(auto, using(crate::proofs::Mapping::any_map))]
+    fn uses_key(&self, key: &Key) -> bool
+        ensures { result ≡ key_is_used key.now.0 (state_of self.now).links }
+    {
+        uses_key(self.links.as_slice(), key)
+    }
+
+    /// Whether a partner has another row in use that is offered where this one is to be, or else isn't.
+    #[tactic(auto, using(crate::proofs::Mapping::any_map))]
+    fn has_rival(&self, partner: Eui, key: &Key, attribute: Attribute) -> bool
+        ensures { result ≡ list_any (is_rival partner.0 key.now.0 (trust attribute)) (state_of self.now).links }
+    {
+        has_rival(self.links.as_slice(), partner, key, attribute)
+    }
+
+    /// Whether there is room for another pair, whose first address is the smaller one.
+    fn has_pair_room(&self, first: Eui, second: Eui) -> bool
+        ensures { result ≡ (is_centre (state_of self.now).duty && (nat_lt (length (state_of self.now).pairs) most_pairs && nat_lt first.0 second.0)) }
+    {
+        self.is_centre() && self.pairs.as_slice().len() < 256 && first.0 < second.0
+    }
+
+    /// Whether the node may have a state: the centre has the first one alone.
+    fn may_enter(&self, state: State) -> bool
+        ensures { result ≡ (not (is_centre (state_of self.now).duty) || is_fresh (stage state)) }
+    {
+        !self.is_centre() || matches!(state, State::Fresh)
+    }
+
+    /// Whether the node may have a rollover: it begins in the centre alone.
+    fn may_roll(&self, rollover: Rollover) -> bool
+        ensures { result ≡ (not (is_sending rollover) || is_centre (state_of self.now).duty) }
+    {
+        matches!(rollover, Rollover::Idle) || self.is_centre()
+    }
+}
+
+/// Whether a network key that was looked for is in use.
+fn is_live_row(row: Option<&NetRow>) -> bool
+    ensures { result ≡ row_is_live (option_map net_key (option_copied row.entry)) }
+{
+    match row {
+        Some(row) => row.live,
+        None => false,
+    }
+}
+
+/// The stored floor of a sender under a network key that was looked for.
+fn stored_in(row: Option<&NetRow>, sender: Eui) -> u32
+    ensures { result ≡ net_stored sender.0 (option_map net_key (option_copied row.entry)) }
+{
+    match row {
+        Some(row) => row.floor_of(sender).stored,
+        None => 0,
+    }
+}
+
+/// The limit of a network key that was looked for.
+fn limit_in(row: Option<&NetRow>) -> u32
+    ensures { result ≡ net_limit (option_map net_key (option_copied row.entry)) }
+{
+    match row {
+        Some(row) => row.limit,
+        None => 0,
+    }
+}
+
+/// Whether a sender has a floor under a network key that was looked for, or room for one that isn't 0.
+fn has_room_in(row: Option<&NetRow>, sender: Eui, value: u32) -> bool
+    ensures { result ≡ floor_has_room sender.0 value (option_map net_key (option_copied row.entry)) }
+{
+    match row {
+        Some(row) => has_floor_or_room(row, sender, value),
+        None => true,
+    }
+}
+
+/// Whether a sender has a floor under a network key, or room for one that isn't 0.
+#[tactic(auto, using(crate::proofs::Mapping::any_map))]
+fn has_floor_or_room(row: &NetRow, sender: Eui, value: u32) -> bool
+    ensures { result ≡ floor_has_room sender.0 value (Some (net_key row.now)) }
+{
+    has_floor(row.floors.as_slice(), sender) || has_new_room(row, value)
+}
+
+/// Whether there is room for another floor under a network key, which isn't 0.
+fn has_new_room(row: &NetRow, value: u32) -> bool
+    ensures { result ≡ (nat_lt 0 value && nat_lt (length (net_key row.now).floors) most_senders) }
+{
+    0 < value && row.floors.as_slice().len() < 64
+}
+
+/// Whether a sender has a floor.
+fn has_floor(floors: &[SenderFloor], sender: Eui) -> bool
+    ensures { result ≡ list_any (λ f. nat_eq (heard_floor f).sender sender.0) floors.now }
+{
+    floors.iter().any(|floor| floor.sender.0 == sender.0)
+}
+
+/// Whether a partner's link key is in use.
+fn has_live_row(rows: &[LinkRow], partner: Eui, key: &Key) -> bool
+    ensures { result ≡ list_any (λ r. is_link partner.0 key.now.0 (link_key r) && (link_key r).live) rows.now }
+{
+    rows.iter().any(|row| row.partner.0 == partner.0 && row.key == *key && row.live)
+}
+
+/// The row of a partner's link key.
+fn link_row<'a>(rows: &'a [LinkRow], partner: Eui, key: &Key) -> Option<&'a LinkRow>
+    ensures { option_copied result ≡ find (λ r. is_link partner.0 key.now.0 (link_key r)) rows.now }
+{
+    rows.iter()
+        .find(|row| row.partner.0 == partner.0 && row.key == *key)
+}
+
+/// The stored floor of a link key that was looked for.
+fn stored_of(row: Option<&LinkRow>) -> u32
+    ensures { result ≡ link_stored (option_map link_key (option_copied row.entry)) }
+{
+    match row {
+        Some(row) => row.floor.stored,
+        None => 0,
+    }
+}
+
+/// Whether a link key has a row of whatever partner.
+fn uses_key(rows: &[LinkRow], key: &Key) -> bool
+    ensures { result ≡ list_any (λ r. same_key (link_key r).key key.now.0) rows.now }
+{
+    rows.iter().any(|row| row.key == *key)
+}
+
+/// Whether a partner has another row in use that is offered where this one is to be, or else isn't.
+fn has_rival(rows: &[LinkRow], partner: Eui, key: &Key, attribute: Attribute) -> bool
+    ensures { result ≡ list_any (λ r. is_rival partner.0 key.now.0 (trust attribute) (link_key r)) rows.now }
+{
+    rows.iter()
+        .any(|row| row.is_rival_of(partner, key, attribute))
+}
+
+impl LinkRow {
+    /// Whether it is another row of the partner in use, which is offered where this one is to be, or else isn't.
+    fn is_rival_of(&self, partner: Eui, key: &Key, attribute: Attribute) -> bool
+        ensures { result ≡ is_rival partner.0 key.now.0 (trust attribute) (link_key self.now) }
+    {
+        self.is_live_of(partner)
+            && !self.is_of(partner, key)
+            && self.is_unverified() == matches!(attribute, Attribute::Unverified)
+    }
+}

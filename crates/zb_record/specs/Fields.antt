@@ -1,0 +1,56 @@
+-- Fields of one byte that stand for one of a few values; another byte is refused as a missing one is.
+use Rattle.std.specs.Prelude.{ℕ, List, Option, Some, None, Result, Ok, Err, ◌==◌, if◌then◌else◌}
+use Rattle.zb_base.specs.declared.label.Layer.{Layer}
+use Rattle.zb_base.specs.declared.label.Layer.TheVariants as layer
+use Rattle.zb_change.specs.declared.state.State.{State}
+use Rattle.zb_change.specs.declared.state.State.TheVariants as state
+use Rattle.zb_change.specs.declared.state.Attribute.{Attribute}
+use Rattle.zb_change.specs.declared.state.Attribute.TheVariants as attribute
+use Rattle.zb_change.specs.declared.state.Rollover.{Rollover}
+use Rattle.zb_change.specs.declared.state.Rollover.TheVariants as rollover
+use Rattle.zb_cursor.specs.Reading.{Reading, ◌>>=◌, byte_at}
+
+-- a value, where there is one
+abbrev pub chosen : {E A : Type 0} → Option A → Reading E A
+chosen None cut bytes = Err cut
+chosen (Some x) cut bytes = Ok (x, bytes)
+
+abbrev pub layer_of : ℕ → Option Layer
+layer_of b = if b == 0 then Some layer.Nwk else if b == 1 then Some layer.Aps else None
+
+abbrev pub attribute_of : ℕ → Option Attribute
+attribute_of b = if b == 0 then Some attribute.Provisional else if b == 1 then Some attribute.Unverified else if b == 2 then Some attribute.Verified else None
+
+abbrev pub state_of : ℕ → Option State
+state_of b =
+    if b == 0 then Some state.Fresh
+    else if b == 1 then Some state.Knocked
+    else if b == 2 then Some state.Joined
+    else if b == 3 then Some state.Offered
+    else if b == 4 then Some state.Confirmed
+    else if b == 5 then Some state.Rejoining
+    else if b == 6 then Some state.Gone
+    else None
+
+abbrev pub rollover_of : ℕ → Option Rollover
+rollover_of b = if b == 0 then Some rollover.Idle else if b == 1 then Some rollover.Sending else None
+
+unfoldable pub layer_at : {E : Type 0} → Reading E Layer
+layer_at = do
+  b ← byte_at
+  chosen (layer_of b)
+
+unfoldable pub attribute_at : {E : Type 0} → Reading E Attribute
+attribute_at = do
+  b ← byte_at
+  chosen (attribute_of b)
+
+unfoldable pub state_at : {E : Type 0} → Reading E State
+state_at = do
+  b ← byte_at
+  chosen (state_of b)
+
+unfoldable pub rollover_at : {E : Type 0} → Reading E Rollover
+rollover_at = do
+  b ← byte_at
+  chosen (rollover_of b)

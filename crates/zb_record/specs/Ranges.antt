@@ -1,0 +1,26 @@
+-- The values of changes that can be spelled: keys of 16 bytes, numbers within their widths.
+use Rattle.std.specs.Prelude.{◌≡◌, ℕ, ◌^◌, ◌<◌, length}
+use Rattle.zb_base.specs.declared.key.Key.{Key}
+use Rattle.zb_change.specs.declared.change.Change.{Change}
+use Rattle.zb_change.specs.declared.change.Change.TheVariants.{Reserve, Floor, Draw, DropNet, DropLink, Install, Active, Row, State, Roll, Told, Untold, Live, Removed, Start, Pair}
+
+abbrev pub IsKey : Key → Type 0
+IsKey k = length k.0 ≡ 16
+
+abbrev pub InRange : Change → Type 0
+InRange (Reserve layer limit) = limit < 2 ^ 32
+InRange (Floor layer k sender value) = IsKey k × (sender.0 < 2 ^ 64) × (value < 2 ^ 32)
+InRange (Draw k) = IsKey k
+InRange (DropNet k) = IsKey k
+InRange (DropLink partner k) = (partner.0 < 2 ^ 64) × IsKey k
+InRange (Install k sequence) = IsKey k × (sequence < 2 ^ 8)
+InRange (Active k) = IsKey k
+InRange (Row partner k attribute) = (partner.0 < 2 ^ 64) × IsKey k
+InRange (State state) = Unit {0}
+InRange (Roll rollover) = Unit {0}
+InRange (Told device) = device.0 < 2 ^ 64
+InRange (Untold device) = device.0 < 2 ^ 64
+InRange (Live device) = device.0 < 2 ^ 64
+InRange (Removed device) = device.0 < 2 ^ 64
+InRange (Start k value) = IsKey k × (value < 2 ^ 32)
+InRange (Pair first second k) = (first.0 < 2 ^ 64) × (second.0 < 2 ^ 64) × IsKey k

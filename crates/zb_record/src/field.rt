@@ -1,0 +1,73 @@
+//! Fields of one byte that stand for a layer, an attribute, a state or a rollover. A byte that stands for none is refused
+//! by the reader's fault.
+ghost use Rattle.std.specs.Prelude.{◌≡◌, ◌∷◌, IfOk};
+ghost use Rattle.zb_change.specs.Changes.{tier, trust, stage, is_sending};
+ghost use Rattle.zb_cursor.specs.Reading.{Gives};
+ghost use Rattle.zb_model.specs.Record.{tier_byte, trust_byte, stage_byte, worth};
+ghost use Rattle.zb_record.specs.Fields.{layer_at, attribute_at, state_at, rollover_at};
+
+use zb_base::Layer;
+use zb_change::{Attribute, Rollover, State};
+use zb_cursor::Reader;
+
+/// A layer: 00 network, 01 application support.
+#[tactic(auto, unfolding(crate::specs::Fields::layer_at))]
+pub(crate) fn read_layer(reader: &mut Reader<usize>) -> Result<Layer, usize>
+    ensures exact { Gives result reader.new.rest.now (layer_at reader.old.cut reader.old.rest.now) }
+    ensures spelled { IfOk result (λ x. reader.old.rest.now ≡ tier_byte (tier x) ∷ reader.new.rest.now) }
+    ensures cut { reader.new.cut ≡ reader.old.cut }
+{
+    match reader.byte()? {
+        0 => Ok(Layer::Nwk),
+        1 => Ok(Layer::Aps),
+        _ => Err(reader.cut),
+    }
+}
+
+/// An attribute: 00 provisional, 01 unverified, 02 verified.
+#[tactic(auto, unfolding(crate::specs::Fields::attribute_at))]
+pub(crate) fn read_attribute(reader: &mut Reader<usize>) -> Result<Attribute, usize>
+    ensures exact { Gives result reader.new.rest.now (attribute_at reader.old.cut reader.old.rest.now) }
+    ensures spelled { IfOk result (λ x. reader.old.rest.now ≡ trust_byte (trust x) ∷ reader.new.rest.now) }
+    ensures cut { reader.new.cut ≡ reader.old.cut }
+{
+    match reader.byte()? {
+        0 => Ok(Attribute::Provisional),
+        1 => Ok(Attribute::Unverified),
+        2 => Ok(Attribute::Verified),
+        _ => Err(reader.cut),
+    }
+}
+
+/// A state: 00 to 06, in the order of `State`.
+#[tactic(auto, unfolding(crate::specs::Fields::state_at))]
+pub(crate) fn read_state(reader: &mut Reader<usize>) -> Result<State, usize>
+    ensures exact { Gives result reader.new.rest.now (state_at reader.old.cut reader.old.rest.now) }
+    ensures spelled { IfOk result (λ x. reader.old.rest.now ≡ stage_byte (stage x) ∷ reader.new.rest.now) }
+    ensures cut { reader.new.cut ≡ reader.old.cut }
+{
+    match reader.byte()? {
+        0 => Ok(State::Fresh),
+        1 => Ok(State::Knocked),
+        2 => Ok(State::Joined),
+        3 => Ok(State::Offered),
+        4 => Ok(State::Confirmed),
+        5 => Ok(State::Rejoining),
+        6 => Ok(State::Gone),
+        _ => Err(reader.cut),
+    }
+}
+
+/// A rollover: 00 idle, 01 sending.
+#[tactic(auto, unfolding(crate::specs::Fields::rollover_at))]
+pub(crate) fn read_rollover(reader: &mut Reader<usize>) -> Result<Rollover, usize>
+    ensures exact { Gives result reader.new.rest.now (rollover_at reader.old.cut reader.old.rest.now) }
+    ensures spelled { IfOk result (λ x. reader.old.rest.now ≡ worth 1 (is_sending x) ∷ reader.new.rest.now) }
+    ensures cut { reader.new.cut ≡ reader.old.cut }
+{
+    match reader.byte()? {
+        0 => Ok(Rollover::Idle),
+        1 => Ok(Rollover::Sending),
+        _ => Err(reader.cut),
+    }
+}
