@@ -1,10 +1,9 @@
 -- What the end of a command says of its status.
 use Rattle.std.proofs.Common.{◌≡◌, ◌⊎◌, inl, inr, ℕ, Option, None, Some, IfSome, refl, sym, ap, ◌∙◌, subst}
-use Rattle.std.specs.Io.KnownBytes.{Appends, Keeps}
 use Rattle.zb_base.specs.Outside.{Rose}
 use Rattle.zb_model.specs.Data.{Bytes}
-use Rattle.tc_cli.specs.Answers.{Answer, Writes, Refuses, Exceeds, longest, output_of, status_of}
-use Rattle.tc_cli.specs.Outcomes.{Ends, IsBegun, IsWritten, WritesFront, WritesNothing}
+use Rattle.tc_cli.specs.Answers.{Answer, Writes, Refuses, Exceeds, longest, status_of}
+use Rattle.tc_cli.specs.Outcomes.{Ends, IsWritten, WritesFront, WritesNothing}
 use Rattle.tc_cli.specs.declared.status.Cause.{Cause}
 use Rattle.tc_cli.specs.declared.status.Status.{Status}
 use Rattle.tc_cli.specs.declared.status.Status.TheVariants as status

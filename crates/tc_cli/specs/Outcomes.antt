@@ -2,12 +2,17 @@
 use Rattle.std.specs.Prelude.{◌≡◌, ℕ, List, Option, Ok, IfSome}
 use Rattle.std.specs.Io.KnownBytes.{Appends, IsAtEnd, Keeps}
 use Rattle.zb_base.specs.Outside.{AppendsFront, Rose}
+use Rattle.zb_gen.specs.Made.{made}
 use Rattle.zb_model.specs.Data.{Bytes}
 use Rattle.zb_model.specs.Lines.{LogLine}
 use Rattle.zb_model.specs.FirstPath.{Plan, Lawful, Fresh, Counted}
 use Rattle.zb_player.specs.Text.{text}
 use Rattle.zb_player.specs.Wire.{wire}
 use Rattle.zb_reader.specs.Reading.{schedule}
+use Rattle.zb_sched.specs.Plan as sched
+use Rattle.zb_sched.specs.Printed.{printed}
+use Rattle.zb_sched.specs.Reading.{schedule_of}
+use Rattle.zb_sched.specs.Valid.{IsSchedule}
 use Rattle.tc_cli.specs.Answers.{Answer, Writes, Refuses, Exceeds, longest, output_of}
 use Rattle.tc_cli.specs.Commands.{Task, Playing, Installing, Making}
 use Rattle.tc_cli.specs.declared.status.Status.{Status}
@@ -71,3 +76,11 @@ pub record Played (input : Bytes) (before after : Option Bytes) : Type 0 where
   pub reads : schedule input ≡ Ok plan
   pub run : IsRun plan output
   pub written : Appends before after output
+
+-- A schedule was made, and its printed text was written, which is a text that reads as that schedule.
+pub record Made (count : ℕ) (before after : Option Bytes) : Type 0 where
+  pub plan : sched.Plan
+  pub is : made 0 count ≡ Ok plan
+  pub valid : IsSchedule plan
+  pub reads : schedule_of (printed plan) ≡ Ok plan
+  pub written : Appends before after (printed plan)

@@ -4,7 +4,7 @@ ghost use Rattle.zb_gen.specs.Made.{made};
 ghost use Rattle.zb_sched.specs.Plan.{plan_of};
 ghost use Rattle.zb_sched.specs.Printed.{printed};
 ghost use Rattle.tc_cli.specs.Answers.{make_answer, Writes};
-ghost use Rattle.tc_cli.specs.Outcomes.{Ends};
+ghost use Rattle.tc_cli.specs.Outcomes.{Ends, Made};
 
 use crate::status::{Cause, Status};
 use std::alloc::Global;
@@ -16,6 +16,7 @@ use zb_sched::{Schedule, write};
 pub(crate) fn make_schedule<W: Sink>(alloc: Global, count: u32, output: &mut W) -> Status
     requires { (1 ≤ count) × (count ≤ 60) }
     ensures ends { Ends result (Some (make_answer (made 0 count))) (W.taken output.old) (W.taken output.new) (W.faults output.old) (W.faults output.new) }
+    ensures made { result ≡ Status.Ok → Made count (W.taken output.old) (W.taken output.new) }
     ensures read_fault { result ≡ Status.ReadFault → ⊥ }
 {
     match make(alloc, 0, count) {

@@ -3,8 +3,8 @@ ghost use Rattle.std.specs.Prelude.{◌≡◌, ◌⊎◌, ℕ, Some, None, IfSom
 ghost use Rattle.std.specs.Io.KnownBytes.{IsAtEnd};
 ghost use Rattle.zb_base.specs.Outside.{Rose};
 ghost use Rattle.tc_cli.specs.Answers.{Answer, Refuses, Exceeds, longest, status_of, wanted};
-ghost use Rattle.tc_cli.specs.Commands.{Task, Playing, task_of};
-ghost use Rattle.tc_cli.specs.Outcomes.{Ends, IsWritten, Played, ReadsToEnd, WritesFront, WritesNothing};
+ghost use Rattle.tc_cli.specs.Commands.{Task, Playing, Making, task_of};
+ghost use Rattle.tc_cli.specs.Outcomes.{Ends, IsWritten, Made, Played, ReadsToEnd, WritesFront, WritesNothing};
 ghost use Rattle.tc_cli.specs.Words.{task, Fits};
 ghost use Rattle.tc_cli.specs.declared.status.Cause.{Cause};
 
@@ -35,6 +35,9 @@ pub(crate) fn run<T: Threads + Sync, R: Source, W: Sink>(
     // What `play` wrote is a lawful run of the schedule that its input is.
     ensures played { task_of (map string_bytes words.now) ≡ Some Playing → result ≡ Status.Ok
         → IfSome (R.rest input.old) (λ bytes. Played bytes (W.taken output.old) (W.taken output.new)) }
+    // What `make` wrote is the made schedule, and reads as that.
+    ensures made { (count : ℕ) → task_of (map string_bytes words.now) ≡ Some (Making count) → result ≡ Status.Ok
+        → Made count (W.taken output.old) (W.taken output.new) }
     // The cause of each other answer.
     ensures read_fault { result ≡ Status.ReadFault → Rose (R.faults input.old) (R.faults input.new) }
     ensures write_fault { result ≡ Status.WriteFault → Rose (W.faults output.old) (W.faults output.new) }
@@ -70,6 +73,8 @@ fn carry_out<T: Threads + Sync, R: Source, W: Sink>(
     ensures end { result ≡ Status.Ok → ReadsToEnd (task command.entry) (R.rest input.new) }
     ensures played { task command.entry ≡ Playing → result ≡ Status.Ok
         → IfSome (R.rest input.old) (λ bytes. Played bytes (W.taken output.old) (W.taken output.new)) }
+    ensures made { (count : ℕ) → task command.entry ≡ Making count → result ≡ Status.Ok
+        → Made count (W.taken output.old) (W.taken output.new) }
     ensures read_fault { result ≡ Status.ReadFault → Rose (R.faults input.old) (R.faults input.new) }
 {
     match command {

@@ -5,6 +5,8 @@
 mod lines;
 mod maker;
 mod steps;
+#[cfg(test)]
+mod tests;
 mod words;
 
 pub use maker::{GenFault, make};

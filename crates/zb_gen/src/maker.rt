@@ -1,7 +1,9 @@
 //! A made schedule.
 
-ghost use Rattle.std.specs.Prelude.{◌≡◌, ◌≤◌, ◌++◌, IfOk, OnOk};
+ghost use Rattle.std.specs.Prelude.{◌≡◌, ◌≤◌, ◌++◌, IfOk, OnOk, Ok};
 ghost use Rattle.zb_sched.specs.Plan.{plan_of};
+ghost use Rattle.zb_sched.specs.Printed.{printed};
+ghost use Rattle.zb_sched.specs.Reading.{schedule_of};
 ghost use Rattle.zb_sched.specs.Valid.{IsSchedule};
 ghost use Rattle.zb_text.specs.Pages.{page};
 ghost use Rattle.zb_gen.specs.Made.{made, made_lines};
@@ -32,11 +34,12 @@ impl From<AllocError> for GenFault {
     }
 }
 
-/// The made schedule of a start value for `n` routers and devices.
+/// The made schedule of a start value for `n` routers and devices. Printed, it reads as itself.
 pub fn make(alloc: Global, start: u32, n: u32) -> Result<Schedule, GenFault>
     requires { (1 ≤ n) × (n ≤ 60) }
     ensures exact { Makes result (made start n) }
     ensures valid { IfOk result (λ schedule. IsSchedule (plan_of schedule)) }
+    ensures again { IfOk result (λ schedule. schedule_of (printed (plan_of schedule)) ≡ Ok (plan_of schedule)) }
 {
     let mut text = Vec::new(alloc);
     put_made(&mut text, start, n)?;

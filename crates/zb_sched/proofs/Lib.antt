@@ -1,8 +1,11 @@
 pub mod DraftLemmas
 pub mod Finished
 pub mod Kept
+pub mod Leads
 pub mod Lists
 pub mod PageLemmas
+pub mod PrintedReads
 pub mod ReadLemmas
 pub mod RoleLemmas
+pub mod Splits
 pub mod SupplyLemmas

@@ -1,14 +1,22 @@
-//! What every schedule keeps is kept by each line: a law of the definitions, on a function that does nothing.
+//! What every schedule keeps is kept by each line, and what is printed of a schedule is that schedule: laws of the
+//! definitions, each on a function that does nothing.
 
 ghost use Rattle.std.specs.Prelude.{◌≡◌, Ok};
 ghost use Rattle.zb_sched_line.specs.Fits.{FitsSentence};
 ghost use Rattle.zb_sched_line.specs.Said.{Sentence};
 ghost use Rattle.zb_sched.specs.Judge.{after_sentence, Seen};
-ghost use Rattle.zb_sched.specs.Reading.{finished};
-ghost use Rattle.zb_sched.specs.Valid.{IsSoFar};
+ghost use Rattle.zb_sched.specs.Plan.{Plan};
+ghost use Rattle.zb_sched.specs.Printed.{printed};
+ghost use Rattle.zb_sched.specs.Reading.{finished, schedule_of};
+ghost use Rattle.zb_sched.specs.Valid.{IsSchedule, IsSoFar};
 
 /// A line that may stand behind others keeps what they keep.
 pub fn lines_keep_schedules()
     ensures { (seen next : Seen) (sentence : Sentence) → FitsSentence sentence → after_sentence seen sentence ≡ Ok next
         → IsSoFar (finished seen) → IsSoFar (finished next) }
+{}
+
+/// The printed text of a schedule reads as that schedule.
+pub fn printed_schedule_reads()
+    ensures { (plan : Plan) → IsSchedule plan → schedule_of (printed plan) ≡ Ok plan }
 {}

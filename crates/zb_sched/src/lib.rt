@@ -9,6 +9,8 @@ pub mod laws;
 mod reader;
 pub mod schedule;
 pub mod supply;
+#[cfg(test)]
+mod tests;
 mod writer;
 
 pub use error::{SchedCause, SchedError};

@@ -1,7 +1,8 @@
 //! The reader.
 
-ghost use Rattle.std.specs.Prelude.{◌≡◌, ◌-◌, ◌^◌, ◌<◌, length, IfOk};
+ghost use Rattle.std.specs.Prelude.{◌≡◌, ◌-◌, ◌^◌, ◌<◌, length, IfOk, Ok};
 ghost use Rattle.zb_sched.specs.Plan.{plan_of};
+ghost use Rattle.zb_sched.specs.Printed.{printed};
 ghost use Rattle.zb_sched.specs.Reading.{Reads, schedule_of};
 ghost use Rattle.zb_sched.specs.Valid.{IsSchedule};
 
@@ -12,11 +13,13 @@ use std::alloc::Global;
 use zb_base::OrMemory;
 use zb_text::lines::next_line;
 
-/// Reads a schedule. The error is the first bad line, with the first of its causes.
+/// Reads a schedule. The error is the first bad line, with the first of its causes. What is read and then printed reads
+/// as itself.
 pub fn read(alloc: Global, text: &[u8]) -> Result<Schedule, OrMemory<SchedError>>
     requires { length text.now < 2 ^ 32 - 1 }
     ensures exact { Reads result (schedule_of text.now) }
     ensures valid { IfOk result (λ schedule. IsSchedule (plan_of schedule)) }
+    ensures again { IfOk result (λ schedule. schedule_of (printed (plan_of schedule)) ≡ Ok (plan_of schedule)) }
 {
     let mut draft = Draft::new(alloc);
     let mut rest = text;

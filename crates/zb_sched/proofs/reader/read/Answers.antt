@@ -1,8 +1,11 @@
-use Rattle.std.proofs.Common.{List, ℕ, arith, ap, sym, ◌∙◌}
+use Rattle.std.proofs.Common.{rules, arith, ap, sym, ◌∙◌}
 use Rattle.std.specs.Str.Lines.{lines}
 use Rattle.zb_sched.specs.Judge.{Seen}
+use Rattle.zb_sched.specs.Plan.{plan_of}
 use Rattle.zb_sched.specs.Reading.{reads}
 use Rattle.zb_sched.proofs.Finished.{start_keeps}
+use Rattle.zb_sched.specs.Valid.{IsSchedule}
+use Rattle.zb_sched.proofs.PrintedReads.{printed_again}
 use Rattle.zb_sched.proofs.ReadLemmas.{go_on}
 use Rattle.zb_sched.proofs.reader.read.Goals as goal
 
@@ -21,3 +24,7 @@ loop-line-preserved c = record {
   short = omega (arith, c.in-Some.ensures.shorter);
   valid = c.in-Ok.ensures.kept c.loop-line.invariant.valid;
 }
+
+pub returns-in-Ok-finish-clause-again : goal.returns-in-Ok-finish-clause-again
+returns-in-Ok-finish-clause-again c =
+    let valid : IsSchedule (plan_of c.in-Ok-finish.schedule) = search rules in printed_again (plan_of c.in-Ok-finish.schedule) valid
