@@ -19,6 +19,11 @@ pub enum ApsError {
 }
 
 impl fmt::Display for ApsError {
+    ghost use Rattle.std.specs.Prelude.{Some};
+    ghost use Rattle.zb_aps.specs.Texts.{fault_text};
+
+    ghost output = { λ fault. Some (fault_text fault) };
+
     fn fmt<W: fmt::Write>(&self, f: &mut fmt::Formatter<W>) -> fmt::Result {
         match self {
             ApsError::TooLong => f.write_str("an APS frame has at most 127 bytes"),

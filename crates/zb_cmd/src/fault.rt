@@ -16,6 +16,11 @@ pub enum CmdError {
 }
 
 impl fmt::Display for CmdError {
+    ghost use Rattle.std.specs.Prelude.{Some};
+    ghost use Rattle.zb_cmd.specs.Texts.{fault_text};
+
+    ghost output = { λ fault. Some (fault_text fault) };
+
     fn fmt<W: fmt::Write>(&self, f: &mut fmt::Formatter<W>) -> fmt::Result {
         match self {
             CmdError::Unknown { id } => write!(f, "no command {id}"),

@@ -1,13 +1,13 @@
 -- The calls of a disk in memory meet what the trait says of them.
 use Rattle.std.proofs.Common.{◌≡◌, inl, inr, ℕ, ◌+◌, ◌-◌, ◌≤◌, ◌<◌, List, length, get_or, replicate, Bool, true, false, nat_le, nat_lt, nat_eq, ◌==◌, if◌then◌else◌, IsTrue, cond, Result, Ok, Err, refl, sym, ◌∙◌, ap, subst, arith}
-use Rattle.std.proofs.lemmas.Bool.{false≢true, le-leb, eqb-true}
+use Rattle.std.proofs.lemmas.Bool.{false≢true, le-leb, le-ltb, lt-ltb, eqb-true}
 use Rattle.std.proofs.lemmas.Bool.Decides.{nat_tests}
 use Rattle.zb_base.specs.Outside.{risen, HasCause}
 use Rattle.zb_disk.specs.declared.memory.Arming.{Arming}
 use Rattle.zb_disk.specs.declared.memory.Arming.TheVariants.{Unarmed, Stop, Fail, Stopped}
 use Rattle.zb_disk.specs.View.{Torn, Follows, Opens, Only, IsSame}
 use Rattle.zb_disk.specs.Calls.{IsForetold, IsCounted, IsWrite, IsSync, Elapses}
-use Rattle.zb_disk.specs.Memory.{Medium, IsImage, refuses, after_call, is_stopped, counted, stored, synced, memory_tells, memory_view}
+use Rattle.zb_disk.specs.Memory.{Medium, IsImage, refuses, after_call, is_stopped, off_after, counted, stored, synced, memory_tells, memory_view}
 use Rattle.zb_disk.specs.MemoryLaws.{image_seen}
 use Rattle.zb_disk.proofs.Lists.{overwrite_spread}
 use Rattle.zb_disk.proofs.Images.{stored_is, torn_from, torn_to, one_image, lowered}
@@ -22,7 +22,24 @@ later_refusals (Stop calls) k = later_stop calls k (calls == 0) refl
 later_refusals (Fail call) k = grind (arith, nat_tests)
 later_refusals Stopped k = refl
 
-on_after : (a : Arming) → refuses a 0 ≡ false → is_stopped (after_call a) ≡ false
+later_off_stop : (calls k : ℕ) (t : Bool) → (calls == 0) ≡ t → off_after (if t then Stopped else Stop (calls - 1)) k ≡ nat_lt calls (k + 1)
+later_off_stop calls k true none = sym (lt-ltb calls (k + 1) (omega (arith, eqb-true calls 0 none)))
+later_off_stop calls k false some = grind (arith, nat_tests)
+
+later_off : (a : Arming) (k : ℕ) → off_after (after_call a) k ≡ off_after a (k + 1)
+later_off Unarmed k = refl
+later_off (Stop calls) k = later_off_stop calls k (calls == 0) refl
+later_off (Fail call) k = refl
+later_off Stopped k = refl
+
+-- it is off now where it is stopped
+pub off_now : (a : Arming) → off_after a 0 ≡ is_stopped a
+off_now Unarmed = refl
+off_now (Stop calls) = le-ltb calls 0 (omega arith)
+off_now (Fail call) = refl
+off_now Stopped = refl
+
+on_after : (a : Arming) → refuses a 0 ≡ false → off_after (after_call a) 0 ≡ false
 on_after Unarmed goes = refl
 on_after (Stop calls) goes = grind (arith, nat_tests)
 on_after (Fail call) goes = refl
@@ -32,17 +49,19 @@ elapses : (old new : Medium) → Elapses memory_tells (memory_view old) (memory_
 elapses old new = record { later = omega arith; nothing_else = λ t c before left. inr left; kept = λ told. absurd (false≢true told) }
 
 -- a call that went through
-counted_ok : {E : Type 0} (m new : Medium) → refuses m.arming 0 ≡ false → m.faults ≤ (counted m).faults → new.arming ≡ (counted m).arming → new.calls ≡ (counted m).calls → new.faults ≡ (counted m).faults
+counted_ok : {E : Type 0} (m new : Medium) → refuses m.arming 0 ≡ false → m.faults ≤ (counted m).faults → new.arming ≡ (counted m).arming → new.torn ≡ m.torn → new.calls ≡ (counted m).calls → new.faults ≡ (counted m).faults
     → IsCounted {T = Unit {0}} {E = E} memory_tells (memory_view m) (memory_view new) (Ok tt)
 unfolding counted
-counted_ok m new goes later arming calls faults = record {
+counted_ok m new goes later arming torn calls faults = record {
   calls = calls;
   cause = record { later = omega arith; failed = tt };
   time = elapses m new;
   foretold = λ told. record {
     refusal = sym goes;
     later = λ k. ap (λ a. refuses a k) arming ∙ later_refusals m.arming k;
-    on = ap is_stopped arming ∙ on_after m.arming goes;
+    off = λ k. ap (λ a. off_after a k) arming ∙ later_off m.arming k;
+    on = ap (λ a. off_after a 0) arming ∙ on_after m.arming goes;
+    torn = torn;
   };
 }
 
@@ -53,7 +72,7 @@ counted_err m e refused later = record {
   calls = refl;
   cause = record { later = later; failed = subst (λ b. risen m.faults 1 ≤ cond b (risen m.faults 1) m.faults) (sym refused) (omega arith) };
   time = elapses m (counted m);
-  foretold = λ told. record { refusal = sym refused; later = λ k. later_refusals m.arming k; on = tt };
+  foretold = λ told. record { refusal = sym refused; later = λ k. later_refusals m.arming k; off = λ k. later_off m.arming k; on = tt; torn = refl };
 }
 
 torn_same : (at n : ℕ) (c : List ℕ) → Torn at n c c
@@ -67,7 +86,7 @@ write_ok m at piece goes later = record {
   torn = torn_from at (length piece) (counted m) (stored (counted m) at piece) (stored_is (counted m) at piece);
   opens = torn_to at (length piece) (counted m) (stored (counted m) at piece) (stored_is (counted m) at piece);
   refused = tt;
-  counted = counted_ok m (stored (counted m) at piece) goes later refl refl refl;
+  counted = counted_ok m (stored (counted m) at piece) goes later refl refl refl refl;
 }
 
 pub write_err : {E : Type 0} (m : Medium) (at : ℕ) (piece : List ℕ) (e : E) → refuses m.arming 0 ≡ true → m.faults ≤ (counted m).faults
@@ -91,7 +110,7 @@ sync_ok m goes later =
       seen = refl;
       images = λ c image. subst (λ (l : List ℕ). IsImage m.bytes m.written m.grown l) (sym (only c image)) (image_seen m.bytes m.written m.grown);
       images_kept = tt;
-      counted = counted_ok m (synced (counted m)) goes later refl refl refl;
+      counted = counted_ok m (synced (counted m)) goes later refl refl refl refl;
     }
 
 pub sync_err : {E : Type 0} (m : Medium) (e : E) → refuses m.arming 0 ≡ true → m.faults ≤ (counted m).faults

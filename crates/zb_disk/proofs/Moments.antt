@@ -60,8 +60,9 @@ pub still_refl : (v : View) → IsStill v v
 still_refl v = record {
   same = record { seen = refl; images = λ c image. image; images_kept = λ c image. image };
   calls = refl;
-  off = refl;
+  off = λ k. refl;
   refuses = λ k. refl;
+  torn = refl;
   moment = refl;
   since = λ t c left. left;
   since_kept = λ t c left. left;
@@ -75,8 +76,9 @@ still_trans a b c first second = record {
     images_kept = λ x image. second.same.images_kept x (first.same.images_kept x image);
   };
   calls = second.calls ∙ first.calls;
-  off = second.off ∙ first.off;
+  off = λ k. second.off k ∙ first.off k;
   refuses = λ k. second.refuses k ∙ first.refuses k;
+  torn = second.torn ∙ first.torn;
   moment = second.moment ∙ first.moment;
   since = λ t x left. first.since t x (second.since t x left);
   since_kept = λ t x left. second.since_kept t x (first.since_kept t x left);

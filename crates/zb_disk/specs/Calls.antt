@@ -9,11 +9,13 @@ pub record Elapses (tells : Telling) (old new : View) : Type 0 where
   pub nothing_else : (t : ℕ) (c : List ℕ) → t ≤ old.moment → new.since t c → old.since t c ⊎ new.images c
   pub kept : IsTrue tells.past → (t : ℕ) (c : List ℕ) → t ≤ old.moment → old.since t c → new.since t c
 
--- the call was refused exactly where that was told, and the calls after it will be as was told
+-- the call was refused exactly where that was told, and the calls after it and what a stop leaves will be as was told
 pub record IsForetold {T E : Type 0} (old new : View) (result : Result T E) : Type 0 where
   pub refusal : is_err result ≡ old.refuses 0
   pub later : (k : ℕ) → new.refuses k ≡ old.refuses (k + 1)
-  pub on : OnOk result (new.off ≡ false)
+  pub off : (k : ℕ) → new.off k ≡ old.off (k + 1)
+  pub on : OnOk result (new.off 0 ≡ false)
+  pub torn : new.torn ≡ old.torn
 
 -- what holds of each call that writes or syncs
 pub record IsCounted {T E : Type 0} (tells : Telling) (old new : View) (result : Result T E) : Type 0 where
@@ -26,7 +28,7 @@ pub record IsCounted {T E : Type 0} (tells : Telling) (old new : View) (result :
 pub record IsRead {T E : Type 0} (tells : Telling) (old new : View) (result : Result T E) : Type 0 where
   pub still : IsStill old new
   pub cause : HasCause old.faults new.faults result
-  pub refusal : IsTrue tells.refusals → is_err result ≡ old.off
+  pub refusal : IsTrue tells.refusals → is_err result ≡ old.off 0
 
 -- a write: at Ok the bytes are read, and exactly the images torn there may be left; where it failed, no others
 pub record IsWrite {T E : Type 0} (tells : Telling) (at : ℕ) (bytes : List ℕ) (old new : View) (result : Result T E) : Type 0 where

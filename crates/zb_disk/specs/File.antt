@@ -11,8 +11,9 @@ file_view calls faults = record {
   images = λ c. ⊥;
   calls = calls;
   faults = faults;
-  off = false;
+  off = λ k. false;
   refuses = λ k. false;
+  torn = [];
   moment = 0;
   since = λ t c. ⊥;
 }

@@ -41,6 +41,13 @@ is_stopped (Stop calls) = false
 is_stopped (Fail call) = false
 is_stopped Stopped = true
 
+-- whether it refuses to read once so many more writes and syncs were asked for: a stop has fallen on one of them
+abbrev pub off_after : Arming → ℕ → Bool
+off_after Unarmed k = false
+off_after (Stop calls) k = nat_lt calls k
+off_after (Fail call) k = false
+off_after Stopped k = true
+
 -- a new arming, which a stopped disk doesn't take
 abbrev pub armed : Arming → Arming → Arming
 armed old new = if is_stopped old then old else new
@@ -95,6 +102,17 @@ stored m at piece = record m {
 unfoldable pub synced : Medium → Medium
 synced m = record m { written = replicate (length m.written) false; grown = 0 }
 
+-- after a read that was asked for: it is refused while the disk is off
+abbrev pub after_read : Medium → Medium
+after_read m = record m { faults = if is_stopped m.arming then risen m.faults 1 else m.faults }
+
+-- after a write and a sync that were asked for: refused, or done
+abbrev pub after_write : Medium → ℕ → List ℕ → Medium
+after_write m at piece = if refuses m.arming 0 then counted m else stored (counted m) at piece
+
+abbrev pub after_sync : Medium → Medium
+after_sync m = if refuses m.arming 0 then counted m else synced (counted m)
+
 -- the power came back
 unfoldable pub powered : Medium → Medium
 powered m = record m {
@@ -126,8 +144,9 @@ memory_view m = record {
   images = IsImage m.bytes m.written m.grown;
   calls = m.calls;
   faults = m.faults;
-  off = is_stopped m.arming;
+  off = off_after m.arming;
   refuses = refuses m.arming;
+  torn = m.torn;
   moment = 0;
   since = λ t. IsImage m.bytes m.written m.grown;
 }

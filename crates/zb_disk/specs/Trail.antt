@@ -1,5 +1,5 @@
 -- A disk in memory that keeps each write and sync, and so tells what a crash at any moment might have left.
-use Rattle.std.specs.Prelude.{ℕ, ◌+◌, ◌≤◌, ◌≡◌, ◌&&◌, List, [], ◌∷◌, length, take, drop, Bool, true, false, nat_le, nat_lt}
+use Rattle.std.specs.Prelude.{ℕ, ◌+◌, ◌≤◌, ◌≡◌, ◌&&◌, List, [], ◌∷◌, length, take, drop, Bool, true, false, nat_le, nat_lt, if◌then◌else◌}
 use Rattle.zb_base.specs.Outside.{risen}
 use Rattle.zb_disk.specs.declared.trail.Logged.{Logged}
 use Rattle.zb_disk.specs.declared.trail.Logged.TheVariants.{Wrote, Synced}
@@ -41,8 +41,9 @@ trail_view t = record {
   images = LeftAfter t.start t.steps;
   calls = t.calls;
   faults = t.faults;
-  off = false;
+  off = λ k. false;
   refuses = λ k. false;
+  torn = [];
   moment = length t.steps;
   since = λ m c. (k : ℕ) × (k + m ≤ length t.steps) × LeftAfter t.start (drop k t.steps) c;
 }
@@ -67,7 +68,7 @@ total (Synced ∷ log) = total log
 abbrev pub has_room : Trail → ℕ → Bool
 has_room t len = nat_lt (length t.steps) t.calls_room && nat_le (t.taken + len) t.bytes_room
 
--- after a call that was refused, a write and a sync
+-- after a call that was refused, a write and a sync that were kept
 unfoldable pub refused : Trail → Trail
 refused t = record t { calls = risen t.calls 1; faults = risen t.faults 1 }
 
@@ -76,3 +77,10 @@ kept_write t at bytes = record t { steps = writes at bytes ∷ t.steps; taken = 
 
 unfoldable pub kept_sync : Trail → Trail
 kept_sync t = record t { steps = syncs ∷ t.steps; calls = risen t.calls 1 }
+
+-- after a write and a sync that were asked for
+abbrev pub after_write : Trail → ℕ → List ℕ → Trail
+after_write t at bytes = if has_room t (length bytes) then kept_write t at bytes else refused t
+
+abbrev pub after_sync : Trail → Trail
+after_sync t = if has_room t 0 then kept_sync t else refused t

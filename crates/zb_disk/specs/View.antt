@@ -22,10 +22,12 @@ pub record View : Type 1 where
   pub calls : ℕ
   -- how many calls failed
   pub faults : ℕ
-  -- whether it refuses to read
-  pub off : Bool
+  -- whether it refuses to read once so many more writes and syncs were asked for
+  pub off : ℕ → Bool
   -- whether it refuses the write or sync of that number from now on, the next one being 0
   pub refuses : ℕ → Bool
+  -- the bytes that a stop leaves, over and over, in each run that was written and not synced; none where such runs stand as written
+  pub torn : List ℕ
   -- the moment, a number that never falls
   pub moment : ℕ
   -- the images that a crash at some moment since that one might have left
@@ -72,8 +74,9 @@ pub record IsSame (old new : View) : Type 0 where
 pub record IsStill (old new : View) : Type 0 where
   pub same : IsSame old new
   pub calls : new.calls ≡ old.calls
-  pub off : new.off ≡ old.off
+  pub off : (k : ℕ) → new.off k ≡ old.off k
   pub refuses : (k : ℕ) → new.refuses k ≡ old.refuses k
+  pub torn : new.torn ≡ old.torn
   pub moment : new.moment ≡ old.moment
   pub since : (t : ℕ) (c : List ℕ) → new.since t c → old.since t c
   pub since_kept : (t : ℕ) (c : List ℕ) → old.since t c → new.since t c

@@ -11,3 +11,6 @@ pub use disk::Disk;
 pub use file::FileDisk;
 pub use memory::{Arming, MemDisk};
 pub use trail::TrailDisk;
+
+#[cfg(test)]
+mod tests;

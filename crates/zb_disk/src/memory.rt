@@ -1,8 +1,9 @@
 //! A disk in memory, whose calls can be made to fail and whose writes can be torn.
-ghost use Rattle.std.specs.Prelude.{if◌then◌else◌, ◌-◌, replicate, ◌≡◌, ◌+◌, ◌≤◌, ◌<◌, ◌++◌, [], ◌∷◌, ℕ, length, take, IfOk, IsTrue, slice_index, vec_len, vec_capacity};
+ghost use Rattle.std.specs.Prelude.{OnOk, if◌then◌else◌, ◌-◌, replicate, ◌≡◌, ◌+◌, ◌≤◌, ◌<◌, ◌++◌, [], ◌∷◌, ℕ, length, take, IfOk, IsTrue, slice_index, vec_len, vec_capacity};
 ghost use Rattle.zb_disk.specs.View.{overwrite, window, IsUnsynced};
 ghost use Rattle.zb_base.specs.Outside.{risen};
-ghost use Rattle.zb_disk.specs.Memory.{Medium, refuses, after_call, is_stopped, armed, tear, torn_by, counted, stored, synced, powered, fresh, memory_tells, memory_view};
+ghost use Rattle.zb_disk.specs.Calls.{IsRead, IsWrite, IsSync};
+ghost use Rattle.zb_disk.specs.Memory.{Medium, refuses, after_call, is_stopped, armed, tear, torn_by, counted, stored, synced, after_read, after_write, after_sync, powered, fresh, memory_tells, memory_view};
 ghost use Rattle.zb_disk.specs.MemoryLaws.{image_seen};
 
 use crate::Disk;
@@ -209,9 +210,7 @@ impl MemDisk {
     // Counts a read, and answers whether it is refused.
     fn refuses_read(&mut self) -> bool
         ensures refused { result ≡ is_stopped self.old.arming }
-        ensures after { self.new ≡ record self.old {
-          faults = (if is_stopped self.old.arming then risen self.old.faults 1 else self.old.faults);
-        } }
+        ensures after { self.new ≡ after_read self.old }
         ensures later { self.old.faults ≤ self.new.faults }
     {
         let refused = self.is_off();
@@ -256,14 +255,22 @@ impl Disk for MemDisk {
 
     ghost only_now = { λ m c left. left };
 
-    fn size(&mut self) -> Result<u64, Failed> {
+    fn size(&mut self) -> Result<u64, Failed>
+        ensures size { IfOk result (λ n. n ≡ length self.old.bytes) }
+        ensures read { IsRead memory_tells (memory_view self.old) (memory_view self.new) result }
+        ensures after { self.new ≡ after_read self.old }
+    {
         if self.refuses_read() {
             return Err(Failed);
         }
         Ok(self.bytes.len() as u64)
     }
 
-    fn read(&mut self, at: u64, buf: &mut [u8]) -> Result<(), Failed> {
+    fn read(&mut self, at: u64, buf: &mut [u8]) -> Result<(), Failed>
+        ensures bytes { OnOk result (buf.new ≡ window self.old.bytes at (length buf.old)) }
+        ensures read { IsRead memory_tells (memory_view self.old) (memory_view self.new) result }
+        ensures after { self.new ≡ after_read self.old }
+    {
         if self.refuses_read() {
             return Err(Failed);
         }
@@ -271,7 +278,11 @@ impl Disk for MemDisk {
         Ok(())
     }
 
-    fn write(&mut self, at: u64, bytes: &[u8]) -> Result<(), Failed> {
+    fn write(&mut self, at: u64, bytes: &[u8]) -> Result<(), Failed>
+        requires { at + length bytes.now ≤ 131072 }
+        ensures write { IsWrite memory_tells at bytes.now (memory_view self.old) (memory_view self.new) result }
+        ensures after { self.new ≡ after_write self.old at bytes.now }
+    {
         if self.refuses_call() {
             return Err(Failed);
         }
@@ -279,7 +290,10 @@ impl Disk for MemDisk {
         Ok(())
     }
 
-    fn sync(&mut self) -> Result<(), Failed> {
+    fn sync(&mut self) -> Result<(), Failed>
+        ensures sync { IsSync memory_tells (memory_view self.old) (memory_view self.new) result }
+        ensures after { self.new ≡ after_sync self.old }
+    {
         if self.refuses_call() {
             return Err(Failed);
         }

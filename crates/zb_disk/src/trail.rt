@@ -1,7 +1,7 @@
 //! A disk in memory that keeps each write and sync, and so tells its past moments.
 ghost use Rattle.std.specs.Prelude.{◌≡◌, ◌+◌, ◌≤◌, ◌<◌, ◌^◌, ◌&&◌, ◌++◌, length, IfOk, is_err, not, nat_lt, nat_le, vec_capacity};
 ghost use Rattle.zb_disk.specs.Calls.{IsWrite, IsSync};
-ghost use Rattle.zb_disk.specs.Trail.{replayed, has_room, refused, kept_write, kept_sync, fresh_trail, trail_tells, trail_view};
+ghost use Rattle.zb_disk.specs.Trail.{replayed, has_room, refused, kept_write, kept_sync, fresh_trail, after_write, after_sync, trail_tells, trail_view};
 ghost use Rattle.zb_disk.specs.TrailLaws.{left_now, trail_counts_now, trail_only_now};
 
 use crate::Disk;
@@ -151,6 +151,7 @@ impl Disk for TrailDisk {
         requires { at + length bytes.now ≤ 131072 }
         ensures write { IsWrite trail_tells at bytes.now (trail_view self.old) (trail_view self.new) result }
         ensures room { is_err result ≡ not (has_room self.old (length bytes.now)) }
+        ensures after { self.new ≡ after_write self.old at bytes.now }
     {
         if !self.has_room(bytes.len()) {
             self.refuse();
@@ -163,6 +164,7 @@ impl Disk for TrailDisk {
     fn sync(&mut self) -> Result<(), Failed>
         ensures sync { IsSync trail_tells (trail_view self.old) (trail_view self.new) result }
         ensures room { is_err result ≡ not (has_room self.old 0) }
+        ensures after { self.new ≡ after_sync self.old }
     {
         if !self.has_room(0) {
             self.refuse();

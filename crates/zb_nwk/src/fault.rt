@@ -21,6 +21,11 @@ pub enum NwkError {
 }
 
 impl fmt::Display for NwkError {
+    ghost use Rattle.std.specs.Prelude.{Some};
+    ghost use Rattle.zb_nwk.specs.Texts.{fault_text};
+
+    ghost output = { λ fault. Some (fault_text fault) };
+
     fn fmt<W: fmt::Write>(&self, f: &mut fmt::Formatter<W>) -> fmt::Result {
         match self {
             NwkError::TooLong => f.write_str("a NWK frame has at most 127 bytes"),

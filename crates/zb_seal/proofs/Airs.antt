@@ -1,13 +1,12 @@
 -- Bytes on the air and the term that they are of.
-use Rattle.std.proofs.Common.{◌≡◌, ℕ, zero, suc, ◌+◌, ◌-◌, ◌*◌, ◌/◌, ◌%◌, ◌≤◌, ◌<◌, ◌^◌, Bool, true, false, leb, List, [], ◌∷◌, ◌++◌, length, Option, Some, None, Result, Ok, Err, refl, sym, ap, subst, ◌∙◌, append_assoc, arith, length-append}
+use Rattle.std.proofs.Common.{◌≡◌, ℕ, ◌-◌, ◌/◌, ◌%◌, ◌<◌, ◌^◌, true, leb, List, [], ◌∷◌, ◌++◌, length, Option, Some, Result, Ok, refl, sym, ap, ◌∙◌, append_assoc, arith, length-append}
 use Rattle.std.specs.Prelude.{◌==◌}
 use Rattle.std.proofs.lemmas.Bool.{le-leb}
 use Rattle.zb_base.specs.declared.address.Eui.{Eui}
-use Rattle.zb_base.specs.declared.key.Key.{Key}
 use Rattle.zb_base.specs.declared.label.Label.{Label}
 use Rattle.zb_base.specs.declared.label.Layer.{Layer}
 use Rattle.zb_cursor.specs.Spelling.{bit}
-use Rattle.zb_ccm.specs.Ccm.{Sealed, opens, sealed}
+use Rattle.zb_ccm.specs.Ccm.{Sealed}
 use Rattle.zb_ccm.proofs.Sealings.{opens-sealed}
 use Rattle.zb_seal.specs.declared.envelope.Envelope.{Envelope}
 use Rattle.zb_seal.specs.declared.envelope.OpenError.{OpenError}

@@ -1,5 +1,5 @@
 -- What a call answers is what the bytes open to.
-use Rattle.std.proofs.Common.{◌≡◌, ℕ, List, length, Option, Result, Ok, Err, refl, sym, ◌∙◌}
+use Rattle.std.proofs.Common.{◌≡◌, ℕ, List, length, Option, Result, Ok, Err, sym}
 use Rattle.std.specs.Prelude.{IfOk}
 use Rattle.zb_base.specs.declared.address.Eui.{Eui}
 use Rattle.zb_base.specs.declared.key.Key.{Key}

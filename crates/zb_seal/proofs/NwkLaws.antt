@@ -1,14 +1,13 @@
 -- A NWK frame opens to a term exactly where its bytes are those of the term up to the level bits.
-use Rattle.std.proofs.Common.{◌≡◌, ℕ, ◌+◌, ◌-◌, ◌%◌, ◌≤◌, true, false, List, [], ◌∷◌, ◌++◌, length, Option, Some, None, Result, Ok, Err, refl, sym, ap, subst, ◌∙◌, arith}
+use Rattle.std.proofs.Common.{◌≡◌, ℕ, ◌≤◌, List, ◌++◌, length, Option, Some, None, Result, Ok, Err, refl, sym, ap, subst, ◌∙◌, arith}
 use Rattle.std.specs.Prelude.{is_some, IfSome}
 use Rattle.std.specs.Int.{w32}
 use Rattle.zb_base.specs.declared.address.Eui.{Eui}
 use Rattle.zb_base.specs.declared.key.Key.{Key}
-use Rattle.zb_base.specs.declared.label.Label.{Label}
 use Rattle.zb_base.specs.declared.label.Label.TheVariants.{Network}
 use Rattle.zb_base.specs.declared.label.Layer.{Layer}
 use Rattle.zb_base.specs.declared.label.Layer.TheVariants.{Nwk}
-use Rattle.zb_cursor.specs.Spelling.{IsBytes, byte, number, eui, bit}
+use Rattle.zb_cursor.specs.Spelling.{IsBytes, byte, number, eui}
 use Rattle.zb_ccm.specs.Ccm.{Sealed, opens, sealed}
 use Rattle.zb_ccm.proofs.Sealings.{sealed-opens}
 use Rattle.zb_nwk.specs.declared.fault.NwkError.{NwkError}
@@ -24,8 +23,8 @@ use Rattle.zb_seal.specs.declared.envelope.Envelope.{Envelope}
 use Rattle.zb_seal.specs.declared.envelope.OpenError.{OpenError}
 use Rattle.zb_seal.specs.declared.term.Term.{Term}
 use Rattle.zb_seal.specs.Keys.{sealing_key}
-use Rattle.zb_seal.specs.Wire.{real_level, zero_level, at_place, nonce, aux_size, sealed_term, wire}
-use Rattle.zb_seal.specs.Opening.{leveled_nwk, nwk_envelope, nwk_seen, seen_nwk, term_of, opened_term, opened, opened_seen, opened_nwk, IsNwkTerm, OpensNwk}
+use Rattle.zb_seal.specs.Wire.{real_level, nonce, aux_size, sealed_term, wire}
+use Rattle.zb_seal.specs.Opening.{leveled_nwk, nwk_envelope, nwk_seen, seen_nwk, opened_term, opened, opened_seen, opened_nwk, IsNwkTerm, OpensNwk}
 use Rattle.zb_seal.proofs.Fronts.{nwk_text}
 use Rattle.zb_seal.proofs.Lengths.{length-sealing_key, length-mic}
 use Rattle.zb_seal.proofs.Airs.{zero_of_real, real_is, same_key_id, same_bit, same_range, wire_same, unwire, wire_twice, envelope_of, envelope_is, opened_again, term_ok_is}

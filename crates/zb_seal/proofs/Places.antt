@@ -1,5 +1,5 @@
 -- A list with one place changed.
-use Rattle.std.proofs.Common.{◌≡◌, ℕ, zero, suc, ◌+◌, ◌-◌, ◌<◌, ◌≤◌, List, [], ◌∷◌, ◌++◌, length, get_or, set, refl, sym, ap, ◌∙◌, arith}
+use Rattle.std.proofs.Common.{◌≡◌, ℕ, zero, suc, List, [], ◌∷◌, ◌++◌, length, get_or, set, refl, ap}
 use Rattle.zb_seal.specs.Wire.{at_place}
 
 pub at_place_set : (change : ℕ → ℕ) (place : ℕ) (xs : List ℕ) → set xs place (change (get_or xs place 0)) ≡ at_place change place xs

@@ -2,3 +2,4 @@ pub mod Terms
 pub mod Keys
 pub mod Wire
 pub mod Opening
+pub mod Texts

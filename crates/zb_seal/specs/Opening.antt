@@ -1,5 +1,5 @@
 -- What a frame says of itself before any key is tried, and what it opens to.
-use Rattle.std.specs.Prelude.{◌≡◌, ℕ, ◌-◌, ◌%◌, ◌≤◌, true, List, ◌++◌, length, Option, Some, None, Result, Ok, Err, IfSome, IfNone, ◌==◌, if◌then◌else◌}
+use Rattle.std.specs.Prelude.{◌≡◌, ℕ, ◌-◌, ◌%◌, ◌≤◌, true, List, ◌++◌, length, Option, Some, None, Result, Ok, Err, ◌==◌, if◌then◌else◌}
 use Rattle.zb_base.specs.declared.address.Eui.{Eui}
 use Rattle.zb_base.specs.declared.key.Key.{Key}
 use Rattle.zb_base.specs.declared.label.Label.{Label}
@@ -25,7 +25,7 @@ use Rattle.zb_seal.specs.declared.envelope.Envelope.{Envelope}
 use Rattle.zb_seal.specs.declared.envelope.OpenError.{OpenError}
 use Rattle.zb_seal.specs.declared.envelope.OpenError.TheVariants.{Frame, NotSecured, NoSource, BadMic}
 use Rattle.zb_seal.specs.declared.term.Term.{Term}
-use Rattle.zb_seal.specs.Wire.{real_level, zero_level, at_place, aux_size, nonce, wire}
+use Rattle.zb_seal.specs.Wire.{real_level, zero_level, at_place, nonce, wire}
 use Rattle.zb_seal.specs.Keys.{sealing_key}
 
 -- the label of a key identifier (05-3474-21, 4.5.1.1.2)

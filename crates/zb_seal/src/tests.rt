@@ -25,6 +25,7 @@ struct Expected<'a> {
     source: u64,
     counter: u32,
     control: u8,
+    label: Label,
     header: &'a [u8],
     content: &'a [u8],
 }
@@ -32,11 +33,16 @@ struct Expected<'a> {
 fn check_opened(
     rt: &impl Abort,
     opened: Result<Term, OpenError>,
+    layer: Layer,
+    base: &Key,
     bytes: &[u8],
     expected: &Expected,
 ) {
     match opened {
         Ok(term) => {
+            assert!(rt; term.layer == layer);
+            assert!(rt; term.base == *base);
+            assert!(rt; term.label == expected.label);
             assert!(rt; term.source == Eui(expected.source));
             assert!(rt; term.counter == expected.counter);
             assert!(rt; term.control == expected.control);
@@ -52,20 +58,17 @@ fn check_opened(
 }
 
 fn check_nwk(rt: &impl Abort, bytes: &[u8], expected: &Expected) {
-    check_opened(rt, open_nwk(bytes, &NETWORK_KEY), bytes, expected);
-    let cipher = Cipher::new(&NETWORK_KEY.0);
-    check_opened(
-        rt,
-        open_nwk_with(bytes, &NETWORK_KEY, &cipher),
-        bytes,
-        expected,
-    );
+    let key = &NETWORK_KEY;
+    check_opened(rt, open_nwk(bytes, key), Layer::Nwk, key, bytes, expected);
+    let opened = open_nwk_with(bytes, key, &Cipher::new(&key.0));
+    check_opened(rt, opened, Layer::Nwk, key, bytes, expected);
 }
 
 fn check_aps(rt: &impl Abort, base: &Key, bytes: &[u8], expected: &Expected) {
-    check_opened(rt, open_aps(bytes, base, None), bytes, expected);
-    let ciphers = Ciphers::new(base);
-    check_opened(rt, open_aps_with(bytes, &ciphers, None), bytes, expected);
+    let opened = open_aps(bytes, base, None);
+    check_opened(rt, opened, Layer::Aps, base, bytes, expected);
+    let opened = open_aps_with(bytes, &Ciphers::new(base), None);
+    check_opened(rt, opened, Layer::Aps, base, bytes, expected);
 }
 
 #[test]
@@ -81,6 +84,7 @@ fn update_and_tunnel(rt: HostRuntime) {
             source: 0x00124B0000000003,
             counter: 0,
             control: 0x2D,
+            label: Label::Network,
             header: &[
                 0x08, 0x02, 0x00, 0x00, 0x4D, 0x3C, 0x1E, 0x00, 0x2D, 0x00, 0x00, 0x00, 0x00, 0x03,
                 0x00, 0x00, 0x00, 0x00, 0x4B, 0x12, 0x00, 0x00,
@@ -105,6 +109,7 @@ fn update_and_tunnel(rt: HostRuntime) {
             source: 0x00124B0000000001,
             counter: 0,
             control: 0x2D,
+            label: Label::Network,
             header: &[
                 0x08, 0x02, 0x4D, 0x3C, 0x00, 0x00, 0x1E, 0x00, 0x2D, 0x00, 0x00, 0x00, 0x00, 0x01,
                 0x00, 0x00, 0x00, 0x00, 0x4B, 0x12, 0x00, 0x00,
@@ -131,6 +136,7 @@ fn update_and_tunnel(rt: HostRuntime) {
             source: 0x00124B0000000001,
             counter: 0,
             control: 0x35,
+            label: Label::Transport,
             header: &[
                 0x21, 0x00, 0x35, 0x00, 0x00, 0x00, 0x00, 0x01, 0x00, 0x00, 0x00, 0x00, 0x4B, 0x12,
                 0x00,
@@ -154,6 +160,7 @@ fn update_and_tunnel(rt: HostRuntime) {
             source: 0x00124B0000000002,
             counter: 0,
             control: 0x2D,
+            label: Label::Network,
             header: &[
                 0x08, 0x02, 0x00, 0x00, 0x2B, 0x1A, 0x1E, 0x00, 0x2D, 0x00, 0x00, 0x00, 0x00, 0x02,
                 0x00, 0x00, 0x00, 0x00, 0x4B, 0x12, 0x00, 0x00,
@@ -175,6 +182,7 @@ fn update_and_tunnel(rt: HostRuntime) {
             source: 0x00124B0000000002,
             counter: 0,
             control: 0x25,
+            label: Label::Data,
             header: &[
                 0x21, 0x00, 0x25, 0x00, 0x00, 0x00, 0x00, 0x02, 0x00, 0x00, 0x00, 0x00, 0x4B, 0x12,
                 0x00,
@@ -198,6 +206,7 @@ fn requests_and_key(rt: HostRuntime) {
             source: 0x00124B0000000002,
             counter: 1,
             control: 0x2D,
+            label: Label::Network,
             header: &[
                 0x08, 0x02, 0x00, 0x00, 0x2B, 0x1A, 0x1E, 0x01, 0x2D, 0x01, 0x00, 0x00, 0x00, 0x02,
                 0x00, 0x00, 0x00, 0x00, 0x4B, 0x12, 0x00, 0x00,
@@ -219,6 +228,7 @@ fn requests_and_key(rt: HostRuntime) {
             source: 0x00124B0000000002,
             counter: 1,
             control: 0x25,
+            label: Label::Data,
             header: &[
                 0x21, 0x01, 0x25, 0x01, 0x00, 0x00, 0x00, 0x02, 0x00, 0x00, 0x00, 0x00, 0x4B, 0x12,
                 0x00,
@@ -240,6 +250,7 @@ fn requests_and_key(rt: HostRuntime) {
             source: 0x00124B0000000001,
             counter: 1,
             control: 0x2D,
+            label: Label::Network,
             header: &[
                 0x08, 0x02, 0x2B, 0x1A, 0x00, 0x00, 0x1E, 0x01, 0x2D, 0x01, 0x00, 0x00, 0x00, 0x01,
                 0x00, 0x00, 0x00, 0x00, 0x4B, 0x12, 0x00, 0x00,
@@ -265,6 +276,7 @@ fn requests_and_key(rt: HostRuntime) {
             source: 0x00124B0000000001,
             counter: 1,
             control: 0x3D,
+            label: Label::Load,
             header: &[
                 0x21, 0x01, 0x3D, 0x01, 0x00, 0x00, 0x00, 0x01, 0x00, 0x00, 0x00, 0x00, 0x4B, 0x12,
                 0x00,
@@ -288,6 +300,7 @@ fn requests_and_key(rt: HostRuntime) {
             source: 0x00124B0000000002,
             counter: 2,
             control: 0x2D,
+            label: Label::Network,
             header: &[
                 0x08, 0x02, 0x00, 0x00, 0x2B, 0x1A, 0x1E, 0x02, 0x2D, 0x02, 0x00, 0x00, 0x00, 0x02,
                 0x00, 0x00, 0x00, 0x00, 0x4B, 0x12, 0x00, 0x00,
@@ -313,6 +326,7 @@ fn second_key(rt: HostRuntime) {
             source: 0x00124B0000000002,
             counter: 2,
             control: 0x25,
+            label: Label::Data,
             header: &[
                 0x21, 0x02, 0x25, 0x02, 0x00, 0x00, 0x00, 0x02, 0x00, 0x00, 0x00, 0x00, 0x4B, 0x12,
                 0x00,
@@ -334,6 +348,7 @@ fn second_key(rt: HostRuntime) {
             source: 0x00124B0000000001,
             counter: 2,
             control: 0x2D,
+            label: Label::Network,
             header: &[
                 0x08, 0x02, 0x2B, 0x1A, 0x00, 0x00, 0x1E, 0x02, 0x2D, 0x02, 0x00, 0x00, 0x00, 0x01,
                 0x00, 0x00, 0x00, 0x00, 0x4B, 0x12, 0x00, 0x00,
@@ -359,6 +374,7 @@ fn second_key(rt: HostRuntime) {
             source: 0x00124B0000000001,
             counter: 2,
             control: 0x3D,
+            label: Label::Load,
             header: &[
                 0x21, 0x02, 0x3D, 0x02, 0x00, 0x00, 0x00, 0x01, 0x00, 0x00, 0x00, 0x00, 0x4B, 0x12,
                 0x00,
@@ -382,6 +398,7 @@ fn second_key(rt: HostRuntime) {
             source: 0x00124B0000000002,
             counter: 3,
             control: 0x2D,
+            label: Label::Network,
             header: &[
                 0x08, 0x02, 0x00, 0x00, 0x2B, 0x1A, 0x1E, 0x03, 0x2D, 0x03, 0x00, 0x00, 0x00, 0x02,
                 0x00, 0x00, 0x00, 0x00, 0x4B, 0x12, 0x00, 0x00,
@@ -404,6 +421,7 @@ fn second_key(rt: HostRuntime) {
             source: 0x00124B0000000001,
             counter: 3,
             control: 0x2D,
+            label: Label::Network,
             header: &[
                 0x08, 0x02, 0x2B, 0x1A, 0x00, 0x00, 0x1E, 0x03, 0x2D, 0x03, 0x00, 0x00, 0x00, 0x01,
                 0x00, 0x00, 0x00, 0x00, 0x4B, 0x12, 0x00, 0x00,
@@ -431,6 +449,7 @@ fn proof_and_confirmation(rt: HostRuntime) {
             source: 0x00124B0000000001,
             counter: 3,
             control: 0x25,
+            label: Label::Data,
             header: &[
                 0x21, 0x03, 0x25, 0x03, 0x00, 0x00, 0x00, 0x01, 0x00, 0x00, 0x00, 0x00, 0x4B, 0x12,
                 0x00,
@@ -452,6 +471,7 @@ fn proof_and_confirmation(rt: HostRuntime) {
             source: 0x00124B0000000002,
             counter: 4,
             control: 0x2D,
+            label: Label::Network,
             header: &[
                 0x08, 0x02, 0x00, 0x00, 0x2B, 0x1A, 0x1E, 0x04, 0x2D, 0x04, 0x00, 0x00, 0x00, 0x02,
                 0x00, 0x00, 0x00, 0x00, 0x4B, 0x12, 0x00, 0x00,
@@ -474,6 +494,7 @@ fn proof_and_confirmation(rt: HostRuntime) {
             source: 0x00124B0000000001,
             counter: 4,
             control: 0x2D,
+            label: Label::Network,
             header: &[
                 0x08, 0x02, 0x2B, 0x1A, 0x00, 0x00, 0x1E, 0x04, 0x2D, 0x04, 0x00, 0x00, 0x00, 0x01,
                 0x00, 0x00, 0x00, 0x00, 0x4B, 0x12, 0x00, 0x00,
@@ -497,6 +518,7 @@ fn proof_and_confirmation(rt: HostRuntime) {
             source: 0x00124B0000000001,
             counter: 4,
             control: 0x25,
+            label: Label::Data,
             header: &[
                 0x21, 0x04, 0x25, 0x04, 0x00, 0x00, 0x00, 0x01, 0x00, 0x00, 0x00, 0x00, 0x4B, 0x12,
                 0x00,
@@ -529,6 +551,43 @@ fn the_level_on_the_air_is_not_judged(rt: HostRuntime) {
     }
 }
 
+// The last hop of the network key to a device that has none yet: the frame that the Tunnel carried, in a frame whose
+// network layer isn't secured.
+const LAST_HOP: [u8; 62] = [
+    0x08, 0x00, 0x2B, 0x1A, 0x4D, 0x3C, 0x1E, 0x00, 0x21, 0x00, 0x30, 0x00, 0x00, 0x00, 0x00, 0x01,
+    0x00, 0x00, 0x00, 0x00, 0x4B, 0x12, 0x00, 0x03, 0xB6, 0x81, 0x6E, 0x56, 0x93, 0xF7, 0x41, 0xC9,
+    0xEE, 0xE9, 0xFD, 0x14, 0xA5, 0xC3, 0xFB, 0x2B, 0x7A, 0x02, 0xAC, 0xD7, 0x1C, 0x59, 0x03, 0x08,
+    0x85, 0xA6, 0x77, 0xB6, 0xF1, 0xAE, 0xDE, 0xBB, 0xD0, 0x78, 0xF3, 0xDA, 0x4A, 0xC7,
+];
+
+#[test]
+fn a_last_hop(rt: HostRuntime) {
+    assert!(rt; open_nwk(&LAST_HOP, &NETWORK_KEY) == Err(OpenError::NotSecured));
+    match zb_nwk::read(&LAST_HOP) {
+        Ok(frame) => check_aps(
+            &rt,
+            &CODE_KEY,
+            frame.body.as_slice(),
+            &Expected {
+                source: 0x00124B0000000001,
+                counter: 0,
+                control: 0x35,
+                label: Label::Transport,
+                header: &[
+                    0x21, 0x00, 0x35, 0x00, 0x00, 0x00, 0x00, 0x01, 0x00, 0x00, 0x00, 0x00, 0x4B,
+                    0x12, 0x00,
+                ],
+                content: &[
+                    0x05, 0x01, 0x00, 0x01, 0x02, 0x03, 0x04, 0x05, 0x06, 0x07, 0x08, 0x09, 0x0A,
+                    0x0B, 0x0C, 0x0D, 0x0E, 0x0F, 0x00, 0x02, 0x00, 0x00, 0x00, 0x00, 0x4B, 0x12,
+                    0x00, 0x01, 0x00, 0x00, 0x00, 0x00, 0x4B, 0x12, 0x00,
+                ],
+            },
+        ),
+        Err(_) => assert!(rt; false),
+    }
+}
+
 #[test]
 fn errors_in_their_order(rt: HostRuntime) {
     let cut = OpenError::Frame {
@@ -548,6 +607,17 @@ fn errors_in_their_order(rt: HostRuntime) {
         aps: Some(zb_aps::ApsError::FrameType { found: 3 }),
     };
     assert!(rt; open_aps(&[0x03], &CODE_KEY, None) == Err(aps));
+    assert!(rt; open_aps(&[0x01, 0x00, 0x08, 0x04], &CODE_KEY, None) == Err(OpenError::NotSecured));
+    let long = OpenError::Frame {
+        nwk: Some(NwkError::TooLong),
+        aps: None,
+    };
+    assert!(rt; open_nwk(&[0; 128], &NETWORK_KEY) == Err(long));
+    let empty = OpenError::Frame {
+        nwk: None,
+        aps: Some(zb_aps::ApsError::Short { at: 0 }),
+    };
+    assert!(rt; open_aps(&[], &CODE_KEY, None) == Err(empty));
 }
 
 fn plain_term(content: Frame) -> Term {

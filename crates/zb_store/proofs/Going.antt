@@ -14,7 +14,9 @@ one_through {T} {E} {tells} {old} {new} {x} counted = record {
   calls = counted.calls;
   foretold = λ told k low. let first : k ≡ 0 = omega arith in ap old.refuses first ∙ sym (counted.foretold told).refusal;
   later = λ told. (counted.foretold told).later;
+  off = λ told. (counted.foretold told).off;
   on = λ told. (counted.foretold told).on;
+  torn = λ told. (counted.foretold told).torn;
 }
 
 pub one_stopped : {T E : Type 0} {tells : Telling} {old new : View} {e : E} → IsCounted {T = T} {E = E} tells old new (Err e) → StoppedAfter tells 0 old new
@@ -22,6 +24,8 @@ one_stopped counted = record {
   calls = counted.calls;
   foretold = λ told k low. absurd (omega arith);
   refused = λ told. sym (counted.foretold told).refusal;
+  off = λ told. (counted.foretold told).off 0;
+  torn = λ told. (counted.foretold told).torn;
 }
 
 -- one run after another
@@ -37,7 +41,11 @@ through_then n m a b c first second = record {
   later = λ told k.
       let there : k + m + n ≡ k + (n + m) = omega arith in
       second.later told k ∙ first.later told (k + m) ∙ ap a.refuses there;
+  off = λ told k.
+      let there : k + m + n ≡ k + (n + m) = omega arith in
+      second.off told k ∙ first.off told (k + m) ∙ ap a.off there;
   on = second.on;
+  torn = λ told. second.torn told ∙ first.torn told;
 }
 
 pub stopped_then : {tells : Telling} (n m : ℕ) (a b c : View) → WentThrough tells n a b → StoppedAfter tells m b c → StoppedAfter tells (n + m) a c
@@ -52,6 +60,10 @@ stopped_then n m a b c first second = record {
   refused = λ told.
       let there : m + n ≡ n + m = omega arith in
       ap a.refuses (sym there) ∙ sym (first.later told m) ∙ second.refused told;
+  off = λ told.
+      let there : m + 1 + n ≡ n + m + 1 = omega arith in
+      second.off told ∙ first.off told (m + 1) ∙ ap a.off there;
+  torn = λ told. second.torn told ∙ first.torn told;
 }
 
 -- reads before it change nothing
@@ -60,7 +72,9 @@ still_through n a b c still run = record {
   calls = omega (arith, still.calls, run.calls);
   foretold = λ told k low. sym (still.refuses k) ∙ run.foretold told k low;
   later = λ told k. run.later told k ∙ still.refuses (k + n);
+  off = λ told k. run.off told k ∙ still.off (k + n);
   on = run.on;
+  torn = λ told. run.torn told ∙ still.torn;
 }
 
 pub still_stopped : {tells : Telling} (n : ℕ) (a b c : View) → IsStill a b → StoppedAfter tells n b c → StoppedAfter tells n a c
@@ -68,6 +82,8 @@ still_stopped n a b c still run = record {
   calls = omega (arith, still.calls, run.calls);
   foretold = λ told k low. sym (still.refuses k) ∙ run.foretold told k low;
   refused = λ told. sym (still.refuses n) ∙ run.refused told;
+  off = λ told. run.off told ∙ still.off (n + 1);
+  torn = λ told. run.torn told ∙ still.torn;
 }
 
 pub causes : {T E T' E' : Type 0} (a b c : ℕ) (x : T) (r : Result T' E') → HasCause {T = T} {E = E} a b (Ok x) → HasCause {T = T'} {E = E'} b c r → HasCause {T = T'} {E = E'} a c r

@@ -8,3 +8,4 @@ pub mod Settling
 pub mod Placed
 pub mod Finding
 pub mod Laying
+pub mod Powers

@@ -192,18 +192,18 @@ module _ (tells : Telling) (s : Standing) (payload : List ℕ) (v0 v1 : View) (h
   append_stopped (GateStop.before_bytes stop same) = AppendStop.not_begun 0 (omega arith) stop (record {
     whole = λ c image. held.whole c (same.images c image);
     closed = λ c image open_it. let whole = held.whole c (same.images c image) in whole.end_closed (slot_byte s.second (end_of s) c (omega arith) ∙ open_it);
-  })
+  }) (λ c image. held.closed c (same.images c image))
   append_stopped (GateStop.bytes_unsynced stop torn) = AppendStop.not_begun 1 (omega arith) stop (record {
     whole = λ c image. let from = torn c image in append_first s payload from.0 c (held.whole from.0 from.1) (held.closed from.0 from.1) fits from.2;
     closed = λ c image. let from = torn c image in append_first_gate s payload from.0 c (held.whole from.0 from.1) (held.closed from.0 from.1) fits from.2;
-  })
+  }) (λ c image. let from = torn c image in append_first_other s payload from.0 c (held.whole from.0 from.1) (held.closed from.0 from.1) fits from.2)
   append_stopped (GateStop.before_gate stop only) =
       let m = staged (entry_gate s) (entry_body payload) v0.seen in
       let torn = overwrite_torn v0.seen (entry_gate s + 1) (entry_body payload) in
       AppendStop.not_begun 2 (omega arith) stop (record {
         whole = λ c image. subst (IsWhole s) (sym (only c image)) (append_first s payload v0.seen m seen_whole seen_shut fits torn);
         closed = λ c image. subst (λ (l : List ℕ). get_or l (entry_gate s) 0 ≢ open_gate) (sym (only c image)) (append_first_gate s payload v0.seen m seen_whole seen_shut fits torn);
-      })
+      }) (λ c image. subst (λ (l : List ℕ). gate_of (slot (not s.second) l) ≢ open_gate) (sym (only c image)) (append_first_other s payload v0.seen m seen_whole seen_shut fits torn))
   append_stopped (GateStop.gate_unsynced stop seen only each) =
       let gate = entry_gate s in
       let m = staged gate (entry_body payload) v0.seen in
@@ -219,4 +219,4 @@ module _ (tells : Telling) (s : Standing) (payload : List ℕ) (v0 v1 : View) (h
         reads = ap (λ (l : List ℕ). get_or l gate 0) seen ∙ written_byte gate open_gate m;
         committed = λ c image. append_open s payload v0.seen c seen_whole seen_shut fits (only c image) few small;
         not_committed = λ c image. append_shut s payload v0.seen c seen_whole seen_shut fits (only c image);
-      })
+      }) (λ c image. append_second_other s payload v0.seen c seen_whole seen_shut fits (only c image))

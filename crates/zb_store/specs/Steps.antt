@@ -9,13 +9,17 @@ pub record WentThrough (tells : Telling) (n : ℕ) (old new : View) : Type 0 whe
   pub calls : new.calls ≡ risen old.calls n
   pub foretold : IsTrue tells.refusals → (k : ℕ) → k < n → old.refuses k ≡ false
   pub later : IsTrue tells.refusals → (k : ℕ) → new.refuses k ≡ old.refuses (k + n)
-  pub on : IsTrue tells.refusals → new.off ≡ false
+  pub off : IsTrue tells.refusals → (k : ℕ) → new.off k ≡ old.off (k + n)
+  pub on : IsTrue tells.refusals → new.off 0 ≡ false
+  pub torn : IsTrue tells.refusals → new.torn ≡ old.torn
 
--- the next one after so many was refused
+-- the next one after so many was refused, and whether the disk is off since then was told
 pub record StoppedAfter (tells : Telling) (n : ℕ) (old new : View) : Type 0 where
   pub calls : new.calls ≡ risen old.calls (n + 1)
   pub foretold : IsTrue tells.refusals → (k : ℕ) → k < n → old.refuses k ≡ false
   pub refused : IsTrue tells.refusals → old.refuses n ≡ true
+  pub off : IsTrue tells.refusals → new.off 0 ≡ old.off (n + 1)
+  pub torn : IsTrue tells.refusals → new.torn ≡ old.torn
 
 -- an image that is an old one, torn at one place
 abbrev pub TornFrom : (List ℕ → Type 0) → ℕ → ℕ → List ℕ → Type 0

@@ -70,10 +70,14 @@ entry_gate s = base_of s.second + end_of s
 abbrev pub other_gate : Standing → ℕ
 other_gate s = base_of (not s.second)
 
+-- the gate of the other slot is open in no image
+abbrev pub IsOtherShut : Standing → View → Type 0
+IsOtherShut s v = (c : List ℕ) → v.images c → gate_of (slot (not s.second) c) ≢ open_gate
+
 -- An `append` that failed: after how many writes and syncs, and what it left.
 pub data AppendStop (tells : Telling) (s : Standing) (payload : List ℕ) (old new : View) : Type 0 where
-  not_begun : (n : ℕ) → n < 3 → StoppedAfter tells n old new → IsUntouched (entry_gate s) s new → AppendStop tells s payload old new
-  opening : StoppedAfter tells 3 old new → IsGateOpening (entry_gate s) s (appended s payload) new → AppendStop tells s payload old new
+  not_begun : (n : ℕ) → n < 3 → StoppedAfter tells n old new → IsUntouched (entry_gate s) s new → IsOtherShut s new → AppendStop tells s payload old new
+  opening : StoppedAfter tells 3 old new → IsGateOpening (entry_gate s) s (appended s payload) new → IsOtherShut s new → AppendStop tells s payload old new
 
 -- A `put` that failed likewise.
 pub data PutStop (tells : Telling) (s : Standing) (content : List ℕ) (old new : View) : Type 0 where

@@ -25,13 +25,18 @@ pub enum StoreFault {
 }
 
 impl fmt::Display for StoreFault {
+    ghost use Rattle.std.specs.Prelude.{Some};
+    ghost use Rattle.zb_store.specs.Texts.{fault_text};
+
+    ghost output = { λ fault. Some (fault_text fault) };
+
     fn fmt<W: fmt::Write>(&self, f: &mut fmt::Formatter<W>) -> fmt::Result {
         match self {
-            StoreFault::Disk => write!(f, "the disk failed"),
-            StoreFault::NoRecord => write!(f, "no record stands on the disk"),
+            StoreFault::Disk => f.write_str("the disk failed"),
+            StoreFault::NoRecord => f.write_str("no record stands on the disk"),
             StoreFault::TooLarge { len } => write!(f, "{len} bytes are too many"),
-            StoreFault::NoMemory => write!(f, "no memory"),
-            StoreFault::Worn => write!(f, "the last generation is used up"),
+            StoreFault::NoMemory => f.write_str("no memory"),
+            StoreFault::Worn => f.write_str("the last generation is used up"),
         }
     }
 }

@@ -5,11 +5,13 @@
 
 mod commit;
 pub mod fault;
+mod laws;
 mod reading;
 mod spelling;
 pub mod store;
 
 pub use fault::StoreFault;
+pub use laws::stopped_commits;
 pub use store::Store;
 
 #[cfg(test)]

@@ -47,93 +47,187 @@ fn formats(rt: HostRuntime) -> Result<(), Fail> {
     Ok(())
 }
 
-// The generation that stands after a `put` of 02 03 was stopped or failed at a call.
-fn after_put(
-    rt: &(impl AllocGlobal + Abort),
-    calls: u8,
-    torn: &[u8],
-    fails: bool,
-) -> Result<(u64, u32), Fail> {
+// How a call ends: stopped after so many device calls, with these bytes in place of what was not synced, or failed at one
+// of them.
+#[derive(Clone, Copy)]
+enum Ending<'a> {
+    Stop(u8, &'a [u8]),
+    Fail(u8),
+}
+
+// What a call leaves that ends so.
+#[derive(Clone, Copy, Debug, PartialEq, Eq)]
+enum Left {
+    // What stood before, and one slot's gate is open.
+    Old,
+    // What stands after the call, likewise.
+    New,
+    // The same, and the gates of both slots are open.
+    Both,
+    // The call came to its end.
+    Done,
+}
+
+const PATTERNS: [&[u8]; 5] = [&[], &[0], &[0xA5], &[0xA5, 7, 9], &[7, 0xA5, 0xA5]];
+
+fn arm(disk: &mut MemDisk, ending: Ending) {
+    match ending {
+        Ending::Stop(calls, torn) => disk.arm_stop(calls, pattern(torn)),
+        Ending::Fail(call) => disk.arm_fail(call),
+    }
+}
+
+// What was left, once the power is back.
+fn what_is_left(disk: &mut MemDisk, done: bool, new: bool) -> Left {
+    let both = disk.bytes().first() == Some(&0xA5) && disk.bytes().get(65_536) == Some(&0xA5);
+    match (done, new) {
+        (true, _) => Left::Done,
+        (false, true) if both => Left::Both,
+        (false, true) => Left::New,
+        (false, false) => Left::Old,
+    }
+}
+
+// A `put` of 02 03 over 01.
+fn after_put(rt: &(impl AllocGlobal + Abort), ending: Ending) -> Result<Left, Fail> {
     let mut disk = MemDisk::new(rt.alloc(), &[])?;
     let store = Store::format(rt.alloc(), &mut disk, &[1])?;
-    if fails {
-        disk.arm_fail(calls);
-    } else {
-        disk.arm_stop(calls, pattern(torn));
-    }
-    assert!(rt; store.put(&mut disk, &[2, 3]).is_err());
+    arm(&mut disk, ending);
+    let done = store.put(&mut disk, &[2, 3]).is_ok();
+    disk.disarm();
     disk.power_on();
-    let standing = Store::standing(&mut disk)?;
-    let (_, record, _) = Store::open(rt.alloc(), &mut disk)?;
-    assert_eq!(rt; record.len() as u64, standing.0);
-    Ok(standing)
+    let (record, payloads) = Store::peek(rt.alloc(), &mut disk)?;
+    let new = record.as_slice() == [2, 3].as_slice();
+    let old = record.as_slice() == [1].as_slice();
+    let standing = if new { (2, 0) } else { (1, 0) };
+    assert!(rt; (new || old) && payloads.is_empty());
+    assert_eq!(rt; Store::standing(&mut disk), Ok(standing));
+    Ok(what_is_left(&mut disk, done, new))
 }
+
+const PUTS_STOPPED: [[Left; 5]; 7] = [
+    [Left::Old; 5],
+    [Left::Old; 5],
+    [Left::Old; 5],
+    [Left::Both, Left::Old, Left::Both, Left::Both, Left::Old],
+    [Left::Both; 5],
+    [Left::New, Left::New, Left::Both, Left::Both, Left::New],
+    [Left::Done; 5],
+];
+
+const PUTS_FAILED: [Left; 7] = [
+    Left::Old,
+    Left::Old,
+    Left::Old,
+    Left::Both,
+    Left::Both,
+    Left::New,
+    Left::Done,
+];
 
 #[test]
 fn puts_or_keeps(rt: HostRuntime) -> Result<(), Fail> {
-    let patterns: [&[u8]; 4] = [&[], &[0], &[0xA5], &[0xA5, 7, 9]];
-    for torn in patterns {
-        let opens = torn.is_empty() || torn.first() == Some(&0xA5);
-        for calls in 0..3u8 {
-            assert_eq!(rt; after_put(&rt, calls, torn, false)?, (1, 0));
+    for (calls, row) in PUTS_STOPPED.iter().enumerate() {
+        for (torn, want) in PATTERNS.iter().zip(row) {
+            let left = after_put(&rt, Ending::Stop(calls as u8, torn))?;
+            assert_eq!(rt; left, *want, "after {calls}");
         }
-        assert_eq!(rt;
-            after_put(&rt, 3, torn, false)?,
-            if opens { (2, 0) } else { (1, 0) }
-        );
-        assert_eq!(rt; after_put(&rt, 4, torn, false)?, (2, 0));
-        assert_eq!(rt; after_put(&rt, 5, torn, false)?, (2, 0));
     }
-    for call in 1..4u8 {
-        assert_eq!(rt; after_put(&rt, call, &[], true)?, (1, 0));
-    }
-    for call in 4..7u8 {
-        assert_eq!(rt; after_put(&rt, call, &[], true)?, (2, 0));
+    for (place, want) in PUTS_FAILED.iter().enumerate() {
+        let left = after_put(&rt, Ending::Fail(place as u8 + 1))?;
+        assert_eq!(rt; left, *want, "at {place}");
     }
     Ok(())
 }
 
-// How many entries stand after an `append` was stopped or failed at a call.
-fn after_append(
-    rt: &(impl AllocGlobal + Abort),
-    calls: u8,
-    torn: &[u8],
-    fails: bool,
-) -> Result<u32, Fail> {
+// An `append` of 06 behind the entry 04 05.
+fn after_append(rt: &(impl AllocGlobal + Abort), ending: Ending) -> Result<Left, Fail> {
     let mut disk = disk_with(rt, &[1], &[4, 5])?;
     let (store, _, _) = Store::open(rt.alloc(), &mut disk)?;
-    if fails {
-        disk.arm_fail(calls);
-    } else {
-        disk.arm_stop(calls, pattern(torn));
-    }
+    arm(&mut disk, ending);
     assert!(rt; store.entries() < 32);
-    assert!(rt; store.append(&mut disk, &[6]).is_err());
+    let done = store.append(&mut disk, &[6]).is_ok();
+    disk.disarm();
     disk.power_on();
-    let (_, _, payloads) = Store::open(rt.alloc(), &mut disk)?;
-    let standing = Store::standing(&mut disk)?;
-    let whole = payloads.as_slice() == [4, 5, 6].as_slice();
-    assert_eq!(rt; whole, standing.1 == 2);
-    Ok(standing.1)
+    let (record, payloads) = Store::peek(rt.alloc(), &mut disk)?;
+    let new = payloads.as_slice() == [4, 5, 6].as_slice();
+    let old = payloads.as_slice() == [4, 5].as_slice();
+    let standing = if new { (1, 2) } else { (1, 1) };
+    assert!(rt; (new || old) && record.as_slice() == [1].as_slice());
+    assert_eq!(rt; Store::standing(&mut disk), Ok(standing));
+    Ok(what_is_left(&mut disk, done, new))
 }
+
+const APPENDS_STOPPED: [[Left; 5]; 5] = [
+    [Left::Old; 5],
+    [Left::Old; 5],
+    [Left::Old; 5],
+    [Left::New, Left::Old, Left::New, Left::New, Left::Old],
+    [Left::Done; 5],
+];
+
+const APPENDS_FAILED: [Left; 5] = [Left::Old, Left::Old, Left::Old, Left::New, Left::Done];
 
 #[test]
 fn appends_or_keeps(rt: HostRuntime) -> Result<(), Fail> {
-    let patterns: [&[u8]; 4] = [&[], &[0], &[0xA5], &[0xA5, 7, 9]];
-    for torn in patterns {
-        let opens = torn.is_empty() || torn.first() == Some(&0xA5);
-        for calls in 0..3u8 {
-            assert_eq!(rt; after_append(&rt, calls, torn, false)?, 1);
+    for (calls, row) in APPENDS_STOPPED.iter().enumerate() {
+        for (torn, want) in PATTERNS.iter().zip(row) {
+            let left = after_append(&rt, Ending::Stop(calls as u8, torn))?;
+            assert_eq!(rt; left, *want, "after {calls}");
         }
-        assert_eq!(rt;
-            after_append(&rt, 3, torn, false)?,
-            if opens { 2 } else { 1 }
-        );
     }
-    for call in 1..4u8 {
-        assert_eq!(rt; after_append(&rt, call, &[], true)?, 1);
+    for (place, want) in APPENDS_FAILED.iter().enumerate() {
+        let left = after_append(&rt, Ending::Fail(place as u8 + 1))?;
+        assert_eq!(rt; left, *want, "at {place}");
     }
-    assert_eq!(rt; after_append(&rt, 4, &[], true)?, 2);
+    Ok(())
+}
+
+// An `open` of a disk whose second slot stands, beside a first one with this gate.
+fn after_open(rt: &(impl AllocGlobal + Abort), gate: u8, ending: Ending) -> Result<Left, Fail> {
+    let alloc = rt.alloc();
+    let first = slot(alloc, gate, 1, 1, &[1], &[0])?;
+    let second = slot(alloc, 0xA5, 2, 2, &[2, 3], &[0xA5, 1, 0, 9, 0])?;
+    let bytes = two(alloc, &first, &second)?;
+    assert!(rt; bytes.len() <= 131_072);
+    let mut disk = MemDisk::new(alloc, &bytes)?;
+    arm(&mut disk, ending);
+    let done = Store::open(alloc, &mut disk).is_ok();
+    disk.disarm();
+    disk.power_on();
+    let (record, payloads) = Store::peek(alloc, &mut disk)?;
+    assert!(rt; record.as_slice() == [2, 3].as_slice() && payloads.as_slice() == [9].as_slice());
+    assert_eq!(rt; Store::standing(&mut disk), Ok((2, 1)));
+    Ok(what_is_left(&mut disk, done, true))
+}
+
+const OPENS_STOPPED: [[Left; 5]; 4] = [
+    [Left::Both; 5],
+    [Left::Both; 5],
+    [Left::New, Left::New, Left::Both, Left::Both, Left::New],
+    [Left::Done; 5],
+];
+
+const OPENS_FAILED: [Left; 4] = [Left::Both, Left::Both, Left::New, Left::Done];
+
+#[test]
+fn opens_as_before(rt: HostRuntime) -> Result<(), Fail> {
+    for (calls, row) in OPENS_STOPPED.iter().enumerate() {
+        for (torn, want) in PATTERNS.iter().zip(row) {
+            let left = after_open(&rt, 0xA5, Ending::Stop(calls as u8, torn))?;
+            assert_eq!(rt; left, *want, "after {calls}");
+        }
+    }
+    for (place, want) in OPENS_FAILED.iter().enumerate() {
+        let left = after_open(&rt, 0xA5, Ending::Fail(place as u8 + 1))?;
+        assert_eq!(rt; left, *want, "at {place}");
+    }
+    // A gate that isn't open is never written, whatever its byte.
+    for gate in [0, 7, 0xA4, 0xFF] {
+        let begun = after_open(&rt, gate, Ending::Stop(0, &[]))?;
+        let done = after_open(&rt, gate, Ending::Stop(1, &[]))?;
+        assert_eq!(rt; (begun, done), (Left::New, Left::Done), "at gate {gate}");
+    }
     Ok(())
 }
 
@@ -196,41 +290,37 @@ fn reading(
     }
 }
 
+// What stands on the prefixes of a disk of 70,000 bytes, from each length on.
+const ANSWERS: [(usize, Option<(u64, u32, usize)>); 6] = [
+    (0, None),
+    (15, Some((1, 0, 2))),
+    (19, Some((1, 1, 2))),
+    (24, Some((1, 2, 2))),
+    (68_549, Some((2, 0, 3_000))),
+    (68_553, Some((2, 1, 3_000))),
+];
+
 #[test]
-fn reads_any_disk(rt: HostRuntime) -> Result<(), Fail> {
+fn reads_each_prefix(rt: HostRuntime) -> Result<(), Fail> {
     let alloc = rt.alloc();
-    let record = [7u8; 3_000];
-    let first = slot(
-        alloc,
-        0xA5,
-        1,
-        2,
-        &[8, 9],
-        &[0xA5, 1, 0, 5, 0xA5, 2, 0, 6, 7, 0],
-    )?;
-    let second = slot(alloc, 0xA5, 2, 3_000, &record, &[0xA5, 1, 0, 5, 0])?;
+    let behind = [0xA5, 1, 0, 5, 0xA5, 2, 0, 6, 7, 0];
+    let first = slot(alloc, 0xA5, 1, 2, &[8, 9], &behind)?;
+    let second = slot(alloc, 0xA5, 2, 3_000, &[7; 3_000], &[0xA5, 1, 0, 5, 0])?;
     let mut whole = two(alloc, &first, &second)?;
     whole.resize(70_000, 0)?;
-    let behind = 65_536 + 13 + 3_000;
-    for (len, want) in [
-        (0, None),
-        (1, None),
-        (13, None),
-        (14, None),
-        (15, Some((1, 0, 2))),
-        (18, Some((1, 0, 2))),
-        (19, Some((1, 1, 2))),
-        (23, Some((1, 1, 2))),
-        (24, Some((1, 2, 2))),
-        (65_536, Some((1, 2, 2))),
-        (behind - 1, Some((1, 2, 2))),
-        (behind, Some((2, 0, 3_000))),
-        (behind + 3, Some((2, 0, 3_000))),
-        (behind + 4, Some((2, 1, 3_000))),
-        (70_000, Some((2, 1, 3_000))),
-    ] {
-        assert!(rt; len <= whole.len());
-        assert_eq!(rt; reading(&rt, &whole[..len])?, want, "at {len}");
+    let mut want = None;
+    for len in 0..=70_000 {
+        let mut near = len % 1_000 == 0 || (65_530..65_560).contains(&len);
+        for (from, answer) in ANSWERS {
+            near = near || (from <= len + 16 && len <= from + 16);
+            if len == from {
+                want = answer;
+            }
+        }
+        if near {
+            assert!(rt; len <= whole.len());
+            assert_eq!(rt; reading(&rt, &whole[..len])?, want, "at {len}");
+        }
     }
     Ok(())
 }
@@ -341,13 +431,13 @@ fn commits_many_times(rt: HostRuntime) -> Result<(), Fail> {
     let mut store = Store::format(rt.alloc(), &mut disk, &[7; 300])?;
     let start = std::time::Instant::now(&rt)?;
     for _ in 0..100_000u32 {
-        store = if store.entries() < 32 {
-            store.append(&mut disk, &[5; 30])?
-        } else {
-            store.put(&mut disk, &[7; 300])?
-        };
+        if store.entries() == 32 {
+            store = store.put(&mut disk, &[7; 300])?;
+        }
+        assert!(rt; store.entries() < 32);
+        store = store.append(&mut disk, &[5; 30])?;
     }
     let spent = start.elapsed(&rt)?;
-    eprintln!(rt; "100,000 commits: {} ms", spent.as_millis())?;
+    eprintln!(rt; "100,000 entries: {} ms", spent.as_millis())?;
     Ok(())
 }

@@ -5,16 +5,16 @@ use Rattle.zb_disk.specs.Memory.{Medium, refuses, counted, stored, memory_tells,
 use Rattle.zb_disk.proofs.Calls.{write_ok, write_err}
 use Rattle.zb_disk.proofs.memory.MemDiskDisk.write.Goals as goal
 
-pub returns-then-refuses_call : goal.returns-then-refuses_call
-returns-then-refuses_call c =
+pub returns-then-refuses_call-clause-write : goal.returns-then-refuses_call-clause-write
+returns-then-refuses_call-clause-write c =
     let m = c.args.self.now in
     let after = c.refuses_call.ensures.after in
     let refused : refuses m.arming 0 ≡ true = sym c.refuses_call.ensures.refused ∙ c.if-refuses_call.true in
     let later = subst (λ (n : Medium). m.faults ≤ n.faults) after c.refuses_call.ensures.later in
     subst (λ (n : Medium). IsWrite {T = Unit {0}} {E = Failed} memory_tells c.args.at c.args.bytes.now (memory_view m) (memory_view n) (Err (record {}))) (sym after) (write_err m c.args.at c.args.bytes.now (record {}) refused later)
 
-pub returns : goal.returns
-returns c =
+pub returns-clause-write : goal.returns-clause-write
+returns-clause-write c =
     let m = c.args.self.now in
     let after = c.refuses_call.ensures.after in
     let goes : refuses m.arming 0 ≡ false = sym c.refuses_call.ensures.refused ∙ c.if-refuses_call.false in

@@ -1,0 +1,24 @@
+-- What stands on a disk in memory once the power is back, after a stop or a failure inside a commit.
+use Rattle.std.specs.Prelude.{ℕ, ◌==◌, ◌&&◌, ◌||◌, List, [], ◌∷◌, Bool, true, nat_lt, if◌then◌else◌}
+use Rattle.zb_store.specs.Layout.{open_gate}
+
+-- Whether the one gate that is unsynced then reads open: by the first byte that the stop leaves, or as it was written
+-- where the stop leaves none.
+abbrev pub reads_open : List ℕ → ℕ → Bool
+reads_open [] written = written == open_gate
+reads_open (b ∷ torn) written = b == open_gate
+
+-- whether a commit stands that a stop ended after so many writes and syncs
+abbrev pub stop_commits : ℕ → List ℕ → Bool
+stop_commits calls torn = if calls == 3 then reads_open torn open_gate else nat_lt 3 calls
+
+-- whether one stands whose write or sync of that number failed, counted from 1
+abbrev pub failure_commits : ℕ → Bool
+failure_commits call = nat_lt 3 call
+
+-- whether the gates of both slots are open after a `put` that a stop ended, or a failure
+abbrev pub stop_opens_both : ℕ → List ℕ → Bool
+stop_opens_both calls torn = if calls == 3 then reads_open torn open_gate else (if calls == 4 then true else (calls == 5 && reads_open torn 0))
+
+abbrev pub failure_opens_both : ℕ → Bool
+failure_opens_both call = call == 4 || call == 5
