@@ -22,3 +22,5 @@ mod CountedRuns
 mod LockoutDeeds
 mod ConfirmsLines
 mod ConfirmsRuns
+mod RecordLaws
+mod RecordBack

@@ -2,3 +2,4 @@ pub mod Opening
 pub mod Lockout
 pub mod Counting
 pub mod Commanding
+pub mod Records

@@ -2,21 +2,25 @@
 //! a function with an empty body; docs/THEOREMS.md says it in words.
 #![tactic(auto)]
 
-ghost use Rattle.std.specs.Prelude.{◌≡◌, ◌≤◌, ◌+◌, ◌++◌, min, ℕ, true, List, Option, Some, [], fold};
+ghost use Rattle.std.specs.Prelude.{◌≡◌, ◌<◌, ◌≤◌, ◌+◌, ◌++◌, min, ℕ, true, List, Option, Some, [], fold};
+ghost use Rattle.std.specs.List.{AllByRecursion};
 ghost use Rattle.zb_laws.specs.Commanding.{OneCentre, SpellsConfirm};
 ghost use Rattle.zb_laws.specs.Counting.{TakesNext};
 ghost use Rattle.zb_laws.specs.Lockout.{RefusesOutsiders};
 ghost use Rattle.zb_laws.specs.Opening.{Opens};
+ghost use Rattle.zb_laws.specs.Records.{FitsRecord, state_in};
 ghost use Rattle.zb_model.specs.Claims.{Confirms, Each, Fresh, Lawful, Once};
 ghost use Rattle.zb_model.specs.Answer.{Answer, floor_for, reserve_of, stored_floor};
 ghost use Rattle.zb_model.specs.Data.{Sealing, Tier};
+ghost use Rattle.zb_model.specs.Fits.{keys_differ};
 ghost use Rattle.zb_model.specs.Lines.{LogLine};
 ghost use Rattle.zb_model.specs.Play.{World, stored_lines};
 ghost use Rattle.zb_model.specs.Readings.{heard_line, state_of};
+ghost use Rattle.zb_model.specs.Record.{record_of};
 ghost use Rattle.zb_model.specs.Rules.{Sending, Setting};
 ghost use Rattle.zb_model.specs.Schedules.{IsSchedule};
 ghost use Rattle.zb_model.specs.Secrets.{private};
-ghost use Rattle.zb_model.specs.State.{NodeState, applied_all, most, next_counter, stored_limit};
+ghost use Rattle.zb_model.specs.State.{NodeState, after_boot, applied_all, most, next_counter, shown, stored_limit};
 ghost use Rattle.zb_model.specs.Tools.{Tools};
 ghost use Rattle.zb_model.specs.Transcript.{run_lines, transcript};
 
@@ -80,4 +84,16 @@ pub fn a_reserve_is_one_block()
 pub fn a_floor_is_one_block()
     ensures { (c : Setting) (s : NodeState) (t : Sealing) (v : ℕ) → floor_for c s t ≡ Some v
         → (stored_floor t s ≤ t.counter) × (v ≡ min (t.counter + c.me.in_block) most) }
+{}
+
+/// The record of a state is read back as that state after a boot: counters go on from their limits, floors are the stored ones,
+/// and a dropped network key has none. The state's keys have 16 bytes, its numbers fit their fields, and its active key has a row.
+pub fn a_record_is_read_back()
+    ensures { (s : NodeState) → FitsRecord s → state_in (record_of s) ≡ Some (shown (after_boot s)) }
+{}
+
+/// Bytes that are read as a state whose keys differ are the record of that state, and a boot leaves that state as it is.
+pub fn what_is_read_has_these_bytes_as_its_record()
+    ensures { (bytes : List ℕ) (s : NodeState) → AllByRecursion (λ b. b < 256) bytes → state_in bytes ≡ Some s → keys_differ s ≡ true
+        → (record_of s ≡ bytes) × (shown (after_boot s) ≡ s) }
 {}
