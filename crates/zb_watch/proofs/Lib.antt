@@ -1,2 +1,14 @@
 pub mod Alike
+pub mod Truth
+pub mod Learning
+pub mod Owners
+pub mod Settling
+pub mod Declaring
+pub mod TermOrder
 pub mod Exposed
+pub mod Growth
+pub mod Outsiders
+pub mod Advancing
+pub mod Found
+pub mod Effects
+pub mod Starting

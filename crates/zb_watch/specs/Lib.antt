@@ -1,3 +1,10 @@
 pub mod Sets
+pub mod Exposure
+pub mod Terms
+pub mod Origins
+pub mod Passing
+pub mod Nodes
 pub mod Carrying
 pub mod Closure
+pub mod Standing
+pub mod Readers

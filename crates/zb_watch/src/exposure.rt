@@ -1,4 +1,8 @@
 //! What outsiders may know, and whether they forged with no more than that.
+ghost use Rattle.std.specs.Prelude.{◌≡◌, ◌||◌, ◌&&◌, ◌∷◌, [], ◌<◌, ◌^◌, ℕ, List, OnOk, IfOk, bytes_eq, nat_eq, true, false};
+ghost use Rattle.zb_watch.specs.Exposure.{was_removed, IsSettled, Learns};
+ghost use Rattle.zb_watch.specs.Sets.{has, is_carried, is_key, is_node, node_has};
+
 use crate::holdings::Holdings;
 use crate::keys::Keys;
 use std::alloc::{AllocError, Global};
@@ -11,10 +15,11 @@ pub const WELL_KNOWN: Key = Key(*b"ZigBeeAlliance09");
 /// What outsiders may know: the well-known key, what removed devices ever held, and what all that opens.
 #[derive(Drop)]
 pub struct Exposure {
-    /// The keys that outsiders may know. Whatever a term carries under one of them is among them too.
+    /// The keys that outsiders may know: the least set that has the well-known key and what removed devices ever held,
+    /// and with the base key of a term also the key that the term carries.
     pub known: Keys,
-    /// The keys that terms carry, by the base keys of these terms, as long as these aren't known.
-    pub waiting: Holdings<Key>,
+    /// The keys that terms carry, by the base keys of these terms.
+    pub carried: Holdings<Key>,
     /// The keys that each device ever held.
     pub ever: Holdings<Eui>,
     /// The devices that were removed.
@@ -25,67 +30,127 @@ pub struct Exposure {
 
 impl Exposure {
     /// Before the first line.
-    pub fn new(alloc: Global) -> Result<Exposure, AllocError> {
+    pub fn new(alloc: Global) -> Result<Exposure, AllocError>
+        ensures settled { IfOk result (λ e. IsSettled e) }
+        ensures ever { IfOk result (λ e. (d : ℕ) (k : List ℕ) → node_has e.ever d k ≡ false) }
+        ensures removed { IfOk result (λ e. (d : ℕ) → was_removed e d ≡ false) }
+        ensures carried { IfOk result (λ e. (b k : List ℕ) → is_carried e.carried b k ≡ false) }
+        ensures based { IfOk result (λ e. e.based ≡ true) }
+    {
         let mut exposure = Exposure {
             known: Keys::new(alloc),
-            waiting: Holdings::new(alloc),
+            carried: Holdings::new(alloc),
             ever: Holdings::new(alloc),
             removed: BTreeSet::new(alloc),
             based: true,
         };
-        exposure.learn(alloc, WELL_KNOWN)?;
+        learn_one(alloc, &mut exposure.known, &exposure.carried, WELL_KNOWN)?;
         Ok(exposure)
     }
 
-    /// A node came to hold a key.
-    pub fn hold(&mut self, alloc: Global, device: Eui, key: Key) -> Result<(), AllocError> {
+    /// A node, if it was declared, came to hold a key.
+    pub fn hold(&mut self, alloc: Global, node: Option<Eui>, key: Key) -> Result<(), AllocError>
+        ensures settled { OnOk result (IsSettled self.old → IsSettled self.new) }
+        ensures ever { OnOk result ((d : ℕ) (k : List ℕ) → node_has self.new.ever d k ≡ (node_has self.old.ever d k || (is_node node d && bytes_eq k key.0))) }
+        ensures removed { OnOk result (self.new.removed ≡ self.old.removed) }
+        ensures carried { OnOk result (self.new.carried ≡ self.old.carried) }
+        ensures based { OnOk result (self.new.based ≡ self.old.based) }
+    {
+        match node {
+            Some(device) => self.hold_one(alloc, device, key),
+            None => Ok(()),
+        }
+    }
+
+    fn hold_one(&mut self, alloc: Global, device: Eui, key: Key) -> Result<(), AllocError>
+        ensures settled { OnOk result (IsSettled self.old → IsSettled self.new) }
+        ensures ever { OnOk result ((d : ℕ) (k : List ℕ) → node_has self.new.ever d k ≡ (node_has self.old.ever d k || (nat_eq d device.0 && bytes_eq k key.0))) }
+        ensures removed { OnOk result (self.new.removed ≡ self.old.removed) }
+        ensures carried { OnOk result (self.new.carried ≡ self.old.carried) }
+        ensures based { OnOk result (self.new.based ≡ self.old.based) }
+    {
         self.ever.add(alloc, device, key)?;
         if self.removed.contains(&device) {
-            self.learn(alloc, key)?;
+            learn_one(alloc, &mut self.known, &self.carried, key)?;
         }
         Ok(())
     }
 
     /// A device was removed: outsiders may hold what it ever held.
-    pub fn remove(&mut self, alloc: Global, device: Eui) -> Result<(), AllocError> {
+    pub fn remove(&mut self, alloc: Global, device: Eui) -> Result<(), AllocError>
+        ensures settled { OnOk result (IsSettled self.old → IsSettled self.new) }
+        ensures ever { OnOk result (self.new.ever ≡ self.old.ever) }
+        ensures removed { OnOk result ((d : ℕ) → was_removed self.new d ≡ (was_removed self.old d || nat_eq d device.0)) }
+        ensures in_range { device.0 < 2 ^ 64 }
+        ensures carried { OnOk result (self.new.carried ≡ self.old.carried) }
+        ensures based { OnOk result (self.new.based ≡ self.old.based) }
+    {
         if self.removed.insert(device)? {
             let mut keys = Vec::new(alloc);
-            keys.extend_from_slice(self.ever.of(&device))?;
-            self.learn_all(alloc, keys)?;
+            self.ever.append_to(&device, &mut keys)?;
+            learn(&mut self.known, &self.carried, keys)?;
         }
         Ok(())
     }
 
-    /// A term carries a key.
-    pub fn carry(&mut self, alloc: Global, base: Key, key: Key) -> Result<(), AllocError> {
-        if self.known.has(&base) {
-            self.learn(alloc, key)
-        } else {
-            self.waiting.add(alloc, base, key)
+    /// A term under a base key carries a key, or none.
+    pub fn carry(&mut self, alloc: Global, base: Key, key: Option<Key>) -> Result<(), AllocError>
+        ensures settled { OnOk result (IsSettled self.old → IsSettled self.new) }
+        ensures ever { OnOk result (self.new.ever ≡ self.old.ever) }
+        ensures removed { OnOk result (self.new.removed ≡ self.old.removed) }
+        ensures carried { OnOk result ((b k : List ℕ) → is_carried self.new.carried b k ≡ (is_carried self.old.carried b k || (bytes_eq b base.0 && is_key key k))) }
+        ensures based { OnOk result (self.new.based ≡ self.old.based) }
+    {
+        match key {
+            Some(key) => self.carry_one(alloc, base, key),
+            None => Ok(()),
         }
+    }
+
+    fn carry_one(&mut self, alloc: Global, base: Key, key: Key) -> Result<(), AllocError>
+        ensures settled { OnOk result (IsSettled self.old → IsSettled self.new) }
+        ensures ever { OnOk result (self.new.ever ≡ self.old.ever) }
+        ensures removed { OnOk result (self.new.removed ≡ self.old.removed) }
+        ensures carried { OnOk result ((b k : List ℕ) → is_carried self.new.carried b k ≡ (is_carried self.old.carried b k || (bytes_eq b base.0 && bytes_eq k key.0))) }
+        ensures based { OnOk result (self.new.based ≡ self.old.based) }
+    {
+        self.carried.add(alloc, base, key)?;
+        if self.known.has(&base) {
+            learn_one(alloc, &mut self.known, &self.carried, key)?;
+        }
+        Ok(())
     }
 
     /// A term was forged under a base key.
-    pub fn forge(&mut self, base: &Key) {
-        if !self.known.has(base) {
-            self.based = false;
+    pub fn forge(&mut self, base: &Key)
+        ensures { self.new ≡ record self.old { based = self.old.based && has self.old.known base.now.0 } }
+    {
+        self.based = self.based && self.known.has(base);
+    }
+}
+
+fn learn_one(
+    alloc: Global,
+    known: &mut Keys,
+    carried: &Holdings<Key>,
+    key: Key,
+) -> Result<(), AllocError>
+    ensures { OnOk result (Learns carried.now known.old known.new (key ∷ [])) }
+{
+    let mut keys = Vec::new(alloc);
+    keys.push(key)?;
+    learn(known, carried, keys)?;
+    Ok(())
+}
+
+/// Learns keys, and all that comes out under them.
+fn learn(known: &mut Keys, carried: &Holdings<Key>, mut keys: Vec<Key>) -> Result<(), AllocError>
+    ensures { OnOk result (Learns carried.now known.old known.new keys.items) }
+{
+    while let Some(key) = keys.pop() {
+        if known.add(key)? {
+            carried.append_to(&key, &mut keys)?;
         }
     }
-
-    fn learn(&mut self, alloc: Global, key: Key) -> Result<(), AllocError> {
-        let mut keys = Vec::new(alloc);
-        keys.push(key)?;
-        self.learn_all(alloc, keys)
-    }
-
-    /// Learns the keys, and all that comes out under them.
-    fn learn_all(&mut self, alloc: Global, mut keys: Vec<Key>) -> Result<(), AllocError> {
-        while let Some(key) = keys.pop() {
-            if self.known.add(key)? {
-                let opened = self.waiting.take(alloc, &key);
-                keys.extend_from_slice(opened.as_slice())?;
-            }
-        }
-        Ok(())
-    }
+    Ok(())
 }

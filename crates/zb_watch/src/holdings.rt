@@ -1,58 +1,96 @@
 //! Keys by their owner.
-ghost use Rattle.std.specs.Prelude.{◌≡◌, ◌+◌, length, sum_by, unwrap_or};
-ghost use Rattle.std.specs.Option.{option_map};
-ghost use Rattle.std.specs.BTreeMap.{get, values};
+ghost use Rattle.std.specs.Prelude.{◌≡◌, ◌||◌, ◌&&◌, ◌++◌, ℕ, List, OnOk, bytes_eq, false};
+ghost use Rattle.std.specs.Ordering.{is_eq};
+ghost use Rattle.std.specs.BTreeMap.{get};
+ghost use Rattle.zb_watch.specs.Origins.{carried_under};
+ghost use Rattle.zb_watch.specs.Sets.{eui_cmp, held, is_node, keys_at, node_has};
 
+use crate::keys::Keys;
 use std::alloc::{AllocError, Global};
 use std::collections::BTreeMap;
-use zb_base::Key;
+use zb_base::{Eui, Key};
 
-/// For each owner the keys that were added for it, in order, each once.
+/// For each owner the keys that were added for it.
 #[derive(Drop)]
 pub struct Holdings<O: Ord> {
-    pub lists: BTreeMap<O, Vec<Key>>,
+    pub sets: BTreeMap<O, Keys>,
 }
 
 impl<O: Ord + Drop> Holdings<O> {
     /// No keys.
-    pub fn new(alloc: Global) -> Holdings<O> {
+    pub fn new(alloc: Global) -> Holdings<O>
+        ensures { (owner : O) (k : List ℕ) → held O.cmp result owner k ≡ false }
+    {
         Holdings {
-            lists: BTreeMap::new(alloc),
-        }
-    }
-
-    /// The keys of an owner.
-    pub fn of(&self, owner: &O) -> &[Key] {
-        match self.lists.get(owner) {
-            Some(list) => list.as_slice(),
-            None => &[],
+            sets: BTreeMap::new(alloc),
         }
     }
 
     /// Whether the owner has the key.
-    pub fn has(&self, owner: &O, key: &Key) -> bool {
-        self.of(owner).iter().any(|other| other == key)
+    pub fn has(&self, owner: &O, key: &Key) -> bool
+        ensures { result ≡ held O.cmp self.now owner.now key.now.0 }
+    {
+        match self.sets.get(owner) {
+            Some(keys) => keys.has(key),
+            None => false,
+        }
     }
 
-    /// Adds a key, unless the owner has it.
-    pub fn add(&mut self, alloc: Global, owner: O, key: Key) -> Result<(), AllocError> {
-        if self.has(&owner, &key) {
-            return Ok(());
-        }
-        let mut list = self.take(alloc, &owner);
-        list.push(key)?;
-        self.lists.insert(owner, list)?;
+    /// Adds a key for an owner.
+    pub fn add(&mut self, alloc: Global, owner: O, key: Key) -> Result<(), AllocError>
+        ensures { OnOk result ((o : O) (k : List ℕ) → held O.cmp self.new o k ≡ (held O.cmp self.old o k || (is_eq (O.cmp owner o) && bytes_eq k key.0))) }
+    {
+        let mut keys = match self.sets.remove(&owner) {
+            Some(keys) => keys,
+            None => Keys::new(alloc),
+        };
+        keys.add(key)?;
+        self.sets.insert(owner, keys)?;
         Ok(())
     }
 
-    /// Takes the keys of an owner out.
-    #[tactic(auto, using(crate::proofs::Alike::taken_some, crate::proofs::Alike::taken_none))]
-    pub fn take(&mut self, alloc: Global, owner: &O) -> Vec<Key>
-        ensures size { sum_by (λ list. length list.items) (values self.new.lists) + length result.items ≡ sum_by (λ list. length list.items) (values self.old.lists) }
+    /// Puts the keys of an owner behind those of a list.
+    pub fn append_to(&self, owner: &O, list: &mut Vec<Key>) -> Result<(), AllocError>
+        ensures { OnOk result (list.new.items ≡ list.old.items ++ keys_at O.cmp self.now owner.now) }
     {
-        match self.lists.remove(owner) {
-            Some(list) => list,
-            None => Vec::new(alloc),
+        match self.sets.get(owner) {
+            Some(keys) => keys.append_to(list),
+            None => Ok(()),
+        }
+    }
+}
+
+impl Holdings<Key> {
+    /// Whether one of the keys that an owner has elsewhere is an owner here, and has the key.
+    pub fn any_has(&self, owners: &Holdings<Eui>, eui: &Eui, key: &Key) -> bool
+        ensures { result ≡ carried_under self.now (keys_at eui_cmp owners.now eui.now) key.now.0 }
+    {
+        match owners.sets.get(eui) {
+            Some(keys) => self.one_has(keys, key),
+            None => false,
+        }
+    }
+
+    fn one_has(&self, owners: &Keys, key: &Key) -> bool
+        ensures { result ≡ carried_under self.now owners.now.keys.keys key.now.0 }
+    {
+        for owner in &owners.keys {
+            if self.has(owner, key) {
+                return true;
+            }
+        }
+        false
+    }
+}
+
+impl Holdings<Eui> {
+    /// Adds a key for a node, if there is one.
+    pub fn add_at(&mut self, alloc: Global, node: Option<Eui>, key: Key) -> Result<(), AllocError>
+        ensures { OnOk result ((n : ℕ) (k : List ℕ) → node_has self.new n k ≡ (node_has self.old n k || (is_node node n && bytes_eq k key.0))) }
+    {
+        match node {
+            Some(eui) => self.add(alloc, eui, key),
+            None => Ok(()),
         }
     }
 }

@@ -1,5 +1,5 @@
 //! Sets of keys.
-ghost use Rattle.std.specs.Prelude.{◌≡◌, ◌||◌, ℕ, List, bytes_eq, IfOk, OnOk, false, not};
+ghost use Rattle.std.specs.Prelude.{◌≡◌, ◌||◌, ◌++◌, ℕ, List, bytes_eq, IfOk, OnOk, false, not};
 ghost use Rattle.zb_watch.specs.Sets.{has};
 
 use std::alloc::{AllocError, Global};
@@ -36,5 +36,15 @@ impl Keys {
     {
         let new = self.keys.insert(key)?;
         Ok(new)
+    }
+
+    /// Puts the keys behind those of a list.
+    pub fn append_to(&self, list: &mut Vec<Key>) -> Result<(), AllocError>
+        ensures { OnOk result (list.new.items ≡ list.old.items ++ self.now.keys.keys) }
+    {
+        for key in &self.keys {
+            list.push(*key)?;
+        }
+        Ok(())
     }
 }

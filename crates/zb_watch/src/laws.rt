@@ -1,11 +1,12 @@
-//! What outsiders may know is the least set that has the start and is closed under what terms carry: laws of the
-//! definitions, on a function that does nothing.
+//! Laws of the definitions, on functions that do nothing.
 ghost use Rattle.std.specs.Prelude.{◌≡◌, List, Bool, true};
 ghost use Rattle.zb_model.specs.Data.{Bytes};
 ghost use Rattle.zb_model.specs.Lines.{LogLine};
 ghost use Rattle.zb_model.specs.Secrets.{exposed, holds, terms_of};
 ghost use Rattle.zb_model.specs.Tools.{Tools};
 ghost use Rattle.zb_watch.specs.Closure.{IsClosed};
+ghost use Rattle.zb_watch.specs.Readers.{with_readers};
+ghost use Rattle.zb_watch.specs.Standing.{FindKeys};
 
 /// The exposed keys have the start, have what a term carries wherever they have its base key, and are no more than any such
 /// set of keys has.
@@ -16,4 +17,11 @@ pub fn exposed_keys_are_the_least_closed_set()
     ensures least { (tools : Tools) (h : List LogLine) (from : List Bytes) (S : Bytes → Bool)
         → ((k : Bytes) → holds from k ≡ true → S k ≡ true) → IsClosed tools S (terms_of h)
         → (k : Bytes) → holds (exposed tools h from) k ≡ true → S k ≡ true }
+{}
+
+/// Tools that read APS frames and commands as this program does find the keys in them that this program finds, so there
+/// are tools of which the contract of the watch speaks.
+#[tactic(auto, using(crate::proofs::Starting::readers_find))]
+pub fn tools_with_these_readers_find_their_keys()
+    ensures { (tools : Tools) → FindKeys (with_readers tools) }
 {}

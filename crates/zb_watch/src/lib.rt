@@ -10,6 +10,7 @@ pub mod laws;
 pub mod nodes;
 pub mod origins;
 pub mod passing;
+pub mod terms;
 pub mod watch;
 
 pub use carrying::carried;

@@ -1,0 +1,117 @@
+-- A watch over no lines, its two words, and forms that answers share.
+use Rattle.std.proofs.Common.{◌≡◌, ℕ, List, [], ◌∷◌, Bool, true, false, not, ◌||◌, ◌&&◌, Option, Some, None, refl, ap, sym, ◌∙◌, bytes_eq, nat_eq, Result, Ok, Err}
+use Rattle.std.specs.List.{list_any, flat_map}
+use Rattle.std.specs.Result.{OnOk}
+use Rattle.std.specs.Option.{is_none, option_map}
+use Rattle.std.specs.Prelude.{if◌then◌else◌}
+use Rattle.zb_aps.specs.Reading.{frame_of}
+use Rattle.zb_aps.specs.declared.auxiliary.ApsAux.{ApsAux}
+use Rattle.zb_aps.specs.declared.fault.ApsError.{ApsError}
+use Rattle.zb_aps.specs.declared.frame.ApsFrame.{ApsFrame}
+use Rattle.zb_cmd.specs.Reading.{command_of}
+use Rattle.zb_cmd.specs.declared.command.Command.{Command}
+use Rattle.zb_cmd.specs.declared.command.Command.TheVariants as command
+use Rattle.zb_cmd.specs.declared.fault.CmdError.{CmdError}
+use Rattle.zb_cmd.specs.declared.fault.CmdError.TheVariants as fault
+use Rattle.zb_base.specs.declared.address.Eui.{Eui}
+use Rattle.zb_base.specs.declared.key.Key.{Key}
+use Rattle.zb_model.specs.Data.{Bytes, nobody}
+use Rattle.zb_model.specs.Lines.{LogLine}
+use Rattle.zb_model.specs.Readings.{stations_of}
+use Rattle.zb_model.specs.Secrets.{clear_key, key_of_sight, unsealed_key, bases, codes_of, each_line, ever, ideal, network_keys, passes_on, private, removed_devices, terms_of}
+use Rattle.zb_model.specs.Tools.{Tools}
+use Rattle.zb_seal.specs.declared.term.Term.{Term}
+use Rattle.zb_watch.specs.Exposure.{IsSettled, was_removed}
+use Rattle.zb_watch.specs.Nodes.{Declares}
+use Rattle.zb_watch.specs.Origins.{came}
+use Rattle.zb_watch.specs.Sets.{has, is_carried, is_node, node_has}
+use Rattle.zb_watch.specs.Carrying.{command_key, frame_key, is_command}
+use Rattle.zb_watch.specs.Readers.{aps_sight, auxiliary, order_sight, with_readers}
+use Rattle.zb_watch.specs.Standing.{FindKeys, Stands}
+use Rattle.zb_watch.specs.Terms.{has_term}
+use Rattle.zb_watch.specs.declared.exposure.Exposure.{Exposure}
+use Rattle.zb_watch.specs.declared.holdings.Holdings.{Holdings}
+use Rattle.zb_watch.specs.declared.nodes.Nodes.{Nodes}
+use Rattle.zb_watch.specs.declared.origins.Origins.{Origins}
+use Rattle.zb_watch.specs.declared.passing.Passing.{Passing}
+use Rattle.zb_watch.specs.declared.watch.Watch.{Watch}
+use Rattle.zb_watch.proofs.Outsiders.{known_is_exposed}
+
+-- A node, if there is one, has one more key.
+abbrev pub node_has_more : Holdings Eui → Holdings Eui → Option Eui → Key → Type 0
+node_has_more old new node key = (n : ℕ) (k : Bytes) → node_has new n k ≡ (node_has old n k || (is_node node n && bytes_eq k key.0))
+
+-- A node, if there is one, took a key in.
+abbrev pub taken_in : Origins → Holdings Key → Option Eui → Bytes → Origins
+taken_in o carried node key = record o { ideal = o.ideal && came o carried node key }
+
+pub on_ok : {T E : Type 0} (r : Result T E) (P Q : Type 0) → (P → Q) → OnOk r P → OnOk r Q
+on_ok (Ok x) P Q f p = f p
+on_ok (Err e) P Q f p = tt
+
+pub on_ok_all : {T E : Type 0} (r : Result T E) (P : Type 0) → P → OnOk r P
+on_ok_all (Ok x) P p = p
+on_ok_all (Err e) P p = tt
+
+pub private_is : (tools : Tools) (w : Watch) (h : List LogLine) → Stands tools w h → (w.exposure.based && not w.passing.passed_on) ≡ private tools h
+unfolding private
+private_is tools w h stands = rw (stands.based, stands.passed_on) refl
+
+module _ (tools : Tools) (nodes : Nodes) (origins : Origins) (passing : Passing) (exposure : Exposure) where
+  pub new_stands : Declares nodes [] → ((t : Term) → has_term origins.terms t ≡ false) → ((n : ℕ) (k : Bytes) → node_has origins.codes n k ≡ false) → ((n : ℕ) (k : Bytes) → node_has origins.bases n k ≡ false)
+      → origins.ideal ≡ true → ((k : Bytes) → has passing.network k ≡ false) → ((k : Bytes) → has passing.forged k ≡ false) → passing.passed_on ≡ false
+      → IsSettled exposure → ((n : ℕ) (k : Bytes) → node_has exposure.ever n k ≡ false) → ((d : ℕ) → was_removed exposure d ≡ false) → ((b k : Bytes) → is_carried exposure.carried b k ≡ false) → exposure.based ≡ true
+      → Stands tools (record { nodes = nodes; origins = origins; passing = passing; exposure = exposure }) []
+  unfolding stations_of terms_of ever codes_of bases removed_devices network_keys passes_on ideal each_line
+  new_stands declares terms codes bases ideal network forged passed settled ever removed carried based = record {
+    nodes = declares;
+    terms = terms;
+    carried = carried;
+    ever = λ n some k. ever n k;
+    codes = λ n some k. codes n k;
+    bases = λ n some k. bases n k;
+    removed = removed;
+    somebody = refl;
+    known = known_is_exposed tools exposure [] carried (λ n some k. ever n k) removed refl settled;
+    network = network;
+    forged = forged;
+    passed_on = passed;
+    ideal = ideal;
+    based = based;
+  }
+
+-- The model's tools find what this program's readers find, where they read as these do.
+
+command_found : (r : Result Command CmdError) → key_of_sight (order_sight r) ≡ command_key r
+command_found (Ok (command.TransportNetwork key sequence destination source)) = refl
+command_found (Ok (command.TransportApplication key partner initiator)) = refl
+command_found (Ok (command.TransportLink key destination source)) = refl
+command_found (Ok (command.Update device short status)) = refl
+command_found (Ok (command.Remove target)) = refl
+command_found (Ok (command.RequestApplication partner)) = refl
+command_found (Ok command.RequestLink) = refl
+command_found (Ok (command.Switch sequence)) = refl
+command_found (Ok (command.Tunnel destination inner)) = refl
+command_found (Ok (command.Verify kind source hash)) = refl
+command_found (Ok (command.Confirm status kind destination)) = refl
+command_found (Err (fault.Unknown id)) = refl
+command_found (Err (fault.KeyType found)) = refl
+command_found (Err (fault.Short at)) = refl
+command_found (Err (fault.Trailing count)) = refl
+
+unsealed_found : (tools : Tools) (f : ApsFrame) (aux : Option ApsAux) (b : Bool)
+    → unsealed_key (with_readers tools) (record { is_command = b; auxiliary = option_map auxiliary aux; body = f.body.items }) (option_map auxiliary aux)
+    ≡ (if is_none aux && b then command_key (command_of f.body.items) else None)
+unsealed_found tools f None true = command_found (command_of f.body.items)
+unsealed_found tools f None false = refl
+unsealed_found tools f (Some aux) b = refl
+
+frame_found : (tools : Tools) (r : Result ApsFrame ApsError) → clear_key (with_readers tools) (aps_sight r) ≡ frame_key r
+frame_found tools (Ok f) = unsealed_found tools f f.aux (is_command f.header.control)
+frame_found tools (Err e) = refl
+
+pub readers_find : (tools : Tools) → FindKeys (with_readers tools)
+readers_find tools = record {
+  in_command = λ bytes. command_found (command_of bytes);
+  in_frame = λ bytes. frame_found tools (frame_of bytes);
+}

@@ -1,0 +1,8 @@
+use Rattle.zb_base.specs.declared.address.Eui.{Eui}
+use Rattle.zb_watch.proofs.origins.Origins.new.Goals as goal
+
+pub returns-clause-codes : goal.returns-clause-codes
+returns-clause-codes c = λ n k. let o : Eui = record { 0 = n } in c.new-2.ensures o k
+
+pub returns-clause-bases : goal.returns-clause-bases
+returns-clause-bases c = λ n k. let o : Eui = record { 0 = n } in c.new-3.ensures o k

@@ -1,0 +1,14 @@
+use Rattle.std.proofs.Common.{◌≡◌, ◌∙◌, ◌&&◌, not, Bool, Option, None, Some, ap, sym, subst, true, false}
+use Rattle.std.specs.Prelude.{if◌then◌else◌}
+use Rattle.zb_base.specs.declared.address.Eui.{Eui}
+use Rattle.zb_watch.specs.declared.exposure.Exposure.{Exposure}
+use Rattle.zb_watch.specs.declared.origins.Origins.{Origins}
+use Rattle.zb_watch.specs.Nodes.{address_of, is_first_centre, is_joiner}
+use Rattle.zb_watch.specs.Origins.{came}
+use Rattle.zb_watch.proofs.Effects.{draw_follows}
+use Rattle.zb_watch.proofs.watch.Watch.draw.Goals as goal
+
+pub returns : goal.returns
+returns c =
+    λ tools h event centre find stands.
+    draw_follows tools c.args.self.now h stands c.args.key event centre c.network_key.new.self c.in_ok-network_key.ensures.network c.in_ok-network_key.ensures.forged c.in_ok-network_key.ensures.passed

@@ -1,0 +1,22 @@
+use Rattle.std.proofs.Common.{◌≡◌, ◌∙◌, ◌&&◌, not, Bool, Option, None, Some, ap, sym, subst, true, false}
+use Rattle.std.specs.Prelude.{if◌then◌else◌}
+use Rattle.zb_base.specs.declared.address.Eui.{Eui}
+use Rattle.zb_watch.specs.declared.exposure.Exposure.{Exposure}
+use Rattle.zb_watch.specs.declared.origins.Origins.{Origins}
+use Rattle.zb_watch.specs.Nodes.{address_of, is_first_centre, is_joiner}
+use Rattle.zb_watch.specs.Origins.{came}
+use Rattle.zb_watch.proofs.Effects.{Holds, given_net_follows}
+use Rattle.zb_watch.proofs.watch.Watch.given_net.Goals as goal
+
+pub returns : goal.returns
+returns c =
+    λ tools h sequence find stands.
+    let holds : Holds c.args.self.now.exposure c.hold.new.self c.named-node.result c.args.key = record {
+      settled = c.in_ok-hold.ensures.settled;
+      ever = c.in_ok-hold.ensures.ever;
+      removed = c.in_ok-hold.ensures.removed;
+      carried = c.in_ok-hold.ensures.carried;
+      based = c.in_ok-hold.ensures.based;
+    } in
+    given_net_follows tools c.args.self.now h stands c.args.node.now c.args.key sequence c.network_key.new.self c.hold.new.self c.in_ok-network_key.ensures.network c.in_ok-network_key.ensures.forged
+    c.in_ok-network_key.ensures.passed (subst (λ (n : Option Eui). Holds c.args.self.now.exposure c.hold.new.self n c.args.key) c.named-node.ensures holds)

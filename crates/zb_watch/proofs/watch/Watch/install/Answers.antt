@@ -1,0 +1,26 @@
+use Rattle.std.proofs.Common.{◌≡◌, ◌∙◌, ◌&&◌, not, Bool, Option, None, Some, ap, sym, subst, true, false}
+use Rattle.std.specs.Prelude.{if◌then◌else◌}
+use Rattle.zb_base.specs.declared.address.Eui.{Eui}
+use Rattle.zb_watch.specs.declared.exposure.Exposure.{Exposure}
+use Rattle.zb_watch.specs.declared.origins.Origins.{Origins}
+use Rattle.zb_watch.specs.Nodes.{address_of, is_first_centre, is_joiner}
+use Rattle.zb_watch.specs.Origins.{came}
+use Rattle.zb_watch.proofs.Effects.{Holds, install_follows}
+use Rattle.zb_watch.proofs.Starting.{taken_in}
+use Rattle.zb_watch.proofs.watch.Watch.install.Goals as goal
+
+pub returns : goal.returns
+returns c =
+    λ tools h event sequence find stands.
+    let holds : Holds c.args.self.now.exposure c.hold.new.self c.named-node.result c.args.key = record {
+      settled = c.in_ok-hold.ensures.settled;
+      ever = c.in_ok-hold.ensures.ever;
+      removed = c.in_ok-hold.ensures.removed;
+      carried = c.in_ok-hold.ensures.carried;
+      based = c.in_ok-hold.ensures.based;
+    } in
+    let joiner : c.joiner-joiner.result ≡ (if is_joiner c.args.self.now.nodes (address_of c.args.self.now.nodes c.args.node.now) then address_of c.args.self.now.nodes c.args.node.now else None) =
+    c.joiner-joiner.ensures ∙ ap (λ (n : Option Eui). if is_joiner c.args.self.now.nodes n then n else None) c.named-node.ensures in
+    install_follows tools c.args.self.now h stands c.args.node.now c.args.key event sequence c.take_in.new.self c.hold.new.self
+    (c.take_in.ensures ∙ ap (λ (n : Option Eui). taken_in c.args.self.now.origins c.args.self.now.exposure.carried n c.args.key.0) joiner)
+    (subst (λ (n : Option Eui). Holds c.args.self.now.exposure c.hold.new.self n c.args.key) c.named-node.ensures holds)

@@ -1,0 +1,28 @@
+use Rattle.std.proofs.Common.{◌≡◌, ◌∙◌, ◌&&◌, not, Bool, Option, None, Some, ap, sym, subst, true, false}
+use Rattle.std.specs.Prelude.{if◌then◌else◌}
+use Rattle.zb_base.specs.declared.address.Eui.{Eui}
+use Rattle.zb_watch.specs.declared.exposure.Exposure.{Exposure}
+use Rattle.zb_watch.specs.declared.origins.Origins.{Origins}
+use Rattle.zb_watch.specs.Nodes.{address_of, is_first_centre, is_joiner}
+use Rattle.zb_watch.specs.Origins.{came}
+use Rattle.zb_watch.proofs.Effects.{Holds, pair_follows}
+use Rattle.zb_watch.proofs.watch.Watch.pair.Goals as goal
+
+pub returns : goal.returns
+returns c =
+    λ tools h event node find stands.
+    let first : Holds c.args.self.now.exposure c.hold.new.self (Some c.args.first) c.args.key = record {
+      settled = c.in_ok-hold.ensures.settled;
+      ever = c.in_ok-hold.ensures.ever;
+      removed = c.in_ok-hold.ensures.removed;
+      carried = c.in_ok-hold.ensures.carried;
+      based = c.in_ok-hold.ensures.based;
+    } in
+    let second : Holds c.hold.new.self c.hold-2.new.self (Some c.args.second) c.args.key = record {
+      settled = c.in_ok-hold-2.ensures.settled;
+      ever = c.in_ok-hold-2.ensures.ever;
+      removed = c.in_ok-hold-2.ensures.removed;
+      carried = c.in_ok-hold-2.ensures.carried;
+      based = c.in_ok-hold-2.ensures.based;
+    } in
+    pair_follows tools c.args.self.now h stands c.args.first c.args.second c.args.key event node c.hold.new.self c.hold-2.new.self first second

@@ -1,0 +1,17 @@
+use Rattle.std.proofs.Common.{◌≡◌, ◌∙◌, ◌&&◌, not, Bool, Option, None, Some, ap, sym, subst, true, false}
+use Rattle.std.specs.Prelude.{if◌then◌else◌}
+use Rattle.zb_base.specs.declared.address.Eui.{Eui}
+use Rattle.zb_watch.specs.declared.exposure.Exposure.{Exposure}
+use Rattle.zb_watch.specs.declared.origins.Origins.{Origins}
+use Rattle.zb_watch.specs.Nodes.{address_of, is_first_centre, is_joiner}
+use Rattle.zb_watch.specs.Origins.{came}
+use Rattle.zb_watch.proofs.Effects.{seal_follows}
+use Rattle.zb_watch.proofs.watch.Watch.seal.Goals as goal
+
+pub returns : goal.returns
+returns c =
+    λ tools h event node find stands.
+    let from = c.in_ok-term.ensures in
+    let it = c.in_ok-carry.ensures in
+    seal_follows tools c.args.self.now h stands find c.args.term.now c.carried-key.result c.carried-key.ensures event node c.term.new.self c.carry.new.self from.terms from.codes from.bases from.ideal it.settled
+    it.ever it.removed it.carried it.based
