@@ -166,7 +166,7 @@ fn comments_empty_lines_carriage_returns_and_a_last_line_without_an_end_are_read
 
 #[test]
 fn other_lines_are_refused_at_the_first_bad_one(rt: HostRuntime) -> Result<(), Fail> {
-    let inputs: [(&[u8], &str); 23] = [
+    let inputs: [(&[u8], &str); 25] = [
         (b"boom\n", "refused 1 syntax"),
         (b"", "refused 1 no-centre"),
         (b"# no centre\n", "refused 2 no-centre"),
@@ -249,6 +249,11 @@ fn other_lines_are_refused_at_the_first_bad_one(rt: HostRuntime) -> Result<(), F
         (
             b"node c centre 00124B0000000001 0000 4 2\nsay d 0000 -\ntimer c\n",
             "refused 2 unknown-node",
+        ),
+        (b"#\n\nboom c\n", "refused 3 syntax"),
+        (
+            b"#\n#\n#\n#\n#\n#\n#\ndraw A0A1A2A3A4A5A6A7A8A9AAABACADAEAF\ndraw A0A1A2A3A4A5A6A7A8A9AAABACADAEAF\n",
+            "refused 9 draw-repeated",
         ),
     ];
     for (input, text) in inputs {
