@@ -1,3 +1,4 @@
+pub mod Lengths
 pub mod Ranges
 pub mod Seeds
 pub mod Texts

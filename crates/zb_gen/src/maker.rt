@@ -35,6 +35,7 @@ impl From<AllocError> for GenFault {
 }
 
 /// The made schedule of a start value for `n` routers and devices. Printed, it reads as itself.
+#[tactic(auto, using(crate::proofs::Lengths::made_length))]
 pub fn make(alloc: Global, start: u32, n: u32) -> Result<Schedule, GenFault>
     requires { (1 ≤ n) × (n ≤ 60) }
     ensures exact { Makes result (made start n) }
@@ -43,10 +44,6 @@ pub fn make(alloc: Global, start: u32, n: u32) -> Result<Schedule, GenFault>
 {
     let mut text = Vec::new(alloc);
     put_made(&mut text, start, n)?;
-    // A made text is far shorter than this.
-    if text.len() > 16_777_216 {
-        return Err(GenFault::NoMemory);
-    }
     match read(alloc, text.as_slice()) {
         Ok(schedule) => Ok(schedule),
         Err(OrMemory::Fault(SchedError { line, cause })) => Err(GenFault::Clash { line, cause }),
