@@ -1,5 +1,6 @@
 //! The host: a core, its store, and the rule that what goes out is stored first.
 ghost use Rattle.std.specs.Prelude.{if◌then◌else◌, Some, None, ◌≡◌, ◌≢◌, ◌==◌, ◌≤◌, ◌⊎◌, [], List, ℕ, length, get_or, Bool, true, false, is_some, IsTrue, IfOk, IfErr, OnOk, OnErr};
+ghost use Rattle.zb_base.specs.Config.{IsConfig};
 ghost use Rattle.zb_disk.specs.View.{IsStill};
 ghost use Rattle.zb_store.specs.Layout.{Standing, stands};
 ghost use Rattle.zb_store.specs.Steps.{WentThrough};
@@ -107,6 +108,8 @@ impl<C: Core> Host<C> {
 
     /// Makes the host of the node whose record and entries stand on the disk.
     pub fn boot<D: Disk>(alloc: Global, config: &Config, disk: &mut D) -> Result<Host<C>, HostFault>
+        requires config { IsConfig config.now }
+
         // Its core is that of the record and the entries that the disk as it reads stands for, and then every image stands
         // for them. Each image at each moment stands for what one at entry stood for.
         ensures step { IsBooted (record { tells = D.tells; state = D.state; restored = C.restored; recorded = C.recorded; payload = C.payload }) disk.old result disk.new }

@@ -1,6 +1,7 @@
 //! What a host needs of a node's policy.
 ghost use Rattle.std.specs.Prelude.{◌≡◌, ◌≢◌, ◌≤◌, ◌++◌, List, [], ℕ, length, take, get_or, IfOk, IfErr};
 ghost use Rattle.zb_change.specs.declared.change.Change.{Change as change};
+ghost use Rattle.zb_base.specs.Config.{IsConfig};
 ghost use Rattle.zb_host.specs.Plans.{Restored, gives, IsRestoreFault};
 
 use std::alloc::Global;
@@ -65,7 +66,8 @@ pub trait Core: Drop {
         ensures small { result ≤ 481 }
         ensures bytes { take result into.new ≡ payload changes.now.items };
 
-    /// Makes the core of a node from a record and the payloads behind it. `room` has 49,152 bytes.
+    /// Makes the core of a node from a record of at most 49,152 bytes and the payloads behind it, of at most 15,488 bytes.
+    /// `room` has 49,152 bytes.
     fn restore(
         alloc: Global,
         config: &Config,
@@ -73,7 +75,10 @@ pub trait Core: Drop {
         payloads: &[u8],
         room: &mut [u8],
     ) -> Result<Self, OrMemory<KeyError>>
-        requires { 49152 ≤ length room.old }
+        requires config { IsConfig config.now }
+        requires record_size { length content.now ≤ 49152 }
+        requires payloads_size { length payloads.now ≤ 15488 }
+        requires room { 49152 ≤ length room.old }
         ensures core { IfOk result (λ c. restored content.now payloads.now ≡ gives (recorded c)) }
         ensures fault { IfErr result (IsRestoreFault (restored content.now payloads.now)) };
 

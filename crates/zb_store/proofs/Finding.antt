@@ -1,9 +1,9 @@
 -- What the reads of a store find.
-use Rattle.std.proofs.Common.{◌≡◌, ◌≢◌, ◌⊎◌, inl, inr, ⊎_elim, ℕ, zero, suc, ◌+◌, ◌-◌, ◌*◌, ◌≤◌, ◌<◌, ◌&&◌, ◌||◌, ◌==◌, List, [], ◌∷◌, ◌++◌, length, get_or, take, drop, replicate, min, Option, Some, None, Bool, true, false, not, nat_le, nat_lt, if◌then◌else◌, refl, sym, ◌∙◌, ap, subst, arith, length-take, length-drop, length-append, get_or-take, get_or-drop, add-zero}
+use Rattle.std.proofs.Common.{◌≡◌, inl, inr, ℕ, zero, suc, ◌+◌, ◌-◌, ◌≤◌, ◌<◌, ◌&&◌, ◌||◌, ◌==◌, List, [], ◌∷◌, ◌++◌, length, get_or, take, drop, replicate, min, Option, Some, None, Bool, true, false, not, nat_le, nat_lt, if◌then◌else◌, refl, sym, ◌∙◌, ap, arith, length-take, length-drop, get_or-take, get_or-drop}
 use Rattle.std.specs.Int.{from_le_bytes, sum_through, byte_worth, byte_len, Width, w16, w32, w64}
 use Rattle.std.specs.List.{concat}
-use Rattle.std.proofs.lemmas.List.{take-take, drop-take, drop-drop, drop_all, take-append-le, take_all, get_or-append_right, get_or_append_left, get_or-replicate, get_or_past, append-nil, append_assoc, ext_get_or, length-replicate}
-use Rattle.std.proofs.lemmas.Bool.{cases_lt, cases_eq, cases_Bool, and_parts, and_right, eqb-true, leb-true, lt-leb}
+use Rattle.std.proofs.lemmas.List.{take-take, drop-drop, drop_all, take-append-le, get_or-append_right, get_or_append_left, get_or-replicate, get_or_past, append-nil, append_assoc}
+use Rattle.std.proofs.lemmas.Bool.{cases_lt, and_parts, and_right, eqb-true, leb-true, lt-leb}
 use Rattle.zb_disk.specs.View.{window}
 use Rattle.std.specs.Option.{MatchOption}
 use Rattle.zb_store.specs.declared.reading.Header.{Header}

@@ -1,12 +1,12 @@
 -- How runs of writes and syncs join.
-use Rattle.std.proofs.Common.{◌≡◌, ◌⊎◌, inl, inr, ⊎_elim, ℕ, ◌+◌, ◌-◌, ◌≤◌, ◌<◌, List, [], ◌∷◌, length, Bool, true, false, IsTrue, Result, Ok, Err, refl, sym, ◌∙◌, ap, subst, arith}
+use Rattle.std.proofs.Common.{◌≡◌, inl, inr, ℕ, ◌+◌, ◌-◌, List, [], ◌∷◌, length, IsTrue, Result, Ok, Err, refl, sym, ◌∙◌, ap, subst, arith}
 use Rattle.std.proofs.lemmas.Bool.{cases_lt}
-use Rattle.zb_base.specs.Outside.{risen, Rose, HasCause}
-use Rattle.zb_disk.specs.View.{Telling, View, Torn, Follows, Opens, Only, IsSame, IsStill, LeavesOnly, overwrite}
-use Rattle.zb_disk.specs.Calls.{IsForetold, IsCounted, IsWrite, IsSync}
+use Rattle.zb_base.specs.Outside.{HasCause}
+use Rattle.zb_disk.specs.View.{Telling, View, Torn, Only, IsStill, LeavesOnly, overwrite}
+use Rattle.zb_disk.specs.Calls.{IsCounted, IsWrite, IsSync}
 use Rattle.zb_disk.proofs.Moments.{started, goes_on, goes_through, weakened}
 use Rattle.zb_store.specs.Layout.{open_gate}
-use Rattle.zb_store.specs.Steps.{WentThrough, StoppedAfter, TornFrom, IsOpenRange, PlaceStop, IsPlaced, staged, gated, GateStop, IsStage, IsGated}
+use Rattle.zb_store.specs.Steps.{WentThrough, StoppedAfter, TornFrom, PlaceStop, IsPlaced, staged, GateStop, IsStage, IsGated}
 
 -- one call
 pub one_through : {T E : Type 0} {tells : Telling} {old new : View} {x : T} → IsCounted {T = T} {E = E} tells old new (Ok x) → WentThrough tells 1 old new

@@ -1,14 +1,12 @@
 -- What an image stands for after a torn write of the store.
-use Rattle.std.proofs.Common.{◌≡◌, ◌≢◌, ◌⊎◌, inl, inr, ⊎_elim, ℕ, zero, suc, ◌+◌, ◌-◌, ◌≤◌, ◌<◌, ◌^◌, List, [], ◌∷◌, ◌++◌, length, get_or, take, drop, Option, Some, None, Bool, true, false, not, refl, sym, ◌∙◌, ap, subst, arith, length-take, length-drop, length-append, get_or-take, get_or-drop, zero-add}
-use Rattle.std.proofs.lemmas.List.{take-take, drop-take, drop-drop, take_at, drop_at, append_assoc, append-nil, get_or_at, take-append-drop}
-use Rattle.std.proofs.lemmas.Bool.{cases_eq, cases_lt}
+use Rattle.std.proofs.Common.{◌≡◌, ◌≢◌, ℕ, suc, ◌+◌, ◌-◌, ◌≤◌, ◌<◌, ◌^◌, List, [], ◌∷◌, ◌++◌, length, get_or, take, drop, Some, Bool, not, refl, sym, ◌∙◌, ap, subst, arith, length-take, length-drop, length-append, get_or-take, get_or-drop}
+use Rattle.std.proofs.lemmas.List.{take-take, drop-take, drop-drop, take_at, drop_at, append_assoc, append-nil, get_or_at}
 use Rattle.std.proofs.lemmas.Nat.{from_le_bytes-to_le_bytes_4, from_le_bytes-to_le_bytes_8}
 use Rattle.std.specs.Int.{from_le_bytes, to_le_bytes, w32, w64}
-use Rattle.zb_disk.specs.View.{Torn, overwrite}
-use Rattle.zb_store.specs.Layout.{fields_of, IsOpen, Opened, Standing, IsWhole, slot, base_of, gate_of, generation_of, size_of, opened, stands, standing_in, payloads_of, extent, end_of, entry_body, body}
-use Rattle.zb_store.specs.Store.{appended, replaced, entry_gate, other_gate}
-use Rattle.zb_store.proofs.Slots.{part, byte_of, torn_slot, torn_other, slot_part, slot_byte, long_by_first, opened_some, opened_none, opened_facts, same_open, same_standing, stands_alone, stands_newer, IsIn, stands_in}
-use Rattle.zb_store.proofs.Entries.{extent_within, payloads_split, none_behind, one_behind, extent-append}
+use Rattle.zb_store.specs.Layout.{fields_of, IsOpen, Standing, slot, gate_of, generation_of, size_of, stands, standing_in, payloads_of, extent, end_of, entry_body, body}
+use Rattle.zb_store.specs.Store.{appended}
+use Rattle.zb_store.proofs.Slots.{part, opened_some, opened_none, same_open, same_standing, stands_alone, stands_newer, IsIn}
+use Rattle.zb_store.proofs.Entries.{extent_within, payloads_split, none_behind, one_behind}
 
 -- where the entries of a slot end
 pub end_is : (s : Standing) (x : List ℕ) → IsIn s x → (end_of s ≡ 13 + size_of x + extent s.payloads) × (end_of s ≤ length x)

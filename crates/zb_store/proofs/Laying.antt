@@ -1,7 +1,7 @@
 -- What a `format` leaves, and what an `open` does.
-use Rattle.std.proofs.Common.{◌≡◌, ◌≢◌, ◌⊎◌, inl, inr, ⊎_elim, ℕ, ◌+◌, ◌-◌, ◌≤◌, ◌<◌, ◌&&◌, ◌==◌, List, [], ◌∷◌, ◌++◌, length, get_or, take, drop, Option, Some, None, Bool, true, false, not, if◌then◌else◌, IsTrue, Result, Ok, Err, refl, sym, ◌∙◌, ap, subst, arith, length-take, length-drop, get_or-drop, add-zero, zero-add}
+use Rattle.std.proofs.Common.{◌≡◌, ℕ, ◌+◌, ◌≤◌, ◌<◌, ◌&&◌, ◌==◌, List, [], ◌∷◌, length, get_or, take, drop, Some, Bool, true, false, not, if◌then◌else◌, IsTrue, Result, Ok, Err, refl, sym, ◌∙◌, ap, subst, arith, length-take, length-drop, get_or-drop, add-zero, zero-add}
 use Rattle.std.proofs.lemmas.Bool.{eq-eqb}
-use Rattle.zb_disk.specs.View.{Telling, View, Torn, Only, IsSame, IsStill, LeavesOnly, overwrite}
+use Rattle.zb_disk.specs.View.{Telling, View, IsStill, LeavesOnly, overwrite}
 use Rattle.zb_disk.specs.Calls.{IsWrite}
 use Rattle.zb_disk.proofs.Moments.{weakened, still_then, still_leaves, still_trans}
 use Rattle.zb_store.specs.Layout.{Standing, IsWhole, slot, base_of, gate_of, stands, end_of, body, open_gate}

@@ -1,9 +1,9 @@
 -- The calls of a store, from the place that it keeps.
-use Rattle.std.proofs.Common.{◌≡◌, ℕ, ◌+◌, ◌*◌, ◌≤◌, ◌<◌, List, [], ◌∷◌, ◌++◌, length, Bool, true, false, not, IsTrue, Result, Ok, Err, refl, sym, ◌∙◌, ap, subst, arith, length-append}
+use Rattle.std.proofs.Common.{◌≡◌, ℕ, ◌+◌, ◌*◌, ◌≤◌, ◌<◌, List, [], ◌∷◌, length, Bool, true, false, IsTrue, Result, Ok, Err, ◌∙◌, ap, subst, arith, length-append}
 use Rattle.zb_disk.specs.View.{Telling, View, LeavesOnly}
 use Rattle.zb_store.specs.Layout.{Standing, base_of, end_of, entry_body}
 use Rattle.zb_store.specs.Steps.{IsGated}
-use Rattle.zb_store.specs.Store.{Place, place_of, IsHeld, IsReady, IsWholeEither, appended, entry_gate, AppendStop}
+use Rattle.zb_store.specs.Store.{Place, place_of, IsReady, IsWholeEither, appended, entry_gate, AppendStop}
 use Rattle.zb_store.proofs.Entries.{extent-append}
 use Rattle.zb_store.proofs.Stages.{length-entry_body, append_moments, append_held, append_stopped}
 

@@ -1,14 +1,14 @@
 -- What an image stands for at each stage of a `put`, and where the other slot's gate is closed.
-use Rattle.std.proofs.Common.{◌≡◌, ◌≢◌, ◌⊎◌, inl, inr, ⊎_elim, ℕ, zero, suc, ◌+◌, ◌-◌, ◌≤◌, ◌<◌, ◌^◌, List, [], ◌∷◌, ◌++◌, length, get_or, take, drop, Option, Some, None, Bool, true, false, not, IsTrue, Result, Ok, Err, refl, sym, ◌∙◌, ap, subst, arith, length-take, length-drop, length-append, get_or-take, get_or-drop, add-zero}
+use Rattle.std.proofs.Common.{◌≡◌, ◌≢◌, inl, inr, ℕ, ◌+◌, ◌≤◌, ◌<◌, ◌^◌, List, [], ◌∷◌, ◌++◌, length, get_or, take, drop, Some, Bool, true, false, not, IsTrue, Result, Ok, Err, sym, ◌∙◌, ap, subst, arith, length-append, add-zero}
 use Rattle.std.proofs.lemmas.Bool.{cases_eq}
 use Rattle.std.specs.Int.{to_le_bytes, w32, w64}
-use Rattle.zb_disk.specs.View.{Telling, View, Torn, Follows, Opens, Only, IsSame, IsUnsynced, LeavesOnly, overwrite}
+use Rattle.zb_disk.specs.View.{Telling, View, Torn, Only, IsSame, LeavesOnly, overwrite}
 use Rattle.zb_disk.proofs.Moments.{weakened, goes_through}
-use Rattle.zb_store.specs.Layout.{Standing, IsWhole, slot, base_of, gate_of, stands, opened, elected, extent, end_of, body, open_gate}
-use Rattle.zb_store.specs.Steps.{WentThrough, StoppedAfter, TornFrom, staged, gated, GateStop, IsStage, IsGated, IsOpenRange, PlaceStop, IsPlaced}
-use Rattle.zb_store.specs.Store.{IsHeld, replaced, IsWholeEither, IsGateOpening, IsBothOpen, IsGateClosing, IsUntouched, other_gate, PutStop, IsReplacement, IsReplaced}
-use Rattle.zb_store.proofs.Slots.{byte_of, torn_slot, torn_other, slot_part, slot_byte, overwrite_holds, overwrite_torn, torn_again, torn_over, in_disk, IsIn, stands_in}
-use Rattle.zb_store.proofs.Images.{end_is, holds_body, alone, newer}
+use Rattle.zb_store.specs.Layout.{Standing, IsWhole, slot, base_of, gate_of, stands, opened, elected, end_of, body, open_gate}
+use Rattle.zb_store.specs.Steps.{WentThrough, TornFrom, staged, gated, GateStop, IsStage, IsGated, IsOpenRange, PlaceStop, IsPlaced}
+use Rattle.zb_store.specs.Store.{IsHeld, replaced, IsWholeEither, IsBothOpen, IsGateClosing, other_gate, PutStop, IsReplacement, IsReplaced}
+use Rattle.zb_store.proofs.Slots.{torn_slot, torn_other, slot_part, slot_byte, overwrite_holds, overwrite_torn, torn_again, torn_over, in_disk, IsIn, stands_in}
+use Rattle.zb_store.proofs.Images.{holds_body, alone, newer}
 use Rattle.zb_store.proofs.Stages.{not_not, long, stands_before, written_byte}
 use Rattle.zb_store.proofs.Going.{through_then, stopped_then, causes}
 

@@ -1,12 +1,12 @@
 -- What an image stands for at each stage of an `open`.
-use Rattle.std.proofs.Common.{◌≡◌, ◌≢◌, ◌⊎◌, inl, inr, ⊎_elim, ℕ, ◌+◌, ◌≤◌, ◌<◌, ◌==◌, List, [], ◌∷◌, length, get_or, Bool, true, false, not, if◌then◌else◌, IsTrue, Result, Ok, Err, refl, sym, ◌∙◌, ap, subst, arith, add-zero}
-use Rattle.std.proofs.lemmas.Bool.{false≢true, eqb-true, eqb-false}
-use Rattle.zb_disk.specs.View.{Telling, View, Torn, Only, IsSame, LeavesOnly}
+use Rattle.std.proofs.Common.{◌≡◌, ℕ, List, [], ◌∷◌, Bool, true, false, not, if◌then◌else◌, IsTrue, Result, Ok, Err, sym, ◌∙◌, ap, subst}
+use Rattle.std.proofs.lemmas.Bool.{eqb-true, eqb-false}
+use Rattle.zb_disk.specs.View.{Telling, View, LeavesOnly}
 use Rattle.zb_disk.specs.Calls.{IsSync}
 use Rattle.zb_disk.proofs.Moments.{started, goes_on, weakened, goes_through}
 use Rattle.zb_store.specs.Layout.{Standing, IsWhole, slot, base_of, gate_of, open_gate}
-use Rattle.zb_store.specs.Steps.{WentThrough, StoppedAfter, PlaceStop, IsPlaced}
-use Rattle.zb_store.specs.Store.{IsHeld, IsBothOpen, IsGateClosing, other_gate, OpenStop, WasThere, IsFound, IsSettled}
+use Rattle.zb_store.specs.Steps.{WentThrough, PlaceStop, IsPlaced}
+use Rattle.zb_store.specs.Store.{other_gate, OpenStop, WasThere, IsFound, IsSettled}
 use Rattle.zb_store.proofs.Going.{one_through, one_stopped, through_then, stopped_then, causes}
 use Rattle.zb_store.proofs.Replacing.{closes, closed_held, closing_of, both_open}
 

@@ -1,7 +1,7 @@
 -- The two slots of a disk, and what a torn write in one of them leaves.
-use Rattle.std.proofs.Common.{◌≡◌, ◌≢◌, ◌⊎◌, inl, inr, ⊎_elim, ℕ, zero, suc, ◌+◌, ◌-◌, ◌≤◌, ◌<◌, ◌&&◌, ◌==◌, List, [], ◌∷◌, ◌++◌, length, get_or, take, drop, replicate, Option, Some, None, Bool, true, false, not, nat_le, nat_lt, if◌then◌else◌, refl, sym, ◌∙◌, ap, subst, arith, length-take, length-drop, length-append, get_or-take, get_or-drop, zero-add}
-use Rattle.std.proofs.lemmas.List.{take-take, drop-take, drop-drop, drop_all, take_all, drop_at, take_at, take-append-le, length-replicate, take-append-drop, append_assoc}
-use Rattle.std.proofs.lemmas.Bool.{cases_lt, cases_eq, and_parts, and_from, and_left, eqb-true, eq-eqb, ne_eqb, leb-true, le-leb, lt-ltb, le-ltb}
+use Rattle.std.proofs.Common.{◌≡◌, ◌≢◌, inl, inr, ℕ, ◌+◌, ◌-◌, ◌≤◌, ◌<◌, ◌&&◌, ◌==◌, List, ◌++◌, length, get_or, take, drop, replicate, Option, Some, None, Bool, true, false, not, nat_le, nat_lt, if◌then◌else◌, refl, sym, ◌∙◌, ap, subst, arith, length-take, length-drop, length-append, get_or-take, get_or-drop, zero-add}
+use Rattle.std.proofs.lemmas.List.{take-take, drop-take, drop-drop, drop_all, drop_at, take_at, take-append-le, length-replicate, append_assoc}
+use Rattle.std.proofs.lemmas.Bool.{cases_lt, and_parts, and_from, and_left, eqb-true, eq-eqb, ne_eqb, leb-true, le-leb, lt-ltb, le-ltb}
 use Rattle.std.specs.Int.{from_le_bytes, w32, w64}
 use Rattle.zb_disk.specs.View.{Torn, overwrite}
 use Rattle.zb_store.specs.Layout.{fields_of, IsOpen, Opened, Standing, slot, base_of, gate_of, generation_of, size_of, opened, elected, stands, standing_in, payloads_of}

@@ -1,16 +1,16 @@
 -- What an image stands for at each stage of a call of the store.
-use Rattle.std.proofs.Common.{◌≡◌, ◌≢◌, ◌⊎◌, inl, inr, ⊎_elim, ℕ, zero, suc, ◌+◌, ◌-◌, ◌≤◌, ◌<◌, ◌^◌, List, [], ◌∷◌, ◌++◌, length, get_or, take, drop, Option, Some, None, Bool, true, false, not, IsTrue, Result, Ok, Err, refl, sym, ◌∙◌, ap, subst, arith, length-take, length-drop, length-append, get_or-take, get_or-drop, add-zero}
-use Rattle.std.proofs.lemmas.List.{take-take, get_or_at}
+use Rattle.std.proofs.Common.{◌≡◌, ◌≢◌, inl, inr, ℕ, ◌+◌, ◌-◌, ◌≤◌, ◌<◌, List, [], ◌∷◌, ◌++◌, length, get_or, take, drop, Bool, true, false, not, IsTrue, Result, Ok, refl, sym, ◌∙◌, ap, subst, arith, length-take, length-drop, length-append, get_or-take, get_or-drop, add-zero}
+use Rattle.std.proofs.lemmas.List.{get_or_at}
 use Rattle.std.proofs.lemmas.Bool.{cases_eq}
-use Rattle.std.specs.Int.{to_le_bytes, w16, w32, w64}
-use Rattle.zb_disk.specs.View.{Telling, View, Torn, Follows, Opens, Only, IsSame, IsUnsynced, LeavesOnly, overwrite}
+use Rattle.std.specs.Int.{to_le_bytes, w16}
+use Rattle.zb_disk.specs.View.{Telling, View, Torn, LeavesOnly, overwrite}
 use Rattle.zb_disk.proofs.Moments.{weakened}
-use Rattle.zb_store.specs.Layout.{Standing, IsWhole, slot, base_of, gate_of, stands, extent, end_of, entry_body, body, open_gate}
-use Rattle.zb_store.specs.Steps.{WentThrough, StoppedAfter, TornFrom, staged, gated, GateStop, IsStage, IsGated}
-use Rattle.zb_store.specs.Store.{IsHeld, appended, replaced, IsWholeEither, IsGateOpening, IsUntouched, entry_gate, other_gate, AppendStop}
-use Rattle.zb_store.proofs.Slots.{byte_of, torn_slot, torn_other, slot_part, slot_byte, long_by_first, overwrite_holds, overwrite_torn, torn_again, torn_over, in_disk, IsIn, stands_in}
+use Rattle.zb_store.specs.Layout.{Standing, IsWhole, slot, base_of, gate_of, end_of, entry_body, open_gate}
+use Rattle.zb_store.specs.Steps.{staged, gated, GateStop, IsStage, IsGated}
+use Rattle.zb_store.specs.Store.{IsHeld, appended, IsWholeEither, entry_gate, AppendStop}
+use Rattle.zb_store.proofs.Slots.{byte_of, torn_slot, torn_other, slot_part, slot_byte, long_by_first, overwrite_holds, overwrite_torn, torn_again, torn_over, in_disk, stands_in}
 use Rattle.zb_store.proofs.Entries.{extent-append}
-use Rattle.zb_store.proofs.Images.{end_is, keeps, adds, holds_body, alone, newer}
+use Rattle.zb_store.proofs.Images.{end_is, keeps, adds, alone}
 
 pub not_not : (b : Bool) → not (not b) ≡ b
 not_not true = refl

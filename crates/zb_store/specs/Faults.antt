@@ -1,5 +1,5 @@
 -- When each fault of a store comes.
-use Rattle.std.specs.Prelude.{ℕ, ◌<◌, ◌≤◌, ◌≡◌, List, length, Option, None, Bool, IsTrue}
+use Rattle.std.specs.Prelude.{ℕ, ◌<◌, ◌≤◌, ◌≡◌, List, length, None, IsTrue}
 use Rattle.zb_base.specs.Outside.{Rose}
 use Rattle.zb_disk.specs.View.{Telling, View}
 use Rattle.zb_store.specs.declared.fault.StoreFault.{StoreFault}

@@ -1,5 +1,5 @@
 -- What the bytes of a disk stand for: a record with the entries behind it, in one of two slots.
-use Rattle.std.specs.Prelude.{ℕ, ◌+◌, ◌*◌, ◌≤◌, ◌<◌, ◌≡◌, ◌≢◌, ◌==◌, ◌&&◌, ◌++◌, List, [], ◌∷◌, length, get_or, take, drop, Option, Some, None, Bool, true, false, not, zero, suc, nat_le, nat_lt, if◌then◌else◌}
+use Rattle.std.specs.Prelude.{ℕ, ◌+◌, ◌≤◌, ◌<◌, ◌≡◌, ◌≢◌, ◌==◌, ◌&&◌, ◌++◌, List, [], ◌∷◌, length, get_or, take, drop, Option, Some, None, Bool, true, false, not, zero, suc, nat_le, nat_lt, if◌then◌else◌}
 use Rattle.std.specs.Int.{from_le_bytes, to_le_bytes, w16, w32, w64}
 
 -- the byte that opens a slot or an entry

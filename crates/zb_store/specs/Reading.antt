@@ -1,10 +1,10 @@
 -- What is read of a disk before its record is.
-use Rattle.std.specs.Prelude.{ℕ, ◌+◌, ◌*◌, ◌-◌, ◌≤◌, ◌<◌, ◌≡◌, ◌==◌, ◌&&◌, ◌||◌, List, [], length, get_or, drop, Option, Some, None, Bool, true, false, not, nat_le, nat_lt, if◌then◌else◌}
+use Rattle.std.specs.Prelude.{ℕ, ◌+◌, ◌<◌, ◌≡◌, ◌==◌, ◌&&◌, ◌||◌, List, length, get_or, Option, Some, None, Bool, true, false, not, nat_le, nat_lt, if◌then◌else◌}
 use Rattle.zb_store.specs.declared.reading.Header.{Header}
 use Rattle.std.specs.List.{concat}
 use Rattle.zb_store.specs.declared.reading.Found.{Found}
 use Rattle.zb_store.specs.declared.reading.Contents.{Contents}
-use Rattle.zb_store.specs.Layout.{Standing, end_of, slot, stands, standing_in, IsOpen, fields_of, gate_of, generation_of, size_of, open_gate, payloads_of, entry_of, extent}
+use Rattle.zb_store.specs.Layout.{Standing, end_of, slot, stands, standing_in, IsOpen, fields_of, gate_of, generation_of, size_of, open_gate, entry_of}
 
 -- the first 13 bytes of a slot
 pub record IsHeaderOf (x : List ℕ) (h : Header) : Type 0 where

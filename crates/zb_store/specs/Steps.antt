@@ -1,5 +1,5 @@
 -- How far a run of writes and syncs came.
-use Rattle.std.specs.Prelude.{ℕ, ◌+◌, ◌<◌, ◌≡◌, ◌⊎◌, List, [], ◌∷◌, length, Bool, true, false, IsTrue, Result, OnOk, OnErr}
+use Rattle.std.specs.Prelude.{ℕ, ◌+◌, ◌<◌, ◌≡◌, ◌⊎◌, List, [], ◌∷◌, length, true, false, IsTrue, Result, OnOk, OnErr}
 use Rattle.zb_base.specs.Outside.{risen, HasCause}
 use Rattle.zb_disk.specs.View.{Telling, View, Torn, Follows, Opens, Only, IsSame, LeavesOnly, overwrite}
 use Rattle.zb_store.specs.Layout.{open_gate}

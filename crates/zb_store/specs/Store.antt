@@ -1,6 +1,6 @@
 -- What the calls of a store promise.
 use Rattle.std.specs.List.{concat}
-use Rattle.std.specs.Prelude.{◌&&◌, true, false, ◌^◌, ◌==◌, if◌then◌else◌, Result, OnOk, OnErr, ℕ, ◌+◌, ◌≤◌, ◌<◌, ◌≡◌, ◌≢◌, ◌⊎◌, ◌++◌, List, [], ◌∷◌, length, get_or, Bool, not, IsTrue, Option, Some}
+use Rattle.std.specs.Prelude.{◌&&◌, true, false, ◌^◌, ◌==◌, if◌then◌else◌, Result, OnOk, OnErr, ℕ, ◌+◌, ◌≤◌, ◌<◌, ◌≡◌, ◌≢◌, ◌⊎◌, ◌++◌, List, [], ◌∷◌, length, get_or, Bool, not, IsTrue, Some}
 use Rattle.zb_base.specs.Outside.{HasCause}
 use Rattle.zb_disk.specs.View.{Telling, View, IsSame, IsStill, IsUnsynced, Only, LeavesOnly}
 use Rattle.zb_store.specs.Layout.{Standing, IsWhole, stands, slot, gate_of, open_gate, base_of, end_of, body}

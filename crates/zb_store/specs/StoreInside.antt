@@ -1,5 +1,5 @@
 -- What the fields of a store keep.
-use Rattle.std.specs.Prelude.{ℕ, ◌+◌, ◌*◌, ◌≤◌, vec_capacity}
+use Rattle.std.specs.Prelude.{◌+◌, ◌*◌, ◌≤◌, vec_capacity}
 use Rattle.zb_store.specs.declared.store.Store.TheInside.{Inside}
 use Rattle.zb_store.specs.Store.{Place}
 

@@ -163,8 +163,9 @@ pub(crate) fn count_entries<D: Disk>(
 
 // The entry at the front, and what lies behind it.
 fn split_entry(bytes: &[u8]) -> Option<(&[u8], &[u8])>
-    ensures { MatchOption result (entry_of bytes.now ≡ None)
+    ensures entry { MatchOption result (entry_of bytes.now ≡ None)
         (λ r. (entry_of bytes.now ≡ Some r.0.now) × (r.1.now ≡ drop (3 + length r.0.now) bytes.now)) }
+    ensures within { IfSome result (λ r. length r.0.now + length r.1.now ≤ length bytes.now) }
 {
     if bytes.len() < 3 {
         return None;
@@ -179,7 +180,8 @@ fn split_entry(bytes: &[u8]) -> Option<(&[u8], &[u8])>
 
 /// The payloads of the entries one after the other.
 pub(crate) fn payload_bytes(alloc: Global, entries: &[u8]) -> Result<Vec<u8>, AllocError>
-    ensures { IfOk result (λ v. v.items ≡ concat (payloads_of 32 entries.now)) }
+    ensures payloads { IfOk result (λ v. v.items ≡ concat (payloads_of 32 entries.now)) }
+    ensures short { IfOk result (λ v. length v.items ≤ length entries.now) }
 {
     let mut payloads = Vec::with_capacity(alloc, entries.len())?;
     let mut rest = entries;
@@ -216,6 +218,7 @@ fn read_bytes<D: Disk>(
     ensures later { (D.state disk.old).faults ≤ (D.state disk.new).faults }
     ensures faults { IfErr result (IsBytesFault (D.state disk.old) (D.state disk.new)) }
     ensures bytes { IfOk result (λ v. IsTrue D.tells.content → v.items ≡ window (D.state disk.old).seen at len) }
+    ensures size { IfOk result (λ v. length v.items ≡ len) }
 {
     let mut bytes = Vec::with_capacity(alloc, len)?;
     bytes.resize(len, 0)?;
@@ -234,6 +237,8 @@ fn read_found<D: Disk>(alloc: Global, disk: &mut D, found: Found) -> Result<Cont
     ensures found { IfOk result (λ r. r.found ≡ found) }
     ensures few { IfOk result (λ r. r.entries ≤ 32) }
     ensures end { IfOk result (λ r. r.end ≤ 49165 + 484 * r.entries) }
+    ensures record_size { IfOk result (λ r. length r.content.items ≤ 49152) }
+    ensures payloads_size { IfOk result (λ r. length r.payloads.items ≤ 15488) }
     ensures read { IfOk result (λ r. IsTrue D.tells.content → IsFoundIn found (D.state disk.old).seen → IsReadIn r (D.state disk.old).seen) }
 {
     let record_at = base(found.second) + 13;
@@ -262,6 +267,8 @@ pub(crate) fn read_standing<D: Disk>(alloc: Global, disk: &mut D) -> Result<Cont
     ensures faults { IfErr result (IsReadFault D.tells (D.state disk.old) (D.state disk.new)) }
     ensures few { IfOk result (λ r. r.entries ≤ 32) }
     ensures end { IfOk result (λ r. r.end ≤ 49165 + 484 * r.entries) }
+    ensures record_size { IfOk result (λ r. length r.content.items ≤ 49152) }
+    ensures payloads_size { IfOk result (λ r. length r.payloads.items ≤ 15488) }
     ensures read { IfOk result (λ r. IsTrue D.tells.content → IsReadIn r (D.state disk.old).seen) }
 {
     match find(disk) {

@@ -170,6 +170,8 @@ impl Store {
     ) -> Result<(Store, Vec<u8>, Vec<u8>), StoreFault>
         // What it answers is what the disk as it reads stands for.
         ensures answer { IfOk result (λ r. IsTrue D.tells.content → IsAnswer r.0 r.1.items r.2.items (D.state disk.old).seen) }
+        ensures record_size { IfOk result (λ r. length r.1.items ≤ 49152) }
+        ensures payloads_size { IfOk result (λ r. length r.2.items ≤ 15488) }
 
         // Where each image at entry is whole, each image at each moment is whole too, and stands for what one at entry
         // stood for. After Ok the store is ready.
@@ -220,6 +222,8 @@ impl Store {
         ensures still { IsStill (D.state disk.old) (D.state disk.new) }
         ensures answer { IfOk result (λ r. IsTrue D.tells.content
             → (s : Standing) × (stands (D.state disk.old).seen ≡ Some s) × (r.0.items ≡ s.content) × (r.1.items ≡ concat s.payloads)) }
+        ensures record_size { IfOk result (λ r. length r.0.items ≤ 49152) }
+        ensures payloads_size { IfOk result (λ r. length r.1.items ≤ 15488) }
         ensures faults { IfErr result (IsReadFault D.tells (D.state disk.old) (D.state disk.new)) }
         ensures count { (D.state disk.old).faults ≤ (D.state disk.new).faults }
     {

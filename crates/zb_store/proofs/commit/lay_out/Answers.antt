@@ -1,4 +1,4 @@
-use Rattle.std.proofs.Common.{◌≡◌, ℕ, List, [], ◌∷◌, Ok, sym, subst}
+use Rattle.std.proofs.Common.{ℕ, [], ◌∷◌, Ok, subst}
 use Rattle.zb_base.specs.declared.fault.Failed.{Failed}
 use Rattle.zb_store.specs.Steps.{IsPlaced}
 use Rattle.zb_store.proofs.Laying.{laid_out}

@@ -1,7 +1,6 @@
-use Rattle.std.proofs.Common.{◌≡◌, ◌+◌, List, [], ◌∷◌, ℕ, Bool, true, false, not, Result, Ok, Err, rules, sym, ◌∙◌, ap, subst, arith}
+use Rattle.std.proofs.Common.{[], ◌∷◌, ℕ, Result, Ok, Err, sym, subst}
 use Rattle.std.proofs.lemmas.Result.{err_from_is_err_and}
 use Rattle.zb_base.specs.declared.fault.Failed.{Failed}
-use Rattle.zb_store.specs.Layout.{base_of}
 use Rattle.zb_store.specs.Steps.{IsGated, IsPlaced}
 use Rattle.zb_store.specs.Store.{IsReplaced}
 use Rattle.zb_store.proofs.Replacing.{replace_done, replace_stopped}

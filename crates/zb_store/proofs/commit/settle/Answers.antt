@@ -1,7 +1,6 @@
-use Rattle.std.proofs.Common.{◌≡◌, ◌+◌, List, [], ◌∷◌, ℕ, Bool, true, false, not, Result, Ok, Err, rules, sym, ◌∙◌, ap, subst, arith}
+use Rattle.std.proofs.Common.{◌≡◌, [], ◌∷◌, ℕ, true, false, Result, rules, sym, subst}
 use Rattle.std.proofs.lemmas.Result.{err_from_is_err_and}
 use Rattle.zb_base.specs.declared.fault.Failed.{Failed}
-use Rattle.zb_store.specs.Layout.{base_of}
 use Rattle.zb_store.specs.Steps.{IsPlaced}
 use Rattle.zb_store.specs.Store.{IsSettled}
 use Rattle.zb_store.proofs.Settling.{settle_stopped, settle_closed, settle_done}

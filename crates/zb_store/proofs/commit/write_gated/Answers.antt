@@ -1,4 +1,4 @@
-use Rattle.std.proofs.Common.{◌≡◌, ◌+◌, List, [], ◌∷◌, ℕ, Bool, true, false, not, Result, Ok, Err, rules, sym, ◌∙◌, ap, subst, arith}
+use Rattle.std.proofs.Common.{Result, sym, subst}
 use Rattle.std.proofs.lemmas.Result.{err_from_is_err_and}
 use Rattle.zb_base.specs.declared.fault.Failed.{Failed}
 use Rattle.zb_store.specs.Steps.{IsGated}

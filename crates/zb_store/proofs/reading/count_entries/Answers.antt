@@ -1,8 +1,7 @@
-use Rattle.std.proofs.Common.{◌≡◌, ◌+◌, ◌-◌, ◌*◌, ◌≤◌, ◌<◌, List, [], ◌∷◌, ◌++◌, ℕ, suc, Option, Some, None, length, drop, refl, sym, ◌∙◌, ap, subst, arith, length-append}
-use Rattle.zb_disk.specs.View.{IsStill}
+use Rattle.std.proofs.Common.{◌≡◌, ◌+◌, ◌-◌, List, [], ◌∷◌, ◌++◌, ℕ, suc, Some, None, length, drop, sym, ◌∙◌, ap, subst, arith, length-append}
 use Rattle.zb_disk.proofs.Moments.{still_refl, still_trans}
 use Rattle.zb_store.specs.Layout.{payloads_of, extent, entry_of}
-use Rattle.zb_store.specs.Reading.{IsBehind, size_at}
+use Rattle.zb_store.specs.Reading.{IsBehind}
 use Rattle.zb_store.proofs.Entries.{extent-append}
 use Rattle.zb_store.proofs.Finding.{none_of, payloads_more, payloads_end, size_none, size_some, behind_more}
 use Rattle.zb_store.proofs.reading.count_entries.Goals as goal

@@ -1,4 +1,4 @@
-use Rattle.std.proofs.Common.{◌≡◌, ◌+◌, ◌-◌, length, drop, rules, sym, ◌∙◌, ap, arith}
+use Rattle.std.proofs.Common.{◌≡◌, ◌+◌, ◌-◌, drop, arith}
 use Rattle.zb_store.specs.Layout.{base_of, slot, size_of, standing_in, fields_of}
 use Rattle.zb_store.proofs.Finding.{behind_is}
 use Rattle.zb_store.proofs.reading.count_found.Goals as goal

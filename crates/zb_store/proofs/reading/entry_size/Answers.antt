@@ -1,4 +1,4 @@
-use Rattle.std.proofs.Common.{◌≡◌, List, ℕ, Bool, true, false, Option, Some, None, if◌then◌else◌, get_or, refl, sym, ◌∙◌, ap}
+use Rattle.std.proofs.Common.{◌≡◌, ℕ, Bool, true, false, Some, None, if◌then◌else◌, get_or, refl, ◌∙◌}
 use Rattle.std.specs.Bool.{then_some}
 use Rattle.zb_store.proofs.Finding.{entry_size_is}
 use Rattle.zb_store.proofs.reading.entry_size.Goals as goal

@@ -1,4 +1,4 @@
-use Rattle.std.proofs.Common.{◌≡◌, ◌-◌, List, ℕ, Option, None, length, min, true, false, rules, sym, ◌∙◌, ap, subst, arith}
+use Rattle.std.proofs.Common.{◌≡◌, List, ℕ, Option, None, true, false, sym, ◌∙◌, subst}
 use Rattle.std.specs.Option.{MatchOption}
 use Rattle.zb_store.specs.declared.reading.Found.{Found}
 use Rattle.zb_store.specs.Layout.{slot, stands}

@@ -1,4 +1,4 @@
-use Rattle.std.proofs.Common.{◌≡◌, ◌-◌, List, ℕ, get_or, take, drop, length, rules, refl, sym, ◌∙◌, ap, arith}
+use Rattle.std.proofs.Common.{◌≡◌, ℕ, get_or, refl, ◌∙◌, ap}
 use Rattle.zb_disk.specs.View.{window}
 use Rattle.zb_store.specs.Layout.{base_of}
 use Rattle.zb_store.proofs.Finding.{header_is}

@@ -1,22 +1,21 @@
-use Rattle.std.proofs.Common.{◌≡◌, ◌+◌, ◌-◌, List, ℕ, Bool, true, false, Option, Some, None, if◌then◌else◌, ◌&&◌, nat_eq, nat_le, length, get_or, take, drop, rules, refl, sym, ◌∙◌, ap, arith, length-take, length-drop}
-use Rattle.std.proofs.lemmas.List.{take_all, take_rest}
+use Rattle.std.proofs.Common.{◌≡◌, ◌+◌, ◌-◌, ℕ, Bool, true, false, Some, None, if◌then◌else◌, ◌&&◌, nat_eq, nat_le, length, get_or, take, drop, rules, refl, sym, ◌∙◌, ap, arith, length-take, length-drop}
+use Rattle.std.proofs.lemmas.List.{take_rest}
 use Rattle.std.proofs.lemmas.Bool.{and_parts, leb-true}
-use Rattle.zb_store.specs.Layout.{entry_of}
 use Rattle.zb_store.proofs.Finding.{entry_short, entry_test_is}
 use Rattle.zb_store.proofs.reading.split_entry.Goals as goal
 
-pub returns-then-bytes-lt3 : goal.returns-then-bytes-lt3
-returns-then-bytes-lt3 c = entry_short c.args.bytes.now (omega arith)
+pub returns-then-bytes-lt3-clause-entry : goal.returns-then-bytes-lt3-clause-entry
+returns-then-bytes-lt3-clause-entry c = entry_short c.args.bytes.now (omega arith)
 
-pub returns-then-not-is_entry : goal.returns-then-not-is_entry
-returns-then-not-is_entry c =
+pub returns-then-not-is_entry-clause-entry : goal.returns-then-not-is_entry-clause-entry
+returns-then-not-is_entry-clause-entry c =
     let b = c.args.bytes.now in
     let shut : c.is_entry.result ≡ false = search rules in
     entry_test_is b (get_or b 0 0) c.le16-size.result (length b) c.is_entry.result refl c.le16-size.ensures refl c.is_entry.ensures
     ∙ ap (λ (t : Bool). if t then Some (take c.le16-size.result (drop 3 b)) else None) shut
 
-pub returns : goal.returns
-returns c =
+pub returns-clause-entry : goal.returns-clause-entry
+returns-clause-entry c =
     let b = c.args.bytes.now in
     let n = c.le16-size.result in
     let open_it : c.is_entry.result ≡ true = search rules in

@@ -1,5 +1,4 @@
-use Rattle.std.proofs.Common.{◌≡◌, ◌+◌, ◌*◌, ◌<◌, ◌≤◌, ℕ, List, length, Ok, Err, rules, sym, ◌∙◌, ap, subst, arith}
-use Rattle.zb_base.specs.declared.fault.Failed.{Failed}
+use Rattle.std.proofs.Common.{◌≡◌, ◌+◌, ◌*◌, ◌≤◌, length, Ok, Err, sym, ◌∙◌, ap, subst, arith}
 use Rattle.zb_store.specs.Layout.{base_of, entry_body}
 use Rattle.zb_store.specs.Store.{Place, IsReady, appended}
 use Rattle.zb_store.proofs.Stages.{length-entry_body}

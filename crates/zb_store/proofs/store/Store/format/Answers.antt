@@ -1,4 +1,4 @@
-use Rattle.std.proofs.Common.{◌≡◌, ◌+◌, ◌≤◌, length, rules, sym, ◌∙◌, ap, arith}
+use Rattle.std.proofs.Common.{length, ap, arith}
 use Rattle.zb_store.proofs.Replacing.{length-body}
 use Rattle.zb_store.proofs.store.Store.format.Goals as goal
 

@@ -1,5 +1,5 @@
-use Rattle.std.proofs.Common.{◌≡◌, Ok, Err, rules, sym, ◌∙◌, ap, subst}
-use Rattle.zb_store.specs.Store.{Place, place_of, IsReady}
+use Rattle.std.proofs.Common.{Ok, Err}
+use Rattle.zb_store.specs.Store.{Place, place_of}
 use Rattle.zb_store.proofs.Placed.{same_place}
 use Rattle.zb_store.proofs.Laying.{open_moments, open_ready, open_through, open_stopped}
 use Rattle.zb_store.proofs.store.Store.open.Goals as goal

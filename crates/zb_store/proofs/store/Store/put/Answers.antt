@@ -1,6 +1,6 @@
-use Rattle.std.proofs.Common.{◌≡◌, ◌+◌, ◌<◌, ◌≤◌, ◌^◌, length, rules, not, sym, ◌∙◌, ap, subst, arith}
+use Rattle.std.proofs.Common.{◌≡◌, ◌+◌, length, not, ◌∙◌, ap, arith}
 use Rattle.zb_store.specs.Layout.{body}
-use Rattle.zb_store.specs.Store.{Place, IsReady, IsReplacement}
+use Rattle.zb_store.specs.Store.{Place, IsReplacement}
 use Rattle.zb_store.proofs.Replacing.{length-body}
 use Rattle.zb_store.proofs.store.Store.put.Goals as goal
 
