@@ -20,7 +20,3 @@ IsRestoreFault r (Fault NoRow) = ⊥
 IsRestoreFault r (Fault WrongHash) = ⊥
 IsRestoreFault r (Fault (BadRecord at)) = r ≡ bad at
 IsRestoreFault r NoMemory = Unit {0}
-
--- a record of the first version, behind which no entry of today's may stand
-abbrev pub is_first_version : List ℕ → ℕ
-is_first_version bytes = get_or bytes 0 0

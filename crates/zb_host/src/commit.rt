@@ -30,6 +30,7 @@ fn append<C: Core, D: Disk>(
 ) -> Result<Store, StoreFault>
     requires room { 49152 ≤ length room.old }
     requires few { store.entries < 32 }
+    requires short { length (C.payload changes.now.items) ≤ 481 }
     ensures { (content : List ℕ) → IsCommit D.tells false content (C.payload changes.now.items) store (D.state disk.old) (D.state disk.new) result }
 {
     let len = C::change_bytes(changes, room) as usize;
@@ -52,7 +53,8 @@ pub(crate) fn commit<C: Core, D: Disk>(
     core: &C,
     changes: &Changes,
 ) -> Result<Store, StoreFault>
-    requires { 49152 ≤ length room.old }
+    requires room { 49152 ≤ length room.old }
+    requires short { length (C.payload changes.now.items) ≤ 481 }
     ensures { IsCommit D.tells (whole || store.entries == 32) (C.recorded core.now) (C.payload changes.now.items) store (D.state disk.old) (D.state disk.new) result }
 {
     if is_whole(whole, store.entries()) {

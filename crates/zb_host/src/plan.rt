@@ -59,11 +59,11 @@ pub trait Core: Drop {
         ensures small { result ≤ 49152 }
         ensures bytes { take result into.new ≡ recorded self.now };
 
-    /// Writes the payload of changes, for which there are 481 bytes of room, and answers its length.
+    /// Writes the payload of changes, which has at most 481 bytes, and answers its length. There are 481 bytes of room.
     fn change_bytes(changes: &Changes, into: &mut [u8]) -> u32
-        requires { 481 ≤ length into.old }
+        requires short { length (payload changes.now.items) ≤ 481 }
+        requires room { 481 ≤ length into.old }
         ensures len { result ≡ length (payload changes.now.items) }
-        ensures small { result ≤ 481 }
         ensures bytes { take result into.new ≡ payload changes.now.items };
 
     /// Makes the core of a node from a record of at most 49,152 bytes and the payloads behind it, of at most 15,488 bytes.
@@ -81,6 +81,9 @@ pub trait Core: Drop {
         requires room { 49152 ≤ length room.old }
         ensures core { IfOk result (λ c. restored content.now payloads.now ≡ gives (recorded c)) }
         ensures fault { IfErr result (IsRestoreFault (restored content.now payloads.now)) };
+
+    /// The payload of a plan's changes fits an entry.
+    ghost short: { (c : Self) (e : Self.Event) (p : Plan Self.Out) → is_plan c e p → length (payload p.changes.items) ≤ 481 };
 
     /// An entry behind a record that isn't of the first version leads from the core to the one after the plan.
     ghost adds: { (c d : Self) (e : Self.Event) (p : Plan Self.Out) (r q : List ℕ) → is_plan c e p → is_after c p d → get_or r 0 0 ≢ 1
