@@ -44,9 +44,9 @@ next_after next (Some sealed) = min (sealed + 1) 255
 abbrev pub IsAfter : Tally → Plan (Option ℕ) → Tally → Type 0
 IsAfter c p d = d ≡ record { next = next_after c.next p.out; limit = limit_after c.limit p.changes.items; block = c.block }
 
--- a record: the version 3, the role of a device, and the limit
+-- a record: the version 3, the role of the centre, and the limit
 abbrev pub spelled : ℕ → List ℕ
-spelled limit = 3 ∷ 2 ∷ limit ∷ []
+spelled limit = 3 ∷ 0 ∷ limit ∷ []
 
 abbrev pub recorded : Tally → List ℕ
 recorded c = spelled c.limit
@@ -54,7 +54,7 @@ recorded c = spelled c.limit
 -- the place of the first fault of a record of version 1 or 3
 abbrev pub fault_in : List ℕ → Option ℕ
 fault_in r = if not (get_or r 0 0 == 1 || get_or r 0 0 == 3) then Some 0
-    else (if not (get_or r 1 0 == 2) then Some 1 else (if not (length r == 3) then Some (min (length r) 3) else None))
+    else (if not (get_or r 1 1 == 0) then Some 1 else (if not (length r == 3) then Some (min (length r) 3) else None))
 
 -- what entries make of a limit; places count on from the record's length
 abbrev pub counted : ℕ → ℕ → List ℕ → Restored

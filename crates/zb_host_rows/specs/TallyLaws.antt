@@ -18,12 +18,13 @@ not_given at w e = absurd (subst IsGiven (sym e) tt)
 counted_then : (limit at : ℕ) (entries w : List ℕ) (number : ℕ) → counted limit at entries ≡ gives w → counted limit at (entries ++ 1 ∷ number ∷ []) ≡ gives (spelled number)
 counted_then limit at [] w number is = refl
 counted_then limit at (kind ∷ []) w number is = not_given at w is
-counted_then limit at (kind ∷ value ∷ entries) w number is = by_kind (kind == 1) is
+counted_then limit at (kind ∷ value ∷ entries) w number is = by_kind (kind == 1) (λ found. counted_then value (at + 2) entries w number found) is
   where
-    by_kind : (b : Bool) → (if b then counted value (at + 2) entries else bad at) ≡ gives w
+    by_kind : (b : Bool) → (counted value (at + 2) entries ≡ gives w → counted value (at + 2) (entries ++ 1 ∷ number ∷ []) ≡ gives (spelled number))
+        → (if b then counted value (at + 2) entries else bad at) ≡ gives w
         → (if b then counted value (at + 2) (entries ++ 1 ∷ number ∷ []) else bad at) ≡ gives (spelled number)
-    by_kind true found = counted_then value (at + 2) entries w number found
-    by_kind false found = not_given at w found
+    by_kind true further found = further found
+    by_kind false further found = not_given at w found
 
 restored_then : (fault : Option ℕ) (r entries w : List ℕ) (number : ℕ) → restored_from fault r entries ≡ gives w → restored_from fault r (entries ++ 1 ∷ number ∷ []) ≡ gives (spelled number)
 restored_then (Some at) r entries w number is = not_given at w is

@@ -1,5 +1,5 @@
 //! A core that counts what it sealed.
-ghost use Rattle.std.specs.Prelude.{◌≡◌, ◌+◌, ◌≤◌, ◌==◌, ◌||◌, nat_lt, min, if◌then◌else◌, [], ◌∷◌, length, take, Some, None, MatchResult};
+ghost use Rattle.std.specs.Prelude.{◌≡◌, ◌+◌, ◌≤◌, ◌==◌, ◌||◌, nat_lt, min, if◌then◌else◌, [], ◌∷◌, length, take, get_or, Some, None, MatchResult};
 ghost use Rattle.zb_base.specs.declared.label.Layer.TheVariants.{Nwk as nwk};
 ghost use Rattle.zb_change.specs.declared.change.Change.TheVariants.{Reserve as reserve};
 ghost use Rattle.zb_host.specs.Plans.{gives, bad};
@@ -66,9 +66,7 @@ impl Core for Tally {
     }
 
     fn record(&self, into: &mut [u8]) -> u32 {
-        into[0] = 3;
-        into[1] = 2;
-        into[2] = self.limit;
+        into[..3].copy_from_slice(&[3, 0, self.limit]);
         3
     }
 
@@ -76,8 +74,7 @@ impl Core for Tally {
         match changes.first() {
             None => 0,
             Some(change) => {
-                into[0] = 1;
-                into[1] = number(change);
+                into[..2].copy_from_slice(&[1, number(change)]);
                 2
             }
         }
@@ -187,7 +184,7 @@ fn find_fault(content: &[u8]) -> Option<u32>
     if !is_version(content) {
         return Some(0);
     }
-    if content.get(1) != Some(&2) {
+    if content.get(1) != Some(&0) {
         return Some(1);
     }
     if content.len() != 3 {
