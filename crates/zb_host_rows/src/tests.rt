@@ -271,19 +271,19 @@ fn writes_the_whole_record_over_a_first_version(rt: HostRuntime) -> Result<(), F
     let mut disk = MemDisk::new(rt.alloc(), bytes.as_slice())?;
     let mut host: Host<Tally> = Host::boot(rt.alloc(), &alone(4), &mut disk)?;
     for (event, sealed, record, entries) in [
-        (TallyEvent::Rest, None, [1, 0, 8], 1),
+        (TallyEvent::Rest, None, [1, 0, 8], 2),
         (TallyEvent::Seal, Some(9), [3, 0, 13], 0),
         (TallyEvent::Seal, Some(10), [3, 0, 13], 0),
         (TallyEvent::Seal, Some(11), [3, 0, 13], 0),
         (TallyEvent::Seal, Some(12), [3, 0, 13], 0),
-        (TallyEvent::Seal, Some(13), [3, 0, 13], 1),
+        (TallyEvent::Seal, Some(13), [3, 0, 13], 2),
     ] {
         assert!(rt; host.is_up());
         let (_, out) = host.handle(&mut disk, &event)?;
         assert_eq!(rt; out, sealed);
         let (standing, payloads) = Store::peek(rt.alloc(), &mut disk)?;
         assert_eq!(rt; standing.as_slice(), record.as_slice());
-        assert_eq!(rt; payloads.len(), 2 * entries);
+        assert_eq!(rt; payloads.len(), entries);
     }
     Ok(())
 }
