@@ -1,3 +1,5 @@
 pub mod Lists
 pub mod PieceLists
 pub mod RoundLaws
+pub mod Growth
+pub mod Bound

@@ -43,13 +43,13 @@ get_mapped f (x ∷ xs) zero d = refl
 get_mapped f (x ∷ xs) (suc i) d = get_mapped f xs i d
 
 -- each call was Ok, and its value is as the call says
-pub oks_zip : {A E : Type 0} (R : A → A → Type 0) (old new : List A) (results : List (Result A E)) → results ≡ map (λ x. Ok x) new
+pub oks_zip : {A B E : Type 0} (R : A → B → Type 0) (old : List A) (new : List B) (results : List (Result B E)) → results ≡ map (λ x. Ok x) new
     → length results ≡ length old
-    → ((i : ℕ) (d : Result A E) (e : A) → i < length old → IfOk (get_or results i d) (λ x. R (get_or old i e) x)) → AllZip R old new
-oks_zip {A} {E} R old new results is same each =
-    zip_from_index R old new (sym same ∙ ap (length {A = Result A E}) is ∙ length-map new _)
+    → ((i : ℕ) (d : Result B E) (e : A) → i < length old → IfOk (get_or results i d) (λ x. R (get_or old i e) x)) → AllZip R old new
+oks_zip {A} {B} {E} R old new results is same each =
+    zip_from_index R old new (sym same ∙ ap (length {A = Result B E}) is ∙ length-map new _)
     (λ i d e within.
-    let P : Result A E → Type 0 = λ r. IfOk r (λ x. R (get_or old i d) x) in
+    let P : Result B E → Type 0 = λ r. IfOk r (λ x. R (get_or old i d) x) in
     subst P (ap (λ rs. get_or rs i (Ok e)) is ∙ get_mapped (λ x. Ok x) new i e) (each i (Ok e) d within))
 
 pub zip_right : {A : Type 0} (P : A → Type 0) (S : A → A → Type 0) (xs ys : List A) → AllZip (λ x y. P y × S x y) xs ys → AllByRecursion P ys

@@ -15,9 +15,6 @@ use zb_base::{Eui, NoMemory, Short};
 use zb_capture::Capture;
 use zb_seal::Ciphers;
 
-/// The most keys that a ring can have: all that may be given, and three for each frame.
-const MOST_KEYS: usize = 300_256;
-
 /// The ring of a capture, and what the frames of the capture show under it.
 #[derive(Drop)]
 pub struct Opened<'a> {
@@ -39,6 +36,8 @@ pub fn open_all<'a, T: Threads + Sync, G: Gate>(
     requires capture { IsCapture capture.now }
     requires jobs { 1 ≤ jobs }
     ensures ring { IfOk result (λ o. IsRing capture.now o.ring) }
+    // At most all that may be given, and three for each frame.
+    ensures few { IfOk result (λ o. length o.ring.keys ≤ 300256) }
     ensures pieces { IfOk result (λ o. IsCut capture.now o.pieces.items) }
     ensures shown { IfOk result (λ o. AllShown capture.now.addrs (keys_of o.ring.keys) o.pieces.items) }
 {
@@ -47,7 +46,7 @@ pub fn open_all<'a, T: Threads + Sync, G: Gate>(
     let mut pieces = cut(alloc, capture.frames.as_slice(), jobs)?;
     let mut known: u32 = 0;
     let mut rounds: u32 = 0;
-    'rounds: while ring.len() <= MOST_KEYS {
+    'rounds: loop {
         let count = ring.len() as u32;
         rounds += 1;
         pieces = look_at_all(rt, alloc, gate, addrs, ring.ciphers(), known, pieces)?;
@@ -63,7 +62,6 @@ pub fn open_all<'a, T: Threads + Sync, G: Gate>(
         }
         known = count;
     }
-    Err(NoMemory)
 }
 
 /// Looks at the frames of all pieces under all keys, each piece in a thread of its own.

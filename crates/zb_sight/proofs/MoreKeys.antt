@@ -98,7 +98,7 @@ tunnel_of_frame number fresh NoSource f i e = e
 tunnel_of_frame number fresh (Closed s source) f i e = absurd (closed_tunnel (aps_shape.kind f.header.control == 1) i e)
 tunnel_of_frame number fresh (Opened key term) f i e = e
 
-tunnel_kept : (number : ℕ) (fresh : List Key) (aps : Finding) (r : Result ApsFrame ApsError) (i : ArrayVec ℕ)
+pub tunnel_kept : (number : ℕ) (fresh : List Key) (aps : Finding) (r : Result ApsFrame ApsError) (i : ArrayVec ℕ)
     → tunnelled aps r ≡ Some i → tunnelled (tried number fresh aps) r ≡ Some i
 tunnel_kept number fresh aps (Err fault) i e = e
 tunnel_kept number fresh aps (Ok f) i e = tunnel_of_frame number fresh aps f i e
@@ -144,7 +144,7 @@ from_old f g (Some p) now old new e keeps under =
 abbrev frame_of : List ℕ → Result NwkFrame NwkError
 frame_of bytes = nwk_reading.frame_of bytes
 
-sight_parts : (addrs : List (Short × Eui)) (keys : List Key) (nwk : Finding) (r : Result NwkFrame NwkError)
+pub sight_parts : (addrs : List (Short × Eui)) (keys : List Key) (nwk : Finding) (r : Result NwkFrame NwkError)
     → sight_of addrs keys nwk r ≡ record { nwk = nwk; below = option_map (below keys (given_in addrs r)) (payload_in nwk r) }
 sight_parts addrs keys nwk (Err fault) = refl
 sight_parts addrs keys nwk (Ok f) = refl

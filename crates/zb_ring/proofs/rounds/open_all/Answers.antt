@@ -2,6 +2,7 @@ use Rattle.std.proofs.Common.{◌≡◌, ◌≢◌, ◌∙◌, ℕ, ◌+◌, ◌
 use Rattle.arrayvec.specs.ArrayVec.{ArrayVec}
 use Rattle.zb_ring.specs.Pieces.{all_leads}
 use Rattle.zb_ring.specs.Rings.{given_from, learnt, ring_after}
+use Rattle.zb_ring.proofs.Bound.{ring_few}
 use Rattle.zb_ring.proofs.PieceLists.{firsts_fit}
 use Rattle.zb_ring.proofs.RoundLaws.{Round, one_round, last_round, last_shown, another_first, another_seen, another_length}
 use Rattle.zb_ring.proofs.rounds.open_all.Goals as goal
@@ -14,6 +15,7 @@ rounds-init g c = record {
   pieces = record { frames = c.in_ok-pieces.ensures.frames ∙ c.as_slice-2.ensures; numbers = c.in_ok-pieces.ensures.numbers };
   known = omega arith;
   seen = c.in_ok-pieces.ensures.unseen c.args.capture.now.addrs;
+  few = ring_few c.args.capture.now 0 c.in_ok-ring.ring c.requires.capture (c.in_ok-ring.ensures ∙ ap (given_from []) c.as_slice.ensures);
   grew = omega arith;
   first = λ n some within e. absurd (omega (arith, some, within));
 }
@@ -35,7 +37,7 @@ pub returns-then-len-count-clause-ring : goal.returns-then-len-count-clause-ring
 returns-then-len-count-clause-ring g c =
     let d = (goal.at.returns-then-len-count-clause-ring g c).In_ok-ring-2 in
     last_round c.args.capture.now c.rounds.rounds c.rounds.ring c.in_ok-ring-2.ring c.into_keys.result c.in_ok-pieces-2.pieces.items (done g d)
-    c.rounds.invariant.first (sym c.len-in-rounds.ensures ∙ c.if-len-count.true ∙ c.len-count.ensures) c.into_keys.ensures
+    c.rounds.invariant.first (sym c.len.ensures ∙ c.if-len-count.true ∙ c.len-count.ensures) c.into_keys.ensures
 
 pub returns-then-len-count-clause-pieces : goal.returns-then-len-count-clause-pieces
 returns-then-len-count-clause-pieces g c =
@@ -45,22 +47,22 @@ pub returns-then-len-count-clause-shown : goal.returns-then-len-count-clause-sho
 returns-then-len-count-clause-shown g c =
     let d = (goal.at.returns-then-len-count-clause-shown g c).In_ok-ring-2 in
     last_shown c.args.capture.now c.rounds.rounds c.rounds.ring c.in_ok-ring-2.ring c.into_keys.result c.in_ok-pieces-2.pieces.items (done g d)
-    (sym c.len-in-rounds.ensures ∙ c.if-len-count.true ∙ c.len-count.ensures) c.into_keys.ensures
+    (sym c.len.ensures ∙ c.if-len-count.true ∙ c.len-count.ensures) c.into_keys.ensures
 
 pub rounds-smaller : goal.rounds-smaller
 rounds-smaller g c =
     let d = (goal.at.rounds-smaller g c).In_ok-ring-2 in
     let grew : length c.in_ok-ring-2.ring ≢ length c.rounds.ring =
-    λ e. c.if-len-count.false (c.len-in-rounds.ensures ∙ e ∙ sym c.len-count.ensures) in
+    λ e. c.if-len-count.false (c.len.ensures ∙ e ∙ sym c.len-count.ensures) in
     let more = another_length c.args.capture.now c.rounds.rounds c.rounds.ring c.in_ok-ring-2.ring c.in_ok-pieces-2.pieces.items (done g d) grew in
-    omega (arith, more, c.rounds-test.true, c.len.ensures)
+    omega (arith, more, c.rounds.invariant.few)
 
 pub rounds-preserved : goal.rounds-preserved
 rounds-preserved g c =
     let d = (goal.at.rounds-preserved g c).In_ok-ring-2 in
     let round = done g d in
     let grew : length c.in_ok-ring-2.ring ≢ length c.rounds.ring =
-    λ e. c.if-len-count.false (c.len-in-rounds.ensures ∙ e ∙ sym c.len-count.ensures) in
+    λ e. c.if-len-count.false (c.len.ensures ∙ e ∙ sym c.len-count.ensures) in
     let pieces = c.in_ok-pieces-2.pieces.items in
     let more = another_length c.args.capture.now c.rounds.rounds c.rounds.ring c.in_ok-ring-2.ring pieces round grew in
     record {
@@ -68,6 +70,7 @@ rounds-preserved g c =
       pieces = round.cut;
       known = omega (arith, more, c.len-count.ensures);
       seen = another_seen c.args.capture.now c.rounds.rounds c.len-count.result c.rounds.ring c.in_ok-ring-2.ring pieces round c.len-count.ensures;
+      few = ring_few c.args.capture.now (c.rounds.rounds + 1) c.in_ok-ring-2.ring c.requires.capture round.after;
       grew = omega (arith, more, c.rounds.invariant.grew);
       first = another_first c.args.capture.now c.rounds.rounds c.rounds.ring c.in_ok-ring-2.ring pieces round c.rounds.invariant.first grew;
     }

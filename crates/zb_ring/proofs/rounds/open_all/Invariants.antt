@@ -9,6 +9,7 @@ invariant-rounds g l = record {
   pieces : IsCut l.capture l.pieces.items;
   known : l.known ≤ length l.ring;
   seen : AllSee l.capture.addrs (take l.known (keys_of l.ring)) l.pieces.items;
+  few : length l.ring ≤ 300256;
   grew : l.rounds ≤ length l.ring;
   first : (n : ℕ) → 0 < n → n < l.rounds + 1 → ring_after l.capture n ≢ ring_after l.capture (n - 1);
 }

@@ -1,0 +1,52 @@
+//! Why a report isn't written to its end.
+ghost use Rattle.std.specs.Prelude.{◌≡◌};
+ghost use Rattle.zb_inspect.specs.declared.fault.InspectFault.TheVariants.{Write as unwritten, NoMemory as lacks};
+
+use std::alloc::AllocError;
+use std::error::Error;
+use std::fmt;
+use zb_base::{Failed, NoMemory};
+
+/// The faults of `report`.
+#[derive(Clone, Copy, Debug, PartialEq, Eq)]
+pub enum InspectFault {
+    /// The sink failed: its count of faults rose.
+    Write,
+    /// There was no memory left.
+    NoMemory,
+}
+
+impl fmt::Display for InspectFault {
+    fn fmt<W: fmt::Write>(&self, f: &mut fmt::Formatter<W>) -> fmt::Result {
+        f.write_str(match self {
+            InspectFault::Write => "the report can't be written",
+            InspectFault::NoMemory => "no memory",
+        })
+    }
+}
+
+impl Error for InspectFault {}
+
+impl From<Failed> for InspectFault {
+    ghost from_gives = { λ _ e. e ≡ unwritten };
+
+    fn from(_error: Failed) -> InspectFault {
+        InspectFault::Write
+    }
+}
+
+impl From<AllocError> for InspectFault {
+    ghost from_gives = { λ _ e. e ≡ lacks };
+
+    fn from(_error: AllocError) -> InspectFault {
+        InspectFault::NoMemory
+    }
+}
+
+impl From<NoMemory> for InspectFault {
+    ghost from_gives = { λ _ e. e ≡ lacks };
+
+    fn from(_error: NoMemory) -> InspectFault {
+        InspectFault::NoMemory
+    }
+}
