@@ -24,3 +24,4 @@ mod ConfirmsLines
 mod ConfirmsRuns
 mod RecordLaws
 mod RecordBack
+mod GroupStates

@@ -10,11 +10,11 @@ ghost use Rattle.zb_laws.specs.Lockout.{RefusesOutsiders};
 ghost use Rattle.zb_laws.specs.Opening.{Opens};
 ghost use Rattle.zb_laws.specs.Records.{FitsRecord, state_in};
 ghost use Rattle.zb_model.specs.Claims.{Confirms, Each, Fresh, Lawful, Once};
-ghost use Rattle.zb_model.specs.Answer.{Answer, floor_for, reserve_of, stored_floor};
+ghost use Rattle.zb_model.specs.Answer.{Answer, answered, floor_for, reserve_of, stored_floor};
 ghost use Rattle.zb_model.specs.Data.{Sealing, Tier};
 ghost use Rattle.zb_model.specs.Fits.{keys_differ};
 ghost use Rattle.zb_model.specs.Lines.{LogLine};
-ghost use Rattle.zb_model.specs.Play.{World, stored_lines};
+ghost use Rattle.zb_model.specs.Play.{World, group_of, stored_lines};
 ghost use Rattle.zb_model.specs.Readings.{heard_line, state_of};
 ghost use Rattle.zb_model.specs.Record.{record_of};
 ghost use Rattle.zb_model.specs.Rules.{Sending, Setting};
@@ -33,6 +33,12 @@ pub fn reading_goes_on()
 pub fn stored_changes_are_read_back()
     ensures { (h : List LogLine) (number n : ℕ) (a : Answer)
         → state_of (h ++ stored_lines number n a) n ≡ applied_all a.edits (state_of h n) }
+{}
+
+/// The lines of an answer's whole group change the node's state by the answer: its changes, its accepted terms, its seals.
+pub fn a_group_is_read_back()
+    ensures { (h : List LogLine) (number n : ℕ) (a : Answer)
+        → state_of (h ++ group_of h number n a) n ≡ answered a (state_of h n) }
 {}
 
 /// A transcript has the start lines, one answer for each event in order, and the end line.

@@ -1,7 +1,7 @@
 -- Consequences of the definitions that no worked run shows, each computed.
-use Rattle.std.specs.Prelude.{◌≡◌, ℕ, Bool, true, false, List, [], ◌∷◌, replicate, map, Some, None, refl}
-use Rattle.zb_model.specs.Data.{Bytes, nobody, Duty, Centre, Device, Stage, Joined, Trust, Provisional, Verified, ForData, ForTransport, Aps, Station, Sealing, Draw, Install, Active, Row, Removed, Roll, Became, Moved}
-use Rattle.zb_model.specs.State.{NetKey, LinkKey, PairKey, NodeState, new_node, applied, after_boot, active_row}
+use Rattle.std.specs.Prelude.{◌≡◌, ℕ, true, List, [], ◌∷◌, map, Some, None, refl}
+use Rattle.zb_model.specs.Data.{nobody, Centre, Device, Stage, Joined, Provisional, Verified, ForData, ForTransport, Aps, Sealing, Draw, Install, Active, Row, Removed, Roll, Became, Moved}
+use Rattle.zb_model.specs.State.{LinkKey, PairKey, applied, after_boot, active_row}
 use Rattle.zb_model.specs.Rules.{Does, Setting, unless, given, choose, centre_of, drop_old}
 use Rattle.zb_model.specs.OwnEvents.{roll}
 use Rattle.zb_model.specs.Judging.{candidates}
@@ -11,28 +11,11 @@ use Rattle.zb_model.specs.Lines.{LogLine, Declared, Changed}
 use Rattle.zb_model.specs.Secrets.{carried, ever}
 use Rattle.std.specs.Prelude.{filter}
 use Rattle.zb_model.proofs.Toy.{x, toy}
+use Rattle.zb_model.proofs.Small.{node, k, net_at, link_of, bare, keyed_node}
 
--- A centre 1 and a device 2; keys; rows that hold them; a node without rows, and one with the network key 1 active.
-abbrev node : Duty → ℕ → ℕ → Station
-node duty eui short = record { name = []; eui = eui; short = short; duty = duty; out_block = 4; in_block = 4 }
-
+-- A device 2 beside a centre 1.
 abbrev device : Setting
 device = record { me = node Device 2 258; stations = node Centre 1 0 ∷ node Device 2 258 ∷ [] }
-
-abbrev k : ℕ → Bytes
-k n = replicate 16 n
-
-abbrev net_at : ℕ → Bool → ℕ → NetKey
-net_at n live next = record { key = k n; sequence = n; live = live; started = true; limit = next; next = next; floors = [] }
-
-abbrev link_of : ℕ → ℕ → Trust → Bool → LinkKey
-link_of partner n trust live = record { partner = partner; key = k n; trust = trust; live = live; code = true; told = false; kept = 0; stored = 0 }
-
-abbrev bare : Duty → Stage → NodeState
-bare duty stage = record (new_node duty) { stage = stage }
-
-abbrev keyed_node : Duty → Stage → List LinkKey → NodeState
-keyed_node duty stage links = record (bare duty stage) { nets = net_at 1 true 7 ∷ []; active = Some (k 1); links = links }
 
 abbrev own_row : LinkKey
 own_row = link_of 1 5 Verified true

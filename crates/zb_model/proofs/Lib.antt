@@ -2,6 +2,8 @@ mod Bytes
 pub mod FirstPathLaws
 mod Toy
 mod Terms
+mod Small
 mod Rows
 mod Refusals
 mod Cases
+mod FitCases

@@ -1,7 +1,7 @@
 -- Each refusal of the policy's tables, computed on a small state: one lemma each.
-use Rattle.std.specs.Prelude.{◌≡◌, ℕ, ◌+◌, Bool, true, false, List, [], ◌∷◌, ◌++◌, replicate, Some, None, refl}
-use Rattle.zb_model.specs.Data.{Bytes, Duty, Centre, Router, Device, Nwk, Stage, Knocked, Joined, Offered, Confirmed, Rejoining, Trust, Provisional, Unverified, Verified, Purpose, ForData, ForTransport, ForLoad, Station, AtNwk, Malformed, NotForMe, Unsecured, NoKey, CounterMax, Stale, BadMic, Policy, NotMember, WrongState, KeyOld, KeysFull, RowsFull, KeyInUse, NoDraw, CounterSpent, WrongHash}
-use Rattle.zb_model.specs.State.{most, NetKey, LinkKey, NodeState, new_node, active_row, usable_nets, usable_active, newest, usable_of, live_of, current, offered, is_live, is_known, is_told, code_row, other_user, pair_of, next_counter, sender_floor}
+use Rattle.std.specs.Prelude.{◌≡◌, ℕ, ◌+◌, true, false, List, [], ◌∷◌, ◌++◌, replicate, Some, None, refl}
+use Rattle.zb_model.specs.Data.{Bytes, Duty, Centre, Router, Device, Nwk, Stage, Knocked, Joined, Offered, Confirmed, Rejoining, Provisional, Unverified, Verified, Purpose, ForData, ForTransport, ForLoad, Station, AtNwk, Malformed, NotForMe, Unsecured, NoKey, CounterMax, Stale, BadMic, Policy, NotMember, WrongState, KeyOld, KeysFull, RowsFull, KeyInUse, NoDraw, CounterSpent, WrongHash}
+use Rattle.zb_model.specs.State.{most, LinkKey, NodeState, active_row, usable_nets, usable_active, newest, usable_of, live_of, current, offered, is_live, is_known, is_told, code_row, other_user, pair_of, next_counter, sender_floor}
 use Rattle.zb_model.specs.Rules.{Stop, Setting, unless, given, choose, station_of, station_at, centre_of, short_of, spent, both_spent, drop_partner, drop_others, drop_old}
 use Rattle.zb_model.specs.OwnEvents.{say, knock, rejoin, request_key, verify_key, member_timer, ask, tell, child_of_router, child_of_centre, next_member, is_unfinished, centre_timer, provision, remove_device, roll, switch_over, again, share, own}
 use Rattle.zb_model.specs.Judging.{Not, reject, need, judge_net, judge_nwk, candidates, judge_aps}
@@ -9,11 +9,9 @@ use Rattle.zb_model.specs.Commands.{Heard, take_net_key, take_row, take_link_key
 use Rattle.zb_model.specs.Data.{Received}
 use Rattle.zb_model.specs.Answer.{plan_of}
 use Rattle.zb_model.proofs.Toy.{x, toy}
+use Rattle.zb_model.proofs.Small.{node, k, net_at, link_of, bare, keyed_node}
 
 -- Nodes: a centre 1, a device 2, a router 3, a device 4.
-abbrev node : Duty → ℕ → ℕ → Station
-node duty eui short = record { name = []; eui = eui; short = short; duty = duty; out_block = 4; in_block = 4 }
-
 abbrev all : List Station
 all = node Centre 1 0 ∷ node Device 2 258 ∷ node Router 3 259 ∷ node Device 4 260 ∷ []
 
@@ -29,26 +27,10 @@ device = seen_by Device 2 258
 abbrev router : Setting
 router = seen_by Router 3 259
 
--- Keys, and rows that hold them: a network row that goes on from a counter, live and dropped; link rows.
-abbrev k : ℕ → Bytes
-k n = replicate 16 n
-
-abbrev net_at : ℕ → Bool → ℕ → NetKey
-net_at n live next = record { key = k n; sequence = n; live = live; started = true; limit = next; next = next; floors = [] }
-
-abbrev link_of : ℕ → ℕ → Trust → Bool → LinkKey
-link_of partner n trust live = record { partner = partner; key = k n; trust = trust; live = live; code = true; told = false; kept = 0; stored = 0 }
-
 abbrev with_told_row : LinkKey → LinkKey
 with_told_row r = record r { told = true }
 
--- A node without rows, one with the network key 1 active, and one whose NWK counter is at its end.
-abbrev bare : Duty → Stage → NodeState
-bare duty stage = record (new_node duty) { stage = stage }
-
-abbrev keyed_node : Duty → Stage → List LinkKey → NodeState
-keyed_node duty stage links = record (bare duty stage) { nets = net_at 1 true 7 ∷ []; active = Some (k 1); links = links }
-
+-- a node whose NWK counter is at its end
 abbrev spent_node : Duty → Stage → List LinkKey → NodeState
 spent_node duty stage links = record (bare duty stage) { nets = net_at 1 true most ∷ []; active = Some (k 1); links = links }
 

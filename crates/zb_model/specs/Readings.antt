@@ -1,9 +1,9 @@
 -- What a list of transcript lines says. Each reading is a fold over the lines, so what a list says is changed by the lines
 -- that follow it one by one.
-use Rattle.std.specs.Prelude.{ℕ, ◌+◌, Bool, true, false, not, if◌then◌else◌, ◌&&◌, ◌||◌, List, [], ◌∷◌, ◌++◌, fold, Option, Some, None, nat_eq}
-use Rattle.zb_model.specs.Data.{Bytes, nobody, Device, Tier, Nwk, Aps, Station, Draw, Floor, Moved}
+use Rattle.std.specs.Prelude.{ℕ, ◌+◌, Bool, true, false, if◌then◌else◌, List, [], ◌∷◌, ◌++◌, fold, nat_eq}
+use Rattle.zb_model.specs.Data.{Bytes, nobody, Device, Tier, Nwk, Aps, Station, Draw, Moved}
 use Rattle.zb_model.specs.Lines.{LogLine, Declared, GivenNet, GivenLink, Counter, Changed, Commit, Accept, Refuse, Seal, Forge, Send, Inject, Stopped, DownReset, DownDisk, Boot, Dump, End}
-use Rattle.zb_model.specs.State.{NodeState, new_node, same_key, applied, sealed, accepted, after_boot, with_given_net, with_given_link, with_declared}
+use Rattle.zb_model.specs.State.{NodeState, new_node, applied, sealed, accepted, after_boot, with_given_net, with_given_link, with_declared}
 
 -- whose line it is; nobody's are those of forged and injected frames and the end line
 unfoldable pub speaker : LogLine → ℕ
@@ -83,39 +83,11 @@ commit_line node n _ = n
 unfoldable pub commits_of : List LogLine → ℕ → ℕ
 commits_of h node = fold (commit_line node) 0 h
 
--- A slot of floors: a receiver, a layer, a base key and a source. `stored` is the greatest floor line; `kept` is one more
--- than the last accepted counter since the receiver's last boot, and a boot takes it back to `stored`.
-pub record Slot : Type 0 where
-  pub receiver : ℕ
-  pub layer : Tier
-  pub base : Bytes
-  pub source : ℕ
-
-pub record Floors : Type 0 where
-  pub kept : ℕ
-  pub stored : ℕ
-
+-- Layers that are the same
 abbrev pub alike_tier : Tier → Tier → Bool
 alike_tier Nwk Nwk = true
 alike_tier Aps Aps = true
 alike_tier _ _ = false
-
-unfoldable pub is_slot : Slot → ℕ → Tier → Bytes → ℕ → Bool
-is_slot x receiver layer base source =
-    nat_eq x.receiver receiver && (alike_tier x.layer layer && (same_key x.base base && nat_eq x.source source))
-
-abbrev pub raised : ℕ → ℕ → ℕ
-raised a b = Rattle.std.specs.Prelude.max a b
-
-abbrev pub floors_after : Slot → Floors → LogLine → Floors
-floors_after x f (Changed e n (Floor layer base source value)) =
-    if is_slot x n layer base source then record f { stored = raised f.stored value } else f
-floors_after x f (Accept e n t) = if is_slot x n t.layer t.base t.source then record f { kept = t.counter + 1 } else f
-floors_after x f (Boot e n) = if nat_eq x.receiver n then record f { kept = f.stored } else f
-floors_after x f _ = f
-
-unfoldable pub floors : List LogLine → Slot → Floors
-floors h x = fold (floors_after x) (record { kept = 0; stored = 0 }) h
 
 -- the declared nodes, in order
 abbrev pub station_line : List Station → LogLine → List Station
