@@ -9,7 +9,9 @@ use Rattle.zb_model.specs.Data.{Bytes, Duty, Centre, Router, Device, Stage, Fres
 use Rattle.zb_model.specs.State.{SenderFloor, NetKey, LinkKey, PairKey, NodeState, same_key, live_nets, booted_floor, booted_net, booted_link, after_boot, shown_net, shown}
 use Rattle.zb_model.specs.Record.{duty_byte, stage_byte, trust_byte, worth, place_from, active_place, net_bytes, sender_bytes, floors_bytes, link_bytes, pair_bytes, four_bytes, record_of}
 use Rattle.zb_laws.specs.Records.{Taking, follow, chosen, some_bytes, a_number, so_many, duty_of, stage_of, trust_of, yes_or_no, two_flags, three_flags, net_at, sender_at, floors_at, with_floors, link_at, pair_at, active_at, record_at, whole, state_in, NetFits, LinkFits, PairFits, HasActive, FitsRecord}
-use Rattle.zb_laws.proofs.Basics.{same_key-eq, append-nil'}
+use Rattle.zb_model.specs.Lines.{LogLine, Boot}
+use Rattle.zb_model.specs.Readings.{state_of, heard_line, after, speaker}
+use Rattle.zb_laws.proofs.Basics.{same_key-eq, append-nil', nat_eq-refl, state-snoc}
 use Rattle.zb_laws.proofs.Nets.{at_key}
 
 -- Fields
@@ -297,3 +299,12 @@ spelled-again s f =
 pub read-back : (s : NodeState) → FitsRecord s → state_in (record_of s) ≡ Some (shown (after_boot s))
 unfolding state_in
 read-back s f = ap (λ b. whole (record_at b)) (record-bytes s) ∙ ap whole (spelled-again s f) ∙ ap Some (booted-is s)
+
+-- over lines: what a node is after a boot is what its record says
+
+boot-line : (e n : ℕ) (s : NodeState) → heard_line n s (Boot e n) ≡ after_boot s
+unfolding heard_line speaker after
+boot-line e n s = ap (λ b. cond b (after_boot s) s) (nat_eq-refl n)
+
+pub boot-reads : (h : List LogLine) (e n : ℕ) → FitsRecord (state_of h n) → state_in (record_of (state_of h n)) ≡ Some (shown (state_of (h ++ Boot e n ∷ []) n))
+boot-reads h e n f = read-back (state_of h n) f ∙ ap (λ x. Some (shown x)) (sym (state-snoc h (Boot e n) n ∙ boot-line e n (state_of h n)))

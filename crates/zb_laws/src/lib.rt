@@ -2,7 +2,7 @@
 //! a function with an empty body; docs/THEOREMS.md says it in words.
 #![tactic(auto)]
 
-ghost use Rattle.std.specs.Prelude.{◌≡◌, ◌<◌, ◌≤◌, ◌+◌, ◌++◌, min, ℕ, true, List, Option, Some, [], fold};
+ghost use Rattle.std.specs.Prelude.{◌≡◌, ◌<◌, ◌≤◌, ◌+◌, ◌++◌, min, ℕ, true, List, Option, Some, [], ◌∷◌, fold};
 ghost use Rattle.std.specs.List.{AllByRecursion};
 ghost use Rattle.zb_laws.specs.Commanding.{OneCentre, SpellsConfirm};
 ghost use Rattle.zb_laws.specs.Counting.{TakesNext};
@@ -13,7 +13,7 @@ ghost use Rattle.zb_model.specs.Claims.{Confirms, Each, Fresh, Lawful, Once};
 ghost use Rattle.zb_model.specs.Answer.{Answer, answered, floor_for, reserve_of, stored_floor};
 ghost use Rattle.zb_model.specs.Data.{Sealing, Tier};
 ghost use Rattle.zb_model.specs.Fits.{keys_differ};
-ghost use Rattle.zb_model.specs.Lines.{LogLine};
+ghost use Rattle.zb_model.specs.Lines.{LogLine, Boot};
 ghost use Rattle.zb_model.specs.Play.{World, group_of, stored_lines};
 ghost use Rattle.zb_model.specs.Readings.{heard_line, state_of};
 ghost use Rattle.zb_model.specs.Record.{record_of};
@@ -96,6 +96,12 @@ pub fn a_floor_is_one_block()
 /// and a dropped network key has none. The state's keys have 16 bytes, its numbers fit their fields, and its active key has a row.
 pub fn a_record_is_read_back()
     ensures { (s : NodeState) → FitsRecord s → state_in (record_of s) ≡ Some (shown (after_boot s)) }
+{}
+
+/// What a node is after a boot is what its record says, of the state before.
+pub fn a_boot_reads_the_record()
+    ensures { (h : List LogLine) (e n : ℕ) → FitsRecord (state_of h n)
+        → state_in (record_of (state_of h n)) ≡ Some (shown (state_of (h ++ Boot e n ∷ []) n)) }
 {}
 
 /// Bytes that are read as a state whose keys differ are the record of that state, and a boot leaves that state as it is.
