@@ -1,5 +1,5 @@
 -- What each command is to answer.
-use Rattle.std.specs.Prelude.{ℕ, ◌∷◌, ◌++◌, [], nat_lt, if◌then◌else◌, length, Option, Some, None, Result, Ok, Err}
+use Rattle.std.specs.Prelude.{ℕ, ◌∷◌, ◌++◌, [], nat_lt, if◌then◌else◌, length, Option, Some, Result, Ok, Err}
 use Rattle.std.specs.Option.{option_map}
 use Rattle.hex.specs.Hex.{encode_upper}
 use Rattle.zb_gen.specs.Made.{made}

@@ -1,5 +1,5 @@
 -- One more line of a page of numbered lines.
-use Rattle.std.proofs.Common.{◌≡◌, ℕ, ◌+◌, add-one, zero, suc, List, [], ◌∷◌, ◌++◌, map, refl, arith, ap, sym, ◌∙◌, append_assoc, append-nil}
+use Rattle.std.proofs.Common.{◌≡◌, ℕ, ◌+◌, add-one, zero, suc, List, [], ◌∷◌, ◌++◌, map, arith, ap, sym, ◌∙◌, append_assoc, append-nil}
 use Rattle.std.specs.List.{flat_map, range_with_len}
 use Rattle.std.proofs.lemmas.Grind.{flat_map-append}
 use Rattle.std.proofs.lemmas.List.{map-append}

@@ -1,5 +1,5 @@
 -- Texts put together.
-use Rattle.std.proofs.Common.{◌≡◌, ℕ, ◌+◌, List, [], ◌∷◌, ◌++◌, refl, ap, sym, ◌∙◌, append_assoc, codes, map}
+use Rattle.std.proofs.Common.{◌≡◌, ℕ, ◌+◌, List, [], ◌∷◌, ◌++◌, ap, ◌∙◌, append_assoc, codes}
 use Rattle.std.specs.Int.{w32, to_le_bytes}
 use Rattle.zb_text.specs.Pages.{ended, line_of_words}
 use Rattle.zb_text.specs.Words.{then}

@@ -1,16 +1,14 @@
 -- What is asked of the program's entries is asked of what they stand for.
-use Rattle.std.proofs.Common.{◌≡◌, ℕ, ◌<◌, ◌≤◌, ◌&&◌, ◌||◌, not, nat_lt, zero, suc, arith, List, [], ◌∷◌, Bool, true, false, cond, map, find, length, get_or, set, Option, Some, None, refl, ap, sym, ◌∙◌}
+use Rattle.std.proofs.Common.{◌≡◌, ℕ, ◌<◌, ◌≤◌, ◌&&◌, ◌||◌, not, nat_lt, zero, suc, arith, List, [], ◌∷◌, Bool, true, false, cond, map, find, length, get_or, set, Option, Some, None, refl, ap}
 use Rattle.std.specs.Prelude.{position}
 use Rattle.std.specs.List.{list_any, AllByRecursion, position_or_len}
 use Rattle.std.proofs.lemmas.Bool.Decides.{nat_tests}
-use Rattle.std.proofs.lemmas.List.{length-map}
 use Rattle.std.proofs.lemmas.List.Quantifiers.{position-Some}
 use Rattle.std.proofs.lemmas.List.Sums.{fails_before_first}
 use Rattle.std.specs.Option.{option_map}
-use Rattle.zb_base.specs.declared.node.Role.{Role}
 use Rattle.zb_sched_line.specs.Said.{Bytes}
 use Rattle.zb_sched.specs.Drafts.{seat_of, IsLinked, is_linked, role_among}
-use Rattle.zb_sched.specs.Judge.{Seat, changed, has_name, is_key, link_of, is_link, is_link_of_other, role_named}
+use Rattle.zb_sched.specs.Judge.{Seat, changed, has_name, is_link, is_link_of_other, role_named}
 use Rattle.zb_sched.specs.declared.entry.Entry.{Entry}
 
 pub any_seats : (p : Seat → Bool) (es : List Entry) → list_any (λ e. p (seat_of e)) es ≡ list_any p (map seat_of es)

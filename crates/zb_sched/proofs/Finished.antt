@@ -1,5 +1,5 @@
 -- A schedule at its beginning and at its end.
-use Rattle.std.proofs.Common.{◌≡◌, ◌≤◌, ◌||◌, List, [], ◌∷◌, Bool, true, Result, Ok, Err, map, refl, arith, ap, sym, ◌∙◌, subst}
+use Rattle.std.proofs.Common.{◌≡◌, ◌||◌, List, [], ◌∷◌, true, Result, Ok, Err, map, refl, arith, ap, sym, ◌∙◌, subst}
 use Rattle.std.specs.Prelude.{OnOk}
 use Rattle.std.specs.List.{list_any}
 use Rattle.zb_base.specs.declared.fault.OrMemory.{OrMemory}

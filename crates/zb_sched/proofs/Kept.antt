@@ -1,6 +1,6 @@
 -- What every schedule keeps, line by line.
 use Rattle.std.proofs.Common.{◌≡◌, ℕ, ◌<◌, ◌≤◌, ◌+◌, suc, ◌==◌, ◌&&◌, ◌||◌, not, nat_le, List, [], ◌∷◌, ◌++◌, length, Bool, true, false, cond, map, find, Option, Some, None, Result, Ok, Err, refl, arith, ap, sym, ◌∙◌, subst, bytes_eq, length-append}
-use Rattle.std.specs.Prelude.{if◌then◌else◌, is_some, IfSome, ⊤}
+use Rattle.std.specs.Prelude.{if◌then◌else◌, is_some, ⊤}
 use Rattle.std.specs.List.{AllByRecursion, list_any}
 use Rattle.std.specs.Option.{option_map}
 use Rattle.std.proofs.lemmas.Bool.Decides.{nat_tests}
@@ -11,16 +11,16 @@ use Rattle.zb_base.specs.declared.label.Layer.TheVariants.{Nwk, Aps}
 use Rattle.zb_base.specs.declared.node.Role.{Role}
 use Rattle.zb_base.specs.declared.node.Role.TheVariants.{Centre, Router, Device}
 use Rattle.zb_install.specs.Code.{code_key}
-use Rattle.zb_sched_line.specs.Fits.{FitsAct, FitsSentence, IsCode, IsKey, IsName}
+use Rattle.zb_sched_line.specs.Fits.{FitsAct, FitsSentence, IsCode, IsKey}
 use Rattle.zb_sched_line.specs.Grammar.{greatest}
 use Rattle.zb_sched_line.specs.Said.{Bytes, Act, Says, Delivers, Ticks, Knocks, Rejoins, Adopts, Provisions, Repeats, Rolls, Switches, Removes, Resets, Boots, Dumps, Stops, Fails, Injects, ForgesNet, ForgesBoth, ForgesOpen, Asks, Shares, Tells, Sentence, Quiet, Introduces, Codes, Holds, Starts, Draws, Misprovisions, Happens}
-use Rattle.zb_sched.specs.Judge.{Seat, Seen, after_act, after_code, after_code_bytes, after_counter, after_draw, after_netkey, after_node, after_sentence, are_blocks, changed, clashes, coded, has_begun, has_code, has_counter, has_its_nodes, has_name, has_network, holding, is_drawn, is_joiner, is_key, is_link, is_link_of_other, is_network, is_taken, link_of, network_of, new_seat, provision_clashes, role_named, starting, well_known}
+use Rattle.zb_sched.specs.Judge.{Seat, Seen, after_act, after_code, after_counter, after_draw, after_netkey, after_node, after_sentence, are_blocks, changed, clashes, coded, has_begun, has_code, has_counter, has_its_nodes, has_name, has_network, holding, is_drawn, is_joiner, is_key, is_link, is_link_of_other, is_network, is_taken, link_of, network_of, new_seat, provision_clashes, role_named, starting, well_known}
 use Rattle.zb_sched.specs.Plan.{Member, Plan}
 use Rattle.zb_sched.specs.Reading.{finished, is_centre}
-use Rattle.zb_sched.specs.Valid.{Pairwise, Differ, Apart, KeysApart, FitsNodeCode, FitsNetwork, FitsMember, IsNewKey, seated, seen_of, FitsPlan, IsSoFar}
+use Rattle.zb_sched.specs.Valid.{Pairwise, Differ, Apart, KeysApart, FitsMember, IsNewKey, seated, seen_of, FitsPlan, IsSoFar}
 use Rattle.zb_sched.specs.declared.error.SchedCause.{SchedCause}
-use Rattle.zb_sched.specs.declared.error.SchedCause.TheVariants.{Syntax, DuplicateNode, DuplicateCode, DrawRepeated, UnknownNode, BadCode, Block, TooMany}
-use Rattle.zb_sched.proofs.Lists.{all_append, pairwise_append, all_map, all_of, all_map2, neither, any_false, members_false, unequal, unequal_number, passed}
+use Rattle.zb_sched.specs.declared.error.SchedCause.TheVariants.{Syntax, DuplicateNode, DuplicateCode, DrawRepeated, UnknownNode, Block, TooMany}
+use Rattle.zb_sched.proofs.Lists.{all_append, pairwise_append, all_map, all_of, all_map2, neither, any_false, members_false, unequal, unequal_number}
 
 -- ---- one node changed
 

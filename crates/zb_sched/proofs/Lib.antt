@@ -3,6 +3,7 @@ pub mod Finished
 pub mod Kept
 pub mod Leads
 pub mod Lists
+pub mod OneCentre
 pub mod PageLemmas
 pub mod PrintedReads
 pub mod ReadLemmas

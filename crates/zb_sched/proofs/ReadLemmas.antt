@@ -1,5 +1,5 @@
 -- One more line of a schedule.
-use Rattle.std.proofs.Common.{◌≡◌, ℕ, ◌+◌, List, [], ◌∷◌, Option, Some, None, Result, Ok, Err, map, refl, ap, sym, ◌∙◌}
+use Rattle.std.proofs.Common.{◌≡◌, ℕ, ◌+◌, List, [], ◌∷◌, Option, Some, None, Ok, map, refl, ap, ◌∙◌}
 use Rattle.zb_text.specs.Words.{first_of}
 use Rattle.zb_sched.specs.Judge.{Seat, Seen}
 use Rattle.zb_sched.specs.Plan.{member_of}

@@ -11,7 +11,7 @@ use Rattle.zb_install.specs.Code.{code_key}
 use Rattle.zb_sched_line.specs.Said.{Bytes, Act, Says, Delivers, Ticks, Knocks, Rejoins, Adopts, Provisions, Repeats, Rolls, Switches, Removes, Resets, Boots, Dumps, Stops, Fails, Injects, ForgesNet, ForgesBoth, ForgesOpen, Asks, Shares, Tells, Sentence, Quiet, Introduces, Codes, Holds, Starts, Draws, Misprovisions, Happens}
 use Rattle.zb_sched.specs.Plan.{Member}
 use Rattle.zb_sched.specs.declared.error.SchedCause.{SchedCause}
-use Rattle.zb_sched.specs.declared.error.SchedCause.TheVariants.{Syntax, DuplicateNode, DuplicateCode, DrawRepeated, UnknownNode, NoCentre, BadCode, Block, TooMany}
+use Rattle.zb_sched.specs.declared.error.SchedCause.TheVariants.{Syntax, DuplicateNode, DuplicateCode, DrawRepeated, UnknownNode, BadCode, Block, TooMany}
 
 -- A node so far, and whether its counters were declared (a declared 0 is as good as none, but stands once).
 pub record Seat : Type 0 where

@@ -9,7 +9,7 @@ use Rattle.zb_base.specs.declared.node.Role.TheVariants.{Centre, Router, Device}
 use Rattle.zb_sched_line.specs.Grammar.{meaning_of}
 use Rattle.zb_sched_line.specs.Said.{Sentence}
 use Rattle.zb_sched.specs.Judge.{Seat, Seen, after_sentence}
-use Rattle.zb_sched.specs.Plan.{Member, Plan, plan_of}
+use Rattle.zb_sched.specs.Plan.{Plan, plan_of}
 use Rattle.zb_sched.specs.declared.error.SchedCause.{SchedCause}
 use Rattle.zb_sched.specs.declared.error.SchedCause.TheVariants.{Syntax, NoCentre}
 use Rattle.zb_sched.specs.declared.error.SchedError.{SchedError}

@@ -1,5 +1,5 @@
 -- What every schedule keeps: nodes, addresses and keys that are apart, values in their ranges, events of known nodes.
-use Rattle.std.specs.Prelude.{◌≡◌, ℕ, ◌≤◌, List, [], ◌∷◌, length, map, Bool, true, false, Option, Some, None, IfSome, ⊤}
+use Rattle.std.specs.Prelude.{◌≡◌, ℕ, ◌≤◌, List, [], ◌∷◌, length, map, true, false, Option, Some, None, IfSome, ⊤}
 use Rattle.std.specs.List.{AllByRecursion, list_any}
 use Rattle.zb_install.specs.Code.{code_key}
 use Rattle.zb_sched_line.specs.Fits.{FitsAct, FitsSentence, IsCode, IsKey}

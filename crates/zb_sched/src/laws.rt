@@ -1,14 +1,14 @@
 //! What every schedule keeps is kept by each line, and what is printed of a schedule is that schedule: laws of the
 //! definitions, each on a function that does nothing.
 
-ghost use Rattle.std.specs.Prelude.{◌≡◌, Ok};
+ghost use Rattle.std.specs.Prelude.{◌≡◌, Ok, true};
 ghost use Rattle.zb_sched_line.specs.Fits.{FitsSentence};
 ghost use Rattle.zb_sched_line.specs.Said.{Sentence};
 ghost use Rattle.zb_sched.specs.Judge.{after_sentence, Seen};
-ghost use Rattle.zb_sched.specs.Plan.{Plan};
+ghost use Rattle.zb_sched.specs.Plan.{Member, Plan};
 ghost use Rattle.zb_sched.specs.Printed.{printed};
-ghost use Rattle.zb_sched.specs.Reading.{finished, schedule_of};
-ghost use Rattle.zb_sched.specs.Valid.{IsSchedule, IsSoFar};
+ghost use Rattle.zb_sched.specs.Reading.{finished, is_centre, schedule_of};
+ghost use Rattle.zb_sched.specs.Valid.{IsSchedule, IsSoFar, Pairwise};
 
 /// A line that may stand behind others keeps what they keep.
 pub fn lines_keep_schedules()
@@ -19,4 +19,9 @@ pub fn lines_keep_schedules()
 /// The printed text of a schedule reads as that schedule.
 pub fn printed_schedule_reads()
     ensures { (plan : Plan) → IsSchedule plan → schedule_of (printed plan) ≡ Ok plan }
+{}
+
+/// No two nodes of a schedule are centres.
+pub fn schedules_have_one_centre()
+    ensures { (plan : Plan) → IsSchedule plan → Pairwise (λ (m n : Member). is_centre m.role ≡ true → is_centre n.role ≡ true → ⊥) plan.members }
 {}

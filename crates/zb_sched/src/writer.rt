@@ -1,8 +1,9 @@
 //! The printer.
 
-ghost use Rattle.std.specs.Prelude.{◌≡◌, ◌++◌, List, map, IfErr, OnOk};
-ghost use Rattle.std.specs.Io.KnownBytes.{Appends};
+ghost use Rattle.std.specs.Prelude.{◌≡◌, ◌++◌, List, map, Err, IfErr, OnOk};
+ghost use Rattle.std.specs.Io.KnownBytes.{Appends, Keeps};
 ghost use Rattle.zb_base.specs.Outside.{AppendsFront, HasCause};
+ghost use Rattle.zb_base.specs.declared.fault.OrMemory.TheVariants.{NoMemory};
 ghost use Rattle.zb_sched.specs.Faults.{write_fault};
 ghost use Rattle.std.specs.List.{flat_map};
 ghost use Rattle.zb_text.specs.Pages.{page};
@@ -121,6 +122,7 @@ pub fn write<W: Sink>(
 ) -> Result<(), OrMemory<Failed>>
     ensures whole { OnOk result (Appends (W.taken out.old) (W.taken out.new) (printed (plan_of schedule.now))) }
     ensures front { IfErr result (λ fault. AppendsFront (W.taken out.old) (W.taken out.new) (printed (plan_of schedule.now))) }
+    ensures unwritten { result ≡ Err NoMemory → Keeps (W.taken out.old) (W.taken out.new) }
     ensures cause { HasCause (W.faults out.old) (W.faults out.new) (write_fault result) }
 {
     let mut page = Vec::new(alloc);

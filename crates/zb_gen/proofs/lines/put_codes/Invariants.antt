@@ -1,8 +1,7 @@
 use Rattle.std.proofs.Common.{◌≡◌, ◌++◌, ℕ, map}
-use Rattle.std.specs.Prelude.{codes}
-use Rattle.std.specs.List.{flat_map, range_with_len}
+use Rattle.std.specs.List.{range_with_len}
 use Rattle.zb_text.specs.Pages.{page}
-use Rattle.zb_gen.specs.Made.{code_line, draw_line, join_lines, late_line, node_line, step_lines}
+use Rattle.zb_gen.specs.Made.{code_line}
 use Rattle.zb_gen.proofs.lines.put_codes.Given as goal
 
 abbrev pub invariant-loop-i : goal.invariant-loop-i

@@ -1,9 +1,6 @@
 use Rattle.std.proofs.Common.{ℕ, ◌+◌, arith}
-use Rattle.std.specs.Prelude.{codes}
-use Rattle.std.specs.List.{flat_map, range_with_len}
-use Rattle.zb_text.specs.Pages.{page}
-use Rattle.zb_gen.specs.Made.{code_line, draw_line, join_lines, late_line, node_line, step_lines}
-use Rattle.zb_gen.proofs.Ranges.{line_more, lines_more}
+use Rattle.zb_gen.specs.Made.{join_lines}
+use Rattle.zb_gen.proofs.Ranges.{lines_more}
 use Rattle.zb_gen.proofs.lines.put_joins.Goals as goal
 
 pub loop-i-preserved : goal.loop-i-preserved

@@ -1,4 +1,4 @@
-use Rattle.std.proofs.Common.{◌∙◌, ◌+◌}
+use Rattle.std.proofs.Common.{◌+◌}
 use Rattle.zb_text.specs.Fields.{eui_text, short_text}
 use Rattle.zb_gen.specs.Made.{node_name, role_word}
 use Rattle.zb_gen.proofs.Texts.{node_text}

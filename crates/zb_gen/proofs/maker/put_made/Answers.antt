@@ -1,4 +1,4 @@
-use Rattle.std.proofs.Common.{◌≡◌, ◌+◌, ◌*◌, ◌++◌, ◌∷◌, ℕ, map}
+use Rattle.std.proofs.Common.{◌+◌, ◌*◌, ◌∷◌, ℕ, map}
 use Rattle.std.specs.List.{flat_map, range_with_len}
 use Rattle.zb_text.specs.Pages.{ended, page}
 use Rattle.zb_gen.specs.Made.{centre_line, code_line, draw_line, join_lines, late_line, made_lines, netkey_line, node_line, rollover_lines, step_lines}

@@ -1,11 +1,8 @@
-use Rattle.std.proofs.Common.{◌≡◌, ◌+◌, ◌*◌, ◌++◌, ◌∙◌, ℕ, List, map, arith, ap}
-use Rattle.std.specs.List.{flat_map, range_with_len}
-use Rattle.zb_text.specs.Pages.{ended, page}
-use Rattle.zb_gen.specs.Made.{late_line, step_lines, step_of}
-use Rattle.zb_gen.specs.Steps.{step_at}
+use Rattle.std.proofs.Common.{◌+◌, ◌*◌, ◌++◌, ◌∙◌, ℕ, arith, ap}
+use Rattle.zb_text.specs.Pages.{ended}
+use Rattle.zb_gen.specs.Made.{late_line}
 use Rattle.zb_gen.specs.Words.{Place}
-use Rattle.zb_gen.specs.declared.steps.Step.{Step}
-use Rattle.zb_gen.proofs.Ranges.{line_more, lines_more}
+use Rattle.zb_gen.proofs.Ranges.{line_more}
 use Rattle.zb_gen.proofs.steps.put_late.Goals as goal
 
 pub loop-k-preserved : goal.loop-k-preserved

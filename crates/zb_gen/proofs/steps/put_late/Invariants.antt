@@ -1,7 +1,7 @@
 use Rattle.std.proofs.Common.{◌≡◌, ◌+◌, ◌*◌, ◌++◌, ℕ, map}
-use Rattle.std.specs.List.{flat_map, range_with_len}
+use Rattle.std.specs.List.{range_with_len}
 use Rattle.zb_text.specs.Pages.{page}
-use Rattle.zb_gen.specs.Made.{late_line, step_lines}
+use Rattle.zb_gen.specs.Made.{late_line}
 use Rattle.zb_gen.proofs.steps.put_late.Given as goal
 
 abbrev pub invariant-loop-k : goal.invariant-loop-k

@@ -1,7 +1,7 @@
 use Rattle.std.proofs.Common.{◌∙◌, ap, sym, List}
 use Rattle.std.specs.Prelude.{position}
 use Rattle.zb_sched.specs.Drafts.{seat_of}
-use Rattle.zb_sched.specs.Judge.{Seat, has_name, coded, holding, starting}
+use Rattle.zb_sched.specs.Judge.{Seat, has_name, holding}
 use Rattle.zb_sched.specs.declared.entry.Entry.{Entry}
 use Rattle.zb_sched.proofs.DraftLemmas.{entries_changed, entries_same}
 use Rattle.zb_sched.proofs.entry.set_network.Goals as goal

@@ -1,13 +1,9 @@
-use Rattle.std.proofs.Common.{◌≡◌, ◌++◌, ◌+◌, ◌∙◌, take, map, get_or, ap, sym}
-use Rattle.std.specs.List.{flat_map}
-use Rattle.zb_base.specs.declared.key.Key.{Key}
-use Rattle.zb_sched_line.specs.declared.event.Event.{Event}
-use Rattle.zb_sched_line.specs.Views.{act_of}
+use Rattle.std.proofs.Common.{◌++◌, ◌+◌, ◌∙◌, take, map, ap, sym}
 use Rattle.zb_text.specs.Pages.{page, ended}
 use Rattle.zb_sched.specs.Plan.{member_of}
-use Rattle.zb_sched.specs.Printed.{act_line, code_lines, counter_lines, draw_line, netkey_lines, node_line}
+use Rattle.zb_sched.specs.Printed.{node_line}
 use Rattle.zb_sched.specs.declared.schedule.Node.{Node}
-use Rattle.zb_sched.proofs.PageLemmas.{map_more, flat_map_more, so_far}
+use Rattle.zb_sched.proofs.PageLemmas.{map_more, so_far}
 use Rattle.zb_sched.proofs.writer.put_nodes.Goals as goal
 
 pub loop-node-preserved : goal.loop-node-preserved

@@ -1,4 +1,4 @@
-use Rattle.std.proofs.Common.{◌≡◌, ℕ, ◌++◌, ◌∙◌, map, ap, sym, List}
+use Rattle.std.proofs.Common.{◌≡◌, ℕ, ◌++◌, ◌∙◌, map, ap, List}
 use Rattle.std.specs.List.{flat_map}
 use Rattle.zb_base.specs.declared.key.Key.{Key}
 use Rattle.zb_sched_line.specs.declared.event.Event.{Event}

@@ -1,5 +1,3 @@
-use Rattle.std.proofs.Common.{◌&&◌}
-use Rattle.std.specs.Prelude.{is_some}
 use Rattle.zb_sched.proofs.DraftLemmas.{any_seats}
 use Rattle.zb_sched.specs.Reading.{is_centre}
 use Rattle.zb_sched.proofs.draft.Draft.has_centre.Goals as goal

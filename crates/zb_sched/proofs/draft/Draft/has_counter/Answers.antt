@@ -1,5 +1,4 @@
 use Rattle.std.proofs.Common.{◌&&◌}
-use Rattle.std.specs.Prelude.{is_some}
 use Rattle.zb_sched.proofs.DraftLemmas.{any_seats}
 use Rattle.zb_sched.specs.Judge.{has_name, is_declared}
 use Rattle.zb_sched.proofs.draft.Draft.has_counter.Goals as goal

@@ -1,5 +1,3 @@
-use Rattle.std.proofs.Common.{◌&&◌}
-use Rattle.std.specs.Prelude.{is_some}
 use Rattle.zb_sched.proofs.DraftLemmas.{link_seats}
 use Rattle.zb_sched.proofs.draft.Draft.is_link.Goals as goal
 

@@ -1,5 +1,3 @@
-use Rattle.std.proofs.Common.{◌&&◌}
-use Rattle.std.specs.Prelude.{is_some}
 use Rattle.zb_sched.proofs.DraftLemmas.{other_link_seats}
 use Rattle.zb_sched.proofs.draft.Draft.is_link_of_other.Goals as goal
 

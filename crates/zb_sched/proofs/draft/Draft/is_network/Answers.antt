@@ -1,5 +1,3 @@
-use Rattle.std.proofs.Common.{◌&&◌}
-use Rattle.std.specs.Prelude.{is_some}
 use Rattle.zb_sched.proofs.DraftLemmas.{any_seats}
 use Rattle.zb_sched.specs.Judge.{is_key, network_of}
 use Rattle.zb_sched.proofs.draft.Draft.is_network.Goals as goal

@@ -1,5 +1,3 @@
-use Rattle.std.proofs.Common.{◌&&◌}
-use Rattle.std.specs.Prelude.{is_some}
 use Rattle.zb_sched.proofs.DraftLemmas.{role_seats}
 use Rattle.zb_sched.proofs.draft.Draft.role.Goals as goal
 

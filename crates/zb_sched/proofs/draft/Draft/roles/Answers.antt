@@ -1,4 +1,4 @@
-use Rattle.std.proofs.Common.{◌∙◌, ap, sym, List}
+use Rattle.std.proofs.Common.{◌∙◌, ap, List}
 use Rattle.zb_sched.specs.Drafts.{role_among}
 use Rattle.zb_sched.specs.Judge.{Seen, role_named}
 use Rattle.zb_sched.specs.declared.entry.Entry.{Entry}

@@ -1,4 +1,4 @@
-use Rattle.std.proofs.Common.{◌≡◌, ◌∙◌, sym, ap, map}
+use Rattle.std.proofs.Common.{◌∙◌, sym, ap, map}
 use Rattle.zb_base.specs.declared.key.Key.{Key}
 use Rattle.zb_sched.specs.Judge.{is_drawn}
 use Rattle.zb_sched.proofs.SupplyLemmas.{more_known, key_bytes_more}
