@@ -135,7 +135,7 @@ SameLink x (Some r) = x ≡ r
 some-link : (x y : LinkKey) → Some x ≡ Some y → x ≡ y
 some-link x y e = subst (SameLink x) e refl
 
-not-any : {X : Type 0} (test : X → Bool) (xs : List X) → ((x : X) → In x xs → test x ≡ true → ⊥) → list_any test xs ≡ false
+pub not-any : {X : Type 0} (test : X → Bool) (xs : List X) → ((x : X) → In x xs → test x ≡ true → ⊥) → list_any test xs ≡ false
 unfolding In
 not-any test [] k = refl
 not-any test (x ∷ xs) k = by-test (test x) refl (not-any test xs (λ y i. k y (inr i)))
@@ -178,7 +178,7 @@ row-changes s o d row e = rw (not-any (λ (r : LinkKey). is_link d row.key r && 
         same : row ≡ r
         same = some-link row r (sym own ∙ other)
 
-abbrev rest_edits : Counting → List Sealing → List Edit
+abbrev pub rest_edits : Counting → List Sealing → List Edit
 rest_edits k ts = (reserve_edit k Nwk ++ reserve_edit k Aps) ++ flat_map (floor_edit k) ts
 
 drop-then : (s : NodeState) (k : Counting) (o : Option LinkKey) (m : Move) → changes s m ≡ true → (xs : List Edit) × (flat_map (move_edits k) (filter (changes s) (drop_row o ++ m ∷ [])) ≡ xs ++ move_edits k m)
@@ -200,7 +200,7 @@ proves-edits s o k p d b (row, found, key, moves) = (
 
 -- and those of a plan without changes of its own unsettle nothing
 
-abbrev Mere : Edit → Type 0
+abbrev pub Mere : Edit → Type 0
 Mere (Moved m) = ⊥
 Mere _ = Unit {0}
 
@@ -223,7 +223,7 @@ floors-mere : (k : Counting) (ts : List Sealing) → AllByRecursion Mere (flat_m
 floors-mere k [] = tt
 floors-mere k (t ∷ ts) = all-append Mere (floor_edit k t) (flat_map (floor_edit k) ts) (floor-mere t (k.floor t.layer)) (floors-mere k ts)
 
-rests-mere : (k : Counting) (ts : List Sealing) → AllByRecursion Mere (rest_edits k ts)
+pub rests-mere : (k : Counting) (ts : List Sealing) → AllByRecursion Mere (rest_edits k ts)
 rests-mere k ts =
     all-append Mere (reserve_edit k Nwk ++ reserve_edit k Aps) (flat_map (floor_edit k) ts)
     (all-append Mere (reserve_edit k Nwk) (reserve_edit k Aps) (reserve-mere Nwk (k.reserve Nwk)) (reserve-mere Aps (k.reserve Aps))) (floors-mere k ts)

@@ -59,7 +59,7 @@ with-has-by false xs x e = holds-right xs (x ∷ []) x (holds-one x)
 with-has : (xs : List Bytes) (x : Bytes) → holds (with_key xs x) x ≡ true
 with-has xs x = with-has-by (holds xs x) xs x refl
 
-with-cases-by : (b : Bool) (xs : List Bytes) (x k : Bytes) → holds (cond b xs (xs ++ x ∷ [])) k ≡ true → (holds xs k ≡ true) ⊎ (k ≡ x)
+pub with-cases-by : (b : Bool) (xs : List Bytes) (x k : Bytes) → holds (cond b xs (xs ++ x ∷ [])) k ≡ true → (holds xs k ≡ true) ⊎ (k ≡ x)
 with-cases-by true xs x k e = inl e
 with-cases-by false xs x k e = ⊎_elim (λ a. inl a) (λ a. inr (one-holds x k a)) (holds-cases xs (x ∷ []) k e)
 
@@ -123,7 +123,7 @@ rounds-mono zero m tools ts us xs ys le w k e = rounds-grow m tools (ts ++ us) y
 rounds-mono (suc n) zero tools ts us xs ys le w k e = absurd (not-suc-le-zero le)
 rounds-mono (suc n) (suc m) tools ts us xs ys le w k e = rounds-mono n m tools ts us (a_round tools ts xs) (a_round tools (ts ++ us) ys) (le_of_suc-le-suc le) (round-more tools ts us xs ys w) k e
 
-terms-append : (h g : List LogLine) → terms_of (h ++ g) ≡ terms_of h ++ terms_of g
+pub terms-append : (h g : List LogLine) → terms_of (h ++ g) ≡ terms_of h ++ terms_of g
 unfolding terms_of
 terms-append h g = flat_map-append terms_in h g
 
@@ -150,7 +150,7 @@ flat-mono f g [] ys w k e = absurd (false≢true e)
 flat-mono f g (x ∷ xs) ys w k e =
     ⊎_elim (λ a. holds-left (g x) (flat_map g (xs ++ ys)) k (w x k a)) (λ a. holds-right (g x) (flat_map g (xs ++ ys)) k (flat-mono f g xs ys w k a)) (holds-cases (f x) (flat_map f xs) k e)
 
-ever-append : (known : List Station) (d : ℕ) (h g : List LogLine) → ever_from known d (h ++ g) ≡ ever_from known d h ++ ever_from (fold station_line known h) d g
+pub ever-append : (known : List Station) (d : ℕ) (h g : List LogLine) → ever_from known d (h ++ g) ≡ ever_from known d h ++ ever_from (fold station_line known h) d g
 ever-append known d [] g = refl
 ever-append known d (l ∷ ls) g =
     ap (λ x. ever_in known d l ++ x) (ever-append (station_line known l) d ls g)

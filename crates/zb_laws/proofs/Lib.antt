@@ -25,3 +25,11 @@ mod ConfirmsRuns
 mod RecordLaws
 mod RecordBack
 mod GroupStates
+mod LockoutRows
+mod LockoutKept
+mod LockoutSteps
+mod LockoutMoves
+mod LockoutDevices
+mod LockoutGroups
+mod LockoutRuns
+mod LockoutLaw

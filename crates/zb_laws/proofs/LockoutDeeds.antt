@@ -70,11 +70,22 @@ Stands s moves d base = (moves ≡ []) × VerifiedRow s d base
 abbrev pub Proves : NodeState → List Move → ℕ → Bytes → Type 0
 Proves s moves d base = (row : LinkKey) × (offered s d ≡ Some row) × (row.key ≡ base) × (moves ≡ drop_row (current s d) ++ (Row d base Verified ∷ []))
 
+-- nobody is removed; no link row comes
+abbrev pub Stays : Move → Type 0
+Stays (Removed d) = ⊥
+Stays _ = Unit {0}
+
+abbrev pub BringsNoRow : Move → Type 0
+BringsNoRow (Row p k t) = ⊥
+BringsNoRow _ = Unit {0}
+
 -- A command sealed under a base key: a network key, an offered key or a key of two goes to a live device under a key of its own.
 abbrev pub OrderFits : Setting → NodeState → Option Bytes → List Move → Bytes → Order → Type 0
-OrderFits c s draw moves base (TransportNet k q d o) = (is_centre c.me.duty ≡ true) × ((p : ℕ) × LiveRow s p base) × HasNet s k
-OrderFits c s draw moves base (TransportLink k d o) = (is_centre c.me.duty ≡ true) × ((p : ℕ) × LiveRow s p base × (HasRow s p k ⊎ (IsNew s draw k × (moves ≡ Draw k ∷ Row p k Unverified ∷ []))))
-OrderFits c s draw moves base (TransportApp k q i) = (is_centre c.me.duty ≡ true) × ((p : ℕ) × LiveRow s p base) × (HasPair s k ⊎ (IsNew s draw k × ((a b : ℕ) × (moves ≡ Draw k ∷ Pair a b k ∷ []))))
+OrderFits c s draw moves base (TransportNet k q d o) = (is_centre c.me.duty ≡ true) × ((p : ℕ) × LiveRow s p base) × HasNet s k × AllByRecursion Stays moves
+OrderFits c s draw moves base (TransportLink k d o) =
+    (is_centre c.me.duty ≡ true) × ((p : ℕ) × LiveRow s p base × (HasRow s p k ⊎ (IsNew s draw k × (moves ≡ Draw k ∷ Row p k Unverified ∷ [])))) × AllByRecursion Stays moves
+OrderFits c s draw moves base (TransportApp k q i) =
+    (is_centre c.me.duty ≡ true) × ((p : ℕ) × LiveRow s p base) × (HasPair s k ⊎ (IsNew s draw k × ((a b : ℕ) × (moves ≡ Draw k ∷ Pair a b k ∷ [])))) × AllByRecursion Stays moves × AllByRecursion BringsNoRow moves
 OrderFits c s draw moves base (ConfirmKey status kind d) = (is_centre c.me.duty ≡ true) × (is_declared c d ≡ true) × (Stands s moves d base ⊎ Proves s moves d base)
 OrderFits c s draw moves base _ = Unit {0}
 
@@ -111,14 +122,24 @@ Quiet s (Live d) = ⊥
 Quiet s (Removed d) = ⊥
 Quiet s _ = Unit {0}
 
+-- a change that no claim on keys reads
+abbrev pub IdleMove : Move → Type 0
+IdleMove (Draw k) = ⊥
+IdleMove (Install k q) = ⊥
+IdleMove (Row p k t) = ⊥
+IdleMove (Pair a b k) = ⊥
+IdleMove (Live d) = ⊥
+IdleMove (Removed d) = ⊥
+IdleMove _ = Unit {0}
+
 pub data Deed (c : Setting) (s : NodeState) (task : Task) (moves : List Move) : Type 0 where
   member : is_centre c.me.duty ≡ false → AllByRecursion OfMember moves → Deed c s task moves
-  none_ : moves ≡ [] → Deed c s task moves
+  nothing : moves ≡ [] → Deed c s task moves
   quiet : is_centre c.me.duty ≡ true → AllByRecursion (Quiet s) moves → Deed c s task moves
-  rolls : is_centre c.me.duty ≡ true → (k : Bytes) (q : ℕ) (drops : List Move) → IsNew s (draw_of task) k → AllByRecursion (Quiet s) drops
+  rolls : is_centre c.me.duty ≡ true → (k : Bytes) (q : ℕ) (drops : List Move) → IsNew s (draw_of task) k → AllByRecursion IdleMove drops
       → moves ≡ Draw k ∷ drops ++ (Install k q ∷ Roll true ∷ []) → Deed c s task moves
   offers : is_centre c.me.duty ≡ true → (p : ℕ) (k : Bytes) → IsNew s (draw_of task) k → is_live s p ≡ true → moves ≡ Draw k ∷ Row p k Unverified ∷ [] → Deed c s task moves
-  pairs_ : is_centre c.me.duty ≡ true → (a b : ℕ) (k : Bytes) → IsNew s (draw_of task) k → is_live s a ≡ true → is_live s b ≡ true → moves ≡ Draw k ∷ Pair a b k ∷ [] → Deed c s task moves
+  pairs : is_centre c.me.duty ≡ true → (a b : ℕ) (k : Bytes) → IsNew s (draw_of task) k → is_live s a ≡ true → is_live s b ≡ true → moves ≡ Draw k ∷ Pair a b k ∷ [] → Deed c s task moves
   enters : is_centre c.me.duty ≡ true → (p : ℕ) (k : Bytes) → EnteredBy task p k → is_live s p ≡ false → other_user s p k ≡ None → moves ≡ Row p k Provisional ∷ Live p ∷ [] → Deed c s task moves
   removes : is_centre c.me.duty ≡ true → (p : ℕ) → is_live s p ≡ true → moves ≡ drop_partner s p ++ (Removed p ∷ []) → Deed c s task moves
 
@@ -149,10 +170,10 @@ by-choose c s task false yes_ no_ k j = j refl
 
 -- nothing is changed, and what is sent fits
 only-sends : (c : Setting) (s : NodeState) (task : Task) (sending : Option Sending) → SendFits c s (draw_of task) [] sending → Done c s task [] sending
-only-sends c s task sending f = record { deed = none_ refl; send = f }
+only-sends c s task sending f = record { deed = nothing refl; send = f }
 
 does-nothing : (c : Setting) (s : NodeState) (task : Task) → Done c s task [] None
-does-nothing c s task = record { deed = none_ refl; send = tt }
+does-nothing c s task = record { deed = nothing refl; send = tt }
 
 by-member : (c : Setting) (s : NodeState) (task : Task) (moves : List Move) → is_centre c.me.duty ≡ false → AllByRecursion OfMember moves → Done c s task moves None
 by-member c s task moves m a = record { deed = member m a; send = tt }
@@ -299,26 +320,26 @@ tell-fits c s task partner bytes =
     by-given c s task (usable_active s) _ _ (λ net e. by-given c s task (find (is_live_of partner) s.links) _ _ (λ row f. by-unless c s task _ _ _ (λ a. by-unless c s task _ _ _ (λ b.
     only-sends c s task (sends (short_of c partner) true (Telling row.key bytes)) tt))))
 
-report-fits : (c : Setting) (s : NodeState) (task : Task) (child : ℕ) (again_ : Bool) (o : Option LinkKey) → OutcomeFits c s task (report_child c s child again_ o)
-report-fits c s task child again_ None = by-unless c s task _ _ _ (λ a. only-sends c s task _ (inl refl, refl))
-report-fits c s task child again_ (Some row) = by-unless c s task _ _ _ (λ a. only-sends c s task _ tt)
+report-fits : (c : Setting) (s : NodeState) (task : Task) (child : ℕ) (returns : Bool) (o : Option LinkKey) → OutcomeFits c s task (report_child c s child returns o)
+report-fits c s task child returns None = by-unless c s task _ _ _ (λ a. only-sends c s task _ (inl refl, refl))
+report-fits c s task child returns (Some row) = by-unless c s task _ _ _ (λ a. only-sends c s task _ tt)
 
-child-router-fits : (c : Setting) (s : NodeState) (task : Task) (child : ℕ) (again_ : Bool) → OutcomeFits c s task (child_of_router c s child again_)
+child-router-fits : (c : Setting) (s : NodeState) (task : Task) (child : ℕ) (returns : Bool) → OutcomeFits c s task (child_of_router c s child returns)
 unfolding child_of_router
-child-router-fits c s task child again_ = by-given c s task (usable_active s) _ _ (λ net e. by-unless c s task _ _ _ (λ a. report-fits c s task child again_ (current s (centre_of c.stations))))
+child-router-fits c s task child returns = by-given c s task (usable_active s) _ _ (λ net e. by-unless c s task _ _ _ (λ a. report-fits c s task child returns (current s (centre_of c.stations))))
 
 child-centre-fits : (c : Setting) (s : NodeState) (task : Task) (child : ℕ) → is_centre c.me.duty ≡ true → OutcomeFits c s task (child_of_centre c s child)
 unfolding child_of_centre
 child-centre-fits c s task child m =
     by-given c s task (active_row s) _ _ (λ net e. by-given c s task (current s child) _ _ (λ row f. by-unless c s task _ _ _ (λ a.
-    only-sends c s task _ (m, (child, current-live s child row f), active-net s net e))))
+    only-sends c s task _ (m, (child, current-live s child row f), active-net s net e, tt))))
 
 centre-timer-fits : (c : Setting) (s : NodeState) (task : Task) → is_centre c.me.duty ≡ true → OutcomeFits c s task (centre_timer c s)
 unfolding centre_timer
 centre-timer-fits c s task m =
     by-given c s task (active_row s) _ _ (λ net e. by-unless c s task _ _ _ (λ a. by-given c s task (next_member s) _ _ (λ device b.
     by-given c s task (newest s) _ _ (λ new f. by-given c s task (current s device) _ _ (λ row g. by-unless c s task _ _ _ (λ h.
-    record { deed = quiet m (tt, tt); send = (m, (device, current-live s device row g), newest-net s new f) }))))))
+    record { deed = quiet m (tt, tt); send = (m, (device, current-live s device row g), newest-net s new f, (tt, tt)) }))))))
 
 provision-new-fits : (c : Setting) (s : NodeState) (device : ℕ) (key : Bytes) (o : Option LinkKey) → is_centre c.me.duty ≡ true → is_live s device ≡ false → other_user s device key ≡ o → OutcomeFits c s (DoProvision device key) (provision_new s device key o)
 provision-new-fits c s device key (Some other) m a e = tt
@@ -351,23 +372,23 @@ remove-fits c s task device via m =
     by-unless c s task (not (is_live s device)) _ _ (λ a.
     record { deed = removes m device (not-false (is_live s device) a) refl; send = told-send c s (draw_of task) (drop_partner s device ++ (Removed device ∷ [])) device via (nat_eq via c.me.eui) })
 
-first-quiet : (s : NodeState) (rows : List NetKey) → AllByRecursion (Quiet s) (first_drop rows)
-first-quiet s [] = tt
-first-quiet s (r ∷ rs) = (tt, tt)
+first-idle : (rows : List NetKey) → AllByRecursion IdleMove (first_drop rows)
+first-idle [] = tt
+first-idle (r ∷ rs) = (tt, tt)
 
-old-quiet : (s : NodeState) → AllByRecursion (Quiet s) (drop_old s)
+old-idle : (s : NodeState) → AllByRecursion IdleMove (drop_old s)
 unfolding drop_old
-old-quiet s = by-test (Rattle.std.specs.Prelude.nat_le 2 (Rattle.std.specs.Prelude.length (Rattle.zb_model.specs.State.live_nets s)))
+old-idle s = by-test (Rattle.std.specs.Prelude.nat_le 2 (Rattle.std.specs.Prelude.length (Rattle.zb_model.specs.State.live_nets s)))
   where
-    by-test : (b : Bool) → AllByRecursion (Quiet s) (cond b (first_drop (filter (λ (r : NetKey). not (is_active s.active r)) (Rattle.zb_model.specs.State.live_nets s))) [])
-    by-test true = first-quiet s (filter (λ (r : NetKey). not (is_active s.active r)) (Rattle.zb_model.specs.State.live_nets s))
+    by-test : (b : Bool) → AllByRecursion IdleMove (cond b (first_drop (filter (λ (r : NetKey). not (is_active s.active r)) (Rattle.zb_model.specs.State.live_nets s))) [])
+    by-test true = first-idle (filter (λ (r : NetKey). not (is_active s.active r)) (Rattle.zb_model.specs.State.live_nets s))
     by-test false = tt
 
 roll-fits : (c : Setting) (s : NodeState) (draw : Option Bytes) → is_centre c.me.duty ≡ true → OutcomeFits c s (DoRoll draw) (roll s draw)
 unfolding roll
 roll-fits c s draw m =
     by-given c s (DoRoll draw) (active_row s) _ _ (λ net e. by-unless c s (DoRoll draw) _ _ _ (λ a. by-unless c s (DoRoll draw) _ _ _ (λ b. by-given c s (DoRoll draw) (unless_held s draw) _ _ (λ key new.
-    record { deed = rolls m key _ (drop_old s) new (old-quiet s) refl; send = tt }))))
+    record { deed = rolls m key _ (drop_old s) new (old-idle s) refl; send = tt }))))
 
 switch-fits : (c : Setting) (s : NodeState) (task : Task) → is_centre c.me.duty ≡ true → OutcomeFits c s task (switch_over s)
 unfolding switch_over
@@ -384,12 +405,12 @@ share-fits : (c : Setting) (s : NodeState) (task : Task) (device partner : ℕ) 
 unfolding share
 share-fits c s task device partner m =
     by-given c s task (active_row s) _ _ (λ net e. by-unless c s task _ _ _ (λ a. by-given c s task (pair_of s device partner) _ _ (λ pair f.
-    by-given c s task (current s device) _ _ (λ row g. by-unless c s task _ _ _ (λ h. only-sends c s task _ (m, (device, current-live s device row g), inl (pair-found s device partner pair f)))))))
+    by-given c s task (current s device) _ _ (λ row g. by-unless c s task _ _ _ (λ h. only-sends c s task _ (m, (device, current-live s device row g), inl (pair-found s device partner pair f), tt, tt))))))
 
 centre-own-fits : (c : Setting) (s : NodeState) (task : Task) → is_centre c.me.duty ≡ true → OutcomeFits c s task (own_at_centre c s task)
 centre-own-fits c s (SayTo to bytes) m = say-fits c s (SayTo to bytes) to bytes
 centre-own-fits c s DoTimer m = centre-timer-fits c s DoTimer m
-centre-own-fits c s (HasChild child again_) m = child-centre-fits c s (HasChild child again_) child m
+centre-own-fits c s (HasChild child returns) m = child-centre-fits c s (HasChild child returns) child m
 centre-own-fits c s (DoProvision device key) m = provision-fits c s device key m
 centre-own-fits c s (DoRemove device via) m = remove-fits c s (DoRemove device via) device via m
 centre-own-fits c s (DoRoll draw) m = roll-fits c s draw m
@@ -405,7 +426,7 @@ member-own-fits tools c s DoKnock m = knock-fits c s DoKnock m
 member-own-fits tools c s DoRejoin m = rejoin-fits c s DoRejoin m
 member-own-fits tools c s DoTimer m = member-timer-fits tools c s DoTimer
 member-own-fits tools c s (AskFor partner) m = ask-fits c s (AskFor partner) partner
-member-own-fits tools c s (HasChild child again_) m = child-router-fits c s (HasChild child again_) child again_
+member-own-fits tools c s (HasChild child returns) m = child-router-fits c s (HasChild child returns) child returns
 member-own-fits tools c s _ m = tt
 
 pub own-fits : (tools : Tools) (c : Setting) (s : NodeState) (task : Task) → OutcomeFits c s task (own tools c s task)
@@ -494,15 +515,15 @@ unfolding take_update
 take-update-fits c s task m device status =
     by-unless c s task _ _ _ (λ a. by-choose c s task _ _ _ (λ b. does-nothing c s task)
     (λ b. by-given c s task (active_row s) _ _ (λ net e. by-given c s task (current s device) _ _ (λ row f. by-unless c s task _ _ _ (λ d.
-    only-sends c s task _ (of-centre c _ a, (device, current-live s device row f), active-net s net e))))))
+    only-sends c s task _ (of-centre c _ a, (device, current-live s device row f), active-net s net e, tt))))))
 
 answer-fits : (c : Setting) (s : NodeState) (bytes : Bytes) (draw : Option Bytes) (device : ℕ) (row : LinkKey) (o : Option LinkKey) → is_centre c.me.duty ≡ true → current s device ≡ Some row → offered s device ≡ o
     → OutcomeFits c s (Received bytes draw) (answer_request c s device draw row o)
 answer-fits c s bytes draw device row (Some offer) m e f =
-    by-unless c s (Received bytes draw) _ _ _ (λ a. only-sends c s (Received bytes draw) _ (m, (device, current-live s device row e, inl (has-row s device offer.key (offered-live s device offer f)))))
+    by-unless c s (Received bytes draw) _ _ _ (λ a. only-sends c s (Received bytes draw) _ (m, (device, current-live s device row e, inl (has-row s device offer.key (offered-live s device offer f))), tt))
 answer-fits c s bytes draw device row None m e f =
     by-unless c s (Received bytes draw) _ _ _ (λ a. by-given c s (Received bytes draw) (unless_held s draw) _ _ (λ key new. by-unless c s (Received bytes draw) _ _ _ (λ b.
-    record { deed = offers m device key new (is-live s device row.key (current-live s device row e)) refl; send = (m, (device, current-live s device row e, inr (new, refl))) })))
+    record { deed = offers m device key new (is-live s device row.key (current-live s device row e)) refl; send = (m, (device, current-live s device row e, inr (new, refl)), (tt, (tt, tt))) })))
 
 take-request-fits : (c : Setting) (s : NodeState) (bytes : Bytes) (draw : Option Bytes) (m : Heard) → OutcomeFits c s (Received bytes draw) (take_request c s m draw)
 unfolding take_request
@@ -516,12 +537,12 @@ lesser-live s a b false e f = (f, e)
 pair-fits : (c : Setting) (s : NodeState) (bytes : Bytes) (draw : Option Bytes) (device partner : ℕ) (row : LinkKey) (o : Option PairKey) → is_centre c.me.duty ≡ true → is_live s partner ≡ true → current s device ≡ Some row → pair_of s device partner ≡ o
     → OutcomeFits c s (Received bytes draw) (answer_pair c s device partner draw row o)
 pair-fits c s bytes draw device partner row (Some pair) m l e f =
-    by-unless c s (Received bytes draw) _ _ _ (λ a. only-sends c s (Received bytes draw) _ (m, (device, current-live s device row e), inl (pair-found s device partner pair f)))
+    by-unless c s (Received bytes draw) _ _ _ (λ a. only-sends c s (Received bytes draw) _ (m, (device, current-live s device row e), inl (pair-found s device partner pair f), tt, tt))
 pair-fits c s bytes draw device partner row None m l e f =
     by-unless c s (Received bytes draw) _ _ _ (λ a. by-given c s (Received bytes draw) (unless_held s draw) _ _ (λ key new. by-unless c s (Received bytes draw) _ _ _ (λ b.
     record {
-      deed = pairs_ m (lesser device partner) (greater device partner) key new (both.0) (both.1) refl;
-      send = (m, (device, current-live s device row e), inr (new, (lesser device partner, greater device partner, refl)));
+      deed = pairs m (lesser device partner) (greater device partner) key new (both.0) (both.1) refl;
+      send = (m, (device, current-live s device row e), inr (new, (lesser device partner, greater device partner, refl)), (tt, (tt, tt)), (tt, (tt, tt)));
     })))
   where
     both : (is_live s (lesser device partner) ≡ true) × (is_live s (greater device partner) ≡ true)
@@ -728,7 +749,7 @@ plan-fits tools opens c s DoKnock = own-fits tools c s DoKnock
 plan-fits tools opens c s DoRejoin = own-fits tools c s DoRejoin
 plan-fits tools opens c s DoTimer = own-fits tools c s DoTimer
 plan-fits tools opens c s (AskFor partner) = own-fits tools c s (AskFor partner)
-plan-fits tools opens c s (HasChild child again_) = own-fits tools c s (HasChild child again_)
+plan-fits tools opens c s (HasChild child returns) = own-fits tools c s (HasChild child returns)
 plan-fits tools opens c s (DoProvision device key) = own-fits tools c s (DoProvision device key)
 plan-fits tools opens c s (DoRemove device via) = own-fits tools c s (DoRemove device via)
 plan-fits tools opens c s (DoRoll draw) = own-fits tools c s (DoRoll draw)

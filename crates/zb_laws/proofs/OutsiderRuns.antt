@@ -352,7 +352,7 @@ step-safe tools opens w h disks number (ForgeOpen to from source label base aps_
 
 -- All groups
 
-each-split : (P : List LogLine → LogLine → Type 0) (h xs ys : List LogLine) → Each P h (xs ++ ys) → Each P h xs × Each P (h ++ xs) ys
+pub each-split : (P : List LogLine → LogLine → Type 0) (h xs ys : List LogLine) → Each P h (xs ++ ys) → Each P h xs × Each P (h ++ xs) ys
 each-split P h [] ys q = (tt, subst (λ x. Each P x ys) (sym (append-nil' h)) q)
 each-split P h (x ∷ xs) ys q = ((q.0, (each-split P (h ++ x ∷ []) xs ys q.1).0), subst (λ z. Each P z ys) (append_assoc h (x ∷ []) xs) (each-split P (h ++ x ∷ []) xs ys q.1).1)
 

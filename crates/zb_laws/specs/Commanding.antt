@@ -1,9 +1,11 @@
--- What the law on confirmed keys asks of a schedule and of commands.
-use Rattle.std.specs.Prelude.{ℕ, ◌≡◌, ◌<◌, ◌^◌, true}
+-- What the laws on keys ask of a schedule's nodes, and of frames and commands as they are spelled and read.
+use Rattle.std.specs.Prelude.{ℕ, ◌≡◌, ◌<◌, ◌^◌, ◌⊎◌, true, false, ◌∷◌, Some, is_some}
 use Rattle.std.specs.List.{AllByRecursion}
-use Rattle.zb_model.specs.Data.{Station, Order, ConfirmKey}
+use Rattle.zb_model.specs.Data.{Bytes, Purpose, Station, Order, ConfirmKey}
 use Rattle.zb_model.specs.State.{is_centre}
-use Rattle.zb_model.specs.Tools.{Tools, Known}
+use Rattle.zb_model.specs.Tools.{Tools, ApsSight, Known}
+use Rattle.zb_model.specs.Frames.{aps_term, sealed_command, sealed_data, data_front, clear_command, clear_broadcast}
+use Rattle.zb_model.specs.Secrets.{key_in, key_of_sight, is_command_header}
 use Rattle.zb_model.specs.Rules.{centre_of}
 use Rattle.zb_model.specs.Play.{World, stations}
 
@@ -19,3 +21,17 @@ IsConfirmOf _ d = ⊥
 -- Of the commands, only Confirm-Key is spelled so that it reads as a Confirm-Key of status 0, and with its own device.
 abbrev pub SpellsConfirm : Tools → Type 0
 SpellsConfirm tools = (order : Order) (kind d : ℕ) → tools.read_order (tools.spelled order) ≡ Known (ConfirmKey 0 kind d) → IsConfirmOf order d
+
+-- the frame control of a command that stands unsealed in a frame: to one node, or to all
+abbrev pub IsClearControl : ℕ → Type 0
+IsClearControl control = (control ≡ clear_command) ⊎ (control ≡ clear_broadcast)
+
+-- What a frame of a node's own shows of keys. A spelled command reads as one with its own key or with none; what doesn't begin
+-- as a command isn't read as one; a command in clear is read behind its control and its counter; a sealed APS frame shows that
+-- it is sealed.
+pub record ShowsKeys (tools : Tools) : Type 0 where
+  pub order : (o : Order) (k : Bytes) → key_of_sight (tools.read_order (tools.spelled o)) ≡ Some k → key_in o ≡ Some k
+  pub plain : (bytes : Bytes) (a : ApsSight) → tools.read_aps bytes ≡ Some a → is_command_header bytes ≡ false → a.is_command ≡ false
+  pub clear : (control counter : ℕ) (bytes : Bytes) (a : ApsSight) → IsClearControl control → tools.read_aps (control ∷ counter ∷ bytes) ≡ Some a → a.body ≡ bytes
+  pub command : (label : Purpose) (key : Bytes) (source counter : ℕ) (content : Bytes) (a : ApsSight) → tools.read_aps (tools.wire (aps_term sealed_command label key source counter content)) ≡ Some a → is_some a.auxiliary ≡ true
+  pub telling : (label : Purpose) (key : Bytes) (source counter : ℕ) (content : Bytes) (a : ApsSight) → tools.read_aps (tools.wire (aps_term (data_front sealed_data) label key source counter content)) ≡ Some a → is_some a.auxiliary ≡ true

@@ -3,3 +3,4 @@ pub mod Lockout
 pub mod Counting
 pub mod Commanding
 pub mod Records
+pub mod KeysApart

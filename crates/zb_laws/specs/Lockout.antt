@@ -3,7 +3,7 @@ use Rattle.std.specs.Prelude.{List, [], ◌∷◌, ◌++◌, ⊤}
 use Rattle.zb_model.specs.Data.{Removed, Moved}
 use Rattle.zb_model.specs.Lines.{LogLine, Changed}
 use Rattle.zb_model.specs.Tools.{Tools}
-use Rattle.zb_model.specs.Claims.{Refuses}
+use Rattle.zb_model.specs.Claims.{KeepsOut, Refuses}
 
 abbrev pub RefusesAfter : Tools → List LogLine → LogLine → List LogLine → Type 0
 RefusesAfter tools h (Changed e n (Moved (Removed d))) after = Refuses tools (h ++ Changed e n (Moved (Removed d)) ∷ []) after d
@@ -14,3 +14,12 @@ RefusesAfter tools h _ after = ⊤
 abbrev pub RefusesOutsiders : Tools → List LogLine → List LogLine → Type 0
 RefusesOutsiders tools h [] = ⊤
 RefusesOutsiders tools h (l ∷ ls) = RefusesAfter tools h l ls × RefusesOutsiders tools (h ++ l ∷ []) ls
+
+abbrev pub KeepsOutAfter : Tools → List LogLine → LogLine → List LogLine → Type 0
+KeepsOutAfter tools h (Changed e n (Moved (Removed d))) after = KeepsOut tools (h ++ Changed e n (Moved (Removed d)) ∷ []) after d
+KeepsOutAfter tools h _ after = ⊤
+
+-- After each removal, and up to the device's next admission: the device obtains no key that is drawn since.
+abbrev pub KeepsRemovedOut : Tools → List LogLine → List LogLine → Type 0
+KeepsRemovedOut tools h [] = ⊤
+KeepsRemovedOut tools h (l ∷ ls) = KeepsOutAfter tools h l ls × KeepsRemovedOut tools (h ++ l ∷ []) ls

@@ -4,12 +4,13 @@
 
 ghost use Rattle.std.specs.Prelude.{◌≡◌, ◌<◌, ◌≤◌, ◌+◌, ◌++◌, min, ℕ, true, List, Option, Some, [], ◌∷◌, fold};
 ghost use Rattle.std.specs.List.{AllByRecursion};
-ghost use Rattle.zb_laws.specs.Commanding.{OneCentre, SpellsConfirm};
+ghost use Rattle.zb_laws.specs.Commanding.{OneCentre, ShowsKeys, SpellsConfirm};
 ghost use Rattle.zb_laws.specs.Counting.{TakesNext};
-ghost use Rattle.zb_laws.specs.Lockout.{RefusesOutsiders};
+ghost use Rattle.zb_laws.specs.KeysApart.{KeysApart};
+ghost use Rattle.zb_laws.specs.Lockout.{KeepsRemovedOut, RefusesOutsiders};
 ghost use Rattle.zb_laws.specs.Opening.{Opens};
 ghost use Rattle.zb_laws.specs.Records.{FitsRecord, state_in};
-ghost use Rattle.zb_model.specs.Claims.{Confirms, Each, Fresh, Lawful, Once};
+ghost use Rattle.zb_model.specs.Claims.{Confirms, Each, Fresh, Lawful, Locked, Once};
 ghost use Rattle.zb_model.specs.Answer.{Answer, answered, floor_for, reserve_of, stored_floor};
 ghost use Rattle.zb_model.specs.Data.{Sealing, Tier};
 ghost use Rattle.zb_model.specs.Fits.{keys_differ};
@@ -19,7 +20,7 @@ ghost use Rattle.zb_model.specs.Readings.{heard_line, state_of};
 ghost use Rattle.zb_model.specs.Record.{record_of};
 ghost use Rattle.zb_model.specs.Rules.{Sending, Setting};
 ghost use Rattle.zb_model.specs.Schedules.{IsSchedule};
-ghost use Rattle.zb_model.specs.Secrets.{private};
+ghost use Rattle.zb_model.specs.Secrets.{ideal, private};
 ghost use Rattle.zb_model.specs.State.{NodeState, after_boot, applied_all, most, next_counter, shown, stored_limit};
 ghost use Rattle.zb_model.specs.Tools.{Tools};
 ghost use Rattle.zb_model.specs.Transcript.{run_lines, transcript};
@@ -71,6 +72,21 @@ pub fn only_stored_keys_are_confirmed()
 pub fn outsiders_are_refused()
     ensures { (tools : Tools) → Opens tools → (w : World) → IsSchedule w → private tools (run_lines tools w) ≡ true
         → RefusesOutsiders tools [] (transcript tools w) }
+{}
+
+/// Where the end line says that the run was ideal and forgery private: after a device was removed, and until it is admitted
+/// again, no key that is drawn since is installed at it, nor comes out of what was sealed or forged for somebody who holds the
+/// well-known key and all keys that the device ever held. `KeysApart` is of the schedule: its keys are different keys.
+/// `ShowsKeys` is of the frames: what a node's own frame shows of a key is the key of the command that is in it.
+pub fn a_removed_device_obtains_no_later_key()
+    ensures { (tools : Tools) → Opens tools → ShowsKeys tools → (w : World) → IsSchedule w → OneCentre w → KeysApart w
+        → ideal tools (run_lines tools w) ≡ true → private tools (run_lines tools w) ≡ true → KeepsRemovedOut tools [] (transcript tools w) }
+{}
+
+/// Where the end line says `yes yes`, lockout holds: both halves, after each removal and up to the next admission.
+pub fn removed_devices_are_locked_out()
+    ensures { (tools : Tools) → Opens tools → ShowsKeys tools → (w : World) → IsSchedule w → OneCentre w → KeysApart w
+        → ideal tools (run_lines tools w) ≡ true → private tools (run_lines tools w) ≡ true → Locked tools (transcript tools w) }
 {}
 
 /// Each seal of a run has its node's EUI and the counter that comes next: under a network key that of the key's row, at APS
