@@ -152,7 +152,7 @@ module _ (tells : Telling) (v0 v1 v2 : View) (still : IsStill v0 v1) (reads : Is
       still_through (if both_gates_open v0.seen then 3 else 1) v0 v1 v2 still (subst (λ b. WentThrough tells (if b then 3 else 1) v1 v2) (gate ∙ sym (both_are v0.seen s is)) settled.through)
 
   later_stop : (s : Standing) → OpenStop tells s v1 v2 → OpenStop tells s v0 v2
-  later_stop s (OpenStop.reading s2) = OpenStop.reading (still_trans v0 v1 v2 still s2)
+  later_stop s (OpenStop.reading off s2) = OpenStop.reading (λ told. sym (still.off 0) ∙ off told) (still_trans v0 v1 v2 still s2)
   later_stop s (OpenStop.not_synced stop same) = OpenStop.not_synced (still_stopped 0 v0 v1 v2 still stop) (record {
     seen = same.seen ∙ still.same.seen;
     images = λ c image. still.same.images c (same.images c image);

@@ -3,7 +3,7 @@ use Rattle.std.proofs.Common.{◌≡◌, ◌≢◌, ◌⊎◌, inl, inr, ⊎_eli
 use Rattle.std.proofs.lemmas.Bool.{false≢true, cases_lt, le-leb, leb-true, lt-ltb, le-ltb, eq-eqb, ne_eqb, eqb-true}
 use Rattle.std.proofs.lemmas.List.{get_or_past}
 use Rattle.zb_disk.specs.declared.memory.Arming.TheVariants.{Stop, Fail}
-use Rattle.zb_disk.specs.View.{Torn, IsUnsynced, overwrite}
+use Rattle.zb_disk.specs.View.{Torn, Only, IsUnsynced, overwrite}
 use Rattle.zb_disk.specs.Memory.{Medium, IsImage, refuses, off_after, is_stopped, powered, settled, torn_by, memory_tells, memory_view}
 use Rattle.zb_disk.specs.MemoryLaws.{image_seen}
 use Rattle.zb_disk.proofs.Calls.{off_now}
@@ -11,8 +11,8 @@ use Rattle.zb_disk.proofs.Images.{torn_stands}
 use Rattle.zb_disk.proofs.Tearing.{settled_image, settled_byte}
 use Rattle.zb_store.specs.Layout.{Standing, IsWhole, slot, base_of, gate_of, end_of, open_gate}
 use Rattle.zb_store.specs.Steps.{StoppedAfter}
-use Rattle.zb_store.specs.Store.{appended, replaced, IsGateOpening, IsBothOpen, IsGateClosing, IsUntouched, other_gate, both_gates_open, AppendStop, PutStop}
-use Rattle.zb_store.specs.Power.{reads_open, stop_commits, failure_commits, stop_opens_both, failure_opens_both}
+use Rattle.zb_store.specs.Store.{appended, replaced, IsGateOpening, IsBothOpen, IsGateClosing, IsUntouched, other_gate, both_gates_open, AppendStop, PutStop, OpenStop}
+use Rattle.zb_store.specs.Power.{reads_open, stop_commits, failure_commits, stop_opens_both, failure_opens_both, open_stop_leaves_both, open_failure_leaves_both}
 use Rattle.zb_store.proofs.Slots.{slot_byte, long_by_first, overwrite_torn, stands_in}
 use Rattle.zb_store.proofs.Stages.{not_not, written_byte}
 
@@ -261,3 +261,57 @@ put_failure_gates s content old new call (PutStop.closing stop it) armed =
     ∙ ap (λ (b : Bool). get_or c (base_of b) 0 == open_gate) (not_not s.second)
     ∙ ne_eqb (get_or c (base_of s.second) 0) open_gate (λ open_it. absurd (omega arith))
     ∙ ap failure_opens_both (failure_is 5 old new stop call armed)
+
+-- an `open` on a disk that isn't off: what stood still stands
+open_stands_by : (s : Standing) (old new : Medium) → OpenStop memory_tells s (memory_view old) (memory_view new) → IsWhole s old.bytes → ((c : List ℕ) → IsImage old.bytes old.written old.grown c → c ≡ old.bytes)
+    → off_after old.arming 0 ≡ false → IsWhole s (powered new).bytes
+open_stands_by s old new (OpenStop.reading off still) whole only on = absurd (false≢true (sym on ∙ off refl))
+open_stands_by s old new (OpenStop.not_synced stop same) whole only on = subst (IsWhole s) (sym (only (powered new).bytes (same.images (powered new).bytes (left_image new)))) whole
+open_stands_by s old new (OpenStop.both_open stop it) whole only on = subst (IsWhole s) (sym (it.synced (powered new).bytes (left_image new))) it.whole
+open_stands_by s old new (OpenStop.closing stop it) whole only on = it.whole (powered new).bytes (left_image new)
+
+on_by_stop : (old : Medium) (calls : ℕ) → old.arming ≡ Stop calls → off_after old.arming 0 ≡ false
+on_by_stop old calls armed = ap (λ a. off_after a 0) armed ∙ le-ltb calls 0 (omega arith)
+
+on_by_failure : (old : Medium) (call : ℕ) → old.arming ≡ Fail call → off_after old.arming 0 ≡ false
+on_by_failure old call armed = ap (λ a. off_after a 0) armed
+
+pub open_stands : (s : Standing) (old new : Medium) (calls : ℕ) → OpenStop memory_tells s (memory_view old) (memory_view new) → IsWhole s old.bytes → Only old.bytes (memory_view old).images
+    → old.arming ≡ Stop calls → IsWhole s (powered new).bytes
+open_stands s old new calls stopped whole only armed = open_stands_by s old new stopped whole only (on_by_stop old calls armed)
+
+pub open_failure_stands : (s : Standing) (old new : Medium) (call : ℕ) → OpenStop memory_tells s (memory_view old) (memory_view new) → IsWhole s old.bytes → Only old.bytes (memory_view old).images
+    → old.arming ≡ Fail call → IsWhole s (powered new).bytes
+open_failure_stands s old new call stopped whole only armed = open_stands_by s old new stopped whole only (on_by_failure old call armed)
+
+both_by : (s : Standing) (m : Medium) → IsBothOpen (base_of s.second) (other_gate s) s (memory_view m) → both_gates_open (powered m).bytes ≡ true
+both_by s m it =
+    let c = (powered m).bytes in
+    let is = it.synced c (left_image m) in
+    gates_by s.second c (ap (λ (l : List ℕ). get_or l (base_of s.second) 0) is ∙ it.new_open) ∙ eq-eqb (get_or c (other_gate s) 0) open_gate (ap (λ (l : List ℕ). get_or l (other_gate s) 0) is ∙ it.old_open)
+
+closing_by : (s : Standing) (m : Medium) → IsGateClosing (other_gate s) s (memory_view m) → both_gates_open (powered m).bytes ≡ (get_or (powered m).bytes (other_gate s) 0 == open_gate)
+closing_by s m it = let c = (powered m).bytes in gates_by s.second c (sym (base_gate s.second c) ∙ standing_gate s c (it.whole c (left_image m)))
+
+pub open_gates : (s : Standing) (old new : Medium) (calls : ℕ) → OpenStop memory_tells s (memory_view old) (memory_view new) → Only old.bytes (memory_view old).images → both_gates_open old.bytes ≡ true
+    → old.arming ≡ Stop calls → both_gates_open (powered new).bytes ≡ open_stop_leaves_both calls old.torn
+open_gates s old new calls (OpenStop.reading off still) only both armed = absurd (false≢true (sym (on_by_stop old calls armed) ∙ off refl))
+open_gates s old new calls (OpenStop.not_synced stop same) only both armed =
+    ap both_gates_open (only (powered new).bytes (same.images (powered new).bytes (left_image new))) ∙ both ∙ ap (λ (k : ℕ). open_stop_leaves_both k old.torn) (stop_is 0 old new stop calls armed)
+open_gates s old new calls (OpenStop.both_open stop it) only both armed = both_by s new it ∙ ap (λ (k : ℕ). open_stop_leaves_both k old.torn) (stop_is 1 old new stop calls armed)
+open_gates s old new calls (OpenStop.closing stop it) only both armed =
+    let long = longer s new.bytes (it.whole new.bytes (image_seen new.bytes new.written new.grown)) in
+    let small = base_small (not s.second) in
+    closing_by s new it ∙ gate_left old.torn 0 (other_gate s) new (stop.torn refl) (now_off 2 old new stop calls armed) it.unsynced (omega arith) it.reads
+    ∙ ap (λ (k : ℕ). open_stop_leaves_both k old.torn) (stop_is 2 old new stop calls armed)
+
+pub open_failure_gates : (s : Standing) (old new : Medium) (call : ℕ) → OpenStop memory_tells s (memory_view old) (memory_view new) → Only old.bytes (memory_view old).images → both_gates_open old.bytes ≡ true
+    → old.arming ≡ Fail call → both_gates_open (powered new).bytes ≡ open_failure_leaves_both call
+open_failure_gates s old new call (OpenStop.reading off still) only both armed = absurd (false≢true (sym (on_by_failure old call armed) ∙ off refl))
+open_failure_gates s old new call (OpenStop.not_synced stop same) only both armed =
+    ap both_gates_open (only (powered new).bytes (same.images (powered new).bytes (left_image new))) ∙ both ∙ ap open_failure_leaves_both (failure_is 0 old new stop call armed)
+open_failure_gates s old new call (OpenStop.both_open stop it) only both armed = both_by s new it ∙ ap open_failure_leaves_both (failure_is 1 old new stop call armed)
+open_failure_gates s old new call (OpenStop.closing stop it) only both armed =
+    let c = (powered new).bytes in
+    let shut : get_or c (other_gate s) 0 ≡ 0 = ap (λ (l : List ℕ). get_or l (other_gate s) 0) (as_read new (now_on 2 old new stop call armed)) ∙ it.reads in
+    closing_by s new it ∙ ne_eqb (get_or c (other_gate s) 0) open_gate (λ open_it. absurd (omega arith)) ∙ ap open_failure_leaves_both (failure_is 2 old new stop call armed)

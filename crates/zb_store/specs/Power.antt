@@ -22,3 +22,10 @@ stop_opens_both calls torn = if calls == 3 then reads_open torn open_gate else (
 
 abbrev pub failure_opens_both : ℕ → Bool
 failure_opens_both call = call == 4 || call == 5
+
+-- the same after an `open` that found both open
+abbrev pub open_stop_leaves_both : ℕ → List ℕ → Bool
+open_stop_leaves_both calls torn = if calls == 2 then reads_open torn 0 else true
+
+abbrev pub open_failure_leaves_both : ℕ → Bool
+open_failure_leaves_both call = nat_lt call 3

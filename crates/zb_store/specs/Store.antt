@@ -86,9 +86,9 @@ pub data PutStop (tells : Telling) (s : Standing) (content : List ℕ) (old new 
   both_open : StoppedAfter tells 4 old new → IsBothOpen (other_gate s) (base_of s.second) (replaced s content) new → PutStop tells s content old new
   closing : StoppedAfter tells 5 old new → IsGateClosing (base_of s.second) (replaced s content) new → PutStop tells s content old new
 
--- An `open` that failed likewise. It makes its reads before its first sync.
+-- An `open` that failed likewise. It makes its reads before its first sync; a read fails where the disk is off.
 pub data OpenStop (tells : Telling) (s : Standing) (old new : View) : Type 0 where
-  reading : IsStill old new → OpenStop tells s old new
+  reading : (IsTrue tells.refusals → old.off 0 ≡ true) → IsStill old new → OpenStop tells s old new
   not_synced : StoppedAfter tells 0 old new → IsSame old new → OpenStop tells s old new
   both_open : StoppedAfter tells 1 old new → IsBothOpen (base_of s.second) (other_gate s) s new → OpenStop tells s old new
   closing : StoppedAfter tells 2 old new → IsGateClosing (other_gate s) s new → OpenStop tells s old new

@@ -11,7 +11,7 @@ mod spelling;
 pub mod store;
 
 pub use fault::StoreFault;
-pub use laws::stopped_commits;
+pub use laws::{stopped_commits, stopped_open};
 pub use store::Store;
 
 #[cfg(test)]

@@ -1,5 +1,5 @@
 //! The reads of the store: which slot stands, how many entries stand behind its record, and their payloads.
-ghost use Rattle.std.specs.Prelude.{◌≡◌, ◌==◌, ◌&&◌, nat_le, ◌+◌, ◌*◌, ◌-◌, ◌≤◌, ◌<◌, ◌++◌, ℕ, List, [], length, take, drop, IsTrue, IfOk, IfErr, IfSome, Some, None, MatchOption, MatchResult};
+ghost use Rattle.std.specs.Prelude.{◌≡◌, ◌==◌, ◌&&◌, nat_le, ◌+◌, ◌*◌, ◌-◌, ◌≤◌, ◌<◌, ◌++◌, ℕ, List, [], length, take, drop, true, IsTrue, IfOk, IfErr, OnErr, IsErrOf, IfSome, Some, None, MatchOption, MatchResult};
 ghost use Rattle.std.specs.List.{concat};
 ghost use Rattle.std.specs.Int.{from_le_bytes, w16, w32, w64};
 ghost use Rattle.zb_base.specs.Outside.{HasCause};
@@ -106,6 +106,7 @@ fn choose(first: Header, first_room: u64, second: Header, second_room: u64) -> O
 pub(crate) fn find<D: Disk>(disk: &mut D) -> Result<Option<Found>, Failed>
     ensures still { IsStill (D.state disk.old) (D.state disk.new) }
     ensures cause { HasCause (D.state disk.old).faults (D.state disk.new).faults result }
+    ensures refusal { OnErr result (IsTrue D.tells.refusals → (D.state disk.old).off 0 ≡ true) }
     ensures small { IfOk result (λ found. IfSome found (λ f. f.size ≤ 49152)) }
     ensures found { IfOk result (λ found. IsTrue D.tells.content
         → MatchOption found (stands (D.state disk.old).seen ≡ None) (λ f. IsFoundIn f (D.state disk.old).seen)) }
@@ -145,6 +146,7 @@ pub(crate) fn count_entries<D: Disk>(
     requires { start ≤ 131072 }
     ensures still { IsStill (D.state disk.old) (D.state disk.new) }
     ensures cause { HasCause (D.state disk.old).faults (D.state disk.new).faults result }
+    ensures refusal { OnErr result (IsTrue D.tells.refusals → (D.state disk.old).off 0 ≡ true) }
     ensures few { IfOk result (λ r. r.0 ≤ 32) }
     ensures short { IfOk result (λ r. r.1 ≤ 484 * r.0) }
     ensures entries { IfOk result (λ r. IsTrue D.tells.content → (b : List ℕ) → IsBehind b start room 15616 (D.state disk.old).seen
@@ -216,6 +218,7 @@ fn read_bytes<D: Disk>(
 ) -> Result<Vec<u8>, StoreFault>
     ensures still { IsStill (D.state disk.old) (D.state disk.new) }
     ensures later { (D.state disk.old).faults ≤ (D.state disk.new).faults }
+    ensures refusal { IsErrOf result StoreFault.Disk → IsTrue D.tells.refusals → (D.state disk.old).off 0 ≡ true }
     ensures faults { IfErr result (IsBytesFault (D.state disk.old) (D.state disk.new)) }
     ensures bytes { IfOk result (λ v. IsTrue D.tells.content → v.items ≡ window (D.state disk.old).seen at len) }
     ensures size { IfOk result (λ v. length v.items ≡ len) }
@@ -233,6 +236,7 @@ fn read_found<D: Disk>(alloc: Global, disk: &mut D, found: Found) -> Result<Cont
     requires { found.size ≤ 49152 }
     ensures still { IsStill (D.state disk.old) (D.state disk.new) }
     ensures later { (D.state disk.old).faults ≤ (D.state disk.new).faults }
+    ensures refusal { IsErrOf result StoreFault.Disk → IsTrue D.tells.refusals → (D.state disk.old).off 0 ≡ true }
     ensures faults { IfErr result (IsBytesFault (D.state disk.old) (D.state disk.new)) }
     ensures found { IfOk result (λ r. r.found ≡ found) }
     ensures few { IfOk result (λ r. r.entries ≤ 32) }
@@ -264,6 +268,7 @@ fn read_found<D: Disk>(alloc: Global, disk: &mut D, found: Found) -> Result<Cont
 pub(crate) fn read_standing<D: Disk>(alloc: Global, disk: &mut D) -> Result<Contents, StoreFault>
     ensures still { IsStill (D.state disk.old) (D.state disk.new) }
     ensures later { (D.state disk.old).faults ≤ (D.state disk.new).faults }
+    ensures refusal { IsErrOf result StoreFault.Disk → IsTrue D.tells.refusals → (D.state disk.old).off 0 ≡ true }
     ensures faults { IfErr result (IsReadFault D.tells (D.state disk.old) (D.state disk.new)) }
     ensures few { IfOk result (λ r. r.entries ≤ 32) }
     ensures end { IfOk result (λ r. r.end ≤ 49165 + 484 * r.entries) }
@@ -283,6 +288,7 @@ fn count_found<D: Disk>(disk: &mut D, found: Found) -> Result<(u64, u32), StoreF
     requires { found.size ≤ 49152 }
     ensures still { IsStill (D.state disk.old) (D.state disk.new) }
     ensures later { (D.state disk.old).faults ≤ (D.state disk.new).faults }
+    ensures refusal { IsErrOf result StoreFault.Disk → IsTrue D.tells.refusals → (D.state disk.old).off 0 ≡ true }
     ensures faults { IfErr result (IsStandingFault D.tells (D.state disk.old) (D.state disk.new)) }
     ensures answer { IfOk result (λ r. IsTrue D.tells.content → IsFoundIn found (D.state disk.old).seen
         → (s : Standing) × (stands (D.state disk.old).seen ≡ Some s) × (r.0 ≡ s.generation) × (r.1 ≡ length s.payloads)) }
@@ -299,6 +305,7 @@ fn count_found<D: Disk>(disk: &mut D, found: Found) -> Result<(u64, u32), StoreF
 pub(crate) fn count_standing<D: Disk>(disk: &mut D) -> Result<(u64, u32), StoreFault>
     ensures still { IsStill (D.state disk.old) (D.state disk.new) }
     ensures later { (D.state disk.old).faults ≤ (D.state disk.new).faults }
+    ensures refusal { IsErrOf result StoreFault.Disk → IsTrue D.tells.refusals → (D.state disk.old).off 0 ≡ true }
     ensures faults { IfErr result (IsStandingFault D.tells (D.state disk.old) (D.state disk.new)) }
     ensures answer { IfOk result (λ r. IsTrue D.tells.content
         → (s : Standing) × (stands (D.state disk.old).seen ≡ Some s) × (r.0 ≡ s.generation) × (r.1 ≡ length s.payloads)) }

@@ -1,5 +1,5 @@
 //! The store: where it stands, and its calls.
-ghost use Rattle.std.specs.Prelude.{if◌then◌else◌, Some, ◌≡◌, ◌+◌, ◌<◌, ◌≤◌, ◌^◌, [], ◌∷◌, ℕ, length, IsTrue, IfOk, IfErr, OnOk, OnErr, IsErrOf};
+ghost use Rattle.std.specs.Prelude.{if◌then◌else◌, Some, ◌≡◌, ◌+◌, ◌<◌, ◌≤◌, ◌^◌, [], ◌∷◌, ℕ, length, true, IsTrue, IfOk, IfErr, OnOk, OnErr, IsErrOf};
 ghost use Rattle.zb_disk.specs.View.{IsStill, LeavesOnly};
 ghost use Rattle.std.specs.List.{concat};
 ghost use Rattle.zb_store.specs.Layout.{Standing, stands};
@@ -209,6 +209,7 @@ impl Store {
     /// The generation that stands on the disk, and how many entries. It writes nothing and takes no memory.
     pub fn standing<D: Disk>(disk: &mut D) -> Result<(u64, u32), StoreFault>
         ensures still { IsStill (D.state disk.old) (D.state disk.new) }
+        ensures refusal { IsErrOf result StoreFault.Disk → IsTrue D.tells.refusals → (D.state disk.old).off 0 ≡ true }
         ensures answer { IfOk result (λ r. IsTrue D.tells.content
             → (s : Standing) × (stands (D.state disk.old).seen ≡ Some s) × (r.0 ≡ s.generation) × (r.1 ≡ length s.payloads)) }
         ensures faults { IfErr result (IsStandingFault D.tells (D.state disk.old) (D.state disk.new)) }
@@ -220,6 +221,7 @@ impl Store {
     /// The record that stands on the disk, and the payloads of the entries one after the other. It writes nothing.
     pub fn peek<D: Disk>(alloc: Global, disk: &mut D) -> Result<(Vec<u8>, Vec<u8>), StoreFault>
         ensures still { IsStill (D.state disk.old) (D.state disk.new) }
+        ensures refusal { IsErrOf result StoreFault.Disk → IsTrue D.tells.refusals → (D.state disk.old).off 0 ≡ true }
         ensures answer { IfOk result (λ r. IsTrue D.tells.content
             → (s : Standing) × (stands (D.state disk.old).seen ≡ Some s) × (r.0.items ≡ s.content) × (r.1.items ≡ concat s.payloads)) }
         ensures record_size { IfOk result (λ r. length r.0.items ≤ 49152) }
