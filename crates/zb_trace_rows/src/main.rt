@@ -1,9 +1,12 @@
 //! Reads transcripts of worked runs back, prints their lines again and compares; then tries each line with a fault in
 //! it, and runs a watch over the lines. For each file it writes how many lines there are, whether the printed text is the
 //! same, of how many changed lines each was refused (with a carriage return, without its line feed, with two spaces, with
-//! a word dropped, with its last word doubled, and, where it has such digits, with hexadecimal digits in lower case), and
-//! the two words of the watch.
+//! a word dropped, with its last word doubled, and, where it has such digits, with hexadecimal digits in lower case), how
+//! often a line was refused with one of its words dropped, doubled, with a zero before it, and with another first byte,
+//! and the two words of the watch.
 #![tactic(auto)]
+
+ghost use Rattle.std.specs.Prelude.{◌<◌, length};
 
 use std::alloc::{AllocError, Global};
 use std::{env, fs, io};
@@ -31,9 +34,10 @@ fn report(rt: &(impl Print + AllocGlobal), name: &str, bytes: &[u8]) -> io::Resu
                 rt.alloc(),
                 bytes,
             )?;
+            let [gone, twice, zero, other] = words_refused(rt.alloc(), bytes)?;
             let (ideal, private) = watched(rt.alloc(), lines.as_slice())?;
             println!(rt;
-                "{name}: {count} lines, {word}; refused {returns} {unended} {spaces} {dropped} {doubled} {lower}; {ideal} {private}"
+                "{name}: {count} lines, {word}; refused {returns} {unended} {spaces} {dropped} {doubled} {lower}, words {gone} {twice} {zero} {other}; {ideal} {private}"
             )
         }
         Err(OrMemory::Fault(TraceError { line })) => println!(rt; "{name}: bad line {line}"),
@@ -146,4 +150,92 @@ fn lower(text: &mut Vec<u8>, line: &[u8]) -> Result<(), AllocError> {
         text.push(byte.to_ascii_lowercase())?;
     }
     Ok(())
+}
+
+/// How often a line of the text was refused with each fault in one of its words.
+fn words_refused(alloc: Global, bytes: &[u8]) -> Result<[u32; 4], AllocError> {
+    let mut refused = [0u32; 4];
+    for line in bytes.split(|byte| *byte == b'\n') {
+        for fault in 0..4u8 {
+            let count = &mut refused[usize::from(fault)];
+            *count = count.saturating_add(line_refused(alloc, line, fault)?);
+        }
+    }
+    Ok(refused)
+}
+
+/// How often a line was refused with the fault in one of its words.
+fn line_refused(alloc: Global, line: &[u8], fault: u8) -> Result<u32, AllocError> {
+    let mut refused = 0u32;
+    let mut behind_space = true;
+    for (at, byte) in line.iter().enumerate() {
+        if behind_space
+            && is_refused(alloc, with_word_changed(alloc, line, at, fault)?.as_slice())
+        {
+            refused = refused.saturating_add(1);
+        }
+        behind_space = *byte == b' ';
+    }
+    Ok(refused)
+}
+
+/// The line with a fault in the word that begins there.
+fn with_word_changed(
+    alloc: Global,
+    line: &[u8],
+    at: usize,
+    fault: u8,
+) -> Result<Vec<u8>, AllocError>
+    requires { at < length line.now }
+{
+    let (before, rest) = line.split_at(at);
+    let size = rest
+        .iter()
+        .position(|byte| *byte == b' ')
+        .unwrap_or(rest.len());
+    let (word, after) = rest.split_at(size);
+    let mut text = Vec::new(alloc);
+    match fault {
+        0 => without_word(&mut text, before, after)?,
+        1 => {
+            text.extend_from_slice(before)?;
+            text.extend_from_slice(word)?;
+            text.push(b' ')?;
+            text.extend_from_slice(rest)?;
+        }
+        2 => {
+            text.extend_from_slice(before)?;
+            text.push(b'0')?;
+            text.extend_from_slice(rest)?;
+        }
+        _ => with_other_byte(&mut text, before, rest)?,
+    }
+    text.push(b'\n')?;
+    Ok(text)
+}
+
+/// What stands before and behind a word, with one space less.
+fn without_word(text: &mut Vec<u8>, before: &[u8], after: &[u8]) -> Result<(), AllocError> {
+    match before.split_last() {
+        Some((_, front)) => {
+            text.extend_from_slice(front)?;
+            text.extend_from_slice(after)
+        }
+        None => match after.split_first() {
+            Some((_, back)) => text.extend_from_slice(back),
+            None => Ok(()),
+        },
+    }
+}
+
+/// The line with the next byte in place of the first of `rest`.
+fn with_other_byte(text: &mut Vec<u8>, before: &[u8], rest: &[u8]) -> Result<(), AllocError> {
+    text.extend_from_slice(before)?;
+    match rest.split_first() {
+        Some((byte, back)) => {
+            text.push(byte.wrapping_add(1))?;
+            text.extend_from_slice(back)
+        }
+        None => Ok(()),
+    }
 }
