@@ -1,5 +1,5 @@
 -- How a refusal to open a frame is printed.
-use Rattle.std.specs.Prelude.{List, ℕ, ◌++◌, codes, decimal}
+use Rattle.std.specs.Prelude.{List, ℕ, codes}
 use Rattle.zb_seal.specs.declared.envelope.OpenError.{OpenError}
 use Rattle.zb_seal.specs.declared.envelope.OpenError.TheVariants.{Frame, NotSecured, NoSource, BadMic}
 
