@@ -1,0 +1,24 @@
+//! The model's tools, filled by this program's crates: frames, commands, sealing. What the laws over every run ask of them is
+//! proved here, so that they hold of real frames. Each law stands as the contract of a function with an empty body.
+#![tactic(auto)]
+
+ghost use Rattle.zb_laws.specs.Commanding.{SpellsConfirm};
+ghost use Rattle.zb_laws.specs.Opening.{Opens};
+ghost use Rattle.zb_tools.specs.Real.{real};
+ghost use Rattle.zb_watch.specs.Standing.{FindKeys};
+
+/// What a real frame opens to is of its layer, and has the base key under which it was opened and the source and counter that
+/// the frame shows.
+pub fn frames_open_as_they_show()
+    ensures { Opens real }
+{}
+
+/// Of the commands, only a Confirm-Key is spelled so that it reads as a Confirm-Key of status 0, and with its own device.
+pub fn only_confirmations_read_as_such()
+    ensures { SpellsConfirm real }
+{}
+
+/// The keys that real commands and frames carry are those that the watch over a transcript finds in them.
+pub fn the_watch_finds_the_keys_of_frames()
+    ensures { FindKeys real }
+{}
