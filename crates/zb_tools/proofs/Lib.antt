@@ -1,2 +1,5 @@
 mod Showing
 mod Confirming
+mod Keys
+mod Orders
+mod OwnKeys

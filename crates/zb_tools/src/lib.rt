@@ -2,7 +2,7 @@
 //! proved here, so that they hold of real frames. Each law stands as the contract of a function with an empty body.
 #![tactic(auto)]
 
-ghost use Rattle.zb_laws.specs.Commanding.{SpellsConfirm};
+ghost use Rattle.zb_laws.specs.Commanding.{ShowsKeys, SpellsConfirm};
 ghost use Rattle.zb_laws.specs.Opening.{Opens};
 ghost use Rattle.zb_tools.specs.Real.{real};
 ghost use Rattle.zb_watch.specs.Standing.{FindKeys};
@@ -21,4 +21,10 @@ pub fn only_confirmations_read_as_such()
 /// The keys that real commands and frames carry are those that the watch over a transcript finds in them.
 pub fn the_watch_finds_the_keys_of_frames()
     ensures { FindKeys real }
+{}
+
+/// What a node's own frame shows of a key is the key of the command that is in it: a spelled command reads as one with its own
+/// key or with none, a command in clear is read behind its control and its counter, and a sealed frame shows that it is sealed.
+pub fn frames_show_their_own_keys()
+    ensures { ShowsKeys real }
 {}
