@@ -11,3 +11,4 @@ pub mod PlanLemmas
 pub mod WritingLemmas
 pub mod RecordLemmas
 pub mod FittingLemmas
+pub mod RestoreLemmas

@@ -4,6 +4,8 @@ use Rattle.zb_base.specs.declared.key.Key.{Key}
 use Rattle.zb_change.specs.Changes.{duty, stage, is_sending}
 use Rattle.zb_keys.specs.declared.contents.Contents.{Contents}
 use Rattle.zb_keys.specs.Rows.{net_key, link_key, pair_key}
+use Rattle.zb_record.specs.declared.record.Record.{Record}
+use Rattle.zb_record.specs.Records.{record_seen}
 use Rattle.zb_model.specs.Data.{Bytes}
 use Rattle.zb_model.specs.State.{NodeState, shown_net}
 use Rattle.zb_model.specs.Fits.{keeps_rules, most_nets, most_links, most_pairs}
@@ -46,3 +48,10 @@ pub record Becomes (now : NodeState) (old new : Contents) : Type 0 where
   pub nets_room : vec_capacity old.nets ≤ vec_capacity new.nets
   pub links_room : vec_capacity old.links ≤ vec_capacity new.links
   pub pairs_room : vec_capacity old.pairs ≤ vec_capacity new.pairs
+
+-- The contents are what a record stands for, with room for all rows that there may be.
+pub record IsRestored (a : Contents) (r : Record) : Type 0 where
+  pub state : state_of a ≡ record_seen r
+  pub nets_room : most_nets ≤ vec_capacity a.nets
+  pub links_room : most_links (duty a.role) ≤ vec_capacity a.links
+  pub pairs_room : most_pairs ≤ vec_capacity a.pairs

@@ -14,6 +14,7 @@ mod planning;
 mod reading;
 mod record;
 mod redo;
+mod restore;
 mod tables;
 mod writing;
 

@@ -87,7 +87,7 @@ impl Tables {
 }
 
 /// The fault that stands so many bytes before the end of so many.
-fn bad_record(total: usize, left: usize) -> KeyError
+pub(crate) fn bad_record(total: usize, left: usize) -> KeyError
     ensures { result ≡ BadRecord (place_of total left) }
 {
     KeyError::BadRecord {

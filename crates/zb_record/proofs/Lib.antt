@@ -1,2 +1,5 @@
 pub mod Redone
 pub mod ReadAgain
+pub mod Lists
+pub mod Placing
+pub mod Sound

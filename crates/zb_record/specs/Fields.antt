@@ -2,6 +2,10 @@
 use Rattle.std.specs.Prelude.{ℕ, List, Option, Some, None, Result, Ok, Err, ◌==◌, if◌then◌else◌}
 use Rattle.zb_base.specs.declared.label.Layer.{Layer}
 use Rattle.zb_base.specs.declared.label.Layer.TheVariants as layer
+use Rattle.zb_base.specs.declared.node.Role.{Role}
+use Rattle.zb_base.specs.declared.node.Role.TheVariants as role
+use Rattle.zb_record.specs.declared.version.Version.{Version}
+use Rattle.zb_record.specs.declared.version.Version.TheVariants as version
 use Rattle.zb_change.specs.declared.state.State.{State}
 use Rattle.zb_change.specs.declared.state.State.TheVariants as state
 use Rattle.zb_change.specs.declared.state.Attribute.{Attribute}
@@ -54,3 +58,19 @@ unfoldable pub rollover_at : {E : Type 0} → Reading E Rollover
 rollover_at = do
   b ← byte_at
   chosen (rollover_of b)
+
+abbrev pub role_of : ℕ → Option Role
+role_of b = if b == 0 then Some role.Centre else if b == 1 then Some role.Router else if b == 2 then Some role.Device else None
+
+unfoldable pub role_at : {E : Type 0} → Reading E Role
+role_at = do
+  b ← byte_at
+  chosen (role_of b)
+
+abbrev pub version_of : ℕ → Option Version
+version_of b = if b == 1 then Some version.First else if b == 2 then Some version.Second else if b == 3 then Some version.Third else None
+
+unfoldable pub version_at : {E : Type 0} → Reading E Version
+version_at = do
+  b ← byte_at
+  chosen (version_of b)

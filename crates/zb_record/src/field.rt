@@ -1,12 +1,12 @@
 //! Fields of one byte that stand for a layer, an attribute, a state or a rollover. A byte that stands for none is refused
 //! by the reader's fault.
 ghost use Rattle.std.specs.Prelude.{◌≡◌, ◌∷◌, IfOk};
-ghost use Rattle.zb_change.specs.Changes.{tier, trust, stage, is_sending};
+ghost use Rattle.zb_change.specs.Changes.{duty, tier, trust, stage, is_sending};
 ghost use Rattle.zb_cursor.specs.Reading.{Gives};
-ghost use Rattle.zb_model.specs.Record.{tier_byte, trust_byte, stage_byte, worth};
-ghost use Rattle.zb_record.specs.Fields.{layer_at, attribute_at, state_at, rollover_at};
+ghost use Rattle.zb_model.specs.Record.{duty_byte, tier_byte, trust_byte, stage_byte, worth};
+ghost use Rattle.zb_record.specs.Fields.{role_at, layer_at, attribute_at, state_at, rollover_at};
 
-use zb_base::Layer;
+use zb_base::{Layer, Role};
 use zb_change::{Attribute, Rollover, State};
 use zb_cursor::Reader;
 
@@ -68,6 +68,21 @@ pub(crate) fn read_rollover(reader: &mut Reader<usize>) -> Result<Rollover, usiz
     match reader.byte()? {
         0 => Ok(Rollover::Idle),
         1 => Ok(Rollover::Sending),
+        _ => Err(reader.cut),
+    }
+}
+
+/// A role: 00 centre, 01 router, 02 device.
+#[tactic(auto, unfolding(crate::specs::Fields::role_at))]
+pub(crate) fn read_role(reader: &mut Reader<usize>) -> Result<Role, usize>
+    ensures exact { Gives result reader.new.rest.now (role_at reader.old.cut reader.old.rest.now) }
+    ensures spelled { IfOk result (λ x. reader.old.rest.now ≡ duty_byte (duty x) ∷ reader.new.rest.now) }
+    ensures cut { reader.new.cut ≡ reader.old.cut }
+{
+    match reader.byte()? {
+        0 => Ok(Role::Centre),
+        1 => Ok(Role::Router),
+        2 => Ok(Role::Device),
         _ => Err(reader.cut),
     }
 }

@@ -1,0 +1,279 @@
+//! Link keys in a record.
+ghost use Rattle.std.specs.Prelude.{◌≡◌, ◌&&◌, ◌||◌, not, [], map, nat_eq, nat_le, nat_lt};
+ghost use Rattle.std.specs.List.{list_any};
+ghost use Rattle.std.specs.Int.{w16, w32};
+ghost use Rattle.zb_change.specs.Changes.{duty, trust};
+ghost use Rattle.zb_cursor.specs.Reading.{byte_at, eui_at, key_at, number_at};
+ghost use Rattle.zb_cursor.specs.Spelling.{bit};
+ghost use Rattle.zb_model.specs.State.{is_centre, is_provisional, is_unverified, same_key};
+ghost use Rattle.zb_model.specs.Fits.{like_rows, most_links};
+ghost use Rattle.zb_record.specs.Placed.{Answers, Gives, field, rows_at};
+ghost use Rattle.zb_record.specs.Rows.{link_seen, link_row, is_new_link, kinds_alike, told_apart, is_marked, link_fits, link_flags_fit, link_at, links_at, has_link_room};
+
+use crate::field::read_attribute;
+use crate::place::begin;
+use std::alloc::Global;
+use zb_base::{Eui, Key, OrMemory, Role};
+use zb_change::Attribute;
+use zb_cursor::{Reader, has_bit};
+
+/// A link key in a record: partner 8, key 16, attribute 1, flags 1 (bit 0 live, bit 1 from a code, bit 2 told), floor 4.
+#[derive(Clone, Copy, Debug, PartialEq, Eq)]
+pub struct LinkRecord {
+    /// With whom the key is shared.
+    pub partner: Eui,
+    /// The key.
+    pub key: Key,
+    /// What was proved of it.
+    pub attribute: Attribute,
+    /// Whether it is in use.
+    pub live: bool,
+    /// Whether it comes from an install code.
+    pub code: bool,
+    /// At the centre, whether the partner was sent the newest network key.
+    pub told: bool,
+    /// The stored floor of the partner's frames under it.
+    pub stored: u32,
+}
+
+impl LinkRecord {
+    /// A row with a floor of 0.
+    fn with_flags(partner: Eui, key: Key, attribute: Attribute, flags: u8) -> LinkRecord
+        ensures { link_seen result ≡ link_row partner.0 key.0 (trust attribute) flags }
+    {
+        LinkRecord {
+            partner,
+            key,
+            attribute,
+            live: has_bit(u16::from(flags), 0),
+            code: has_bit(u16::from(flags), 1),
+            told: has_bit(u16::from(flags), 2),
+            stored: 0,
+        }
+    }
+
+    /// Whether it is only offered.
+    fn is_unverified(&self) -> bool
+        ensures { result ≡ is_unverified (link_seen self.now).trust }
+    {
+        matches!(self.attribute, Attribute::Unverified)
+    }
+
+    /// Whether both are live rows of one partner.
+    fn is_beside(&self, other: &LinkRecord) -> bool
+        ensures { result ≡ like_rows (link_seen self.now) (link_seen other.now) }
+    {
+        self.live && other.live && self.partner.0 == other.partner.0
+    }
+
+    /// Whether both are live rows of one partner, of one kind.
+    fn is_like(&self, other: &LinkRecord) -> bool
+        ensures { result ≡ kinds_alike (link_seen self.now) (link_seen other.now) }
+    {
+        self.is_beside(other) && self.is_unverified() == other.is_unverified()
+    }
+
+    /// Whether both are live rows of one partner, of which one is told and the other isn't.
+    fn is_told_apart(&self, other: &LinkRecord) -> bool
+        ensures { result ≡ told_apart (link_seen self.now) (link_seen other.now) }
+    {
+        self.is_beside(other) && self.told != other.told
+    }
+
+    /// Whether a told row is a live one of the centre, and a provisional one from a code.
+    fn is_marked(&self, role: Role) -> bool
+        ensures { result ≡ is_marked (duty role) (link_seen self.now) }
+    {
+        self.may_be_told(role) && self.may_be_provisional()
+    }
+
+    /// Whether it isn't told, or is a live row of the centre.
+    fn may_be_told(&self, role: Role) -> bool
+        ensures { result ≡ (not (link_seen self.now).told || ((link_seen self.now).live && is_centre (duty role))) }
+    {
+        !self.told || (self.live && matches!(role, Role::Centre))
+    }
+
+    /// Whether it isn't provisional, or is from a code.
+    fn may_be_provisional(&self) -> bool
+        ensures { result ≡ (not (is_provisional (link_seen self.now).trust) || (link_seen self.now).code) }
+    {
+        !matches!(self.attribute, Attribute::Provisional) || self.code
+    }
+}
+
+/// Whether there is a row of that key.
+fn has_key(rows: &[LinkRecord], key: &Key) -> bool
+    ensures { result ≡ list_any (λ r. same_key (link_seen r).key key.now.0) rows.now }
+{
+    rows.iter().any(|row| row.key == *key)
+}
+
+/// Whether no row has that key.
+#[tactic(auto, using(crate::proofs::Lists::any_map))]
+fn is_new(rows: &[LinkRecord], key: &Key) -> bool
+    ensures { result ≡ is_new_link (map link_seen rows.now) key.now }
+{
+    !has_key(rows, key)
+}
+
+/// A key that no row has.
+fn read_new_key(reader: &mut Reader<usize>, rows: &[LinkRecord]) -> Result<Key, usize>
+    ensures { Gives (λ k. k) result reader.new.rest.now (field key_at (is_new_link (map link_seen rows.now)) reader.old.rest.now) }
+{
+    let left = begin(reader);
+    let key = reader.key()?;
+    if is_new(rows, &key) {
+        Ok(key)
+    } else {
+        Err(left)
+    }
+}
+
+/// Whether one of the rows is like another.
+fn has_like(rows: &[LinkRecord], other: &LinkRecord) -> bool
+    ensures { result ≡ list_any (λ r. kinds_alike (link_seen r) (link_seen other.now)) rows.now }
+{
+    rows.iter().any(|row| row.is_like(other))
+}
+
+/// Whether one of the rows is told where another isn't, or the other way round.
+fn has_told_apart(rows: &[LinkRecord], other: &LinkRecord) -> bool
+    ensures { result ≡ list_any (λ r. told_apart (link_seen r) (link_seen other.now)) rows.now }
+{
+    rows.iter().any(|row| row.is_told_apart(other))
+}
+
+/// Whether a row may stand behind these.
+#[tactic(auto, using(crate::proofs::Lists::any_map))]
+fn row_fits(role: Role, rows: &[LinkRecord], row: &LinkRecord) -> bool
+    ensures { result ≡ link_fits (duty role) (map link_seen rows.now) (link_seen row.now) }
+{
+    row.is_marked(role) && is_alone(rows, row)
+}
+
+/// Whether a row has no like among these, and agrees with them.
+#[tactic(auto, using(crate::proofs::Lists::any_map))]
+fn is_alone(rows: &[LinkRecord], row: &LinkRecord) -> bool
+    ensures { result ≡ (not (list_any (λ y. kinds_alike y (link_seen row.now)) (map link_seen rows.now)) && not (list_any (λ y. told_apart y (link_seen row.now)) (map link_seen rows.now))) }
+{
+    !has_like(rows, row) && !has_told_apart(rows, row)
+}
+
+/// The flags of a row, and so the row but for its floor.
+fn read_flags(
+    reader: &mut Reader<usize>,
+    role: Role,
+    rows: &[LinkRecord],
+    partner: Eui,
+    key: Key,
+    attribute: Attribute,
+) -> Result<u8, usize>
+    ensures { Gives (λ b. b) result reader.new.rest.now (field byte_at (link_flags_fit (duty role) (map link_seen rows.now) partner.0 key.0 (trust attribute)) reader.old.rest.now) }
+{
+    let left = begin(reader);
+    let flags = reader.byte()?;
+    if flags_fit(
+        role,
+        rows,
+        LinkRecord::with_flags(partner, key, attribute, flags),
+        flags,
+    ) {
+        Ok(flags)
+    } else {
+        Err(left)
+    }
+}
+
+/// Whether flags are known, and their row may stand behind these.
+fn flags_fit(role: Role, rows: &[LinkRecord], row: LinkRecord, flags: u8) -> bool
+    ensures { result ≡ (nat_lt flags 8 && link_fits (duty role) (map link_seen rows.now) (link_seen row)) }
+{
+    flags < 8 && row_fits(role, rows, &row)
+}
+
+/// A link key, behind these rows.
+#[tactic(auto, unfolding(crate::specs::Rows::link_at))]
+fn read_link(
+    reader: &mut Reader<usize>,
+    role: Role,
+    rows: &[LinkRecord],
+) -> Result<LinkRecord, usize>
+    ensures { Gives link_seen result reader.new.rest.now (link_at (duty role) (map link_seen rows.now) reader.old.rest.now) }
+{
+    let _left = begin(reader);
+    let partner = reader.eui()?;
+    let key = read_new_key(reader, rows)?;
+    let _left = begin(reader);
+    let attribute = read_attribute(reader)?;
+    let flags = read_flags(reader, role, rows, partner, key, attribute)?;
+    let _left = begin(reader);
+    let stored = reader.number32()?;
+    Ok(LinkRecord {
+        partner,
+        key,
+        attribute,
+        live: has_bit(u16::from(flags), 0),
+        code: has_bit(u16::from(flags), 1),
+        told: has_bit(u16::from(flags), 2),
+        stored,
+    })
+}
+
+/// How many link keys a node may hold.
+fn link_room(role: Role) -> u16
+    ensures { result ≡ most_links (duty role) }
+{
+    match role {
+        Role::Centre => 1024,
+        Role::Router => 64,
+        Role::Device => 64,
+    }
+}
+
+/// The number of link keys.
+fn read_count(reader: &mut Reader<usize>, role: Role) -> Result<u16, usize>
+    ensures { Gives (λ n. n) result reader.new.rest.now (field (number_at w16) (has_link_room (duty role)) reader.old.rest.now) }
+{
+    let left = begin(reader);
+    let count = reader.number16()?;
+    if count <= link_room(role) {
+        Ok(count)
+    } else {
+        Err(left)
+    }
+}
+
+/// So many link keys.
+fn read_rows(
+    alloc: Global,
+    reader: &mut Reader<usize>,
+    role: Role,
+    count: u16,
+) -> Result<Vec<LinkRecord>, OrMemory<usize>>
+    ensures { Answers (λ v. map link_seen v.items) result reader.new.rest.now (rows_at (link_at (duty role)) count [] reader.old.rest.now) }
+{
+    let mut rows = Vec::with_capacity(alloc, usize::from(count))?;
+    for _ in 0..count {
+        match read_link(reader, role, rows.as_slice()) {
+            Ok(row) => rows.push(row)?,
+            Err(left) => return Err(OrMemory::Fault(left)),
+        }
+    }
+    Ok(rows)
+}
+
+/// The link keys, with their number.
+#[tactic(auto, unfolding(crate::specs::Rows::links_at))]
+pub(crate) fn read_links(
+    alloc: Global,
+    reader: &mut Reader<usize>,
+    role: Role,
+) -> Result<Vec<LinkRecord>, OrMemory<usize>>
+    ensures { Answers (λ v. map link_seen v.items) result reader.new.rest.now (links_at (duty role) reader.old.rest.now) }
+{
+    match read_count(reader, role) {
+        Ok(count) => read_rows(alloc, reader, role, count),
+        Err(left) => Err(OrMemory::Fault(left)),
+    }
+}

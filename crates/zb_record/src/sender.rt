@@ -1,0 +1,125 @@
+//! Floors of senders in a record.
+ghost use Rattle.std.specs.Prelude.{◌≡◌, ◌≤◌, ◌<◌, [], IfOk, map, nat_lt};
+ghost use Rattle.std.specs.List.{list_all};
+ghost use Rattle.std.specs.Int.{w32};
+ghost use Rattle.zb_cursor.specs.Reading.{byte_at, eui_at, number_at};
+ghost use Rattle.zb_record.specs.Placed.{Gives, field, rows_at};
+ghost use Rattle.zb_record.specs.Rows.{sender_seen, net_seen, is_last, isnt_zero, has_few, sender_at, floors_at, live_floors_at, all_floors_at};
+
+use crate::net::NetRecord;
+use crate::place::begin;
+use arrayvec::ArrayVec;
+use zb_base::Eui;
+use zb_cursor::Reader;
+
+/// The floor of a sender in a record: its address 8, its stored floor 4.
+#[derive(Clone, Copy, Debug, Default, PartialEq, Eq)]
+pub struct SenderRecord {
+    /// Whose frames.
+    pub sender: Eui,
+    /// The least counter that is taken.
+    pub stored: u32,
+}
+
+/// Whether a sender is above all of these.
+fn is_above(floors: &[SenderRecord], sender: Eui) -> bool
+    ensures { result ≡ list_all (λ f. nat_lt (sender_seen f).sender sender.0) floors.now }
+{
+    floors.iter().all(|floor| floor.sender.0 < sender.0)
+}
+
+/// Whether a sender may stand behind these.
+#[tactic(auto, using(crate::proofs::Lists::all_seen))]
+fn is_last(floors: &[SenderRecord], sender: Eui) -> bool
+    ensures { result ≡ is_last (map sender_seen floors.now) sender }
+{
+    is_above(floors, sender)
+}
+
+/// A sender behind these.
+fn read_address(reader: &mut Reader<usize>, floors: &[SenderRecord]) -> Result<Eui, usize>
+    ensures { Gives (λ e. e) result reader.new.rest.now (field eui_at (is_last (map sender_seen floors.now)) reader.old.rest.now) }
+{
+    let left = begin(reader);
+    let sender = reader.eui()?;
+    if is_last(floors, sender) {
+        Ok(sender)
+    } else {
+        Err(left)
+    }
+}
+
+/// A floor, which isn't 0.
+fn read_stored(reader: &mut Reader<usize>) -> Result<u32, usize>
+    ensures { Gives (λ n. n) result reader.new.rest.now (field (number_at w32) isnt_zero reader.old.rest.now) }
+{
+    let left = begin(reader);
+    let stored = reader.number32()?;
+    if 0 < stored { Ok(stored) } else { Err(left) }
+}
+
+/// The floor of a sender behind these.
+#[tactic(auto, unfolding(crate::specs::Rows::sender_at))]
+fn read_sender(reader: &mut Reader<usize>, floors: &[SenderRecord]) -> Result<SenderRecord, usize>
+    ensures { Gives sender_seen result reader.new.rest.now (sender_at (map sender_seen floors.now) reader.old.rest.now) }
+{
+    let sender = read_address(reader, floors)?;
+    let stored = read_stored(reader)?;
+    Ok(SenderRecord { sender, stored })
+}
+
+/// So many floors of senders, of which there are 64 at most.
+fn read_senders(reader: &mut Reader<usize>, count: u8) -> Result<ArrayVec<SenderRecord, 64>, usize>
+    requires { count ≤ 64 }
+    ensures { Gives (λ v. map sender_seen v.items) result reader.new.rest.now (rows_at sender_at count [] reader.old.rest.now) }
+{
+    let mut floors = ArrayVec::new();
+    for _ in 0..count {
+        let floor = read_sender(reader, floors.as_slice())?;
+        floors.push(floor);
+    }
+    Ok(floors)
+}
+
+/// How many floors there are: 64 at most.
+fn read_count(reader: &mut Reader<usize>) -> Result<u8, usize>
+    ensures exact { Gives (λ n. n) result reader.new.rest.now (field byte_at has_few reader.old.rest.now) }
+    ensures few { IfOk result (λ n. n ≤ 64) }
+{
+    let left = begin(reader);
+    let count = reader.byte()?;
+    if count <= 64 { Ok(count) } else { Err(left) }
+}
+
+/// The floors under a network key.
+#[tactic(auto, unfolding(crate::specs::Rows::floors_at))]
+fn read_floors(reader: &mut Reader<usize>) -> Result<ArrayVec<SenderRecord, 64>, usize>
+    ensures { Gives (λ v. map sender_seen v.items) result reader.new.rest.now (floors_at reader.old.rest.now) }
+{
+    let count = read_count(reader)?;
+    let floors = read_senders(reader, count)?;
+    Ok(floors)
+}
+
+/// The floors under a network key, if it is live.
+fn read_live_floors(reader: &mut Reader<usize>, row: &mut NetRecord) -> Result<(), usize>
+    ensures { Gives (λ done. net_seen row.new) result reader.new.rest.now (live_floors_at (net_seen row.old) reader.old.rest.now) }
+{
+    if row.live {
+        row.floors = read_floors(reader)?;
+    }
+    Ok(())
+}
+
+/// The floors under the live ones of network keys.
+pub(crate) fn read_all_floors(
+    reader: &mut Reader<usize>,
+    rows: &mut [NetRecord],
+) -> Result<(), usize>
+    ensures { Gives (λ done. map net_seen rows.new) result reader.new.rest.now (all_floors_at [] (map net_seen rows.old) reader.old.rest.now) }
+{
+    for row in rows.iter_mut() {
+        read_live_floors(reader, row)?;
+    }
+    Ok(())
+}

@@ -1,0 +1,30 @@
+//! The versions of records.
+ghost use Rattle.std.specs.Prelude.{◌≡◌};
+ghost use Rattle.zb_cursor.specs.Reading.{Gives};
+ghost use Rattle.zb_record.specs.Fields.{version_at};
+
+use zb_cursor::Reader;
+
+/// A version of records. From the second on each network key has its own limit, and from the third on there are pairs.
+#[derive(Clone, Copy, Debug, PartialEq, Eq)]
+pub enum Version {
+    /// One outgoing NWK limit for all network keys.
+    First,
+    /// A limit for each network key.
+    Second,
+    /// Keys of pairs of devices besides.
+    Third,
+}
+
+/// A version: 01, 02 or 03.
+#[tactic(auto, unfolding(crate::specs::Fields::version_at))]
+pub(crate) fn read_version(reader: &mut Reader<usize>) -> Result<Version, usize>
+    ensures { Gives result reader.new.rest.now (version_at reader.old.cut reader.old.rest.now) }
+{
+    match reader.byte()? {
+        1 => Ok(Version::First),
+        2 => Ok(Version::Second),
+        3 => Ok(Version::Third),
+        _ => Err(reader.cut),
+    }
+}
