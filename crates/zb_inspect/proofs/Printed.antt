@@ -14,11 +14,11 @@ use Rattle.zb_capture.specs.Grammar.{IsCapture}
 use Rattle.zb_capture.specs.declared.capture.Capture.{Capture}
 use Rattle.zb_sight.specs.declared.sight.Sight.{Sight}
 use Rattle.zb_ring.specs.Pieces.{all_frames, all_sights, Numbered, Shown, AllShown, IsCut}
-use Rattle.zb_ring.specs.Rings.{keys_of, sights, IsRing}
+use Rattle.zb_ring.specs.Rings.{keys_of, sights, ring_of}
 use Rattle.zb_ring.specs.declared.piece.Piece.{Piece}
 use Rattle.zb_ring.specs.declared.ring.Ring.{Ring}
 use Rattle.zb_ring.proofs.PieceLists.{all_shown, firsts_fit}
-use Rattle.zb_inspect.specs.Report.{sight_text, sights_text, tail_text, report_text, IsReport}
+use Rattle.zb_inspect.specs.Report.{sight_text, sights_text, tail_text, report_text, report_of}
 use Rattle.zb_inspect.specs.Texts.{all_text}
 
 sights_append : (frame : ℕ) (xs ys : List Sight) → sights_text frame (xs ++ ys) ≡ sights_text frame xs ++ sights_text (frame + length xs) ys
@@ -68,17 +68,15 @@ shown_fit c keys pieces limits cut shown =
     (firsts_fit 1 pieces cut.numbers (omega (arith, ap (length {A = ArrayVec ℕ}) cut.frames, limits.frames)))
 
 -- the report
-pub is_report : (c : Capture) (ring : Ring) (pieces : List Piece) (frames : ℕ) (text : List ℕ) → IsRing c ring → IsCut c pieces
+pub is_report : (c : Capture) (ring : Ring) (pieces : List Piece) (frames : ℕ) (text : List ℕ) → ring ≡ ring_of c → IsCut c pieces
     → AllShown c.addrs (keys_of ring.keys) pieces → frames ≡ length c.frames → text ≡ sights_text 1 (all_sights pieces) ++ tail_text frames ring
-    → IsReport c text
-is_report c ring pieces frames text is cut shown count printed = record {
-  ring = ring;
-  is_ring = is;
-  is_text =
-      printed ∙ ap (λ n. sights_text 1 (all_sights pieces) ++ tail_text n ring) count
-      ∙ ap (λ xs. sights_text 1 xs ++ tail_text (length c.frames) ring)
-      (all_shown c.addrs (keys_of ring.keys) pieces shown ∙ ap (sights c.addrs (keys_of ring.keys)) cut.frames);
-}
+    → text ≡ report_of c
+unfolding report_of
+is_report c ring pieces frames text is cut shown count printed =
+    printed ∙ ap (λ n. sights_text 1 (all_sights pieces) ++ tail_text n ring) count
+    ∙ ap (λ xs. sights_text 1 xs ++ tail_text (length c.frames) ring)
+    (all_shown c.addrs (keys_of ring.keys) pieces shown ∙ ap (sights c.addrs (keys_of ring.keys)) cut.frames)
+    ∙ ap (report_text c) is
 
 -- Fronts
 

@@ -1,5 +1,5 @@
 -- The report on a capture (this project's profile): a line for each layer of each frame, one for each key, and the end.
-use Rattle.std.specs.Prelude.{◌≡◌, ℕ, ◌+◌, List, [], ◌∷◌, ◌++◌, length, codes, decimal, Option, Some, None}
+use Rattle.std.specs.Prelude.{ℕ, ◌+◌, List, [], ◌∷◌, ◌++◌, length, codes, decimal, Option, Some, None}
 use Rattle.arrayvec.specs.ArrayVec.{ArrayVec}
 use Rattle.hex.specs.Hex.{encode_upper}
 use Rattle.zb_base.specs.declared.label.Label.{Label}
@@ -7,7 +7,7 @@ use Rattle.zb_base.specs.declared.label.Label.TheVariants as label
 use Rattle.zb_base.specs.declared.label.Layer.{Layer}
 use Rattle.zb_base.specs.declared.label.Layer.TheVariants as layer
 use Rattle.zb_capture.specs.declared.capture.Capture.{Capture}
-use Rattle.zb_ring.specs.Rings.{keys_of, sights, IsRing}
+use Rattle.zb_ring.specs.Rings.{keys_of, sights, ring_of}
 use Rattle.zb_ring.specs.declared.ring.Ring.{Ring}
 use Rattle.zb_ring.specs.declared.ring.RingKey.{RingKey}
 use Rattle.zb_seal.specs.declared.term.Term.{Term}
@@ -82,12 +82,10 @@ end_line frames keys rounds = codes "end" ++ then (decimal frames) ++ then (deci
 abbrev pub tail_text : ℕ → Ring → List ℕ
 tail_text frames ring = keys_text 1 ring.keys ++ end_line frames (length ring.keys) ring.rounds
 
--- The report: what each frame shows under the last keys, the keys, and the counts.
+-- The report under a ring: what each frame shows under its keys, the keys, and the counts
 abbrev pub report_text : Capture → Ring → List ℕ
 report_text c ring = sights_text 1 (sights c.addrs (keys_of ring.keys) c.frames) ++ tail_text (length c.frames) ring
 
--- a text is the report on a capture
-pub record IsReport (c : Capture) (text : List ℕ) : Type 0 where
-  pub ring : Ring
-  pub is_ring : IsRing c ring
-  pub is_text : text ≡ report_text c ring
+-- The report on a capture, under its last ring.
+unfoldable pub report_of : Capture → List ℕ
+report_of c = report_text c (ring_of c)

@@ -1,14 +1,14 @@
 -- How the writing of a report ends.
-use Rattle.std.specs.Prelude.{◌≤◌, ℕ, List, Option, Result, Ok, Err}
+use Rattle.std.specs.Prelude.{ℕ, List, Option, Result, Ok, Err}
 use Rattle.std.specs.Io.KnownBytes.{Appends, Keeps}
 use Rattle.zb_base.specs.Outside.{AppendsFront, Rose}
 use Rattle.zb_capture.specs.declared.capture.Capture.{Capture}
-use Rattle.zb_inspect.specs.Report.{IsReport}
+use Rattle.zb_inspect.specs.Report.{report_of}
 use Rattle.zb_inspect.specs.declared.fault.InspectFault.{InspectFault}
 use Rattle.zb_inspect.specs.declared.fault.InspectFault.TheVariants.{Write, NoMemory}
 
 -- At Ok the report was written; where the sink failed, a front of it; where memory was wanting, nothing.
 abbrev pub Reports : Capture → Option (List ℕ) → Option (List ℕ) → ℕ → ℕ → Result (Unit {0}) InspectFault → Type 0
-Reports c before after old new (Ok done) = (text : List ℕ) × IsReport c text × Appends before after text
-Reports c before after old new (Err Write) = Rose old new × ((text : List ℕ) × IsReport c text × AppendsFront before after text)
+Reports c before after old new (Ok done) = Appends before after (report_of c)
+Reports c before after old new (Err Write) = Rose old new × AppendsFront before after (report_of c)
 Reports c before after old new (Err NoMemory) = Keeps before after

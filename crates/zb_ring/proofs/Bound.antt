@@ -1,7 +1,8 @@
 -- A ring has no more keys than are given and than its frames carry, which is at most three each.
-use Rattle.std.proofs.Common.{◌≡◌, ℕ, zero, suc, ◌+◌, ◌*◌, ◌≤◌, List, [], ◌∷◌, ◌++◌, Option, Some, None, length, take, map, refl, ap, sym, ◌∙◌, subst, arith, length-append, add-one, Bool, true, false, cond, ◌||◌, bytes_eq, if◌then◌else◌}
+use Rattle.std.proofs.Common.{◌≡◌, ◌≢◌, ℕ, zero, suc, ◌+◌, ◌-◌, ◌*◌, ◌<◌, ◌≤◌, ◌==◌, List, [], ◌∷◌, ◌++◌, Option, Some, None, length, take, map, refl, ap, sym, ◌∙◌, subst, arith, length-append, add-one, Bool, true, false, cond, ◌||◌, bytes_eq, if◌then◌else◌}
 use Rattle.std.specs.List.{AllByRecursion, list_any}
 use Rattle.std.proofs.lemmas.List.{length-map}
+use Rattle.std.proofs.lemmas.Bool.Decides.{nat_tests}
 use Rattle.std.proofs.lemmas.Slice.Eq.{bytes_eq-Decides}
 use Rattle.std.proofs.lemmas.List.Folds.{list_any-append}
 use Rattle.arrayvec.specs.ArrayVec.{ArrayVec}
@@ -14,11 +15,12 @@ use Rattle.zb_sight.specs.Carrying.{keys_carried}
 use Rattle.zb_sight.specs.Sights.{sight}
 use Rattle.zb_sight.specs.declared.carried.Carried.{Carried}
 use Rattle.zb_sight.specs.declared.sight.Sight.{Sight}
-use Rattle.zb_ring.specs.Rings.{is_key, has_key, with_key, given_from, keys_of, lead_of, leads_of, leads, sights, learnt, after_round, ring_after}
+use Rattle.zb_ring.specs.Rings.{is_key, has_key, with_key, given_from, keys_of, lead_of, leads_of, leads, sights, learnt, after_round, ring_after, ring_from, ring_of, IsRing}
 use Rattle.zb_ring.specs.declared.ring.Lead.{Lead}
+use Rattle.zb_ring.specs.declared.ring.Ring.{Ring}
 use Rattle.zb_ring.specs.declared.ring.RingKey.{RingKey}
 use Rattle.zb_ring.proofs.Growth.{Kept, Grows, carried_grows}
-use Rattle.zb_ring.proofs.RoundLaws.{learnt_grows, first_keys, not_shorter}
+use Rattle.zb_ring.proofs.RoundLaws.{learnt_grows, first_keys, not_shorter, unchanged}
 
 -- how many of the keys are new to the ring, repeats counted
 abbrev one_if : Bool → ℕ
@@ -203,3 +205,67 @@ ring_most c (suc n) =
 -- a capture in its limits
 pub ring_few : (c : Capture) (n : ℕ) (ring : List RingKey) → IsCapture c → ring ≡ ring_after c n → length ring ≤ 300256
 ring_few c n ring limits is = omega (arith, ap (length {A = RingKey}) is, ring_most c n, limits.keys, limits.frames)
+
+-- Each round but the last adds a key
+
+grown_length : (c : Capture) (n : ℕ) → ring_after c (suc n) ≢ ring_after c n → length (ring_after c n) < length (ring_after c (suc n))
+unfolding ring_after
+grown_length c n grew =
+    let old = ring_after c n in
+    let same : length (ring_after c (suc n)) ≢ length old = λ e. grew (unchanged (suc n) old (ring_after c (suc n)) (led c old) refl e) in
+    omega (arith, same, not_shorter (suc n) old (ring_after c (suc n)) (led c old) refl)
+
+rounds_add : (c : Capture) (ring : Ring) → IsRing c ring → (n : ℕ) → n < ring.rounds → n ≤ length (ring_after c n)
+rounds_add c ring is zero within = omega arith
+rounds_add c ring is (suc n) within =
+    let before = rounds_add c ring is n (omega (arith, within)) in
+    let grew : ring_after c (suc n) ≢ ring_after c n = λ e. is.first (suc n) (omega arith) within (e ∙ ap (ring_after c) (omega arith)) in
+    omega (arith, before, grown_length c n grew)
+
+before_last : (n : ℕ) → 0 < n → suc (n - 1) ≡ n
+before_last n some = omega arith
+
+rounds_most : (c : Capture) (ring : Ring) → IsRing c ring → ring.rounds ≤ length c.keys + 3 * length c.frames + 1
+rounds_most c ring is =
+    let n = ring.rounds - 1 in
+    omega (arith, is.some, rounds_add c ring is n (omega (arith, is.some)), ring_most c n)
+
+abbrev ring_with : List RingKey → ℕ → Ring
+ring_with keys rounds = record { keys = keys; rounds = rounds }
+
+same_ring : (c : Capture) (ring : Ring) → IsRing c ring → (n : ℕ) → n ≡ ring.rounds → record { keys = ring_after c n; rounds = n } ≡ ring
+same_ring c ring is n count =
+    ap (λ k. ring_with (ring_after c k) k) count ∙ ap (λ keys. ring_with keys ring.rounds) (sym is.keys)
+
+test_true : (a b : ℕ) → (a == b) ≡ true → a ≡ b
+test_true a b same = grind (arith, nat_tests)
+
+not_both : (a b : ℕ) → (a == b) ≡ false → a ≡ b → ⊥
+not_both a b other same = grind (arith, nat_tests)
+
+step_from : (most n : ℕ) (c : Capture) (ring : Ring) (b : Bool) → IsRing c ring → n < ring.rounds
+    → (length (ring_after c (suc n)) == length (ring_after c n)) ≡ b
+    → (suc n < ring.rounds → ring_from most c (suc n) ≡ ring)
+    → (if b then record { keys = ring_after c (suc n); rounds = suc n } else ring_from most c (suc n)) ≡ ring
+unfolding ring_after
+step_from most n c ring true is within same rest =
+    let old = ring_after c n in
+    let stays : ring_after c (suc n) ≡ old = unchanged (suc n) old (ring_after c (suc n)) (led c old) refl (test_true _ _ same) in
+    let no_more : suc n < ring.rounds → ⊥ = λ more. is.first (suc n) (omega arith) more (stays ∙ ap (ring_after c) (omega arith)) in
+    let count : suc n ≡ ring.rounds = omega (arith, within, no_more) in
+    same_ring c ring is (suc n) count
+step_from most n c ring false is within other rest =
+    rest (let more : ring.rounds ≢ suc n = λ e. not_both (length (ring_after c (suc n))) (length (ring_after c n)) other
+        (ap (λ k. length (ring_after c k)) (sym e) ∙ ap (length {A = RingKey}) is.last ∙ ap (λ k. length (ring_after c (k - 1))) e ∙ ap (λ k. length (ring_after c k)) (omega arith)) in
+    omega (arith, within, more))
+
+walk : (most n : ℕ) (c : Capture) (ring : Ring) → IsRing c ring → n < ring.rounds → ring.rounds ≤ n + most → ring_from most c n ≡ ring
+unfolding ring_from
+walk zero n c ring is within most_rounds = absurd (omega (arith, within, most_rounds))
+walk (suc most) n c ring is within most_rounds =
+    step_from most n c ring (length (ring_after c (suc n)) == length (ring_after c n)) is within refl
+    (λ more. walk most (suc n) c ring is more (omega (arith, most_rounds)))
+
+-- there is one ring, and it is found
+pub ring_is : (c : Capture) (ring : Ring) → IsRing c ring → ring ≡ ring_of c
+ring_is c ring is = sym (walk (length c.keys + 3 * length c.frames + 1) 0 c ring is is.some (omega (arith, rounds_most c ring is)))

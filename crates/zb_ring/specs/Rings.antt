@@ -1,5 +1,5 @@
 -- The ring of keys of a capture (this project's profile): the given keys, and what the frames give round after round.
-use Rattle.std.specs.Prelude.{◌≡◌, ◌≢◌, ℕ, suc, zero, ◌+◌, ◌-◌, ◌<◌, List, [], ◌∷◌, ◌++◌, map, bytes_eq, Bool, if◌then◌else◌, Option, Some, None}
+use Rattle.std.specs.Prelude.{◌≡◌, ◌≢◌, ℕ, suc, zero, ◌+◌, ◌-◌, ◌*◌, ◌<◌, ◌==◌, List, [], ◌∷◌, ◌++◌, length, map, bytes_eq, Bool, if◌then◌else◌, Option, Some, None}
 use Rattle.std.specs.List.{list_any}
 use Rattle.arrayvec.specs.ArrayVec.{ArrayVec}
 use Rattle.zb_base.specs.declared.address.Eui.{Eui}
@@ -64,7 +64,17 @@ unfoldable pub ring_after : Capture → ℕ → List RingKey
 ring_after c zero = given_from [] c.keys
 ring_after c (suc n) = after_round c (suc n) (ring_after c n)
 
--- The rounds end with the first that adds no key.
+-- The ring after a round that comes behind n others, if that adds no key, else after the next ones; at most `most` rounds are tried.
+unfoldable pub ring_from : ℕ → Capture → ℕ → Ring
+ring_from zero c n = record { keys = ring_after c n; rounds = n }
+ring_from (suc most) c n =
+    if length (ring_after c (suc n)) == length (ring_after c n) then record { keys = ring_after c (suc n); rounds = suc n } else ring_from most c (suc n)
+
+-- The rounds end with the first that adds no key. They do: no ring has more keys than are given and three for each frame, and each other round adds one.
+abbrev pub ring_of : Capture → Ring
+ring_of c = ring_from (length c.keys + 3 * length c.frames + 1) c 0
+
+-- The same in other words, without a count of rounds that are tried
 pub record IsRing (c : Capture) (ring : Ring) : Type 0 where
   pub some : 0 < ring.rounds
   pub keys : ring.keys ≡ ring_after c ring.rounds

@@ -2,7 +2,7 @@
 ghost use Rattle.std.specs.Prelude.{◌≡◌, ◌+◌, ◌≤◌, ◌<◌, ◌^◌, length, take, map, IfOk, Ok};
 ghost use Rattle.std.specs.List.{AllByRecursion, AllZip};
 ghost use Rattle.zb_ring.specs.Pieces.{all_leads, AllSee, AllShown, IsCut, SameFrames, Shown, Sees};
-ghost use Rattle.zb_ring.specs.Rings.{keys_of, learnt, IsRing};
+ghost use Rattle.zb_ring.specs.Rings.{keys_of, learnt, ring_of, IsRing};
 ghost use Rattle.zb_capture.specs.Grammar.{IsCapture};
 
 use crate::cut::cut;
@@ -35,7 +35,8 @@ pub fn open_all<'a, T: Threads + Sync, G: Gate>(
 ) -> Result<Opened<'a>, NoMemory>
     requires capture { IsCapture capture.now }
     requires jobs { 1 ≤ jobs }
-    ensures ring { IfOk result (λ o. IsRing capture.now o.ring) }
+    ensures ring { IfOk result (λ o. o.ring ≡ ring_of capture.now) }
+    ensures rounds { IfOk result (λ o. IsRing capture.now o.ring) }
     // At most all that may be given, and three for each frame.
     ensures few { IfOk result (λ o. length o.ring.keys ≤ 300256) }
     ensures pieces { IfOk result (λ o. IsCut capture.now o.pieces.items) }

@@ -1,9 +1,10 @@
-use Rattle.std.proofs.Common.{◌≡◌, ◌∙◌, ℕ, List, length, ap, sym, Result}
+use Rattle.std.proofs.Common.{◌≡◌, ◌∙◌, ℕ, List, length, ap, subst}
 use Rattle.std.specs.Io.KnownBytes.{Appends}
+use Rattle.zb_base.specs.Outside.{AppendsFront}
 use Rattle.arrayvec.specs.ArrayVec.{ArrayVec}
 use Rattle.std.proofs.lemmas.Result.{err_from_is_err_and}
 use Rattle.zb_ring.specs.Rings.{keys_of}
-use Rattle.zb_inspect.specs.Report.{IsReport}
+use Rattle.zb_inspect.specs.Report.{report_of}
 use Rattle.zb_inspect.specs.Reports.{Reports}
 use Rattle.zb_inspect.specs.Texts.{all_text}
 use Rattle.zb_inspect.proofs.Printed.{is_report, shown_fit}
@@ -16,7 +17,7 @@ print_report-requires-clause-fits g c κs within =
     c.in_ok-opened.ensures.pieces c.in_ok-opened.ensures.shown
 
 -- the texts are the report
-reported : (g : _) (c : After-write_all g) → IsReport c.args.capture.now (all_text c.as_slice-2.result.now)
+reported : (g : _) (c : After-write_all g) → all_text c.as_slice-2.result.now ≡ report_of c.args.capture.now
 reported g c =
     is_report c.args.capture.now c.in_ok-opened.opened.ring c.in_ok-opened.opened.pieces.items (length c.as_slice.result.now) (all_text c.as_slice-2.result.now)
     c.in_ok-opened.ensures.ring c.in_ok-opened.ensures.pieces c.in_ok-opened.ensures.shown (ap (length {A = ArrayVec ℕ}) c.as_slice.ensures)
@@ -26,8 +27,11 @@ pub returns-in_err-write_all-clause-ends : goal.returns-in_err-write_all-clause-
 returns-in_err-write_all-clause-ends g c =
     let d = (goal.at.returns-in_err-write_all-clause-ends g c).After-write_all in
     let p = err_from_is_err_and c.from_residual-in_err-write_all.result c.from_residual-in_err-write_all.ensures.1 in
-    rw (p.1, p.2) (c.in_err-write_all.ensures.cause.failed, (all_text c.as_slice-2.result.now, reported g d, c.in_err-write_all.ensures.front))
+    let P : List ℕ → Type 0 = λ text. AppendsFront (g.W.Sink.taken c.args.out.now) (g.W.Sink.taken c.write_all.new.out) text in
+    rw (p.1, p.2) (c.in_err-write_all.ensures.cause.failed, subst P (reported g d) c.in_err-write_all.ensures.front)
 
 pub returns-clause-ends : goal.returns-clause-ends
 returns-clause-ends g c =
-    let d = (goal.at.returns-clause-ends g c).After-write_all in (all_text c.as_slice-2.result.now, reported g d, c.in_ok-write_all.ensures.whole)
+    let d = (goal.at.returns-clause-ends g c).After-write_all in
+    let P : List ℕ → Type 0 = λ text. Appends (g.W.Sink.taken c.args.out.now) (g.W.Sink.taken c.write_all.new.out) text in
+    subst P (reported g d) c.in_ok-write_all.ensures.whole

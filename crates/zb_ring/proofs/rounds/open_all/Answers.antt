@@ -2,7 +2,7 @@ use Rattle.std.proofs.Common.{◌≡◌, ◌≢◌, ◌∙◌, ℕ, ◌+◌, ◌
 use Rattle.arrayvec.specs.ArrayVec.{ArrayVec}
 use Rattle.zb_ring.specs.Pieces.{all_leads}
 use Rattle.zb_ring.specs.Rings.{given_from, learnt, ring_after}
-use Rattle.zb_ring.proofs.Bound.{ring_few}
+use Rattle.zb_ring.proofs.Bound.{ring_few, ring_is}
 use Rattle.zb_ring.proofs.PieceLists.{firsts_fit}
 use Rattle.zb_ring.proofs.RoundLaws.{Round, one_round, last_round, last_shown, another_first, another_seen, another_length}
 use Rattle.zb_ring.proofs.rounds.open_all.Goals as goal
@@ -33,11 +33,18 @@ done g c =
     c.in_ok-pieces-2.ensures.shown c.rounds.invariant.ring
     (c.in_ok-ring-2.ensures ∙ ap (λ ps. learnt (c.rounds.rounds + 1) c.rounds.ring (all_leads ps)) c.as_slice-in-rounds.ensures.value)
 
+pub returns-then-len-count-clause-rounds : goal.returns-then-len-count-clause-rounds
+returns-then-len-count-clause-rounds g c =
+    let d = (goal.at.returns-then-len-count-clause-rounds g c).In_ok-ring-2 in
+    last_round c.args.capture.now c.rounds.rounds c.rounds.ring c.in_ok-ring-2.ring c.into_keys.result c.in_ok-pieces-2.pieces.items (done g d)
+    c.rounds.invariant.first (sym c.len.ensures ∙ c.if-len-count.true ∙ c.len-count.ensures) c.into_keys.ensures
+
 pub returns-then-len-count-clause-ring : goal.returns-then-len-count-clause-ring
 returns-then-len-count-clause-ring g c =
     let d = (goal.at.returns-then-len-count-clause-ring g c).In_ok-ring-2 in
-    last_round c.args.capture.now c.rounds.rounds c.rounds.ring c.in_ok-ring-2.ring c.into_keys.result c.in_ok-pieces-2.pieces.items (done g d)
-    c.rounds.invariant.first (sym c.len.ensures ∙ c.if-len-count.true ∙ c.len-count.ensures) c.into_keys.ensures
+    ring_is c.args.capture.now (record { keys = c.into_keys.result; rounds = c.rounds.rounds + 1 })
+    (last_round c.args.capture.now c.rounds.rounds c.rounds.ring c.in_ok-ring-2.ring c.into_keys.result c.in_ok-pieces-2.pieces.items (done g d)
+    c.rounds.invariant.first (sym c.len.ensures ∙ c.if-len-count.true ∙ c.len-count.ensures) c.into_keys.ensures)
 
 pub returns-then-len-count-clause-pieces : goal.returns-then-len-count-clause-pieces
 returns-then-len-count-clause-pieces g c =
