@@ -2,7 +2,11 @@
 use Rattle.std.specs.Prelude.{ℕ, ◌∷◌, ◌++◌, [], nat_lt, if◌then◌else◌, length, Option, Some, Result, Ok, Err}
 use Rattle.std.specs.Option.{option_map}
 use Rattle.hex.specs.Hex.{encode_upper}
+use Rattle.zb_capture.specs.Grammar.{captured}
+use Rattle.zb_capture.specs.declared.capture.Capture.{Capture}
+use Rattle.zb_capture.specs.declared.fault.CaptureError.{CaptureError}
 use Rattle.zb_gen.specs.Made.{made}
+use Rattle.zb_inspect.specs.Report.{report_of}
 use Rattle.zb_install.specs.Code.{code_of_text, code_key}
 use Rattle.zb_install.specs.declared.code_error.CodeError.{CodeError}
 use Rattle.zb_model.specs.Data.{Bytes}
@@ -13,8 +17,8 @@ use Rattle.zb_reader.specs.Reading.{schedule}
 use Rattle.zb_sched.specs.Plan as sched
 use Rattle.zb_sched.specs.Printed.{printed}
 use Rattle.zb_sched.specs.declared.error.SchedError.{SchedError}
-use Rattle.tc_cli.specs.Commands.{Task, Playing, Installing, Making}
-use Rattle.tc_cli.specs.Statuses.{cause_of, schedule_cause}
+use Rattle.tc_cli.specs.Commands.{Task, Playing, Installing, Making, Inspecting}
+use Rattle.tc_cli.specs.Statuses.{cause_of, schedule_cause, capture_cause}
 use Rattle.tc_cli.specs.declared.status.Status.{Status}
 use Rattle.tc_cli.specs.declared.status.Status.TheVariants as status
 use Rattle.tc_cli.specs.declared.status.Cause.{Cause}
@@ -51,17 +55,25 @@ abbrev pub make_answer : Result sched.Plan SchedError → Answer
 make_answer (Ok plan) = Writes (printed plan)
 make_answer (Err e) = Refuses e.line (schedule_cause e.cause)
 
--- What a command answers to an input. Only `play` looks at it.
+-- ---- `inspect`: the report on the capture that the input is; the number of jobs doesn't matter
+
+abbrev pub inspect_answer : Result Capture CaptureError → Answer
+inspect_answer (Ok capture) = Writes (report_of capture)
+inspect_answer (Err e) = Refuses e.line (capture_cause e.cause)
+
+-- What a command answers to an input. Only `play` and `inspect` look at it.
 abbrev pub answer : Task → Bytes → Answer
 answer Playing input = within_limit input (play_answer (schedule input))
 answer (Installing code) input = install_answer (code_of_text code)
 answer (Making count) input = make_answer (made 0 count)
+answer (Inspecting jobs) input = within_limit input (inspect_answer (captured input))
 
 -- The same of the bytes that a source has to come. None where the command reads them and the source doesn't tell them.
 abbrev pub wanted : Task → Option Bytes → Option Answer
 wanted Playing rest = option_map (answer Playing) rest
 wanted (Installing code) rest = Some (answer (Installing code) [])
 wanted (Making count) rest = Some (answer (Making count) [])
+wanted (Inspecting jobs) rest = option_map (answer (Inspecting jobs)) rest
 
 -- The status that an answer comes with, and the bytes that are written.
 abbrev pub status_of : Answer → Status

@@ -4,11 +4,12 @@ use Rattle.zb_model.specs.Data.{Bytes}
 use Rattle.zb_text.specs.Numbers.{number_of}
 
 -- `play` plays the schedule on its input; `install CODE` writes the link key of an install code; `make N` writes the made
--- schedule for N routers and devices
+-- schedule for N routers and devices; `inspect JOBS` writes the report on the capture on its input, worked out by so many jobs
 pub data Task : Type 0 where
   Playing : Task
   Installing : (code : Bytes) → Task
   Making : (count : ℕ) → Task
+  Inspecting : (jobs : ℕ) → Task
 
 -- a number from 1 on
 abbrev pub positive : Option ℕ → Option ℕ
@@ -23,6 +24,10 @@ abbrev pub making : Option ℕ → Option Task
 making None = None
 making (Some count) = Some (Making count)
 
+abbrev pub inspecting : Option ℕ → Option Task
+inspecting None = None
+inspecting (Some jobs) = Some (Inspecting jobs)
+
 abbrev pub lone_word : Bytes → Option Task
 lone_word word = if bytes_eq word (codes "play") then Some Playing else None
 
@@ -31,6 +36,7 @@ abbrev pub word_and_operand : Bytes → Bytes → Option Task
 word_and_operand word operand =
     if bytes_eq word (codes "install") && nat_lt (length operand) 4294967295 then Some (Installing operand)
     else if bytes_eq word (codes "make") then making (count_of 60 operand)
+    else if bytes_eq word (codes "inspect") then inspecting (count_of 64 operand)
     else None
 
 -- None where the words are no command

@@ -1,5 +1,7 @@
 -- How the program ends: the number and the text of each status.
 use Rattle.std.specs.Prelude.{ℕ, ◌++◌, [], codes, decimal}
+use Rattle.zb_capture.specs.declared.fault.CaptureCause.{CaptureCause}
+use Rattle.zb_capture.specs.declared.fault.CaptureCause.TheVariants as capture
 use Rattle.zb_install.specs.declared.code_error.CodeError.{CodeError}
 use Rattle.zb_install.specs.declared.code_error.CodeError.TheVariants as code
 use Rattle.zb_model.specs.Data.{Bytes}
@@ -31,6 +33,7 @@ cause_text cause.NoCentre = then (codes "no-centre")
 cause_text cause.BadCode = then (codes "bad-code")
 cause_text cause.Block = then (codes "block")
 cause_text cause.TooMany = then (codes "too-many")
+cause_text cause.AddressTaken = then (codes "address-taken")
 cause_text (cause.NotHex at) = then (codes "not-hex") ++ then (decimal at)
 cause_text (cause.Length len) = then (codes "length") ++ then (decimal len)
 cause_text (cause.Crc kept found) = then (codes "crc") ++ then (short_text kept) ++ then (short_text found)
@@ -61,3 +64,10 @@ schedule_cause fault.NoCentre = cause.NoCentre
 schedule_cause fault.BadCode = cause.BadCode
 schedule_cause fault.Block = cause.Block
 schedule_cause fault.TooMany = cause.TooMany
+
+-- what is wrong with a line of a capture
+abbrev pub capture_cause : CaptureCause → Cause
+capture_cause capture.Syntax = cause.Syntax
+capture_cause capture.BadCode = cause.BadCode
+capture_cause capture.TooMany = cause.TooMany
+capture_cause capture.AddressTaken = cause.AddressTaken

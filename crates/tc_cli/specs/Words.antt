@@ -1,16 +1,18 @@
 -- A command of the program as a task.
 use Rattle.std.specs.Prelude.{◌<◌, ◌≤◌, ◌^◌, ◌-◌, length, ⊤}
-use Rattle.tc_cli.specs.Commands.{Task, Playing, Installing, Making}
+use Rattle.tc_cli.specs.Commands.{Task, Playing, Installing, Making, Inspecting}
 use Rattle.tc_cli.specs.declared.command.Command.{Command}
-use Rattle.tc_cli.specs.declared.command.Command.TheVariants.{Play, Install, Make}
+use Rattle.tc_cli.specs.declared.command.Command.TheVariants.{Play, Install, Make, Inspect}
 
 abbrev pub task : Command → Task
 task Play = Playing
 task (Install code) = Installing code.now
 task (Make count) = Making count
+task (Inspect jobs) = Inspecting jobs
 
--- A code has fewer than 2^32 - 1 bytes; a made schedule has 1 to 60 routers and devices.
+-- A code has fewer than 2^32 - 1 bytes; a made schedule has 1 to 60 routers and devices; jobs are 1 to 64.
 abbrev pub Fits : Command → Type 0
 Fits Play = ⊤
 Fits (Install code) = length code.now < 2 ^ 32 - 1
 Fits (Make count) = (1 ≤ count) × (count ≤ 60)
+Fits (Inspect jobs) = (1 ≤ jobs) × (jobs ≤ 64)

@@ -15,6 +15,8 @@ pub(crate) enum Command<'a> {
     Install { code: &'a str },
     /// Writes the made schedule for so many routers and devices.
     Make { count: u32 },
+    /// Writes the report on the capture on the input, worked out by so many jobs.
+    Inspect { jobs: u32 },
 }
 
 /// The command that the words after the program's name are.
@@ -49,6 +51,9 @@ fn with_operand<'a>(word: &str, operand: &'a str) -> Option<Command<'a>>
     } else if word == "make" {
         let count = count(operand, 60)?;
         Some(Command::Make { count })
+    } else if word == "inspect" {
+        let jobs = count(operand, 64)?;
+        Some(Command::Inspect { jobs })
     } else {
         None
     }

@@ -3,6 +3,7 @@
 
 mod command;
 mod input;
+mod inspect;
 mod install;
 mod make;
 mod play;

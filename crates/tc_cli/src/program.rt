@@ -9,6 +9,7 @@ ghost use Rattle.tc_cli.specs.Words.{task, Fits};
 ghost use Rattle.tc_cli.specs.declared.status.Cause.{Cause};
 
 use crate::command::{Command, read_words};
+use crate::inspect::inspect_input;
 use crate::install::install_code;
 use crate::make::make_schedule;
 use crate::play::play_input;
@@ -62,7 +63,7 @@ pub(crate) fn run<T: Threads + Sync, R: Source, W: Sink>(
 
 /// Carries out a command.
 fn carry_out<T: Threads + Sync, R: Source, W: Sink>(
-    _rt: &T,
+    rt: &T,
     alloc: Global,
     command: Command,
     input: &mut R,
@@ -81,5 +82,6 @@ fn carry_out<T: Threads + Sync, R: Source, W: Sink>(
         Command::Play => play_input(alloc, input, output),
         Command::Install { code } => install_code(alloc, code, output),
         Command::Make { count } => make_schedule(alloc, count, output),
+        Command::Inspect { jobs } => inspect_input(rt, alloc, jobs, input, output),
     }
 }

@@ -7,6 +7,7 @@ ghost use Rattle.zb_text.specs.Words.{then};
 
 use arrayvec::ArrayString;
 use itoa::Buffer;
+use zb_capture::CaptureCause;
 use zb_install::CodeError;
 use zb_sched::SchedCause;
 
@@ -48,8 +49,10 @@ pub enum Cause {
     BadCode,
     /// A block of counters is out of its range.
     Block,
-    /// The 65th node, or the 100,001st event.
+    /// The 65th node or the 100,001st event of a schedule; the 257th key or the 100,001st frame of a capture.
     TooMany,
+    /// The network address of the line stands in one before it.
+    AddressTaken,
     /// The code has an odd number of characters, `at`, or the one at `at` is no hexadecimal digit.
     NotHex { at: u32 },
     /// The code has a length that no install code has.
@@ -75,6 +78,22 @@ impl From<SchedCause> for Cause {
             SchedCause::BadCode => Cause::BadCode,
             SchedCause::Block => Cause::Block,
             SchedCause::TooMany => Cause::TooMany,
+        }
+    }
+}
+
+impl From<CaptureCause> for Cause {
+    ghost use Rattle.std.specs.Prelude.{◌≡◌};
+    ghost use Rattle.tc_cli.specs.Statuses.{capture_cause};
+
+    ghost from_gives = { λ e c. c ≡ capture_cause e };
+
+    fn from(cause: CaptureCause) -> Cause {
+        match cause {
+            CaptureCause::Syntax => Cause::Syntax,
+            CaptureCause::BadCode => Cause::BadCode,
+            CaptureCause::TooMany => Cause::TooMany,
+            CaptureCause::AddressTaken => Cause::AddressTaken,
         }
     }
 }
@@ -158,6 +177,7 @@ impl Cause {
             Cause::BadCode => add_word(text, "bad-code"),
             Cause::Block => add_word(text, "block"),
             Cause::TooMany => add_word(text, "too-many"),
+            Cause::AddressTaken => add_word(text, "address-taken"),
             Cause::NotHex { at } => {
                 add_word(text, "not-hex");
                 add_number(text, *at);

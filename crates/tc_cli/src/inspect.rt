@@ -1,0 +1,67 @@
+//! The command `inspect`.
+ghost use Rattle.std.specs.Prelude.{◌≡◌, ◌≤◌, Some};
+ghost use Rattle.std.specs.Io.KnownBytes.{IsAtEnd};
+ghost use Rattle.zb_base.specs.Outside.{Rose};
+ghost use Rattle.zb_capture.specs.Grammar.{IsCapture};
+ghost use Rattle.zb_inspect.specs.Report.{report_of};
+ghost use Rattle.tc_cli.specs.Answers.{wanted, Writes};
+ghost use Rattle.tc_cli.specs.Commands.{Inspecting};
+ghost use Rattle.tc_cli.specs.Outcomes.{Ends};
+
+use crate::input::{InputFault, LONGEST, read_input};
+use crate::status::{Cause, Status};
+use std::alloc::Global;
+use std::thread::Threads;
+use zb_base::{OrMemory, Sink, Source};
+use zb_capture::{Capture, read_capture};
+use zb_inspect::{InspectFault, report};
+use zb_ring::OpenGate;
+
+/// Writes the report on the capture on the input, worked out by so many jobs.
+pub(crate) fn inspect_input<T: Threads + Sync, R: Source, W: Sink>(
+    rt: &T,
+    alloc: Global,
+    jobs: u32,
+    input: &mut R,
+    output: &mut W,
+) -> Status
+    requires { 1 ≤ jobs }
+    ensures ends { Ends result (wanted (Inspecting jobs) (R.rest input.old)) (W.taken output.old) (W.taken output.new) (W.faults output.old) (W.faults output.new) }
+    ensures end { result ≡ Status.Ok → IsAtEnd (R.rest input.new) }
+    ensures read_fault { result ≡ Status.ReadFault → Rose (R.faults input.old) (R.faults input.new) }
+{
+    let bytes = match read_input(alloc, input) {
+        Ok(bytes) => bytes,
+        Err(InputFault::Read) => return Status::ReadFault,
+        Err(InputFault::TooLong) => return Status::TooLong { limit: LONGEST },
+        Err(InputFault::NoMemory) => return Status::NoMemory,
+    };
+    match read_capture(alloc, bytes.as_slice()) {
+        Ok(capture) => report_on(rt, alloc, &capture, jobs, output),
+        Err(OrMemory::Fault(fault)) => Status::Refused {
+            line: fault.line,
+            cause: Cause::from(fault.cause),
+        },
+        Err(OrMemory::NoMemory) => Status::NoMemory,
+    }
+}
+
+/// Writes the report on a capture.
+pub(crate) fn report_on<T: Threads + Sync, W: Sink>(
+    rt: &T,
+    alloc: Global,
+    capture: &Capture,
+    jobs: u32,
+    output: &mut W,
+) -> Status
+    requires capture { IsCapture capture.now }
+    requires jobs { 1 ≤ jobs }
+    ensures ends { Ends result (Some (Writes (report_of capture.now))) (W.taken output.old) (W.taken output.new) (W.faults output.old) (W.faults output.new) }
+    ensures read_fault { result ≡ Status.ReadFault → ⊥ }
+{
+    match report(rt, alloc, capture, jobs, &OpenGate, output) {
+        Ok(()) => Status::Ok,
+        Err(InspectFault::Write) => Status::WriteFault,
+        Err(InspectFault::NoMemory) => Status::NoMemory,
+    }
+}

@@ -1,0 +1,4 @@
+pub mod CheckSequence
+pub mod Mac
+pub mod Files
+pub mod Extracts

@@ -1,0 +1,47 @@
+//! Why bytes are no capture file.
+use std::error::Error;
+use std::fmt;
+
+/// What is wrong, in the order in which it is tried.
+#[derive(Clone, Copy, Debug, PartialEq, Eq)]
+pub enum PcapCause {
+    /// There are fewer than 24 bytes, or they don't begin as such a file does.
+    Magic,
+    /// The version isn't 2.4.
+    Version,
+    /// The link type is another.
+    Link,
+    /// A record isn't whole.
+    Cut,
+    /// It is the 100,001st record.
+    TooMany,
+}
+
+impl fmt::Display for PcapCause {
+    fn fmt<W: fmt::Write>(&self, f: &mut fmt::Formatter<W>) -> fmt::Result {
+        f.write_str(match self {
+            PcapCause::Magic => "magic",
+            PcapCause::Version => "version",
+            PcapCause::Link => "link",
+            PcapCause::Cut => "cut",
+            PcapCause::TooMany => "too-many",
+        })
+    }
+}
+
+/// The number of the record, from 1, or 0 for the header, and what is wrong with it.
+#[derive(Clone, Copy, Debug, PartialEq, Eq)]
+pub struct PcapError {
+    pub place: u32,
+    pub cause: PcapCause,
+}
+
+impl fmt::Display for PcapError {
+    fn fmt<W: fmt::Write>(&self, f: &mut fmt::Formatter<W>) -> fmt::Result {
+        let place = self.place;
+        write!(f, "{place} ")?;
+        self.cause.fmt(f)
+    }
+}
+
+impl Error for PcapError {}
