@@ -1,5 +1,5 @@
 -- What a host asks of a core, and of its faults.
-use Rattle.std.specs.Prelude.{ℕ, ◌≡◌, List, get_or}
+use Rattle.std.specs.Prelude.{ℕ, ◌≡◌, List}
 use Rattle.zb_base.specs.declared.fault.OrMemory.{OrMemory}
 use Rattle.zb_base.specs.declared.fault.OrMemory.TheVariants.{Fault, NoMemory}
 use Rattle.zb_change.specs.declared.fault.KeyError.{KeyError}

@@ -31,7 +31,8 @@ pub trait Core: Drop {
     /// The core's record.
     ghost recorded: { Self → List ℕ };
 
-    /// This is a plan of the core for the event.
+    /// This is a plan of the core for the event. What else a core's laws need of it may stand here, as a rule that it keeps
+    /// by itself and that `plan` shows.
     ghost is_plan: { Self → Self.Event → Plan Self.Out → Type 0 };
 
     /// What applying it makes of the core.
@@ -89,10 +90,10 @@ pub trait Core: Drop {
     ghost adds: { (c d : Self) (e : Self.Event) (p : Plan Self.Out) (r q : List ℕ) → is_plan c e p → is_after c p d → get_or r 0 0 ≢ 1
         → restored r q ≡ gives (recorded c) → restored r (q ++ payload p.changes.items) ≡ gives (recorded d) };
 
-    /// A record alone gives the core that wrote it, and it isn't of the first version.
-    ghost keeps: { (c : Self) → restored (recorded c) [] ≡ gives (recorded c) };
+    /// After a plan the record alone gives the core that wrote it.
+    ghost keeps: { (c d : Self) (e : Self.Event) (p : Plan Self.Out) → is_plan c e p → is_after c p d → restored (recorded d) [] ≡ gives (recorded d) };
 
-    /// The version that is written.
+    /// It isn't of the first version.
     ghost newest: { (c : Self) → get_or (recorded c) 0 0 ≢ 1 };
 
     /// A plan without changes leaves the record.

@@ -1,7 +1,7 @@
 -- Entries read two bytes at a time.
-use Rattle.std.proofs.Common.{ℕ, ◌+◌, ◌*◌, ◌<◌, ◌≡◌, ◌==◌, List, [], ◌∷◌, length, get_or, drop, Bool, true, false, if◌then◌else◌, refl, sym, ◌∙◌, ap, subst, arith}
+use Rattle.std.proofs.Common.{ℕ, ◌+◌, ◌*◌, ◌<◌, ◌≡◌, ◌==◌, List, ◌∷◌, length, get_or, drop, if◌then◌else◌, refl, sym, ◌∙◌, ap, subst, arith}
 use Rattle.std.proofs.lemmas.List.{drop_more, drop_all}
-use Rattle.zb_host.specs.Plans.{Restored, gives, bad}
+use Rattle.zb_host.specs.Plans.{bad}
 use Rattle.zb_host_rows.specs.Tallies.{counted}
 
 -- an entry is counted

@@ -1,6 +1,5 @@
 -- A core that counts what it sealed: its plans, its record and its entries.
-use Rattle.std.specs.Prelude.{ℕ, ◌+◌, ◌%◌, ◌≡◌, ◌==◌, ◌||◌, List, [], ◌∷◌, length, get_or, Option, Some, None, Bool, true, false, not, min, nat_lt, if◌then◌else◌}
-use Rattle.zb_base.specs.declared.label.Layer.{Layer}
+use Rattle.std.specs.Prelude.{ℕ, ◌+◌, ◌%◌, ◌≡◌, ◌==◌, ◌||◌, List, [], ◌∷◌, length, get_or, Option, Some, None, not, min, nat_lt, if◌then◌else◌}
 use Rattle.zb_base.specs.declared.label.Layer.TheVariants.{Nwk}
 use Rattle.zb_change.specs.declared.change.Change.{Change}
 use Rattle.zb_change.specs.declared.change.Change.TheVariants.{Reserve}

@@ -39,8 +39,8 @@ pub tally_adds : (c d : Tally) (e : TallyEvent) (p : Plan (Option ℕ)) (r q : L
     → restored r q ≡ gives (recorded c) → restored r (q ++ entry p.changes.items) ≡ gives (recorded d)
 tally_adds c d e p r q plan after later is = changes_add c.limit p.changes.items r q is ∙ ap (λ (t : Tally). gives (recorded t)) (sym after)
 
-pub tally_keeps : (c : Tally) → restored (recorded c) [] ≡ gives (recorded c)
-tally_keeps c = refl
+pub tally_keeps : (c d : Tally) (e : TallyEvent) (p : Plan (Option ℕ)) → IsPlan c e p → IsAfter c p d → restored (recorded d) [] ≡ gives (recorded d)
+tally_keeps c d e p plan after = refl
 
 pub tally_newest : (c : Tally) → get_or (recorded c) 0 0 ≢ 1
 tally_newest c = λ is. omega (arith, is)

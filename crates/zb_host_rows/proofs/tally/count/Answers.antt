@@ -1,4 +1,4 @@
-use Rattle.std.proofs.Common.{ℕ, ◌+◌, ◌*◌, ◌/◌, ◌%◌, ◌<◌, ◌≡◌, length, get_or, rules, sym, ◌∙◌, arith}
+use Rattle.std.proofs.Common.{◌+◌, ◌*◌, ◌<◌, ◌≡◌, length, get_or, rules, sym, ◌∙◌, arith}
 use Rattle.zb_host_rows.proofs.Counting.{counted_step, counted_odd}
 use Rattle.zb_host_rows.proofs.tally.count.Goals as goal
 

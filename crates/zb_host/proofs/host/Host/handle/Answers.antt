@@ -35,7 +35,7 @@ returns-in-Ok-clause-step g c =
     let plan = subst (λ (k : g.row.C.Denot). g.C.Core.is_plan k e c.plan-plan.result) core c.plan-plan.ensures in
     let done = subst (λ (k : g.row.C.Denot). g.C.Core.is_after k c.plan-plan.result after) core c.apply.ensures in
     let laws : Leading g.C.Core.restored g.C.Core.recorded host.core after payload = record {
-      keeps = g.met.C.Core.keeps after;
+      keeps = g.met.C.Core.keeps host.core after e c.plan-plan.result plan done;
       newest = g.met.C.Core.newest after;
       adds = λ r q later gives. g.met.C.Core.adds host.core after e c.plan-plan.result r q plan done later gives;
     } in
@@ -77,7 +77,7 @@ returns-in-Err g c =
     let plan = subst (λ (k : g.row.C.Denot). g.C.Core.is_plan k e p) core c.plan-plan.ensures in
     let done = subst (λ (k : g.row.C.Denot). g.C.Core.is_after k p after) core c.apply.ensures in
     let laws : Leading g.C.Core.restored g.C.Core.recorded host.core after payload = record {
-      keeps = g.met.C.Core.keeps after;
+      keeps = g.met.C.Core.keeps host.core after e p plan done;
       newest = g.met.C.Core.newest after;
       adds = λ r q later gives. g.met.C.Core.adds host.core after e p r q plan done later gives;
     } in
