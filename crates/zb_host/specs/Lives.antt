@@ -25,8 +25,8 @@ IsCall words host old (boot result disk) = IsBooted words old result disk
 IsCall words (Some host) old (handle result after disk) = IsTrue (is_some host.store) × IsHandled words host old result after disk
 IsCall words None old (handle result after disk) = ⊥
 
--- A step: a call returns; or a crash cuts it short at a moment of it, and it never returns; or a crash comes between two
--- calls. With a crash comes the disk that it leaves. The host is gone.
+-- A step: a call returns; or a crash cuts it short at a moment of it, and it never returns: then it is given as it would have
+-- ended; or a crash comes between two calls. With a crash comes the disk that it leaves. The host is gone.
 pub data Step (C D O : Type 0) : Type 0 where
   returns : Call C D O → Step C D O
   cut_short : Call C D O → D → Step C D O

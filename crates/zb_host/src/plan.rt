@@ -9,7 +9,7 @@ use zb_base::{Config, OrMemory};
 use zb_change::{Changes, KeyError};
 
 /// What an event leads to: the changes of the stable state, and what goes out once they are stored.
-#[derive(Drop)]
+#[derive(Debug, Drop)]
 pub struct Plan<O> {
     /// The changes, in order.
     pub changes: Changes,
