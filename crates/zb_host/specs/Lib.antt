@@ -3,3 +3,4 @@ pub mod Hosts
 pub mod HostFaults
 pub mod Calls
 pub mod Lives
+pub mod Texts

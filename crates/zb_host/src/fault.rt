@@ -25,13 +25,18 @@ pub enum HostFault {
 }
 
 impl fmt::Display for HostFault {
+    ghost use Rattle.std.specs.Prelude.{Some};
+    ghost use Rattle.zb_host.specs.Texts.{fault_text};
+
+    ghost output = { λ fault. Some (fault_text fault) };
+
     fn fmt<W: fmt::Write>(&self, f: &mut fmt::Formatter<W>) -> fmt::Result {
         match self {
-            HostFault::Disk { .. } => write!(f, "the disk failed"),
-            HostFault::NoMemory => write!(f, "no memory"),
-            HostFault::NoRecord => write!(f, "no record stands on the disk"),
+            HostFault::Disk { .. } => f.write_str("the disk failed"),
+            HostFault::NoMemory => f.write_str("no memory"),
+            HostFault::NoRecord => f.write_str("no record stands on the disk"),
             HostFault::BadRecord { at } => write!(f, "no record of this node, at byte {at}"),
-            HostFault::Worn => write!(f, "the last generation is used up"),
+            HostFault::Worn => f.write_str("the last generation is used up"),
         }
     }
 }

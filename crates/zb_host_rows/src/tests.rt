@@ -287,19 +287,3 @@ fn writes_the_whole_record_over_a_first_version(rt: HostRuntime) -> Result<(), F
     }
     Ok(())
 }
-
-#[test]
-fn says_why(rt: HostRuntime) -> Result<(), Fail> {
-    for (fault, text) in [
-        (HostFault::NoMemory, "no memory"),
-        (HostFault::NoRecord, "no record stands on the disk"),
-        (
-            HostFault::BadRecord { at: 5 },
-            "no record of this node, at byte 5",
-        ),
-        (HostFault::Worn, "the last generation is used up"),
-    ] {
-        assert_eq!(rt; format!(in rt.alloc(); "{fault}")?.as_str(), text);
-    }
-    Ok(())
-}
