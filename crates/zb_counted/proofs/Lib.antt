@@ -4,4 +4,4 @@ mod Calls
 mod Same
 mod Started
 mod Events
-mod Unique
+pub mod Unique

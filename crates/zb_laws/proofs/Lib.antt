@@ -11,17 +11,17 @@ mod OnceLines
 pub mod Sound
 pub mod Judged
 mod OnceGroups
-mod OnceRuns
+pub mod OnceRuns
 mod AnyLemmas
 mod Exposed
 mod Given
 mod Outsiders
 mod OutsiderRuns
-mod LawfulRuns
+pub mod LawfulRuns
 mod CountedRuns
 mod LockoutDeeds
 mod ConfirmsLines
-mod ConfirmsRuns
+pub mod ConfirmsRuns
 mod RecordLaws
 mod RecordBack
 mod GroupStates
@@ -32,4 +32,4 @@ mod LockoutMoves
 mod LockoutDevices
 mod LockoutGroups
 mod LockoutRuns
-mod LockoutLaw
+pub mod LockoutLaw

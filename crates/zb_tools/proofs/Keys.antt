@@ -1,20 +1,17 @@
 -- What a frame of a node's own shows of keys.
-use Rattle.std.proofs.Common.{◌≡◌, ℕ, ◌+◌, ◌<◌, ◌%◌, Bool, true, false, cond, not, ◌&&◌, List, [], ◌∷◌, ◌++◌, length, take, drop, Option, Some, None, option_map, is_some, nat_eq, nat_lt, Result, Ok, Err, refl, sym, ap, ◌∙◌, subst, arith, append_assoc, length-append, ◌⊎◌, inl, inr, ltb, ltb-false, eqb-true}
+use Rattle.std.proofs.Common.{◌≡◌, ℕ, Bool, true, false, cond, not, ◌&&◌, List, [], ◌∷◌, length, drop, Option, Some, None, option_map, is_some, nat_lt, Result, Ok, Err, refl, sym, ap, ◌∙◌, subst, inl, inr}
 use Rattle.std.specs.Prelude.{◌==◌, if◌then◌else◌}
 use Rattle.std.specs.Int.{Width, w16, w32, w64, byte_len, from_le_bytes}
-use Rattle.std.proofs.lemmas.List.{take_at, length-drop}
-use Rattle.arrayvec.specs.ArrayVec.{ArrayVec}
 use Rattle.zb_aps.specs.Reading as aps
 use Rattle.zb_aps.specs.Reading.{control_at, extended_at, fields_at, header_at, aux_control_at, aux_at, secured_at, unsecured_at, content_at, frame_at, frame_of}
-use Rattle.zb_aps.specs.Shape.{kind, delivery, is_ack, to_group, is_addressed, is_block, key_id}
+use Rattle.zb_aps.specs.Shape.{kind, delivery, is_ack, to_group, is_addressed}
 use Rattle.zb_aps.specs.declared.auxiliary.ApsAux.{ApsAux}
 use Rattle.zb_aps.specs.declared.fault.ApsError.{ApsError}
-use Rattle.zb_aps.specs.declared.fault.ApsError.TheVariants.{TooLong, Short, FrameType, Delivery, KeyId}
+use Rattle.zb_aps.specs.declared.fault.ApsError.TheVariants.{TooLong, Short, FrameType, Delivery}
 use Rattle.zb_aps.specs.declared.frame.ApsFrame.{ApsFrame}
 use Rattle.zb_aps.specs.declared.header.ApsHeader.{ApsHeader}
 use Rattle.zb_aps.specs.declared.header.Extended.{Extended}
-use Rattle.zb_base.specs.declared.address.Eui.{Eui}
-use Rattle.zb_cursor.specs.Reading.{follow, byte_at, all_at, number_at, eui_at, optional_at, insist, body_and_mic_at}
+use Rattle.zb_cursor.specs.Reading.{follow, byte_at, number_at, optional_at, insist, body_and_mic_at}
 use Rattle.zb_cursor.specs.Spelling.{bit}
 use Rattle.zb_laws.specs.Commanding.{IsClearControl}
 use Rattle.zb_model.specs.Data as model

@@ -3,3 +3,4 @@ mod Confirming
 mod Keys
 mod Orders
 mod OwnKeys
+mod RealRuns

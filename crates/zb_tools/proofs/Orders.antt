@@ -1,7 +1,7 @@
 -- A spelled command reads as one with its own key, or with none.
-use Rattle.std.proofs.Common.{◌≡◌, ℕ, ◌+◌, ◌-◌, Bool, true, false, cond, List, [], ◌∷◌, ◌++◌, length, take, drop, Option, Some, None, nat_lt, Result, Ok, Err, refl, sym, ap, ◌∙◌, subst, arith, append_assoc, length-append, ltb-false, eqb-true}
-use Rattle.std.specs.Prelude.{◌==◌, if◌then◌else◌}
-use Rattle.std.specs.Int.{Width, w64, byte_len, from_le_bytes, to_le_bytes}
+use Rattle.std.proofs.Common.{◌≡◌, ℕ, ◌+◌, Bool, true, false, cond, List, [], ◌∷◌, ◌++◌, length, take, drop, Some, None, nat_lt, Result, Ok, Err, refl, sym, ap, ◌∙◌, arith, append_assoc, length-append, ltb-false, eqb-true}
+use Rattle.std.specs.Prelude.{◌==◌}
+use Rattle.std.specs.Int.{w64, from_le_bytes}
 use Rattle.std.proofs.lemmas.List.{take_at, length-drop}
 use Rattle.arrayvec.specs.ArrayVec.{ArrayVec}
 use Rattle.zb_base.specs.declared.address.Eui.{Eui}
@@ -10,7 +10,7 @@ use Rattle.zb_base.specs.declared.key.Key.{Key}
 use Rattle.zb_cmd.specs.Reading.{network_at, application_at, link_at, transport_of, transport_at, update_at, remove_at, partner_at, request_of, request_at, switch_at, inner_at, tunnel_at, verify_at, confirm_at, body_of, command_at, whole, command_of}
 use Rattle.zb_cmd.specs.Spelling.{command}
 use Rattle.zb_cmd.specs.declared.command.Command.{Command}
-use Rattle.zb_cmd.specs.declared.command.Command.TheVariants.{TransportNetwork, TransportApplication, TransportLink, Update, Remove, RequestApplication, RequestLink, Switch, Tunnel, Verify, Confirm}
+use Rattle.zb_cmd.specs.declared.command.Command.TheVariants.{TransportNetwork, TransportApplication, TransportLink, Update, Remove, RequestApplication, Switch, Tunnel, Verify, Confirm}
 use Rattle.zb_cmd.specs.declared.fault.CmdError.{CmdError}
 use Rattle.zb_cmd.specs.declared.fault.CmdError.TheVariants as fault
 use Rattle.zb_cursor.specs.Reading.{follow, byte_at, bytes_at, number_at, short_at, eui_at, key_at}

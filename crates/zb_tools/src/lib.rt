@@ -2,8 +2,12 @@
 //! proved here, so that they hold of real frames. Each law stands as the contract of a function with an empty body.
 #![tactic(auto)]
 
-ghost use Rattle.zb_laws.specs.Commanding.{ShowsKeys, SpellsConfirm};
+ghost use Rattle.zb_laws.specs.Commanding.{OneCentre, ShowsKeys, SpellsConfirm};
+ghost use Rattle.zb_laws.specs.KeysApart.{KeysApart};
 ghost use Rattle.zb_laws.specs.Opening.{Opens};
+ghost use Rattle.zb_model.specs.Play.{World};
+ghost use Rattle.zb_model.specs.Schedules.{IsSchedule};
+ghost use Rattle.zb_tools.specs.Headline.{Holds};
 ghost use Rattle.zb_tools.specs.Real.{real};
 ghost use Rattle.zb_watch.specs.Standing.{FindKeys};
 
@@ -27,4 +31,12 @@ pub fn the_watch_finds_the_keys_of_frames()
 /// key or with none, a command in clear is read behind its control and its counter, and a sealed frame shows that it is sealed.
 pub fn frames_show_their_own_keys()
     ensures { ShowsKeys real }
+{}
+
+/// For every schedule, of real frames: the run is lawful and counted, and no other lines are; no node seals twice under one key and
+/// nonce; no receiver accepts a counter twice, resets included; only stored keys are confirmed; and where the end line says
+/// `yes yes`, removed devices are locked out. The schedule has EUIs of 64 bits and blocks, names declared nodes, has one centre,
+/// and its keys are different keys.
+pub fn every_run_of_real_frames_holds()
+    ensures { (w : World) → IsSchedule w → OneCentre w → KeysApart w → Holds w }
 {}

@@ -1,0 +1,23 @@
+-- What holds of the run of a schedule with real frames, as one record: the claims on transcripts, none of which asks anything of
+-- the air, of the disks, or of the strength of the cipher, but for the two words of the end line.
+use Rattle.std.specs.Prelude.{◌≡◌, true, List}
+use Rattle.zb_counted.specs.Counted.{Counted}
+use Rattle.zb_model.specs.Claims.{Confirms, Fresh, Lawful, Locked, Once}
+use Rattle.zb_model.specs.Lines.{LogLine}
+use Rattle.zb_model.specs.Play.{World}
+use Rattle.zb_model.specs.Secrets.{ideal, private}
+use Rattle.zb_model.specs.Transcript.{run_lines, transcript}
+use Rattle.zb_tools.specs.Real.{real}
+
+pub record Holds (w : World) : Type 0 where
+  -- each group answers its event by the policy, with the counters that it must have; and no other lines do
+  pub lawful : Lawful real w (transcript real w)
+  pub counted : Counted real w (transcript real w)
+  pub alone : (lines : List LogLine) → Lawful real w lines → Counted real w lines → lines ≡ transcript real w
+  -- no node seals twice under one key and nonce; no receiver accepts a sender's counter twice under one key, resets included
+  pub fresh : Fresh real (transcript real w)
+  pub once : Once (transcript real w)
+  -- only stored keys are confirmed
+  pub confirms : Confirms real (transcript real w)
+  -- where the end line says `yes yes`, a removed device that isn't admitted again is locked out
+  pub locked : ideal real (run_lines real w) ≡ true → private real (run_lines real w) ≡ true → Locked real (transcript real w)
