@@ -55,18 +55,8 @@ fn read_whole(alloc: Global, bytes: &[u8]) -> Result<Vec<Line>, OrMemory<TraceEr
 
 /// The two words of a watch over the lines.
 fn watched(alloc: Global, lines: &[Line]) -> Result<(&'static str, &'static str), AllocError> {
-    let mut watch = new_watch(alloc)?;
-    for line in lines {
-        if watch.line(alloc, line).is_err() {
-            return Err(AllocError);
-        }
-    }
-    Ok((yes_or_no(watch.ideal()), yes_or_no(watch.private())))
-}
-
-fn new_watch(alloc: Global) -> Result<Watch, AllocError> {
-    match Watch::new(alloc) {
-        Ok(watch) => Ok(watch),
+    match Watch::over(alloc, lines) {
+        Ok(watch) => Ok((yes_or_no(watch.ideal()), yes_or_no(watch.private()))),
         Err(_) => Err(AllocError),
     }
 }

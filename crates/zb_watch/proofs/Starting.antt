@@ -1,7 +1,10 @@
 -- A watch over no lines, its two words, and forms that answers share.
-use Rattle.std.proofs.Common.{◌≡◌, ℕ, List, [], ◌∷◌, Bool, true, false, not, ◌||◌, ◌&&◌, Option, Some, None, refl, ap, sym, ◌∙◌, bytes_eq, nat_eq, Result, Ok, Err}
+use Rattle.std.proofs.Common.{◌≡◌, ℕ, List, [], ◌∷◌, Bool, true, false, not, ◌||◌, ◌&&◌, Option, Some, None, refl, ap, sym, ◌∙◌, bytes_eq, nat_eq, Result, Ok, Err, ◌+◌, ◌<◌, length, get_or, take}
 use Rattle.std.specs.List.{list_any, flat_map}
 use Rattle.std.specs.Result.{OnOk}
+use Rattle.std.proofs.lemmas.List.Sums.{fold_more}
+use Rattle.zb_trace.specs.Views.{log_of, with_line}
+use Rattle.zb_trace.specs.declared.line.Line.{Line}
 use Rattle.std.specs.Option.{is_none, option_map}
 use Rattle.std.specs.Prelude.{if◌then◌else◌}
 use Rattle.zb_aps.specs.Reading.{frame_of}
@@ -115,3 +118,7 @@ readers_find tools = record {
   in_command = λ bytes. command_found (command_of bytes);
   in_frame = λ bytes. frame_found tools (frame_of bytes);
 }
+
+pub log_more : (lines : List Line) (i : ℕ) (l : Line) → i < length lines → l ≡ get_or lines i l → log_of (take (i + 1) lines) ≡ with_line (log_of (take i lines)) l
+unfolding log_of
+log_more lines i l in_range is = fold_more with_line [] lines i l in_range ∙ ap (with_line (log_of (take i lines))) (sym is)

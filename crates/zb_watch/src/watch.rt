@@ -7,7 +7,7 @@ ghost use Rattle.zb_model.specs.Readings.{stations_of};
 ghost use Rattle.zb_model.specs.Secrets.{ideal as ideal_of, private as private_of};
 ghost use Rattle.zb_model.specs.Tools.{Tools};
 ghost use Rattle.zb_seal.specs.Terms.{sealing};
-ghost use Rattle.zb_trace.specs.Views.{named, logged};
+ghost use Rattle.zb_trace.specs.Views.{log_of, logged, named};
 ghost use Rattle.zb_watch.specs.Nodes.{IsOf};
 ghost use Rattle.zb_watch.specs.Standing.{FindKeys, Follows, Stands};
 
@@ -45,6 +45,17 @@ impl Watch {
             passing: Passing::new(alloc),
             exposure: Exposure::new(alloc)?,
         })
+    }
+
+    /// The watch over these lines.
+    pub fn over(alloc: Global, lines: &[Line]) -> Result<Watch, NoMemory>
+        ensures { IfOk result (λ watch. (tools : Tools) → FindKeys tools → Stands tools watch (log_of lines.now)) }
+    {
+        let mut watch = Watch::new(alloc)?;
+        for line in lines {
+            watch.line(alloc, line)?;
+        }
+        Ok(watch)
     }
 
     /// Whether each accepted term was sealed or forged before, and each key that a router or device took in is its
