@@ -266,24 +266,33 @@ fn wears_out(rt: HostRuntime) -> Result<(), Fail> {
 
 #[test]
 fn writes_the_whole_record_over_a_first_version(rt: HostRuntime) -> Result<(), Fail> {
-    let bytes = slot(rt.alloc(), 1, &[1, 0, 8], &[&[1, 9]])?;
-    assert!(rt; bytes.len() <= 131_072);
-    let mut disk = MemDisk::new(rt.alloc(), bytes.as_slice())?;
-    let mut host: Host<Tally> = Host::boot(rt.alloc(), &alone(4), &mut disk)?;
-    for (event, sealed, record, entries) in [
-        (TallyEvent::Rest, None, [1, 0, 8], 2),
-        (TallyEvent::Seal, Some(9), [3, 0, 13], 0),
-        (TallyEvent::Seal, Some(10), [3, 0, 13], 0),
-        (TallyEvent::Seal, Some(11), [3, 0, 13], 0),
-        (TallyEvent::Seal, Some(12), [3, 0, 13], 0),
-        (TallyEvent::Seal, Some(13), [3, 0, 13], 2),
-    ] {
+    let stores: [(&[&[u8]], [u8; 3], [u8; 2]); 2] = [
+        (&[], [3, 0, 9], [1, 10]),
+        (&[&[1, 9]], [3, 0, 10], [1, 11]),
+    ];
+    for (entries, record, entry) in stores {
+        let bytes = slot(rt.alloc(), 1, &[1, 0, 8], entries)?;
+        assert!(rt; bytes.len() <= 131_072);
+        let mut disk = MemDisk::new(rt.alloc(), bytes.as_slice())?;
+        let mut host: Host<Tally> = Host::boot(rt.alloc(), &alone(1), &mut disk)?;
         assert!(rt; host.is_up());
-        let (_, out) = host.handle(&mut disk, &event)?;
-        assert_eq!(rt; out, sealed);
+        let limit = host.core().limit;
+        assert_eq!(rt; limit, if entries.is_empty() { 8 } else { 9 });
+        let (_, none) = host.handle(&mut disk, &TallyEvent::Rest)?;
+        assert_eq!(rt; none, None);
+        assert!(rt; disk.bytes() == bytes.as_slice());
+        assert!(rt; host.is_up());
+        let (_, out) = host.handle(&mut disk, &TallyEvent::Seal)?;
+        assert_eq!(rt; out, Some(limit));
         let (standing, payloads) = Store::peek(rt.alloc(), &mut disk)?;
         assert_eq!(rt; standing.as_slice(), record.as_slice());
-        assert_eq!(rt; payloads.len(), entries);
+        assert!(rt; payloads.is_empty());
+        assert!(rt; host.is_up());
+        let (_, next) = host.handle(&mut disk, &TallyEvent::Seal)?;
+        assert_eq!(rt; next, Some(record[2]));
+        let (standing, payloads) = Store::peek(rt.alloc(), &mut disk)?;
+        assert_eq!(rt; standing.as_slice(), record.as_slice());
+        assert_eq!(rt; payloads.as_slice(), entry.as_slice());
     }
     Ok(())
 }
