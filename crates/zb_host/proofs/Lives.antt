@@ -48,7 +48,7 @@ IsRunning words booted es (Some host) disk = IsTrue (is_some host.store)
     → (s : Standing) × IsCurrent words.restored words.recorded s host (words.state disk) × (words.recorded host.core ≡ record_after booted es)
 
 -- one standing of an image, and one record of a standing
-same_standing : (s r : Standing) (c : List ℕ) → stands c ≡ Some s → stands c ≡ Some r → s ≡ r
+pub same_standing : (s r : Standing) (c : List ℕ) → stands c ≡ Some s → stands c ≡ Some r → s ≡ r
 same_standing s r c first second = some_inj (sym first ∙ second)
   where
     value : Option Standing → Standing
@@ -58,7 +58,7 @@ same_standing s r c first second = some_inj (sym first ∙ second)
     some_inj : Some s ≡ Some r → s ≡ r
     some_inj e = ap value e
 
-same_record : (restored : Restoring) (s r : Standing) (w v : List ℕ) → s ≡ r → Gives restored s w → Gives restored r v → w ≡ v
+pub same_record : (restored : Restoring) (s r : Standing) (w v : List ℕ) → s ≡ r → Gives restored s w → Gives restored r v → w ≡ v
 same_record restored s r w v same first second = gives_inj (sym first ∙ ap (λ (t : Standing). restored t.content (concat t.payloads)) same ∙ second)
   where
     value : Restored → List ℕ

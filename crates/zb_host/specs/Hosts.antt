@@ -5,7 +5,7 @@ use Rattle.zb_base.specs.Outside.{Rose}
 use Rattle.zb_disk.specs.View.{Telling, View, IsStill, LeavesOnly}
 use Rattle.zb_store.specs.declared.fault.StoreFault.{StoreFault}
 use Rattle.zb_store.specs.declared.fault.StoreFault.TheVariants.{Disk, NoRecord, TooLarge, NoMemory, Worn}
-use Rattle.zb_store.specs.Layout.{Standing, IsWhole}
+use Rattle.zb_store.specs.Layout.{Standing, IsWhole, stands}
 use Rattle.zb_store.specs.Steps.{WentThrough}
 use Rattle.zb_store.specs.Store.{Place, place_of, IsHeld, IsReady, IsWholeEither, appended, replaced, AppendStop, PutStop}
 use Rattle.zb_host.specs.Plans.{Restored, gives}
@@ -21,6 +21,10 @@ Gives restored s w = restored s.content (concat s.payloads) ≡ gives w
 -- an image is whole and stands for the core of this record
 abbrev pub StandsFor : Restoring → List ℕ → List ℕ → Type 0
 StandsFor restored w c = (s : Standing) × IsWhole s c × Gives restored s w
+
+-- what the bytes stand for gives the core of this record, which a boot on them answers
+abbrev pub AnswersOn : Restoring → List ℕ → List ℕ → Type 0
+AnswersOn restored bytes w = (s : Standing) × (stands bytes ≡ Some s) × Gives restored s w
 
 -- an image stands for the core of the one record or of the other
 abbrev pub StandsForEither : Restoring → List ℕ → List ℕ → List ℕ → Type 0

@@ -1,10 +1,16 @@
-//! What a node keeps over calls, crashes and boots. It stands as the contract of a function with an empty body.
-ghost use Rattle.std.specs.Prelude.{List, ℕ, None, IsTrue};
-ghost use Rattle.zb_store.specs.Store.{AllWhole};
+//! What a node keeps over calls, crashes and boots. Each function here says laws and does nothing.
+ghost use Rattle.std.specs.Prelude.{◌≡◌, ◌&&◌, if◌then◌else◌, List, ℕ, Bool, None, IsTrue};
+ghost use Rattle.zb_disk.specs.declared.memory.Arming.TheVariants.{Stop, Fail};
+ghost use Rattle.zb_disk.specs.Memory.{Medium, powered, memory_tells, memory_view};
+ghost use Rattle.zb_store.specs.Layout.{Standing};
+ghost use Rattle.zb_store.specs.Power.{stop_commits, failure_commits, stop_opens_both, failure_opens_both};
+ghost use Rattle.zb_store.specs.Store.{AllWhole, both_gates_open};
+ghost use Rattle.zb_host.specs.Hosts.{Restoring, Gives, next_standing, CommitStop, AnswersOn};
 ghost use Rattle.zb_host.specs.Lives.{Step, AreSteps, EachBootGoesOn};
 
 use crate::Core;
 use zb_disk::Disk;
+use zb_store::stopped_commits;
 
 /// Over any list of calls, with crashes at any moment inside them and between them: each boot answers the core of the
 /// record that the core of the boot before it had after the first of the events handled since, and these have every
@@ -17,3 +23,25 @@ pub fn each_boot_goes_on<C: Core, D: Disk>()
         → AreSteps (record { tells = D.tells; state = D.state; restored = C.restored; recorded = C.recorded; payload = C.payload }) None disk steps
         → EachBootGoesOn C.recorded steps }
 {}
+
+/// Whether an event stands whose commit an armed stop or failure ended, on a disk in memory once its power is back: what
+/// stands is the record of the core after the event or of the one before it. And whether the next boot finds the gates of
+/// both slots open, and so makes three calls. The stop or failure counts from the beginning of the event.
+///
+/// The premise is the clause `stopped` of `handle`; `before` and `after` are the records of the cores.
+pub fn stopped_events()
+    ensures stopped { (restored : Restoring) (before after booted : List ℕ) (whole : Bool) (s : Standing) (payload : List ℕ) (old new : Medium) (calls : ℕ)
+        → Gives restored s before → Gives restored (next_standing whole s after payload) after → CommitStop memory_tells whole s after payload (memory_view old) (memory_view new)
+        → old.arming ≡ Stop calls → AnswersOn restored (powered new).bytes booted → booted ≡ (if stop_commits calls old.torn then after else before) }
+    ensures failed { (restored : Restoring) (before after booted : List ℕ) (whole : Bool) (s : Standing) (payload : List ℕ) (old new : Medium) (call : ℕ)
+        → Gives restored s before → Gives restored (next_standing whole s after payload) after → CommitStop memory_tells whole s after payload (memory_view old) (memory_view new)
+        → old.arming ≡ Fail call → AnswersOn restored (powered new).bytes booted → booted ≡ (if failure_commits call then after else before) }
+    ensures stopped_gates { (whole : Bool) (s : Standing) (content payload : List ℕ) (old new : Medium) (calls : ℕ)
+        → CommitStop memory_tells whole s content payload (memory_view old) (memory_view new) → old.arming ≡ Stop calls
+        → both_gates_open (powered new).bytes ≡ (whole && stop_opens_both calls old.torn) }
+    ensures failed_gates { (whole : Bool) (s : Standing) (content payload : List ℕ) (old new : Medium) (call : ℕ)
+        → CommitStop memory_tells whole s content payload (memory_view old) (memory_view new) → old.arming ≡ Fail call
+        → both_gates_open (powered new).bytes ≡ (whole && failure_opens_both call) }
+{
+    stopped_commits();
+}
