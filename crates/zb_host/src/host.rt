@@ -106,7 +106,8 @@ impl<C: Core> Host<C> {
         }
     }
 
-    /// Makes the host of the node whose record and entries stand on the disk.
+    /// Makes the host of the node whose record and entries stand on the disk. It makes the device calls of `Store::open`: one,
+    /// or three where the gates of both slots are open.
     pub fn boot<D: Disk>(alloc: Global, config: &Config, disk: &mut D) -> Result<Host<C>, HostFault>
         requires config { IsConfig config.now }
 
@@ -132,6 +133,7 @@ impl<C: Core> Host<C> {
                 });
             }
             Err(StoreFault::NoRecord) => return Err(HostFault::NoRecord),
+            // It has no other fault but want of memory.
             Err(_) => return Err(HostFault::NoMemory),
         };
         match C::restore(alloc, config, &record, &payloads, &mut room) {
@@ -142,6 +144,7 @@ impl<C: Core> Host<C> {
                 room,
             }),
             Err(OrMemory::Fault(KeyError::BadRecord { at })) => Err(HostFault::BadRecord { at }),
+            // Nor has this.
             Err(_) => Err(HostFault::NoMemory),
         }
     }
