@@ -1,8 +1,7 @@
 -- A watch that stands for some lines stands for one more, where each part takes in what the line adds to its readings.
-use Rattle.std.proofs.Common.{◌≡◌, ℕ, List, [], ◌∷◌, ◌++◌, Bool, true, false, not, ◌||◌, ◌&&◌, Option, Some, None, refl, ap, sym, ◌∙◌, bytes_eq, nat_eq, subst}
+use Rattle.std.proofs.Common.{◌≡◌, ℕ, List, [], ◌∷◌, ◌++◌, Bool, true, false, ◌||◌, ◌&&◌, Option, Some, None, refl, ap, sym, ◌∙◌, bytes_eq, nat_eq, subst}
 use Rattle.std.specs.List.{list_any, flat_map}
 use Rattle.std.specs.Prelude.{if◌then◌else◌}
-use Rattle.zb_base.specs.declared.address.Eui.{Eui}
 use Rattle.zb_base.specs.declared.key.Key.{Key}
 use Rattle.zb_model.specs.Data.{Bytes, Sealing, Station, nobody}
 use Rattle.zb_model.specs.Lines.{LogLine}
@@ -14,7 +13,7 @@ use Rattle.zb_seal.specs.declared.term.Term.{Term}
 use Rattle.zb_watch.specs.Exposure.{IsSettled, was_removed}
 use Rattle.zb_watch.specs.Nodes.{Declares}
 use Rattle.zb_watch.specs.Passing.{has_that}
-use Rattle.zb_watch.specs.Sets.{has, is_carried, is_key, is_node, node_has}
+use Rattle.zb_watch.specs.Sets.{has, is_carried, is_key, node_has}
 use Rattle.zb_watch.specs.Standing.{Stands, carries, is_that}
 use Rattle.zb_watch.specs.Terms.{has_term}
 use Rattle.zb_watch.specs.declared.exposure.Exposure.{Exposure}

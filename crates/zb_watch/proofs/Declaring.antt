@@ -1,5 +1,5 @@
 -- The first node of a name, of an address and of the centre's role, as nodes are declared one by one.
-use Rattle.std.proofs.Common.{◌≡◌, ℕ, List, [], ◌∷◌, ◌++◌, Bool, true, false, cond, ◌||◌, ◌&&◌, Option, Some, None, refl, ap, sym, ◌∙◌, bytes_eq, nat_eq, ◌<◌, ◌^◌, arith}
+use Rattle.std.proofs.Common.{◌≡◌, ℕ, List, [], ◌∷◌, ◌++◌, Bool, true, false, cond, Option, Some, None, refl, ap, sym, ◌∙◌, bytes_eq, nat_eq, ◌<◌, ◌^◌, arith}
 use Rattle.std.specs.BTreeMap.{BTreeMap, get, is_at}
 use Rattle.std.specs.List.{AllByRecursion, find}
 use Rattle.std.specs.Map.{lookup}
@@ -15,7 +15,7 @@ use Rattle.zb_model.specs.Data.{Station, nobody}
 use Rattle.zb_model.specs.Rules.{station_of}
 use Rattle.zb_model.specs.State.{is_centre}
 use Rattle.zb_trace.specs.Views.{duty}
-use Rattle.zb_watch.specs.Nodes.{address_in, address_of, name_cmp, role_in, Declares, IsOf}
+use Rattle.zb_watch.specs.Nodes.{address_in, name_cmp, role_in, Declares, IsOf}
 use Rattle.zb_watch.specs.Sets.{eui_cmp}
 use Rattle.zb_watch.specs.declared.nodes.Nodes.{Nodes}
 use Rattle.zb_watch.proofs.Alike.{bytes_alike}

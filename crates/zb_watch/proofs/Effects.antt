@@ -1,10 +1,9 @@
 -- What each line adds, and what the watch makes of it.
-use Rattle.std.proofs.Common.{◌≡◌, ℕ, List, [], ◌∷◌, ◌++◌, Bool, true, false, not, ◌||◌, ◌&&◌, Option, Some, None, refl, ap, sym, ◌∙◌, bytes_eq, nat_eq, subst, ◌<◌, ◌^◌, ◌%◌}
+use Rattle.std.proofs.Common.{◌≡◌, ℕ, List, [], ◌∷◌, ◌++◌, Bool, true, false, ◌||◌, ◌&&◌, Option, Some, None, refl, ap, sym, ◌∙◌, bytes_eq, nat_eq, subst, ◌<◌, ◌^◌, ◌%◌}
 use Rattle.std.specs.List.{list_any}
 use Rattle.std.specs.Option.{option_map}
 use Rattle.std.specs.Prelude.{if◌then◌else◌, get_or}
 use Rattle.arrayvec.specs.ArrayString.{ArrayString}
-use Rattle.zb_aps.specs.Reading.{frame_of}
 use Rattle.zb_base.specs.declared.address.Eui.{Eui}
 use Rattle.zb_base.specs.declared.address.Short.{Short}
 use Rattle.zb_base.specs.declared.key.Key.{Key}
@@ -14,13 +13,12 @@ use Rattle.zb_base.specs.declared.node.Role.{Role}
 use Rattle.zb_change.specs.Changes.{tier, trust}
 use Rattle.zb_change.specs.declared.state.Attribute.{Attribute}
 use Rattle.zb_change.specs.declared.state.Attribute.TheVariants as attribute
-use Rattle.zb_cmd.specs.Reading.{command_of}
 use Rattle.zb_model.specs.Data as model
 use Rattle.zb_model.specs.Data.{Bytes, Sealing, Station, nobody}
 use Rattle.zb_model.specs.Lines as log
 use Rattle.zb_model.specs.Lines.{LogLine}
 use Rattle.zb_model.specs.Readings.{station_line, stations_of}
-use Rattle.zb_model.specs.Secrets.{base_in, based_line, carried, carried_at, code_in, ever_in, exposed, forged_in, holds, holds_some, ideal_line, is_the_centre, network_in, network_keys, outside, removed_in, same_term, terms_in}
+use Rattle.zb_model.specs.Secrets.{base_in, based_line, carried, carried_at, code_in, ever_in, forged_in, holds, holds_some, ideal_line, is_the_centre, network_in, network_keys, removed_in, same_term, terms_in}
 use Rattle.zb_model.specs.Tools.{Tools}
 use Rattle.zb_seal.specs.Terms.{sealing}
 use Rattle.zb_seal.specs.declared.term.Term.{Term}
@@ -29,7 +27,7 @@ use Rattle.zb_trace.specs.declared.line.Line.{Line}
 use Rattle.zb_trace.specs.declared.line.Line.TheVariants as line
 use Rattle.zb_watch.specs.Carrying as carrying
 use Rattle.zb_watch.specs.Exposure.{IsSettled, was_removed}
-use Rattle.zb_watch.specs.Nodes.{address_of, is_first_centre, is_joiner, Declares, IsOf}
+use Rattle.zb_watch.specs.Nodes.{address_of, is_first_centre, is_joiner, Declares}
 use Rattle.zb_watch.specs.Origins.{came}
 use Rattle.zb_watch.specs.Passing.{has_that, is_code}
 use Rattle.zb_watch.specs.Sets.{has, is_carried, is_key, is_node, node_has}
@@ -40,10 +38,10 @@ use Rattle.zb_watch.specs.declared.nodes.Nodes.{Nodes}
 use Rattle.zb_watch.specs.declared.origins.Origins.{Origins}
 use Rattle.zb_watch.specs.declared.passing.Passing.{Passing}
 use Rattle.zb_watch.specs.declared.watch.Watch.{Watch}
-use Rattle.zb_watch.proofs.Advancing.{ExposureTakes, OriginsTake, PassingTakes, advances, exposure_stays, nodes_stay, origins_stay, passing_gains, passing_hears, passing_stays}
+use Rattle.zb_watch.proofs.Advancing.{ExposureTakes, OriginsTake, advances, exposure_stays, nodes_stay, origins_stay, passing_gains, passing_hears, passing_stays}
 use Rattle.zb_watch.proofs.Declaring.{not_nobody}
 use Rattle.zb_watch.proofs.Found.{came_is, centre_is, node_is}
-use Rattle.zb_watch.proofs.Growth.{and_all, or_assoc, or_none}
+use Rattle.zb_watch.proofs.Growth.{and_all, or_none}
 use Rattle.zb_watch.proofs.Truth.{turned_number}
 
 -- Which key a term carries

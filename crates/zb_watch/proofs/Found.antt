@@ -1,6 +1,6 @@
 -- The node of a line, whether it is a router or device, and whether it is the centre, as a watch finds them and as the
 -- model reads them.
-use Rattle.std.proofs.Common.{◌≡◌, ℕ, List, [], ◌∷◌, ◌++◌, Bool, true, false, cond, not, ◌||◌, ◌&&◌, Option, Some, None, refl, ap, sym, ◌∙◌, bytes_eq, nat_eq}
+use Rattle.std.proofs.Common.{◌≡◌, ℕ, List, [], ◌∷◌, Bool, true, false, cond, not, ◌||◌, ◌&&◌, Option, Some, None, refl, ap, sym, ◌∙◌, bytes_eq, nat_eq}
 use Rattle.std.specs.List.{AllByRecursion, find, list_any}
 use Rattle.std.specs.Option.{IfSome, option_map}
 use Rattle.std.specs.Prelude.{if◌then◌else◌}
@@ -14,16 +14,15 @@ use Rattle.zb_model.specs.Lines.{LogLine}
 use Rattle.zb_model.specs.Readings.{stations_of}
 use Rattle.zb_model.specs.Rules.{station_of}
 use Rattle.zb_model.specs.State.{is_centre}
-use Rattle.zb_model.specs.Secrets.{bases, brings, came_by, carried, codes_of, holds, is_the_centre, joins, terms_of}
+use Rattle.zb_model.specs.Secrets.{bases, brings, came_by, carried, holds, is_the_centre, joins, terms_of}
 use Rattle.zb_model.specs.Tools.{Tools}
 use Rattle.zb_trace.specs.Views.{duty, eui_or_nobody, named}
-use Rattle.zb_watch.specs.Nodes.{address_of, is_first_centre, is_joiner, is_member, role_in, Declares}
+use Rattle.zb_watch.specs.Nodes.{address_of, is_first_centre, is_joiner, is_member, role_in}
 use Rattle.zb_watch.specs.Origins.{came, carried_under}
-use Rattle.zb_watch.specs.Sets.{eui_cmp, is_among, is_carried, is_node, keys_at, node_has}
+use Rattle.zb_watch.specs.Sets.{eui_cmp, is_carried, is_node, keys_at}
 use Rattle.zb_watch.specs.Standing.{Stands, carries, is_that}
 use Rattle.zb_watch.specs.declared.watch.Watch.{Watch}
 use Rattle.zb_watch.proofs.Alike.{bytes_eq_sym, list_any_alike}
-use Rattle.zb_watch.proofs.Growth.{or_none}
 use Rattle.zb_watch.proofs.Truth.{turned_number}
 
 -- Nobody is declared.

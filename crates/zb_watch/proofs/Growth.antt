@@ -1,5 +1,5 @@
 -- What one more line adds to each reading of a list of lines.
-use Rattle.std.proofs.Common.{◌≡◌, ℕ, List, [], ◌∷◌, ◌++◌, Bool, true, false, not, ◌||◌, ◌&&◌, Option, Some, None, refl, ap, sym, ◌∙◌, bytes_eq, nat_eq, append_assoc}
+use Rattle.std.proofs.Common.{◌≡◌, ℕ, List, [], ◌∷◌, ◌++◌, Bool, true, false, ◌||◌, ◌&&◌, Option, Some, None, refl, ap, sym, ◌∙◌, bytes_eq, nat_eq, append_assoc}
 use Rattle.std.specs.List.{list_any, flat_map}
 use Rattle.std.specs.Prelude.{fold}
 use Rattle.std.proofs.lemmas.Grind.{flat_map-append}

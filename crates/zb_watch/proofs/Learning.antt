@@ -1,5 +1,5 @@
 -- A set that learns keys one by one, and with each key that is new those that terms carry under it.
-use Rattle.std.proofs.Common.{◌≡◌, ℕ, ◌+◌, ◌<◌, ◌≤◌, List, [], ◌∷◌, ◌++◌, length, Bool, true, false, cond, not, ◌||◌, Option, Some, None, ◌⊎◌, inl, inr, refl, arith, ap, sym, ◌∙◌, subst, bytes_eq, length-append}
+use Rattle.std.proofs.Common.{◌≡◌, ℕ, ◌+◌, ◌≤◌, List, [], ◌∷◌, ◌++◌, length, Bool, true, false, cond, ◌||◌, Option, Some, inl, inr, refl, arith, ap, sym, ◌∙◌, bytes_eq}
 use Rattle.std.specs.Prelude.{if◌then◌else◌}
 use Rattle.std.specs.Map.{lookup}
 use Rattle.std.specs.BTreeMap.{is_at}

@@ -1,6 +1,6 @@
 -- What outsiders may know is the model's list of exposed keys, as a set.
-use Rattle.std.proofs.Common.{◌≡◌, ℕ, List, [], ◌∷◌, ◌++◌, Bool, true, false, ◌||◌, ◌&&◌, ◌⊎◌, inl, inr, Option, Some, None, refl, ap, sym, ◌∙◌, bytes_eq, nat_eq}
-use Rattle.std.specs.List.{AllByRecursion, list_any, flat_map}
+use Rattle.std.proofs.Common.{◌≡◌, ℕ, List, [], ◌∷◌, Bool, true, false, ◌&&◌, inl, inr, Option, Some, None, refl, ap, sym, ◌∙◌, bytes_eq, nat_eq}
+use Rattle.std.specs.List.{list_any, flat_map}
 use Rattle.std.specs.Option.{IfSome}
 use Rattle.std.proofs.lemmas.List.Folds.{list_any-append}
 use Rattle.zb_model.specs.Data.{Bytes, Sealing, nobody}

@@ -1,11 +1,11 @@
 -- What outsiders may know stays the least set that covers what they come by, as they come by more.
-use Rattle.std.proofs.Common.{◌≡◌, ℕ, List, [], ◌∷◌, ◌++◌, Bool, true, false, ◌||◌, ◌&&◌, ◌⊎◌, inl, inr, refl, ap, sym, ◌∙◌, subst, bytes_eq, nat_eq}
+use Rattle.std.proofs.Common.{◌≡◌, ℕ, List, [], ◌∷◌, Bool, true, false, ◌||◌, ◌&&◌, ◌⊎◌, inl, inr, refl, ap, sym, ◌∙◌, bytes_eq, nat_eq}
 use Rattle.std.specs.BTreeSet.{BTreeSet, contains}
 use Rattle.zb_base.specs.declared.address.Eui.{Eui}
 use Rattle.zb_base.specs.declared.key.Key.{Key}
 use Rattle.zb_model.specs.Secrets.{well_known}
 use Rattle.zb_watch.specs.Exposure.{Covers, IsSettled, Learns, was_removed}
-use Rattle.zb_watch.specs.Sets.{has, is_among, is_carried, held, keys_at, node_has, eui_cmp, key_cmp}
+use Rattle.zb_watch.specs.Sets.{has, is_among, is_carried, held, keys_at, node_has, eui_cmp}
 use Rattle.zb_watch.specs.declared.exposure.Exposure.{Exposure}
 use Rattle.zb_watch.specs.declared.holdings.Holdings.{Holdings}
 use Rattle.zb_watch.specs.declared.keys.Keys.{Keys}

@@ -1,6 +1,5 @@
 -- A watch over no lines, its two words, and forms that answers share.
-use Rattle.std.proofs.Common.{◌≡◌, ℕ, List, [], ◌∷◌, Bool, true, false, not, ◌||◌, ◌&&◌, Option, Some, None, refl, ap, sym, ◌∙◌, bytes_eq, nat_eq, Result, Ok, Err, ◌+◌, ◌<◌, length, get_or, take}
-use Rattle.std.specs.List.{list_any, flat_map}
+use Rattle.std.proofs.Common.{◌≡◌, ℕ, List, [], Bool, true, false, not, ◌||◌, ◌&&◌, Option, Some, None, refl, ap, sym, ◌∙◌, bytes_eq, Result, Ok, Err, ◌+◌, ◌<◌, length, get_or, take}
 use Rattle.std.specs.Result.{OnOk}
 use Rattle.std.proofs.lemmas.List.Sums.{fold_more}
 use Rattle.zb_trace.specs.Views.{log_of, with_line}
@@ -18,7 +17,7 @@ use Rattle.zb_cmd.specs.declared.fault.CmdError.{CmdError}
 use Rattle.zb_cmd.specs.declared.fault.CmdError.TheVariants as fault
 use Rattle.zb_base.specs.declared.address.Eui.{Eui}
 use Rattle.zb_base.specs.declared.key.Key.{Key}
-use Rattle.zb_model.specs.Data.{Bytes, nobody}
+use Rattle.zb_model.specs.Data.{Bytes}
 use Rattle.zb_model.specs.Lines.{LogLine}
 use Rattle.zb_model.specs.Readings.{stations_of}
 use Rattle.zb_model.specs.Secrets.{clear_key, key_of_sight, unsealed_key, bases, codes_of, each_line, ever, ideal, network_keys, passes_on, private, removed_devices, terms_of}

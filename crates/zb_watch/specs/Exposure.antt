@@ -1,7 +1,6 @@
 -- What outsiders may know.
 use Rattle.std.specs.Prelude.{◌≡◌, ℕ, List, Bool, true, false}
 use Rattle.std.specs.BTreeSet.{contains}
-use Rattle.zb_base.specs.declared.address.Eui.{Eui}
 use Rattle.zb_base.specs.declared.key.Key.{Key}
 use Rattle.zb_model.specs.Secrets.{well_known}
 use Rattle.zb_watch.specs.Sets.{eui_cmp, has, is_among, is_carried, node_has}

@@ -1,5 +1,5 @@
 -- What a watch stands for: a list of transcript lines, by the readings of the model.
-use Rattle.std.specs.Prelude.{◌≡◌, ℕ, ◌&&◌, not, List, [], ◌∷◌, ◌++◌, Bool, true, false, bytes_eq, nat_eq, Option, Some, None, flat_map}
+use Rattle.std.specs.Prelude.{◌≡◌, ℕ, ◌&&◌, List, [], ◌∷◌, ◌++◌, Bool, false, bytes_eq, nat_eq, Option, Some, None, flat_map}
 use Rattle.std.specs.List.{list_any}
 use Rattle.zb_model.specs.Data.{Bytes, Sealing, nobody}
 use Rattle.zb_model.specs.Lines.{LogLine}

@@ -1,7 +1,7 @@
-use Rattle.std.proofs.Common.{◌≡◌, ◌+◌, ◌<◌, ◌≤◌, List, ◌∷◌, [], ◌++◌, length, length-append, true, false, arith, ap, sym, ◌∙◌, subst}
+use Rattle.std.proofs.Common.{List, ◌∷◌, [], length, length-append, arith, ap, sym, ◌∙◌, subst}
 use Rattle.zb_base.specs.declared.key.Key.{Key}
 use Rattle.zb_watch.specs.Sets.{has, key_cmp, keys_at}
-use Rattle.zb_watch.proofs.Learning.{Learning, learns_new, learns_old, unopened, opened_once, fewer_unopened, known_more, known_now}
+use Rattle.zb_watch.proofs.Learning.{Learning, learns_new, learns_old, opened_once, known_more, known_now}
 use Rattle.zb_watch.proofs.Truth.{not_false, not_true}
 use Rattle.zb_watch.proofs.exposure.learn.Goals as goal
 

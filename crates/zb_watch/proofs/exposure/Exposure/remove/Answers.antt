@@ -1,10 +1,9 @@
-use Rattle.std.proofs.Common.{◌≡◌, ◌∙◌, List, ◌++◌, ap, sym, subst}
+use Rattle.std.proofs.Common.{◌≡◌, ◌∙◌, List, ◌++◌, ap, subst}
 use Rattle.zb_base.specs.declared.key.Key.{Key}
-use Rattle.zb_watch.specs.Exposure.{Learns, was_removed}
+use Rattle.zb_watch.specs.Exposure.{Learns}
 use Rattle.zb_watch.specs.Sets.{eui_cmp, keys_at}
 use Rattle.zb_watch.proofs.Owners.{removed_number}
-use Rattle.zb_watch.proofs.Settling.{settled_by_removal, settled_by_removal_again}
-use Rattle.zb_watch.proofs.Truth.{not_false}
+use Rattle.zb_watch.proofs.Settling.{settled_by_removal}
 use Rattle.zb_watch.proofs.exposure.Exposure.remove.Goals as goal
 
 pub returns-in_ok-learn-clause-removed : goal.returns-in_ok-learn-clause-removed

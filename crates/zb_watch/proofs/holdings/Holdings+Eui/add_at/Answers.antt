@@ -1,4 +1,3 @@
-use Rattle.zb_watch.specs.Sets.{is_node, node_has}
 use Rattle.zb_watch.proofs.Owners.{added_at}
 use Rattle.zb_watch.proofs.holdings.Holdings+Eui.add_at.Goals as goal
 

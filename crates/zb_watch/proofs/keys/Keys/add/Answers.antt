@@ -1,9 +1,8 @@
-use Rattle.std.proofs.Common.{◌≡◌, ◌∙◌, ap, sym, ◌||◌, bytes_eq}
+use Rattle.std.proofs.Common.{◌∙◌, ap, bytes_eq}
 use Rattle.std.specs.Prelude.{not}
 use Rattle.std.specs.Ordering.{nat_cmp}
 use Rattle.std.specs.Cmp.Lexicographic.{slice_cmp}
 use Rattle.zb_base.specs.declared.key.Key.{Key}
-use Rattle.zb_watch.specs.Sets.{has}
 use Rattle.zb_watch.proofs.Alike.{list_any_alike, bytes_alike, bytes_eq_sym, added_alike}
 use Rattle.zb_watch.proofs.keys.Keys.add.Goals as goal
 

@@ -1,4 +1,4 @@
-use Rattle.std.proofs.Common.{◌≡◌, ◌∙◌}
+use Rattle.std.proofs.Common.{◌∙◌}
 use Rattle.zb_base.specs.declared.key.Key.{Key}
 use Rattle.zb_watch.proofs.Alike.{list_any_alike, bytes_alike}
 use Rattle.zb_watch.proofs.keys.Keys.has.Goals as goal

@@ -1,4 +1,4 @@
-use Rattle.std.proofs.Common.{◌||◌, ◌∙◌, ap, Bool}
+use Rattle.std.proofs.Common.{◌||◌, ◌∙◌, ap}
 use Rattle.std.specs.List.{each_same}
 use Rattle.zb_model.specs.Data.{Sealing}
 use Rattle.zb_model.specs.Secrets.{same_term}

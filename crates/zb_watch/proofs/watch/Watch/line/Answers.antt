@@ -1,7 +1,5 @@
-use Rattle.std.proofs.Common.{◌≡◌, sym, subst, refl}
-use Rattle.zb_model.specs.Lines.{LogLine}
+use Rattle.std.proofs.Common.{sym, subst, refl}
 use Rattle.zb_model.specs.Readings.{stations_of}
-use Rattle.zb_model.specs.Tools.{Tools}
 use Rattle.zb_trace.specs.Views.{logged, named, the_centre}
 use Rattle.zb_trace.specs.declared.line.Line.{Line}
 use Rattle.zb_watch.specs.Standing.{Follows}
