@@ -14,7 +14,8 @@ use zb_store::stopped_commits;
 
 /// Over any list of calls, with crashes at any moment inside them and between them: each boot answers the core of the
 /// record that the core of the boot before it had after the first of the events handled since, and these have every
-/// event whose output was handed out. A boot that fails does so for the disk or for want of memory: no record is lost.
+/// event whose output was handed out. Once a boot has answered, one that fails does so for the disk or for want of
+/// memory: no record is lost.
 ///
 /// The premises are what `handle` and `boot` promise of each call, in their clause `step`. At the beginning the disk's
 /// images are whole, as a store that was formatted leaves them.
