@@ -3,7 +3,7 @@ use Rattle.std.proofs.Common.{◌≡◌, ℕ, ◌+◌, cond, List, [], ◌∷◌
 use Rattle.std.specs.List.{AllByRecursion}
 use Rattle.zb_model.specs.Data.{Bytes, Sealing, Spot, Reason}
 use Rattle.zb_model.specs.Lines.{LogLine, Accept, Seal}
-use Rattle.zb_model.specs.State.{NodeState, applied_all, accepted, sealed}
+use Rattle.zb_model.specs.State.{NodeState, accepted, sealed}
 use Rattle.zb_model.specs.Answer.{Answer, accepted_all, sealed_all, answered}
 use Rattle.zb_model.specs.Readings.{state_of, heard_line, after, speaker, air}
 use Rattle.zb_model.specs.Play.{refuse_lines, send_lines, stored_lines, told_lines, group_of}

@@ -33,3 +33,5 @@ mod LockoutDevices
 mod LockoutGroups
 mod LockoutRuns
 pub mod LockoutLaw
+mod SpentRules
+mod SpentRuns

@@ -4,3 +4,4 @@ pub mod Counting
 pub mod Commanding
 pub mod Records
 pub mod KeysApart
+pub mod Spent

@@ -10,6 +10,7 @@ ghost use Rattle.zb_laws.specs.KeysApart.{KeysApart};
 ghost use Rattle.zb_laws.specs.Lockout.{KeepsRemovedOut, RefusesOutsiders};
 ghost use Rattle.zb_laws.specs.Opening.{Opens};
 ghost use Rattle.zb_laws.specs.Records.{FitsRecord, state_in};
+ghost use Rattle.zb_laws.specs.Spent.{SpentLine};
 ghost use Rattle.zb_model.specs.Claims.{Confirms, Each, Fresh, Lawful, Locked, Once};
 ghost use Rattle.zb_model.specs.Answer.{Answer, answered, floor_for, reserve_of, stored_floor};
 ghost use Rattle.zb_model.specs.Data.{Sealing, Tier};
@@ -93,6 +94,11 @@ pub fn removed_devices_are_locked_out()
 /// the node's. The greatest counter is never used.
 pub fn each_seal_takes_the_next_counter()
     ensures { (tools : Tools) (w : World) → IsSchedule w → Each TakesNext [] (transcript tools w) }
+{}
+
+/// Who answers that a counter is spent has reached the greatest counter, 2^32 - 1, at one of the layers.
+pub fn who_has_spent_its_counters_stands_at_the_end()
+    ensures { (tools : Tools) (w : World) → Each SpentLine [] (transcript tools w) }
 {}
 
 /// A limit is reserved only where the counter has reached it, and is then one outgoing block ahead, or the greatest counter.
