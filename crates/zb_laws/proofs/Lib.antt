@@ -35,3 +35,4 @@ mod LockoutRuns
 pub mod LockoutLaw
 mod SpentRules
 mod SpentRuns
+pub mod StoredChanges
