@@ -7,3 +7,4 @@ pub mod Rows
 pub mod Pairs
 pub mod FitLaws
 pub mod Shown
+pub mod ShownApplied

@@ -3,3 +3,7 @@ pub mod ReadAgain
 pub mod Lists
 pub mod Placing
 pub mod Sound
+pub mod Steady
+pub mod Entries
+pub mod RecordAgain
+pub mod WholeAgain

@@ -1,5 +1,7 @@
 -- The values of changes that can be spelled: keys of 16 bytes, numbers within their widths.
 use Rattle.std.specs.Prelude.{◌≡◌, ℕ, ◌^◌, ◌<◌, length}
+use Rattle.std.specs.List.{AllByRecursion}
+use Rattle.zb_model.specs.State.{SenderFloor, NetKey, LinkKey, PairKey, NodeState}
 use Rattle.zb_base.specs.declared.key.Key.{Key}
 use Rattle.zb_change.specs.declared.change.Change.{Change}
 use Rattle.zb_change.specs.declared.change.Change.TheVariants.{Reserve, Floor, Draw, DropNet, DropLink, Install, Active, Row, State, Roll, Told, Untold, Live, Removed, Start, Pair}
@@ -24,3 +26,27 @@ InRange (Live device) = device.0 < 2 ^ 64
 InRange (Removed device) = device.0 < 2 ^ 64
 InRange (Start k value) = IsKey k × (value < 2 ^ 32)
 InRange (Pair first second k) = (first.0 < 2 ^ 64) × (second.0 < 2 ^ 64) × IsKey k
+
+-- the rows of a state that can be spelled
+
+pub record NetFits (r : NetKey) : Type 0 where
+  pub key : length r.key ≡ 16
+  pub limit : r.limit < 2 ^ 32
+  pub floors : AllByRecursion (λ (f : SenderFloor). (f.sender < 2 ^ 64) × (f.stored < 2 ^ 32)) r.floors
+
+pub record LinkFits (r : LinkKey) : Type 0 where
+  pub partner : r.partner < 2 ^ 64
+  pub key : length r.key ≡ 16
+  pub stored : r.stored < 2 ^ 32
+
+pub record PairFits (p : PairKey) : Type 0 where
+  pub first : p.first < 2 ^ 64
+  pub second : p.second < 2 ^ 64
+  pub key : length p.key ≡ 16
+
+pub record FitsBytes (s : NodeState) : Type 0 where
+  pub declared : s.declared < 2 ^ 32
+  pub aps_limit : s.aps_limit < 2 ^ 32
+  pub nets : AllByRecursion NetFits s.nets
+  pub links : AllByRecursion LinkFits s.links
+  pub pairs : AllByRecursion PairFits s.pairs

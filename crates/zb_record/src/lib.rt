@@ -3,6 +3,7 @@
 
 pub mod change;
 pub mod field;
+pub mod laws;
 pub mod link;
 pub mod net;
 pub mod pair;

@@ -1,0 +1,5 @@
+//! Tests of tables: records and payloads from outside.
+#![tactic(auto)]
+
+#[cfg(test)]
+mod tests;

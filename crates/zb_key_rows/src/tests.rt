@@ -1,0 +1,429 @@
+//! Records and payloads from outside, read, written and cut.
+ghost use Rattle.std.specs.Prelude.{◌≤◌};
+
+use std::alloc::Global;
+use std::process::Abort;
+use std::test::Fail;
+use zb_base::{Layer, OrMemory, Role};
+use zb_change::{Change, Changes, KeyError};
+use zb_keys::Tables;
+
+// A record of the centre with rows of all kinds: a dropped, an active and a new network key, two floors, a dropped, a
+// verified and an offered link key, and a pair.
+const FULL: [u8; 235] = [
+    0x03, 0x00, 0x00, 0x01, 0x00, 0x00, 0x00, 0x02, 0x00, 0x00, 0x00, 0x01, 0x03, 0x00, 0x01, 0x00,
+    0xA0, 0xA0, 0xA0, 0xA0, 0xA0, 0xA0, 0xA0, 0xA0, 0xA0, 0xA0, 0xA0, 0xA0, 0xA0, 0xA0, 0xA0, 0xA0,
+    0x00, 0x02, 0x05, 0x00, 0x00, 0x00, 0xA1, 0xA1, 0xA1, 0xA1, 0xA1, 0xA1, 0xA1, 0xA1, 0xA1, 0xA1,
+    0xA1, 0xA1, 0xA1, 0xA1, 0xA1, 0xA1, 0x01, 0x03, 0x09, 0x00, 0x00, 0x00, 0xA2, 0xA2, 0xA2, 0xA2,
+    0xA2, 0xA2, 0xA2, 0xA2, 0xA2, 0xA2, 0xA2, 0xA2, 0xA2, 0xA2, 0xA2, 0xA2, 0x02, 0x01, 0x00, 0x00,
+    0x00, 0x00, 0x02, 0x01, 0x00, 0x00, 0x00, 0x00, 0x00, 0x00, 0x00, 0x03, 0x00, 0x00, 0x00, 0x02,
+    0x00, 0x00, 0x00, 0x00, 0x00, 0x00, 0x00, 0x04, 0x00, 0x00, 0x00, 0x00, 0x03, 0x00, 0x11, 0x00,
+    0x00, 0x00, 0x00, 0x00, 0x00, 0x00, 0xB0, 0xB0, 0xB0, 0xB0, 0xB0, 0xB0, 0xB0, 0xB0, 0xB0, 0xB0,
+    0xB0, 0xB0, 0xB0, 0xB0, 0xB0, 0xB0, 0x00, 0x02, 0x00, 0x00, 0x00, 0x00, 0x11, 0x00, 0x00, 0x00,
+    0x00, 0x00, 0x00, 0x00, 0xB1, 0xB1, 0xB1, 0xB1, 0xB1, 0xB1, 0xB1, 0xB1, 0xB1, 0xB1, 0xB1, 0xB1,
+    0xB1, 0xB1, 0xB1, 0xB1, 0x02, 0x05, 0x07, 0x00, 0x00, 0x00, 0x12, 0x00, 0x00, 0x00, 0x00, 0x00,
+    0x00, 0x00, 0xB2, 0xB2, 0xB2, 0xB2, 0xB2, 0xB2, 0xB2, 0xB2, 0xB2, 0xB2, 0xB2, 0xB2, 0xB2, 0xB2,
+    0xB2, 0xB2, 0x01, 0x01, 0x00, 0x00, 0x00, 0x00, 0x01, 0x00, 0x11, 0x00, 0x00, 0x00, 0x00, 0x00,
+    0x00, 0x00, 0x12, 0x00, 0x00, 0x00, 0x00, 0x00, 0x00, 0x00, 0xC0, 0xC0, 0xC0, 0xC0, 0xC0, 0xC0,
+    0xC0, 0xC0, 0xC0, 0xC0, 0xC0, 0xC0, 0xC0, 0xC0, 0xC0, 0xC0, 0x01,
+];
+
+// Where its fields begin.
+const FIELDS: [u32; 47] = [
+    0, 1, 2, 3, 7, 11, 12, 14, 16, 32, 33, 34, 38, 54, 55, 56, 60, 76, 77, 78, 82, 83, 91, 95, 103,
+    107, 108, 110, 118, 134, 135, 136, 140, 148, 164, 165, 166, 170, 178, 194, 195, 196, 200, 202,
+    210, 218, 234,
+];
+
+// A byte that is changed, and where the record is then at fault.
+struct Broken {
+    at: usize,
+    byte: u8,
+    fault: u32,
+}
+
+const BROKEN: [Broken; 25] = [
+    // version 4
+    Broken {
+        at: 0,
+        byte: 4,
+        fault: 0,
+    },
+    // role 3
+    Broken {
+        at: 1,
+        byte: 3,
+        fault: 1,
+    },
+    // the centre in another state
+    Broken {
+        at: 2,
+        byte: 1,
+        fault: 2,
+    },
+    // state 7
+    Broken {
+        at: 2,
+        byte: 7,
+        fault: 2,
+    },
+    // a router that sends
+    Broken {
+        at: 1,
+        byte: 1,
+        fault: 11,
+    },
+    // rollover 2
+    Broken {
+        at: 11,
+        byte: 2,
+        fault: 11,
+    },
+    // 259 network keys
+    Broken {
+        at: 13,
+        byte: 1,
+        fault: 12,
+    },
+    // a place beyond the rows
+    Broken {
+        at: 14,
+        byte: 3,
+        fault: 14,
+    },
+    // flags 4
+    Broken {
+        at: 33,
+        byte: 4,
+        fault: 33,
+    },
+    // a third live network key
+    Broken {
+        at: 33,
+        byte: 3,
+        fault: 77,
+    },
+    // an active key that is dropped
+    Broken {
+        at: 55,
+        byte: 2,
+        fault: 55,
+    },
+    // a limit where nothing was started
+    Broken {
+        at: 78,
+        byte: 1,
+        fault: 78,
+    },
+    // 65 floors
+    Broken {
+        at: 82,
+        byte: 65,
+        fault: 82,
+    },
+    // a floor of 0
+    Broken {
+        at: 91,
+        byte: 0,
+        fault: 91,
+    },
+    // a sender that stands twice
+    Broken {
+        at: 95,
+        byte: 1,
+        fault: 95,
+    },
+    // 1,027 link keys
+    Broken {
+        at: 109,
+        byte: 4,
+        fault: 108,
+    },
+    // a dropped row that is told
+    Broken {
+        at: 135,
+        byte: 6,
+        fault: 135,
+    },
+    // a provisional row that is from no code
+    Broken {
+        at: 135,
+        byte: 0,
+        fault: 135,
+    },
+    // attribute 3
+    Broken {
+        at: 164,
+        byte: 3,
+        fault: 164,
+    },
+    // flags 13
+    Broken {
+        at: 165,
+        byte: 13,
+        fault: 165,
+    },
+    // rows of a partner that disagree
+    Broken {
+        at: 170,
+        byte: 17,
+        fault: 195,
+    },
+    // 257 pairs
+    Broken {
+        at: 201,
+        byte: 1,
+        fault: 200,
+    },
+    // a pair of one device
+    Broken {
+        at: 210,
+        byte: 17,
+        fault: 210,
+    },
+    // a pair out of order
+    Broken {
+        at: 210,
+        byte: 16,
+        fault: 210,
+    },
+    // a pair that is not in use
+    Broken {
+        at: 234,
+        byte: 0,
+        fault: 234,
+    },
+];
+
+// Where the bytes are at fault as a record: 1,000,000 for want of memory, which doesn't come here.
+fn fault_of(alloc: Global, bytes: &[u8]) -> Option<u32> {
+    match Tables::from_record(alloc, bytes) {
+        Ok(_) => None,
+        Err(OrMemory::Fault(KeyError::BadRecord { at })) => Some(at),
+        Err(_) => Some(1_000_000),
+    }
+}
+
+// The field that a cut of so many bytes leaves behind.
+fn field_at(len: u32) -> u32 {
+    let mut field = 0;
+    for begin in FIELDS {
+        if begin <= len {
+            field = begin;
+        }
+    }
+    field
+}
+
+#[test]
+fn record_comes_back(rt: HostRuntime) -> Result<(), Fail> {
+    let tables = Tables::from_record(rt.alloc(), &FULL)?;
+    let mut room = Vec::new(rt.alloc());
+    room.resize(49_152, 0)?;
+    let len = tables.record_bytes(&mut room) as usize;
+    assert!(rt; room.get(..len) == Some(&FULL[..]));
+    Ok(())
+}
+
+#[test]
+fn record_of_a_new_device(rt: HostRuntime) -> Result<(), Fail> {
+    let tables = Tables::new(rt.alloc(), Role::Device)?;
+    let mut room = Vec::new(rt.alloc());
+    room.resize(49_152, 0)?;
+    let len = tables.record_bytes(&mut room) as usize;
+    let record = [
+        3, 2, 0, 0, 0, 0, 0, 0, 0, 0, 0, 0, 0, 0, 0xFF, 0xFF, 0, 0, 0, 0,
+    ];
+    assert!(rt; room.get(..len) == Some(&record[..]));
+    Ok(())
+}
+
+#[test]
+fn cut_records(rt: HostRuntime) {
+    for len in 0..235 {
+        assert!(rt; fault_of(rt.alloc(), &FULL[..len]) == Some(field_at(len as u32)));
+    }
+}
+
+#[test]
+fn bytes_behind_a_record(rt: HostRuntime) {
+    let mut bytes = [0; 236];
+    bytes[..235].copy_from_slice(&FULL);
+    assert!(rt; fault_of(rt.alloc(), &bytes) == Some(235));
+}
+
+#[test]
+fn broken_rules(rt: HostRuntime) {
+    for broken in &BROKEN {
+        let mut bytes = FULL;
+        if let Some(byte) = bytes.get_mut(broken.at) {
+            *byte = broken.byte;
+        }
+        assert!(rt; fault_of(rt.alloc(), &bytes) == Some(broken.fault));
+    }
+}
+
+#[test]
+fn equal_keys(rt: HostRuntime) {
+    let mut bytes = FULL;
+    bytes[60..76].fill(0xA1);
+    assert!(rt; fault_of(rt.alloc(), &bytes) == Some(60));
+    let mut bytes = FULL;
+    bytes[178..194].fill(0xB1);
+    assert!(rt; fault_of(rt.alloc(), &bytes) == Some(178));
+}
+
+#[test]
+fn bytes_that_are_all_ones(rt: HostRuntime) {
+    // The first 60 bytes: the fields that may have any value, and where another is at fault. 255 network keys are taken
+    // for more than there are.
+    for at in 0..60usize {
+        let mut bytes = FULL;
+        bytes[at] = 0xFF;
+        let fault = match at {
+            0 | 1 | 2 | 11 | 33 | 55 => Some(at as u32),
+            12 => Some(100),
+            13 => Some(12),
+            14 | 15 => Some(14),
+            _ => None,
+        };
+        assert!(rt; fault_of(rt.alloc(), &bytes) == fault);
+    }
+}
+
+#[test]
+fn first_version_has_one_limit(rt: HostRuntime) -> Result<(), Fail> {
+    // The centre with a live and active network key and the NWK limit 8.
+    let mut bytes = [0x11; 37];
+    bytes[..16].copy_from_slice(&[1, 0, 0, 8, 0, 0, 0, 0, 0, 0, 0, 0, 1, 0, 0, 0]);
+    bytes[32..].copy_from_slice(&[0, 1, 0, 0, 0]);
+    let tables = Tables::from_record(rt.alloc(), &bytes)?;
+    let outgoing = tables.outgoing(Layer::Nwk, 4);
+    assert!(rt; outgoing.next == 8 && outgoing.limit == 8);
+    assert!(rt; tables.declared() == 8);
+    let mut room = Vec::new(rt.alloc());
+    room.resize(49_152, 0)?;
+    let len = tables.record_bytes(&mut room) as usize;
+    assert!(rt; len == 43 && room[0] == 3);
+    Ok(())
+}
+
+#[test]
+fn payload_of_a_reserve(rt: HostRuntime) {
+    let mut changes = Changes::new();
+    changes.push(Change::Reserve {
+        layer: Layer::Nwk,
+        limit: 4,
+    });
+    let mut room = [0; 16];
+    let len = Tables::change_bytes(&changes, &mut room) as usize;
+    assert!(rt; room.get(..len) == Some(&[1, 1, 0, 4, 0, 0, 0][..]));
+}
+
+// Where a payload is at fault behind the full record.
+fn redo_of(alloc: Global, payload: &[u8]) -> Option<u32> {
+    match Tables::from_record(alloc, &FULL) {
+        Ok(mut tables) => match tables.redo(payload) {
+            Ok(()) => None,
+            Err(KeyError::BadRecord { at }) => Some(at),
+            Err(_) => Some(1_000_000),
+        },
+        Err(_) => Some(1_000_000),
+    }
+}
+
+// A payload of one change, which fits, whole and cut at each byte.
+fn cut(rt: &(impl AllocGlobal + Abort), payload: &[u8]) {
+    assert!(rt; redo_of(rt.alloc(), payload) == None);
+    for len in 1..payload.len() {
+        assert!(rt; redo_of(rt.alloc(), &payload[..len]) == Some(1));
+    }
+}
+
+#[test]
+fn cut_payloads(rt: HostRuntime) {
+    assert!(rt; redo_of(rt.alloc(), &[]) == None);
+    cut(&rt, &[1, 1, 1, 9, 0, 0, 0]);
+    cut(
+        &rt,
+        &[
+            1, 2, 0, 0xA1, 0xA1, 0xA1, 0xA1, 0xA1, 0xA1, 0xA1, 0xA1, 0xA1, 0xA1, 0xA1, 0xA1, 0xA1,
+            0xA1, 0xA1, 0xA1, 2, 0, 0, 0, 0, 0, 0, 0, 8, 0, 0, 0,
+        ],
+    );
+    cut(
+        &rt,
+        &[
+            1, 3, 0xA2, 0xA2, 0xA2, 0xA2, 0xA2, 0xA2, 0xA2, 0xA2, 0xA2, 0xA2, 0xA2, 0xA2, 0xA2,
+            0xA2, 0xA2, 0xA2,
+        ],
+    );
+    cut(
+        &rt,
+        &[
+            1, 4, 0x12, 0, 0, 0, 0, 0, 0, 0, 0xB2, 0xB2, 0xB2, 0xB2, 0xB2, 0xB2, 0xB2, 0xB2, 0xB2,
+            0xB2, 0xB2, 0xB2, 0xB2, 0xB2, 0xB2, 0xB2,
+        ],
+    );
+    cut(
+        &rt,
+        &[
+            1, 6, 0xA2, 0xA2, 0xA2, 0xA2, 0xA2, 0xA2, 0xA2, 0xA2, 0xA2, 0xA2, 0xA2, 0xA2, 0xA2,
+            0xA2, 0xA2, 0xA2,
+        ],
+    );
+    cut(
+        &rt,
+        &[
+            1, 7, 0x13, 0, 0, 0, 0, 0, 0, 0, 0xB3, 0xB3, 0xB3, 0xB3, 0xB3, 0xB3, 0xB3, 0xB3, 0xB3,
+            0xB3, 0xB3, 0xB3, 0xB3, 0xB3, 0xB3, 0xB3, 0,
+        ],
+    );
+    cut(&rt, &[1, 8, 0]);
+    cut(&rt, &[1, 9, 0]);
+    cut(&rt, &[1, 0x0A, 0x12, 0, 0, 0, 0, 0, 0, 0]);
+    cut(&rt, &[1, 0x0B, 0x11, 0, 0, 0, 0, 0, 0, 0]);
+    cut(&rt, &[1, 0x0C, 0x12, 0, 0, 0, 0, 0, 0, 0]);
+    cut(&rt, &[1, 0x0D, 0x14, 0, 0, 0, 0, 0, 0, 0]);
+    cut(
+        &rt,
+        &[
+            1, 0x0E, 0xA2, 0xA2, 0xA2, 0xA2, 0xA2, 0xA2, 0xA2, 0xA2, 0xA2, 0xA2, 0xA2, 0xA2, 0xA2,
+            0xA2, 0xA2, 0xA2, 0, 0, 0, 0,
+        ],
+    );
+    cut(
+        &rt,
+        &[
+            1, 0x0F, 0x11, 0, 0, 0, 0, 0, 0, 0, 0x13, 0, 0, 0, 0, 0, 0, 0, 0xC1, 0xC1, 0xC1, 0xC1,
+            0xC1, 0xC1, 0xC1, 0xC1, 0xC1, 0xC1, 0xC1, 0xC1, 0xC1, 0xC1, 0xC1, 0xC1,
+        ],
+    );
+}
+
+#[test]
+fn payloads_that_do_not_fit(rt: HostRuntime) {
+    // an unknown kind, a draw, a third layer
+    assert!(rt; redo_of(rt.alloc(), &[1, 0x7F]) == Some(1));
+    assert!(rt; redo_of(rt.alloc(), &[1, 0x00]) == Some(1));
+    assert!(rt; redo_of(rt.alloc(), &[1, 1, 2, 9, 0, 0, 0]) == Some(1));
+    // more changes than there are, and another payload behind one
+    assert!(rt; redo_of(rt.alloc(), &[2, 9, 0]) == Some(3));
+    assert!(rt; redo_of(rt.alloc(), &[0, 1, 9, 0, 1, 9, 2]) == Some(5));
+    // a lower limit, another state of the centre, a device that isn't live
+    assert!(rt; redo_of(rt.alloc(), &[1, 1, 1, 1, 0, 0, 0]) == Some(1));
+    assert!(rt; redo_of(rt.alloc(), &[1, 8, 1]) == Some(1));
+    assert!(rt; redo_of(rt.alloc(), &[1, 10, 0x14, 0, 0, 0, 0, 0, 0, 0]) == Some(1));
+    // a third live network key, and one in the place of another
+    let third = [
+        1, 5, 0xA3, 0xA3, 0xA3, 0xA3, 0xA3, 0xA3, 0xA3, 0xA3, 0xA3, 0xA3, 0xA3, 0xA3, 0xA3, 0xA3,
+        0xA3, 0xA3, 3,
+    ];
+    assert!(rt; redo_of(rt.alloc(), &third) == Some(1));
+    let next = [
+        2, 3, 0xA2, 0xA2, 0xA2, 0xA2, 0xA2, 0xA2, 0xA2, 0xA2, 0xA2, 0xA2, 0xA2, 0xA2, 0xA2, 0xA2,
+        0xA2, 0xA2, 5, 0xA3, 0xA3, 0xA3, 0xA3, 0xA3, 0xA3, 0xA3, 0xA3, 0xA3, 0xA3, 0xA3, 0xA3,
+        0xA3, 0xA3, 0xA3, 0xA3, 3,
+    ];
+    assert!(rt; redo_of(rt.alloc(), &next) == None);
+}

@@ -1,0 +1,30 @@
+//! Laws of entries and records: what is written is read back. Each function here says laws and does nothing.
+ghost use Rattle.std.specs.Prelude.{◌≡◌, ℕ, List, [], ◌++◌, Ok, true};
+ghost use Rattle.std.specs.List.{AllByRecursion};
+ghost use Rattle.zb_change.specs.Changes.{edits};
+ghost use Rattle.zb_change.specs.declared.change.Change.{Change};
+ghost use Rattle.zb_model.specs.Fits.{AllFit, keeps_rules};
+ghost use Rattle.zb_model.specs.Record.{payload, record_of};
+ghost use Rattle.zb_model.specs.State.{NodeState, after_boot, applied_all, shown};
+ghost use Rattle.zb_record.specs.Ranges.{FitsBytes, InRange};
+ghost use Rattle.zb_record.specs.Records.{record_read};
+ghost use Rattle.zb_record.specs.Redoing.{redone};
+
+/// The payload of changes that fit makes them again, behind whatever payloads led to the state that they fit.
+#[tactic(auto, using(crate::proofs::Entries::entries_again))]
+pub fn written_changes_are_made_again()
+    ensures { (q : List ℕ) (cs : List Change) (s t : NodeState) → keeps_rules t ≡ true → shown t ≡ t → AllByRecursion InRange cs → AllFit (edits cs) t
+        → redone q s ≡ (t, Ok []) → redone (q ++ payload (edits cs)) s ≡ (shown (applied_all (edits cs) t), Ok []) }
+{}
+
+/// What is read from a record keeps the rules for records, and no floors of dropped network keys.
+pub fn what_is_read_keeps_the_rules()
+    ensures rules { (bytes : List ℕ) (s : NodeState) → record_read bytes ≡ Ok s → keeps_rules s ≡ true }
+    ensures forgets { (bytes : List ℕ) (s : NodeState) → record_read bytes ≡ Ok s → shown s ≡ s }
+{}
+
+/// The record of a state is read as that state after a boot: counters go on from their limits, and floors are the stored ones.
+#[tactic(auto, using(crate::proofs::WholeAgain::record_again))]
+pub fn a_written_record_is_read()
+    ensures { (s : NodeState) → keeps_rules s ≡ true → FitsBytes s → record_read (record_of s) ≡ Ok (shown (after_boot s)) }
+{}
