@@ -36,3 +36,4 @@ pub mod LockoutLaw
 mod SpentRules
 mod SpentRuns
 pub mod StoredChanges
+pub mod StoredFits

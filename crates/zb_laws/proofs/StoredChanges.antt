@@ -54,11 +54,11 @@ all_links f each (r ∷ rs) = ap (λ (x : LinkKey). x ∷ map booted_link (map f
 
 -- questions to the rows
 
-any_net : (test : NetKey → Bool) → ((r : NetKey) → test (booted_net r) ≡ test r) → (rs : List NetKey) → list_any test (map booted_net rs) ≡ list_any test rs
+pub any_net : (test : NetKey → Bool) → ((r : NetKey) → test (booted_net r) ≡ test r) → (rs : List NetKey) → list_any test (map booted_net rs) ≡ list_any test rs
 any_net test same [] = refl
 any_net test same (r ∷ rs) = ap (λ (b : Bool). b || list_any test (map booted_net rs)) (same r) ∙ ap (λ (b : Bool). test r || b) (any_net test same rs)
 
-any_link : (test : LinkKey → Bool) → ((r : LinkKey) → test (booted_link r) ≡ test r) → (rs : List LinkKey) → list_any test (map booted_link rs) ≡ list_any test rs
+pub any_link : (test : LinkKey → Bool) → ((r : LinkKey) → test (booted_link r) ≡ test r) → (rs : List LinkKey) → list_any test (map booted_link rs) ≡ list_any test rs
 any_link test same [] = refl
 any_link test same (r ∷ rs) = ap (λ (b : Bool). b || list_any test (map booted_link rs)) (same r) ∙ ap (λ (b : Bool). test r || b) (any_link test same rs)
 

@@ -14,7 +14,7 @@ ghost use Rattle.zb_laws.specs.Spent.{SpentLine};
 ghost use Rattle.zb_model.specs.Claims.{Confirms, Each, Fresh, Lawful, Locked, Once};
 ghost use Rattle.zb_model.specs.Answer.{Answer, answered, floor_for, reserve_of, stored_floor};
 ghost use Rattle.zb_model.specs.Data.{Edit, Sealing, Tier};
-ghost use Rattle.zb_model.specs.Fits.{keys_differ};
+ghost use Rattle.zb_model.specs.Fits.{fits, keys_differ};
 ghost use Rattle.zb_model.specs.Lines.{LogLine, Boot};
 ghost use Rattle.zb_model.specs.Play.{World, group_of, stored_lines};
 ghost use Rattle.zb_model.specs.Readings.{heard_line, state_of};
@@ -126,9 +126,11 @@ pub fn a_boot_reads_the_record()
         → state_in (record_of (state_of h n)) ≡ Some (shown (state_of (h ++ Boot e n ∷ []) n)) }
 {}
 
-/// What changes make of what is stored depends on what is stored alone, and not on the counters and floors in memory.
+/// What changes make of what is stored depends on what is stored alone, and not on the counters and floors in memory. So
+/// does whether a change fits.
 pub fn changes_keep_to_what_is_stored()
-    ensures { (es : List Edit) (s : NodeState) → after_boot (applied_all es (after_boot s)) ≡ after_boot (applied_all es s) }
+    ensures made { (es : List Edit) (s : NodeState) → after_boot (applied_all es (after_boot s)) ≡ after_boot (applied_all es s) }
+    ensures fit { (e : Edit) (s : NodeState) → fits e (after_boot s) ≡ fits e s }
 {}
 
 /// Bytes that are read as a state whose keys differ are the record of that state, and a boot leaves that state as it is.
