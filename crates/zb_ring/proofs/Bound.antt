@@ -256,7 +256,7 @@ step_from most n c ring true is within same rest =
     same_ring c ring is (suc n) count
 step_from most n c ring false is within other rest =
     rest (let more : ring.rounds ≢ suc n = λ e. not_both (length (ring_after c (suc n))) (length (ring_after c n)) other
-        (ap (λ k. length (ring_after c k)) (sym e) ∙ ap (length {A = RingKey}) is.last ∙ ap (λ k. length (ring_after c (k - 1))) e ∙ ap (λ k. length (ring_after c k)) (omega arith)) in
+    (ap (λ k. length (ring_after c k)) (sym e) ∙ ap (length {A = RingKey}) is.last ∙ ap (λ k. length (ring_after c (k - 1))) e ∙ ap (λ k. length (ring_after c k)) (omega arith)) in
     omega (arith, within, more))
 
 walk : (most n : ℕ) (c : Capture) (ring : Ring) → IsRing c ring → n < ring.rounds → ring.rounds ≤ n + most → ring_from most c n ≡ ring
