@@ -37,3 +37,4 @@ mod SpentRules
 mod SpentRuns
 pub mod StoredChanges
 pub mod StoredFits
+mod SpentSteps

@@ -1,9 +1,9 @@
--- Who answers that a counter is spent.
-use Rattle.std.specs.Prelude.{◌≤◌, ◌⊎◌, List, ⊤}
-use Rattle.zb_model.specs.Data.{Nwk, Aps, CounterSpent}
-use Rattle.zb_model.specs.Lines.{LogLine, Refuse}
-use Rattle.zb_model.specs.State.{most, NodeState, next_counter}
-use Rattle.zb_model.specs.Readings.{state_of}
+-- Which lines take counters, and who answers that a counter is spent.
+use Rattle.std.specs.Prelude.{ℕ, ◌≡◌, ◌≤◌, ◌+◌, ◌⊎◌, if◌then◌else◌, ◌&&◌, List, [], ◌∷◌, ◌++◌, Some, option_map, nat_eq, ⊤}
+use Rattle.zb_model.specs.Data.{Bytes, Nwk, Aps, Start, CounterSpent}
+use Rattle.zb_model.specs.Lines.{LogLine, Counter, Changed, Refuse, Seal, Boot}
+use Rattle.zb_model.specs.State.{most, NetKey, NodeState, same_key, net_of, next_counter}
+use Rattle.zb_model.specs.Readings.{state_of, alike_tier}
 
 -- the next counter has reached the greatest, at one of the layers
 abbrev pub StandsAtEnd : NodeState → Type 0
@@ -12,3 +12,24 @@ StandsAtEnd s = (most ≤ next_counter Nwk s) ⊎ (most ≤ next_counter Aps s)
 abbrev pub SpentLine : List LogLine → LogLine → Type 0
 SpentLine h (Refuse e n spot CounterSpent) = StandsAtEnd (state_of h n)
 SpentLine h _ = ⊤
+
+-- How many counters a line takes of a node: at APS, and at NWK under a network key. A seal takes one.
+abbrev pub taken_aps : ℕ → LogLine → ℕ
+taken_aps m (Seal e n t) = if nat_eq n m && alike_tier t.layer Aps then 1 else 0
+taken_aps m _ = 0
+
+abbrev pub taken_nwk : ℕ → Bytes → LogLine → ℕ
+taken_nwk m key (Seal e n t) = if nat_eq n m && (alike_tier t.layer Nwk && same_key t.base key) then 1 else 0
+taken_nwk m key _ = 0
+
+-- The lines that set counters on without taking one: a boot, to the limit; a key's first counter; the limits at the start.
+abbrev pub SetsOn : LogLine → Type 0
+SetsOn (Boot e n) = ⊤
+SetsOn (Changed e n (Start key value)) = ⊤
+SetsOn (Counter n layer limit) = ⊤
+SetsOn _ = ⊥
+
+-- Of each node the next counters rise by those that the line takes, and so does the next counter of each network row.
+abbrev pub TakesAll : List LogLine → LogLine → Type 0
+TakesAll h l = SetsOn l ⊎ ((m : ℕ) → ((state_of (h ++ l ∷ []) m).aps_next ≡ (state_of h m).aps_next + taken_aps m l)
+    × ((key : Bytes) (r : NetKey) → net_of key (state_of h m) ≡ Some r → option_map (λ (x : NetKey). x.next) (net_of key (state_of (h ++ l ∷ []) m)) ≡ Some (r.next + taken_nwk m key l)))

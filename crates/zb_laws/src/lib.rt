@@ -10,7 +10,7 @@ ghost use Rattle.zb_laws.specs.KeysApart.{KeysApart};
 ghost use Rattle.zb_laws.specs.Lockout.{KeepsRemovedOut, RefusesOutsiders};
 ghost use Rattle.zb_laws.specs.Opening.{Opens};
 ghost use Rattle.zb_laws.specs.Records.{FitsRecord, state_in};
-ghost use Rattle.zb_laws.specs.Spent.{SpentLine};
+ghost use Rattle.zb_laws.specs.Spent.{SpentLine, TakesAll};
 ghost use Rattle.zb_model.specs.Claims.{Confirms, Each, Fresh, Lawful, Locked, Once};
 ghost use Rattle.zb_model.specs.Answer.{Answer, answered, floor_for, reserve_of, stored_floor};
 ghost use Rattle.zb_model.specs.Data.{Edit, Sealing, Tier};
@@ -94,6 +94,12 @@ pub fn removed_devices_are_locked_out()
 /// the node's. The greatest counter is never used.
 pub fn each_seal_takes_the_next_counter()
     ensures { (tools : Tools) (w : World) → IsSchedule w → Each TakesNext [] (transcript tools w) }
+{}
+
+/// No counter is skipped without a boot: of each node, and under each network key, a line moves the next counter by just the
+/// seal that it is, unless it is a boot, the first counter of a key, or a limit at the start.
+pub fn no_counter_is_skipped_without_a_boot()
+    ensures { (tools : Tools) (w : World) → IsSchedule w → Each TakesAll [] (transcript tools w) }
 {}
 
 /// Who answers that a counter is spent has reached the greatest counter, 2^32 - 1, at one of the layers.
