@@ -1,3 +1,4 @@
 pub mod Completeness
 pub mod DigitLemmas
 pub mod PlayedRuns
+pub mod Fronts

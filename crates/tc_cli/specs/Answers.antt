@@ -11,14 +11,18 @@ use Rattle.zb_install.specs.Code.{code_of_text, code_key}
 use Rattle.zb_install.specs.declared.code_error.CodeError.{CodeError}
 use Rattle.zb_model.specs.Data.{Bytes}
 use Rattle.zb_model.specs.FirstPath.{Plan, transcript}
+use Rattle.zb_pcap.specs.Extracts.{extracted}
+use Rattle.zb_pcap.specs.declared.extraction.Extraction.{Extraction}
+use Rattle.zb_pcap.specs.declared.fault.PcapError.{PcapError}
 use Rattle.zb_player.specs.Text.{text}
 use Rattle.zb_player.specs.Wire.{wire}
 use Rattle.zb_reader.specs.Reading.{schedule}
 use Rattle.zb_sched.specs.Plan as sched
 use Rattle.zb_sched.specs.Printed.{printed}
 use Rattle.zb_sched.specs.declared.error.SchedError.{SchedError}
-use Rattle.tc_cli.specs.Commands.{Task, Playing, Installing, Making, Inspecting}
-use Rattle.tc_cli.specs.Statuses.{cause_of, schedule_cause, capture_cause}
+use Rattle.tc_cli.specs.CountsLine.{counts_line}
+use Rattle.tc_cli.specs.Commands.{Task, Playing, Installing, Making, Inspecting, Sniffing}
+use Rattle.tc_cli.specs.Statuses.{cause_of, schedule_cause, capture_cause, pcap_cause}
 use Rattle.tc_cli.specs.declared.status.Status.{Status}
 use Rattle.tc_cli.specs.declared.status.Status.TheVariants as status
 use Rattle.tc_cli.specs.declared.status.Cause.{Cause}
@@ -61,12 +65,22 @@ abbrev pub inspect_answer : Result Capture CaptureError → Answer
 inspect_answer (Ok capture) = Writes (report_of capture)
 inspect_answer (Err e) = Refuses e.line (capture_cause e.cause)
 
--- What a command answers to an input. Only `play` and `inspect` look at it.
+-- ---- `sniff`: the report on the frames of the capture file that the input is, and the counts of its packets
+
+abbrev pub sniff_output : Extraction → Bytes
+sniff_output e = report_of e.capture ++ counts_line e.counts
+
+abbrev pub sniff_answer : Result Extraction PcapError → Answer
+sniff_answer (Ok e) = Writes (sniff_output e)
+sniff_answer (Err e) = Refuses e.place (pcap_cause e.cause)
+
+-- What a command answers to an input. Only `play`, `inspect` and `sniff` look at it.
 abbrev pub answer : Task → Bytes → Answer
 answer Playing input = within_limit input (play_answer (schedule input))
 answer (Installing code) input = install_answer (code_of_text code)
 answer (Making count) input = make_answer (made 0 count)
 answer (Inspecting jobs) input = within_limit input (inspect_answer (captured input))
+answer (Sniffing jobs keys) input = within_limit input (sniff_answer (extracted keys input))
 
 -- The same of the bytes that a source has to come. None where the command reads them and the source doesn't tell them.
 abbrev pub wanted : Task → Option Bytes → Option Answer
@@ -74,6 +88,7 @@ wanted Playing rest = option_map (answer Playing) rest
 wanted (Installing code) rest = Some (answer (Installing code) [])
 wanted (Making count) rest = Some (answer (Making count) [])
 wanted (Inspecting jobs) rest = option_map (answer (Inspecting jobs)) rest
+wanted (Sniffing jobs keys) rest = option_map (answer (Sniffing jobs keys)) rest
 
 -- The status that an answer comes with, and the bytes that are written.
 abbrev pub status_of : Answer → Status

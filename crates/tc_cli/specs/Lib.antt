@@ -1,4 +1,6 @@
 pub mod Answers
+pub mod KeyWords
+pub mod CountsLine
 pub mod Commands
 pub mod Statuses
 pub mod Outcomes

@@ -14,7 +14,7 @@ use Rattle.zb_sched.specs.Printed.{printed}
 use Rattle.zb_sched.specs.Reading.{schedule_of}
 use Rattle.zb_sched.specs.Valid.{IsSchedule}
 use Rattle.tc_cli.specs.Answers.{Answer, Writes, Refuses, Exceeds, longest, output_of}
-use Rattle.tc_cli.specs.Commands.{Task, Playing, Installing, Making, Inspecting}
+use Rattle.tc_cli.specs.Commands.{Task, Playing, Installing, Making, Inspecting, Sniffing}
 use Rattle.tc_cli.specs.declared.status.Status.{Status}
 use Rattle.tc_cli.specs.declared.status.Status.TheVariants as status
 
@@ -45,6 +45,7 @@ ReadsToEnd Playing left = IsAtEnd left
 ReadsToEnd (Installing code) left = Unit {0}
 ReadsToEnd (Making count) left = Unit {0}
 ReadsToEnd (Inspecting jobs) left = IsAtEnd left
+ReadsToEnd (Sniffing jobs keys) left = IsAtEnd left
 
 -- What the statuses say of the bytes written: nothing was, or a front of the output.
 abbrev pub WritesNothing : Status → Option Bytes → Option Bytes → Type 0

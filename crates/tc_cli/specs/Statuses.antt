@@ -5,6 +5,8 @@ use Rattle.zb_capture.specs.declared.fault.CaptureCause.TheVariants as capture
 use Rattle.zb_install.specs.declared.code_error.CodeError.{CodeError}
 use Rattle.zb_install.specs.declared.code_error.CodeError.TheVariants as code
 use Rattle.zb_model.specs.Data.{Bytes}
+use Rattle.zb_pcap.specs.declared.fault.PcapCause.{PcapCause}
+use Rattle.zb_pcap.specs.declared.fault.PcapCause.TheVariants as pcap
 use Rattle.zb_sched.specs.declared.error.SchedCause.{SchedCause}
 use Rattle.zb_sched.specs.declared.error.SchedCause.TheVariants as fault
 use Rattle.zb_text.specs.Fields.{short_text}
@@ -34,6 +36,10 @@ cause_text cause.BadCode = then (codes "bad-code")
 cause_text cause.Block = then (codes "block")
 cause_text cause.TooMany = then (codes "too-many")
 cause_text cause.AddressTaken = then (codes "address-taken")
+cause_text cause.Magic = then (codes "magic")
+cause_text cause.Version = then (codes "version")
+cause_text cause.Link = then (codes "link")
+cause_text cause.Cut = then (codes "cut")
 cause_text (cause.NotHex at) = then (codes "not-hex") ++ then (decimal at)
 cause_text (cause.Length len) = then (codes "length") ++ then (decimal len)
 cause_text (cause.Crc kept found) = then (codes "crc") ++ then (short_text kept) ++ then (short_text found)
@@ -71,3 +77,11 @@ capture_cause capture.Syntax = cause.Syntax
 capture_cause capture.BadCode = cause.BadCode
 capture_cause capture.TooMany = cause.TooMany
 capture_cause capture.AddressTaken = cause.AddressTaken
+
+-- what is wrong with a capture file
+abbrev pub pcap_cause : PcapCause → Cause
+pcap_cause pcap.Magic = cause.Magic
+pcap_cause pcap.Version = cause.Version
+pcap_cause pcap.Link = cause.Link
+pcap_cause pcap.Cut = cause.Cut
+pcap_cause pcap.TooMany = cause.TooMany

@@ -1,9 +1,10 @@
 //! The words of the command line.
 ghost use Rattle.std.specs.Prelude.{◌≡◌, map, string_bytes, IfSome, ◌≤◌};
 ghost use Rattle.std.specs.Option.{option_map};
-ghost use Rattle.tc_cli.specs.Commands.{count_of, lone_word, task_of, word_and_operand};
+ghost use Rattle.tc_cli.specs.Commands.{count_of, lone_word, sniff_words, task_of, word_and_operand};
 ghost use Rattle.tc_cli.specs.Words.{task, Fits};
 
+use crate::keys::are_keys;
 use zb_text::numbers::number;
 
 /// A command of the program.
@@ -17,6 +18,8 @@ pub(crate) enum Command<'a> {
     Make { count: u32 },
     /// Writes the report on the capture on the input, worked out by so many jobs.
     Inspect { jobs: u32 },
+    /// Writes the report on the capture file on the input, under the keys that the words stand for.
+    Sniff { jobs: u32, words: &'a [String] },
 }
 
 /// The command that the words after the program's name are.
@@ -26,9 +29,21 @@ pub(crate) fn read_words<'a>(words: &'a [String]) -> Option<Command<'a>>
 {
     match words {
         [word] => lone(word.as_str()),
+        [word, operand, keys @ ..] if word.as_str() == "sniff" => sniff(operand.as_str(), keys),
         [word, operand] => with_operand(word.as_str(), operand.as_str()),
         _ => None,
     }
+}
+
+fn sniff<'a>(operand: &str, words: &'a [String]) -> Option<Command<'a>>
+    ensures value { option_map task result ≡ sniff_words operand.now (map string_bytes words.now) }
+    ensures fits { IfSome result Fits }
+{
+    if words.len() > 256 || !are_keys(words) {
+        return None;
+    }
+    let jobs = count(operand, 64)?;
+    Some(Command::Sniff { jobs, words })
 }
 
 fn lone<'a>(word: &str) -> Option<Command<'a>>

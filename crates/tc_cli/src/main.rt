@@ -5,9 +5,11 @@ mod command;
 mod input;
 mod inspect;
 mod install;
+mod keys;
 mod make;
 mod play;
 mod program;
+mod sniff;
 mod status;
 #[cfg(test)]
 mod tests;

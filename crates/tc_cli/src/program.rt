@@ -13,6 +13,7 @@ use crate::inspect::inspect_input;
 use crate::install::install_code;
 use crate::make::make_schedule;
 use crate::play::play_input;
+use crate::sniff::sniff_input;
 use crate::status::Status;
 use std::alloc::Global;
 use std::thread::Threads;
@@ -83,5 +84,6 @@ fn carry_out<T: Threads + Sync, R: Source, W: Sink>(
         Command::Install { code } => install_code(alloc, code, output),
         Command::Make { count } => make_schedule(alloc, count, output),
         Command::Inspect { jobs } => inspect_input(rt, alloc, jobs, input, output),
+        Command::Sniff { jobs, words } => sniff_input(rt, alloc, jobs, words, input, output),
     }
 }

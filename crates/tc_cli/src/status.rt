@@ -9,6 +9,7 @@ use arrayvec::ArrayString;
 use itoa::Buffer;
 use zb_capture::CaptureCause;
 use zb_install::CodeError;
+use zb_pcap::PcapCause;
 use zb_sched::SchedCause;
 
 /// The end of a run. Its number is the status of the process.
@@ -49,8 +50,17 @@ pub enum Cause {
     BadCode,
     /// A block of counters is out of its range.
     Block,
-    /// The 65th node or the 100,001st event of a schedule; the 257th key or the 100,001st frame of a capture.
+    /// The 65th node or the 100,001st event of a schedule; the 257th key or the 100,001st frame of a capture; the
+    /// 100,001st record of a file.
     TooMany,
+    /// The file doesn't begin as a capture file does.
+    Magic,
+    /// The version of the file isn't 2.4.
+    Version,
+    /// The packets of the file are of another link.
+    Link,
+    /// A record of the file isn't whole.
+    Cut,
     /// The network address of the line stands in one before it.
     AddressTaken,
     /// The code has an odd number of characters, `at`, or the one at `at` is no hexadecimal digit.
@@ -94,6 +104,23 @@ impl From<CaptureCause> for Cause {
             CaptureCause::BadCode => Cause::BadCode,
             CaptureCause::TooMany => Cause::TooMany,
             CaptureCause::AddressTaken => Cause::AddressTaken,
+        }
+    }
+}
+
+impl From<PcapCause> for Cause {
+    ghost use Rattle.std.specs.Prelude.{◌≡◌};
+    ghost use Rattle.tc_cli.specs.Statuses.{pcap_cause};
+
+    ghost from_gives = { λ e c. c ≡ pcap_cause e };
+
+    fn from(cause: PcapCause) -> Cause {
+        match cause {
+            PcapCause::Magic => Cause::Magic,
+            PcapCause::Version => Cause::Version,
+            PcapCause::Link => Cause::Link,
+            PcapCause::Cut => Cause::Cut,
+            PcapCause::TooMany => Cause::TooMany,
         }
     }
 }
@@ -178,6 +205,10 @@ impl Cause {
             Cause::Block => add_word(text, "block"),
             Cause::TooMany => add_word(text, "too-many"),
             Cause::AddressTaken => add_word(text, "address-taken"),
+            Cause::Magic => add_word(text, "magic"),
+            Cause::Version => add_word(text, "version"),
+            Cause::Link => add_word(text, "link"),
+            Cause::Cut => add_word(text, "cut"),
             Cause::NotHex { at } => {
                 add_word(text, "not-hex");
                 add_number(text, *at);
