@@ -4,6 +4,8 @@
 mod fault;
 mod lines;
 mod reporting;
+#[cfg(test)]
+mod tests;
 
 pub use fault::InspectFault;
 pub use reporting::report;
