@@ -7,3 +7,4 @@ mod Rows
 mod Refusals
 mod Cases
 mod FitCases
+mod Effects
