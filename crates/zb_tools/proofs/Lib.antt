@@ -4,3 +4,4 @@ mod Keys
 mod Orders
 mod OwnKeys
 mod RealRuns
+mod SameTerms

@@ -2,14 +2,29 @@
 //! proved here, so that they hold of real frames. Each law stands as the contract of a function with an empty body.
 #![tactic(auto)]
 
+ghost use Rattle.std.specs.Prelude.{◌≡◌, ℕ, List};
+ghost use Rattle.zb_base.specs.declared.label.Label.{Label};
 ghost use Rattle.zb_laws.specs.Commanding.{OneCentre, ShowsKeys, SpellsConfirm};
 ghost use Rattle.zb_laws.specs.KeysApart.{KeysApart};
 ghost use Rattle.zb_laws.specs.Opening.{Opens};
 ghost use Rattle.zb_model.specs.Play.{World};
 ghost use Rattle.zb_model.specs.Schedules.{IsSchedule};
+ghost use Rattle.zb_model.specs.Tools.{sealing_key as model_key};
+ghost use Rattle.zb_seal.specs.Keys.{sealing_key};
+ghost use Rattle.zb_seal.specs.Terms.{purpose, sealing};
+ghost use Rattle.zb_seal.specs.Wire.{wire};
+ghost use Rattle.zb_seal.specs.declared.term.Term.{Term};
 ghost use Rattle.zb_tools.specs.Headline.{Holds};
 ghost use Rattle.zb_tools.specs.Real.{real};
 ghost use Rattle.zb_watch.specs.Standing.{FindKeys};
+
+/// The model's words for what is sealed are the program's: a term goes on the air in the bytes of zb_seal, under the key that
+/// zb_seal derives from its base key.
+#[tactic(auto, using(crate::proofs::SameTerms::same_wire, crate::proofs::SameTerms::same_key))]
+pub fn terms_go_out_as_they_are_sealed()
+    ensures wire { (t : Term) → real.wire (sealing t) ≡ wire t }
+    ensures keys { (label : Label) (base : List ℕ) → model_key real (purpose label) base ≡ sealing_key label base }
+{}
 
 /// What a real frame opens to is of its layer, and has the base key under which it was opened and the source and counter that
 /// the frame shows.
