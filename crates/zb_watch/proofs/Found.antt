@@ -100,9 +100,9 @@ centre_as known n (Some p) e = rw e refl
 first_centre_as : (centre : Option Eui) (first : Option Station) → Same centre first → (node : Option Eui) (found : Option Station) → Same node found
     → IfSome first (λ (s : Station). nat_eq s.eui nobody ≡ false) → is_first_centre centre node ≡ eui_is first (eui_or_nobody found)
 unfolding eui_is
-first_centre_as None None e node found f some = refl
-first_centre_as None (Some y) e node found f some = cc
-first_centre_as (Some x) None e node found f some = cc
+first_centre_as None None e second found f some = refl
+first_centre_as None (Some y) e second found f some = cc
+first_centre_as (Some x) None e second found f some = cc
 first_centre_as (Some x) (Some y) e None None f some = sym some
 first_centre_as (Some x) (Some y) e None (Some b) f some = cc
 first_centre_as (Some x) (Some y) e (Some a) None f some = cc
@@ -184,7 +184,7 @@ module _ (tools : Tools) (w : Watch) (h : List LogLine) (stands : Stands tools w
 
   came_as : (node : Option Eui) (found : Option Station) → Same node found → IfSome found (λ (s : Station). nat_eq s.eui nobody ≡ false) → (key : Bytes) (b : Bool) → is_joiner w.nodes node ≡ b
       → came w.origins w.exposure.carried (if b then node else None) key ≡ (not b || came_by tools h (eui_or_nobody found) key)
-  came_as node found e some key false is = refl
+  came_as who found e some key false is = refl
   came_as None found e some key true is = cc
   came_as (Some x) None e some key true is = cc
   came_as (Some x) (Some y) e some key true is = let it : x.0 ≡ y.eui = cc in came_at x key (ap (λ (n : ℕ). nat_eq n nobody) it ∙ some) ∙ ap (λ (n : ℕ). came_by tools h n key) it

@@ -36,5 +36,5 @@ removed_number new old device updates d =
 pub added_at : (result : Result (Unit {0}) AllocError) (new old : Holdings Eui) (node : Option Eui) (eui : Eui) (key : Key) → node ≡ Some eui
     → OnOk result ((o : Eui) (k : List ℕ) → held eui_cmp new o k ≡ (held eui_cmp old o k || (is_eq (eui_cmp eui o) && bytes_eq k key.0)))
     → OnOk result ((n : ℕ) (k : List ℕ) → node_has new n k ≡ (node_has old n k || (is_node node n && bytes_eq k key.0)))
-added_at (Ok u) new old node eui key is adds = λ n k. added_number new old eui key adds n k ∙ ap (λ (o : Option Eui). node_has old n k || (is_node o n && bytes_eq k key.0)) (sym is)
-added_at (Err e) new old node eui key is adds = tt
+added_at (Ok u) new old who eui key is adds = λ n k. added_number new old eui key adds n k ∙ ap (λ (o : Option Eui). node_has old n k || (is_node o n && bytes_eq k key.0)) (sym is)
+added_at (Err e) new old who eui key is adds = tt

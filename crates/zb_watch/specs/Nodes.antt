@@ -42,7 +42,7 @@ is_joiner nodes (Some eui) = is_member (role_in nodes.roles eui.0)
 
 -- whether there is a node and a centre, and they are one
 abbrev pub is_first_centre : Option Eui → Option Eui → Bool
-is_first_centre None node = false
+is_first_centre None _ = false
 is_first_centre (Some centre) None = false
 is_first_centre (Some centre) (Some eui) = nat_eq centre.0 eui.0
 
