@@ -4,7 +4,7 @@ ghost use Rattle.std.specs.Prelude.{◌≤◌};
 use std::alloc::Global;
 use std::process::Abort;
 use std::test::Fail;
-use zb_base::{Layer, OrMemory, Role};
+use zb_base::{Eui, Key, Layer, OrMemory, Role};
 use zb_change::{Change, Changes, KeyError};
 use zb_keys::Tables;
 
@@ -274,6 +274,20 @@ fn equal_keys(rt: HostRuntime) {
 }
 
 #[test]
+fn second_pair_of_two_devices(rt: HostRuntime) {
+    let mut bytes = [0; 268];
+    bytes[..235].copy_from_slice(&FULL);
+    bytes[200] = 2;
+    bytes[235..251].copy_from_slice(&FULL[202..218]);
+    bytes[251..267].fill(0xC1);
+    bytes[267] = 1;
+    assert!(rt; fault_of(rt.alloc(), &bytes) == Some(243));
+    // of another device it stands
+    bytes[243] = 0x13;
+    assert!(rt; fault_of(rt.alloc(), &bytes) == None);
+}
+
+#[test]
 fn bytes_that_are_all_ones(rt: HostRuntime) {
     // The first 60 bytes: the fields that may have any value, and where another is at fault. 255 network keys are taken
     // for more than there are.
@@ -402,6 +416,22 @@ fn cut_payloads(rt: HostRuntime) {
 }
 
 #[test]
+fn cut_install(rt: HostRuntime) {
+    // A new network key behind the drop that makes room for it.
+    let mut payload = [0; 36];
+    payload[..2].copy_from_slice(&[2, 3]);
+    payload[2..18].fill(0xA2);
+    payload[18] = 5;
+    payload[19..35].fill(0xA3);
+    payload[35] = 3;
+    assert!(rt; redo_of(rt.alloc(), &payload) == None);
+    for len in 1..36 {
+        let fault = if len < 18 { 1 } else { 18 };
+        assert!(rt; redo_of(rt.alloc(), &payload[..len]) == Some(fault));
+    }
+}
+
+#[test]
 fn payloads_that_do_not_fit(rt: HostRuntime) {
     // an unknown kind, a draw, a third layer
     assert!(rt; redo_of(rt.alloc(), &[1, 0x7F]) == Some(1));
@@ -426,4 +456,88 @@ fn payloads_that_do_not_fit(rt: HostRuntime) {
         0xA3, 0xA3, 0xA3, 0xA3, 3,
     ];
     assert!(rt; redo_of(rt.alloc(), &next) == None);
+}
+
+// Whether a call tells no change.
+fn tells_nothing(answer: Result<Changes, KeyError>) -> bool {
+    match answer {
+        Ok(changes) => changes.as_slice().is_empty(),
+        Err(_) => false,
+    }
+}
+
+#[test]
+fn network_keys_that_come_again(rt: HostRuntime) -> Result<(), Fail> {
+    let old = Key([0xD0; 16]);
+    let mut tables = Tables::new(rt.alloc(), Role::Device)?;
+    // The first key comes, becomes active and starts.
+    let mut payload = [0; 57];
+    payload[..2].copy_from_slice(&[3, 5]);
+    payload[2..18].fill(0xD0);
+    payload[19] = 6;
+    payload[20..36].fill(0xD0);
+    payload[36] = 0x0E;
+    payload[37..53].fill(0xD0);
+    assert!(rt; tables.redo(&payload).is_ok());
+    assert!(rt; tells_nothing(tables.install_net(&old, 0)));
+    // The second does, and the third drops the first.
+    payload[2..18].fill(0xD1);
+    payload[18] = 1;
+    payload[20..36].fill(0xD1);
+    payload[37..53].fill(0xD1);
+    assert!(rt; tables.redo(&payload).is_ok());
+    let mut third = [0; 36];
+    third[..2].copy_from_slice(&[2, 3]);
+    third[2..18].fill(0xD0);
+    third[18] = 5;
+    third[19..35].fill(0xD2);
+    third[35] = 2;
+    assert!(rt; tables.redo(&third).is_ok());
+    assert!(rt; tables.install_net(&old, 5).err() == Some(KeyError::KeyOld { place: 0 }));
+    Ok(())
+}
+
+#[test]
+fn no_room_for_a_network_key(rt: HostRuntime) -> Result<(), Fail> {
+    // A device with 256 network keys, which are dropped.
+    let mut record = Vec::new(rt.alloc());
+    record.extend_from_slice(&[3, 2, 0, 0, 0, 0, 0, 0, 0, 0, 0, 0, 0, 1, 0xFF, 0xFF])?;
+    for i in 0..256u32 {
+        record.extend_from_slice(&[i as u8; 16])?;
+        record.extend_from_slice(&[0; 6])?;
+    }
+    record.extend_from_slice(&[0; 4])?;
+    let tables = Tables::from_record(rt.alloc(), &record)?;
+    let mut new = [0xD0; 16];
+    new[0] = 0;
+    assert!(rt; tables.install_net(&Key(new), 0).err() == Some(KeyError::KeysFull));
+    Ok(())
+}
+
+#[test]
+fn no_room_for_a_link_key(rt: HostRuntime) -> Result<(), Fail> {
+    // A device with 64 verified link keys, each with a partner of its own.
+    let mut record = Vec::new(rt.alloc());
+    record.extend_from_slice(&[3, 2, 0, 0, 0, 0, 0, 0, 0, 0, 0, 0, 0, 0, 0xFF, 0xFF, 64, 0])?;
+    for i in 0..64u32 {
+        record.extend_from_slice(&[i as u8, 1, 0, 0, 0, 0, 0, 0])?;
+        record.extend_from_slice(&[i as u8; 16])?;
+        record.extend_from_slice(&[2, 1, 0, 0, 0, 0])?;
+    }
+    record.extend_from_slice(&[0; 2])?;
+    let tables = Tables::from_record(rt.alloc(), &record)?;
+    let new = Key([0xD0; 16]);
+    assert!(rt; tables.offer(Eui(0x200), &new).err() == Some(KeyError::RowsFull));
+    Ok(())
+}
+
+#[test]
+fn refused_calls(rt: HostRuntime) -> Result<(), Fail> {
+    let tables = Tables::from_record(rt.alloc(), &FULL)?;
+    let taken = tables.provision(Eui(0x14), &Key([0xB1; 16]));
+    assert!(rt; taken.err() == Some(KeyError::KeyInUse { partner: Eui(0x11) }));
+    assert!(rt; tables.switch(9).err() == Some(KeyError::NoRow));
+    let verified = tables.verify(Eui(0x12), &[0; 16]);
+    assert!(rt; verified.err() == Some(KeyError::WrongHash));
+    Ok(())
 }
