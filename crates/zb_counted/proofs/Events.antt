@@ -287,7 +287,7 @@ act-bridged tools w h disks number act bridged = bridged-lines h (step tools w h
 
 -- The start lines
 
-unfoldable IsStart : LogLine → Type 0
+unfoldable pub IsStart : LogLine → Type 0
 IsStart (Declared p) = Unit {0}
 IsStart (GivenNet n k q) = Unit {0}
 IsStart (GivenLink n p k) = Unit {0}
@@ -361,7 +361,7 @@ unfolding IsStart
 limit-are n layer v true = tt
 limit-are n layer v false = (tt, tt)
 
-start-are : (w : World) → AllByRecursion IsStart (start w)
+pub start-are : (w : World) → AllByRecursion IsStart (start w)
 unfolding start
 start-are w =
     all-append IsStart (map Declared (stations w)) _ (stations-are (stations w))

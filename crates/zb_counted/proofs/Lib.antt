@@ -5,3 +5,4 @@ mod Same
 mod Started
 mod Events
 pub mod Unique
+pub mod Floors

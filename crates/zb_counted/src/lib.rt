@@ -4,6 +4,7 @@
 
 ghost use Rattle.std.specs.Prelude.{◌≡◌, List};
 ghost use Rattle.zb_counted.specs.Counted.{Counted};
+ghost use Rattle.zb_counted.specs.Floors.{FloorsAreFor};
 ghost use Rattle.zb_laws.specs.Opening.{Opens};
 ghost use Rattle.zb_model.specs.Claims.{Lawful};
 ghost use Rattle.zb_model.specs.Lines.{LogLine};
@@ -22,4 +23,10 @@ pub fn transcripts_are_counted()
 pub fn lawful_and_counted_lines_are_the_transcript()
     ensures { (tools : Tools) → Opens tools → (w : World) (lines : List LogLine) → Lawful tools w lines → Counted tools w lines
         → lines ≡ transcript tools w }
+{}
+
+/// No floor is more than the node's incoming block above the counter for which it was stored: behind each floor line, in its
+/// event, stands the accept line of that counter, or the stop or failure that cut the event short.
+pub fn a_floor_is_at_most_one_block_above_its_counter()
+    ensures { (tools : Tools) → Opens tools → (w : World) → FloorsAreFor w (transcript tools w) }
 {}
