@@ -1,15 +1,15 @@
 -- Behind each floor line of a run stands the accept line for which it is stored, or the stop or failure that cut its event.
-use Rattle.std.proofs.Common.{◌≡◌, ℕ, suc, zero-lt-suc, suc-le-suc, ◌≤◌, ◌+◌, min, Bool, true, false, cond, List, [], ◌∷◌, ◌++◌, map, filter, length, Option, Some, None, option_map, option_to_list, nat_le, flat_map, refl, sym, subst, arith, append_assoc}
+use Rattle.std.proofs.Common.{◌≡◌, ℕ, suc, zero-lt-suc, suc-le-suc, ◌+◌, min, Bool, true, false, cond, List, [], ◌∷◌, ◌++◌, map, filter, length, Option, Some, None, option_map, option_to_list, nat_le, flat_map, refl, sym, subst, arith, append_assoc}
 use Rattle.std.proofs.lemmas.Bool.{false≢true}
 use Rattle.std.specs.List.{AllByRecursion, Any}
-use Rattle.zb_model.specs.Data.{Bytes, Tier, Nwk, Aps, Sealing, Move, Active, Edit, Reserve, Floor, Start, Moved, Spot, Reason, Down, NoFrame, WrongState, Task, Received, DoRoll}
+use Rattle.zb_model.specs.Data.{Bytes, Tier, Nwk, Aps, Sealing, Move, Active, Edit, Reserve, Floor, Spot, Reason, Down, WrongState, Task, Received, DoRoll}
 use Rattle.zb_model.specs.Lines.{LogLine, Declared, GivenNet, GivenLink, Counter, Changed, Accept, Seal, Stopped, DownReset, DownDisk, Boot}
 use Rattle.zb_model.specs.State.{most, NodeState}
 use Rattle.zb_model.specs.Tools.{Tools}
-use Rattle.zb_model.specs.Rules.{Setting, Plan}
+use Rattle.zb_model.specs.Rules.{Plan}
 use Rattle.zb_model.specs.Answer.{Answer, Counting, answer_by, plan_of, counting_of, edits_of, reserve_edit, floor_edit, start_edit, move_edits, changes, moves_of, stored_floor, floor_for}
 use Rattle.zb_model.specs.Readings.{state_of, is_up, air}
-use Rattle.zb_model.specs.Play.{World, Act, Own, RollOver, Deliver, Reset, PowerOn, ShowRecord, ArmStop, ArmFail, InjectBytes, ForgeNet, ForgeNetAps, ForgeOpen, Step, Disk, Armed, NotArmed, StopAfter, FailAt, Calls, BootCalls, setting_of, start, disk_of, with_disk, falls, stands, calls_for, leaves_both, commit_lines, refuse_lines, send_lines, stored_lines, told_lines, group_of, cut_of, fallen_line, answer_step, boot_step, refused_step, answer_counted, task_step, deliver_step, frame_at, supply, forged_net, forged_both, forged_open, step_by, step, groups}
+use Rattle.zb_model.specs.Play.{World, Act, Own, RollOver, Deliver, Reset, PowerOn, ShowRecord, ArmStop, ArmFail, InjectBytes, ForgeNet, ForgeNetAps, ForgeOpen, Step, Disk, Armed, NotArmed, StopAfter, FailAt, Calls, BootCalls, setting_of, start, disk_of, with_disk, falls, stands, calls_for, leaves_both, commit_lines, refuse_lines, send_lines, stored_lines, told_lines, group_of, cut_of, fallen_line, answer_step, boot_step, refused_step, task_step, deliver_step, frame_at, supply, forged_net, forged_both, forged_open, step_by, step, groups}
 use Rattle.zb_model.specs.Transcript.{run_lines, transcript, end_line}
 use Rattle.zb_laws.specs.Opening.{Opens}
 use Rattle.zb_laws.proofs.FreshLines.{all-append, all-map}
