@@ -1,5 +1,5 @@
 -- A schedule with each form of line, read from its text and made a world.
-use Rattle.std.specs.Prelude.{◌≡◌, ℕ, ◌+◌, ◌-◌, ◌*◌, if◌then◌else◌, List, [], ◌∷◌, ◌++◌, Option, Some, None, Result, Ok, Err, true, false, nat_lt, codes, refl}
+use Rattle.std.specs.Prelude.{◌≡◌, ℕ, ◌+◌, ◌-◌, ◌*◌, if◌then◌else◌, List, [], ◌∷◌, ◌++◌, Some, None, true, false, nat_lt, codes, refl}
 use Rattle.std.specs.Result.{result_ok}
 use Rattle.std.specs.Option.{option_map}
 use Prim.Native.String.{String}
@@ -8,12 +8,11 @@ use Rattle.zb_aes.specs.Bytes.{xored}
 use Rattle.zb_aes.specs.Field.{substitute, times}
 use Rattle.zb_mmo.specs.Hash.{blocks_of, hash}
 use Rattle.hex.specs.Hex.{decode_pairs}
-use Rattle.zb_install.specs.Code.{code_key, code_of}
+use Rattle.zb_install.specs.Code.{code_of}
 use Rattle.zb_install.specs.Crc.{added, crc, divided, message_bits}
-use Rattle.zb_model.specs.Data.{Bytes, Duty, Station, ForData, ForTransport, ForLoad, SayTo, TellTo, DoKnock, DoRejoin, DoTimer, AskFor, HasChild, DoProvision, DoRemove, DoSwitch, DoAgain, DoShare}
+use Rattle.zb_model.specs.Data.{Bytes, Duty, Station, ForTransport, ForLoad, SayTo, TellTo, DoKnock, DoRejoin, DoTimer, AskFor, HasChild, DoProvision, DoRemove, DoSwitch, DoAgain, DoShare}
 use Rattle.zb_model.specs.Play.{World, Member, Act, Own, RollOver, Deliver, Reset, PowerOn, ShowRecord, ArmStop, ArmFail, InjectBytes, ForgeNet, ForgeNetAps, ForgeOpen}
 use Rattle.zb_model.specs.Rules.{centre_of}
-use Rattle.zb_sched.specs.Plan.{Plan}
 use Rattle.zb_sched.specs.Reading.{schedule_of}
 use Rattle.zb_runs.specs.Worlds.{act_for, world_of}
 
@@ -65,7 +64,7 @@ other = x "A0A1A2A3A4A5A6A7A8A9AAABACADAEAF"
 
 -- the link key of the install code of d
 abbrev link : Bytes
-link = code_key (x "83FED3407A939723A5C639B26916D505C3B5")
+link = x "66B6900981E1EE3CA4206B6B861C02BB"
 
 abbrev r_station : Station
 r_station = record { name = codes "r"; eui = r; short = 11068; duty = Duty.Router; out_block = 5; in_block = 2 }
@@ -119,6 +118,6 @@ acts =
 abbrev world : World
 world = record { members = members; draws = other ∷ x "303132333435363738393A3B3C3D3E3F" ∷ []; acts = acts }
 
-link_is : link ≡ x "66B6900981E1EE3CA4206B6B861C02BB"
-unfolding hash blocks_of xored enciphered last_round round_key next_key state_after round mix_column substitute times
-link_is = refl
+each_form : option_map world_of (result_ok (schedule_of text)) ≡ Some world
+unfolding world_of act_for centre_of code_of crc added divided message_bits decode_pairs hash blocks_of xored enciphered last_round round_key next_key state_after round mix_column substitute times
+each_form = refl

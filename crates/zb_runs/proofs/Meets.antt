@@ -1,6 +1,6 @@
 -- What every schedule keeps gives what the laws over runs ask of its world.
-use Rattle.std.proofs.Common.{◌≡◌, ℕ, ◌<◌, ◌≤◌, ◌^◌, ◌==◌, ◌&&◌, ◌||◌, not, nat_le, Bool, true, false, cond, List, [], ◌∷◌, ◌++◌, map, find, Option, Some, None, option_to_list, nat_eq, bytes_eq, refl, sym, ap, ◌∙◌, subst, arith, eq-eqb}
-use Rattle.std.specs.Prelude.{is_some, if◌then◌else◌, IfSome}
+use Rattle.std.proofs.Common.{◌≡◌, ℕ, ◌&&◌, ◌||◌, not, Bool, true, false, cond, List, [], ◌∷◌, ◌++◌, map, find, Option, Some, None, option_to_list, nat_eq, bytes_eq, refl, sym, ap, ◌∙◌, subst, arith, eq-eqb}
+use Rattle.std.specs.Prelude.{is_some, IfSome}
 use Rattle.std.specs.List.{AllByRecursion, list_any}
 use Rattle.std.specs.Option.{option_map}
 use Rattle.std.proofs.lemmas.Bool.{and_parts, false≢true}
@@ -16,9 +16,8 @@ use Rattle.zb_model.specs.Data.{Station, nobody}
 use Rattle.zb_model.specs.Play as model
 use Rattle.zb_model.specs.Rules.{centre_of, eui_or, station_of as model_station}
 use Rattle.zb_model.specs.Schedules.{IsMember, IsSchedule, Names, NamesNode}
-use Rattle.zb_model.specs.Secrets.{well_known as known_to_all}
 use Rattle.zb_model.specs.State.{is_centre as is_centre_duty}
-use Rattle.zb_sched.specs.Judge.{Seat, Seen, are_child_and_parent, are_partners, clashes, has_its_nodes, has_name, is_drawn, is_joiner, is_key, is_link_of_other, is_network, is_parent, link_of, network_of, provision_clashes, role_named, well_known}
+use Rattle.zb_sched.specs.Judge.{Seat, clashes, has_its_nodes, has_name, is_drawn, is_joiner, is_key, is_link_of_other, is_network, is_parent, link_of, network_of, role_named, well_known}
 use Rattle.zb_sched.specs.Plan.{Member, Plan}
 use Rattle.zb_sched.specs.Reading.{is_centre}
 use Rattle.zb_sched.specs.Valid as sched

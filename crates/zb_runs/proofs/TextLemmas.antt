@@ -1,9 +1,9 @@
 -- What the lines of a text may say, and what the whole text is then.
-use Rattle.std.proofs.Common.{◌≡◌, ℕ, ◌+◌, Bool, true, false, cond, List, [], ◌∷◌, Option, Some, None, Result, Ok, Err, refl, sym, ◌∙◌, subst, ap}
+use Rattle.std.proofs.Common.{◌≡◌, ℕ, ◌+◌, Bool, true, false, List, [], ◌∷◌, Option, Some, None, Result, Ok, Err, refl, sym, ◌∙◌, subst}
 use Rattle.std.specs.Prelude.{IfSome, if◌then◌else◌}
 use Rattle.std.specs.List.{AllByRecursion}
 use Rattle.std.specs.Str.Lines.{lines}
-use Rattle.zb_sched.specs.Judge.{Seen, after_sentence}
+use Rattle.zb_sched.specs.Judge.{Seen}
 use Rattle.zb_sched.specs.Plan.{Plan}
 use Rattle.zb_sched.specs.Reading.{after_line, after_meaning, finished, has_centre, numbered, reads, schedule_of, start}
 use Rattle.zb_sched.specs.Valid.{IsSchedule, IsSoFar}
