@@ -35,6 +35,8 @@ mod LockoutRuns
 pub mod LockoutLaw
 mod SpentRules
 mod SpentRuns
+mod Within
+pub mod SpentLaw
 pub mod StoredChanges
 pub mod StoredFits
-mod SpentSteps
+pub mod SpentSteps
