@@ -7,3 +7,4 @@ pub mod Steady
 pub mod Entries
 pub mod RecordAgain
 pub mod WholeAgain
+pub mod First

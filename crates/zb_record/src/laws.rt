@@ -1,5 +1,5 @@
 //! Laws of entries and records: what is written is read back. Each function here says laws and does nothing.
-ghost use Rattle.std.specs.Prelude.{◌≡◌, ℕ, List, [], ◌++◌, Ok, true};
+ghost use Rattle.std.specs.Prelude.{◌≡◌, ℕ, List, [], ◌++◌, ◌≢◌, Ok, true};
 ghost use Rattle.std.specs.List.{AllByRecursion};
 ghost use Rattle.zb_change.specs.Changes.{edits};
 ghost use Rattle.zb_change.specs.declared.change.Change.{Change};
@@ -9,12 +9,14 @@ ghost use Rattle.zb_model.specs.State.{NodeState, after_boot, applied_all, shown
 ghost use Rattle.zb_record.specs.Ranges.{FitsBytes, InRange};
 ghost use Rattle.zb_record.specs.Records.{record_read};
 ghost use Rattle.zb_record.specs.Redoing.{redone};
+ghost use Rattle.zb_record.specs.declared.version.Version.{Version};
+ghost use Rattle.zb_record.specs.declared.version.Version.TheVariants.{First};
 
-/// The payload of changes that fit makes them again, behind whatever payloads led to the state that they fit.
-#[tactic(auto, using(crate::proofs::Entries::entries_again))]
+/// The payload of changes that fit makes them again, behind whatever payloads led to the state that they fit. The record is of
+/// a later version than the first.
 pub fn written_changes_are_made_again()
-    ensures { (q : List ℕ) (cs : List Change) (s t : NodeState) → keeps_rules t ≡ true → shown t ≡ t → AllByRecursion InRange cs → AllFit (edits cs) t
-        → redone q s ≡ (t, Ok []) → redone (q ++ payload (edits cs)) s ≡ (shown (applied_all (edits cs) t), Ok []) }
+    ensures { (v : Version) (q : List ℕ) (cs : List Change) (s t : NodeState) → v ≢ First → keeps_rules t ≡ true → shown t ≡ t → AllByRecursion InRange cs → AllFit (edits cs) t
+        → redone v q s ≡ (t, Ok []) → redone v (q ++ payload (edits cs)) s ≡ (shown (applied_all (edits cs) t), Ok []) }
 {}
 
 /// What is read from a record keeps the rules for records, and no floors of dropped network keys.
