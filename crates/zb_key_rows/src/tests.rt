@@ -7,6 +7,7 @@ use std::test::Fail;
 use zb_base::{Eui, Key, Layer, OrMemory, Role};
 use zb_change::{Change, Changes, KeyError};
 use zb_keys::Tables;
+use zb_record::Version;
 
 // A record of the centre with rows of all kinds: a dropped, an active and a new network key, two floors, a dropped, a
 // verified and an offered link key, and a pair.
@@ -337,7 +338,7 @@ fn payload_of_a_reserve(rt: HostRuntime) {
 // Where a payload is at fault behind the full record.
 fn redo_of(alloc: Global, payload: &[u8]) -> Option<u32> {
     match Tables::from_record(alloc, &FULL) {
-        Ok(mut tables) => match tables.redo(payload) {
+        Ok(mut tables) => match tables.redo(Version::Third, payload) {
             Ok(()) => None,
             Err(KeyError::BadRecord { at }) => Some(at),
             Err(_) => Some(1_000_000),
@@ -458,6 +459,89 @@ fn payloads_that_do_not_fit(rt: HostRuntime) {
     assert!(rt; redo_of(rt.alloc(), &next) == None);
 }
 
+// A record of version 1: the centre with the NWK limit 8, and a dropped and a live network key, of which none is active.
+const FIRST: [u8; 55] = [
+    0x01, 0x00, 0x00, 0x08, 0x00, 0x00, 0x00, 0x00, 0x00, 0x00, 0x00, 0x00, 0x02, 0x00, 0xFF, 0xFF,
+    0xA0, 0xA0, 0xA0, 0xA0, 0xA0, 0xA0, 0xA0, 0xA0, 0xA0, 0xA0, 0xA0, 0xA0, 0xA0, 0xA0, 0xA0, 0xA0,
+    0x00, 0x00, 0xA1, 0xA1, 0xA1, 0xA1, 0xA1, 0xA1, 0xA1, 0xA1, 0xA1, 0xA1, 0xA1, 0xA1, 0xA1, 0xA1,
+    0xA1, 0xA1, 0x01, 0x01, 0x00, 0x00, 0x00,
+];
+
+// What is stored of it behind the entries that install a third key and then reserve up to 12: all keys have that limit,
+// and so has the declared start.
+const FIRST_REDONE: [u8; 88] = [
+    0x03, 0x00, 0x00, 0x0C, 0x00, 0x00, 0x00, 0x00, 0x00, 0x00, 0x00, 0x00, 0x03, 0x00, 0xFF, 0xFF,
+    0xA0, 0xA0, 0xA0, 0xA0, 0xA0, 0xA0, 0xA0, 0xA0, 0xA0, 0xA0, 0xA0, 0xA0, 0xA0, 0xA0, 0xA0, 0xA0,
+    0x00, 0x02, 0x0C, 0x00, 0x00, 0x00, 0xA1, 0xA1, 0xA1, 0xA1, 0xA1, 0xA1, 0xA1, 0xA1, 0xA1, 0xA1,
+    0xA1, 0xA1, 0xA1, 0xA1, 0xA1, 0xA1, 0x01, 0x03, 0x0C, 0x00, 0x00, 0x00, 0xA2, 0xA2, 0xA2, 0xA2,
+    0xA2, 0xA2, 0xA2, 0xA2, 0xA2, 0xA2, 0xA2, 0xA2, 0xA2, 0xA2, 0xA2, 0xA2, 0x02, 0x03, 0x0C, 0x00,
+    0x00, 0x00, 0x00, 0x00, 0x00, 0x00, 0x00, 0x00,
+];
+
+// The entry that installs the third key.
+const THIRD_KEY: [u8; 19] = [
+    1, 5, 0xA2, 0xA2, 0xA2, 0xA2, 0xA2, 0xA2, 0xA2, 0xA2, 0xA2, 0xA2, 0xA2, 0xA2, 0xA2, 0xA2, 0xA2,
+    0xA2, 2,
+];
+
+#[test]
+fn one_limit_behind_a_first_version(rt: HostRuntime) -> Result<(), Fail> {
+    let mut tables = Tables::from_record(rt.alloc(), &FIRST)?;
+    tables.redo(Version::First, &THIRD_KEY)?;
+    tables.redo(Version::First, &[1, 1, 0, 12, 0, 0, 0])?;
+    let mut room = Vec::new(rt.alloc());
+    room.resize(49_152, 0)?;
+    let len = tables.record_bytes(&mut room) as usize;
+    assert!(rt; room.get(..len) == Some(&FIRST_REDONE[..]));
+    Ok(())
+}
+
+#[test]
+fn counter_goes_on_behind_a_first_version(rt: HostRuntime) -> Result<(), Fail> {
+    // Up to 12 without an active key, and then one becomes active.
+    let mut tables = Tables::from_record(rt.alloc(), &FIRST)?;
+    let mut payload = [0xA1; 24];
+    payload[..8].copy_from_slice(&[2, 1, 0, 12, 0, 0, 0, 6]);
+    tables.redo(Version::First, &payload)?;
+    let outgoing = tables.outgoing(Layer::Nwk, 4);
+    assert!(rt; outgoing.next == 12 && outgoing.limit == 12);
+    assert!(rt; tables.declared() == 12);
+    Ok(())
+}
+
+// Where a payload is at fault behind the record of version 1, taken as a later one too.
+fn fault_behind(alloc: Global, version: Version, payload: &[u8]) -> Option<u32> {
+    match Tables::from_record(alloc, &FIRST) {
+        Ok(mut tables) => match tables.redo(version, payload) {
+            Ok(()) => None,
+            Err(KeyError::BadRecord { at }) => Some(at),
+            Err(_) => Some(1_000_000),
+        },
+        Err(_) => Some(1_000_000),
+    }
+}
+
+#[test]
+fn entries_at_fault_behind_a_first_version(rt: HostRuntime) {
+    let start = [
+        2, 1, 0, 8, 0, 0, 0, 14, 0xA1, 0xA1, 0xA1, 0xA1, 0xA1, 0xA1, 0xA1, 0xA1, 0xA1, 0xA1, 0xA1,
+        0xA1, 0xA1, 0xA1, 0xA1, 0xA1, 9, 0, 0, 0,
+    ];
+    let pair = [
+        1, 15, 0x11, 0, 0, 0, 0, 0, 0, 0, 0x13, 0, 0, 0, 0, 0, 0, 0, 0xC1, 0xC1, 0xC1, 0xC1, 0xC1,
+        0xC1, 0xC1, 0xC1, 0xC1, 0xC1, 0xC1, 0xC1, 0xC1, 0xC1, 0xC1, 0xC1,
+    ];
+    // a NWK limit needs no active key there, and isn't lowered
+    let reserve = [1, 1, 0, 8, 0, 0, 0];
+    assert!(rt; fault_behind(rt.alloc(), Version::First, &reserve) == None);
+    assert!(rt; fault_behind(rt.alloc(), Version::Second, &reserve) == Some(1));
+    assert!(rt; fault_behind(rt.alloc(), Version::First, &[1, 1, 0, 7, 0, 0, 0]) == Some(1));
+    // a start, and a pair, which fits behind a later version
+    assert!(rt; fault_behind(rt.alloc(), Version::First, &start) == Some(7));
+    assert!(rt; fault_behind(rt.alloc(), Version::First, &pair) == Some(1));
+    assert!(rt; fault_behind(rt.alloc(), Version::Third, &pair) == None);
+}
+
 // Whether a call tells no change.
 fn tells_nothing(answer: Result<Changes, KeyError>) -> bool {
     match answer {
@@ -478,21 +562,21 @@ fn network_keys_that_come_again(rt: HostRuntime) -> Result<(), Fail> {
     payload[20..36].fill(0xD0);
     payload[36] = 0x0E;
     payload[37..53].fill(0xD0);
-    assert!(rt; tables.redo(&payload).is_ok());
+    assert!(rt; tables.redo(Version::Third, &payload).is_ok());
     assert!(rt; tells_nothing(tables.install_net(&old, 0)));
     // The second does, and the third drops the first.
     payload[2..18].fill(0xD1);
     payload[18] = 1;
     payload[20..36].fill(0xD1);
     payload[37..53].fill(0xD1);
-    assert!(rt; tables.redo(&payload).is_ok());
+    assert!(rt; tables.redo(Version::Third, &payload).is_ok());
     let mut third = [0; 36];
     third[..2].copy_from_slice(&[2, 3]);
     third[2..18].fill(0xD0);
     third[18] = 5;
     third[19..35].fill(0xD2);
     third[35] = 2;
-    assert!(rt; tables.redo(&third).is_ok());
+    assert!(rt; tables.redo(Version::Third, &third).is_ok());
     assert!(rt; tables.install_net(&old, 5).err() == Some(KeyError::KeyOld { place: 0 }));
     Ok(())
 }

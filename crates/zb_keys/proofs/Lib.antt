@@ -12,3 +12,4 @@ pub mod WritingLemmas
 pub mod RecordLemmas
 pub mod FittingLemmas
 pub mod RestoreLemmas
+mod FirstLemmas

@@ -1,14 +1,14 @@
 -- One change of the contents of tables and the model's change of their state.
-use Rattle.std.proofs.Common.{◌≡◌, ℕ, ◌+◌, ◌<◌, ◌≤◌, List, [], ◌∷◌, ◌++◌, length, map, filter, refl, sym, ap, ◌∙◌, arith, Bool, true, false, not, if◌then◌else◌, ◌&&◌, length-append, Option, Some, None, IsTrue, subst}
-use Rattle.std.specs.Prelude.{vec_capacity, vec_len, All, nat_le, nat_lt}
+use Rattle.std.proofs.Common.{◌≡◌, ℕ, ◌<◌, ◌≤◌, List, [], ◌∷◌, ◌++◌, length, map, filter, refl, sym, ap, ◌∙◌, arith, Bool, true, false, not, if◌then◌else◌, ◌&&◌, length-append, Some, subst}
+use Rattle.std.specs.Prelude.{vec_capacity, All, nat_le, nat_lt}
 use Rattle.std.specs.Vec.{with_items}
 use Rattle.std.specs.List.{list_any, list_all}
 use Rattle.std.proofs.lemmas.List.{map-append, length-map, with_items_is}
 use Rattle.std.proofs.lemmas.List.Elements.{All-nil, All-cons}
 use borrow.Author.Tests.{leb-true}
 use Rattle.zb_change.specs.Changes.{duty}
-use Rattle.zb_model.specs.Data.{Bytes, Trust, Nwk, Aps, Reserve, Floor, Start, Moved, DropNet, DropLink, Install, Active, Row, Pair, Became, Live, Removed, Roll, Told, Untold}
-use Rattle.zb_model.specs.State.{NodeState, SenderFloor, NetKey, LinkKey, PairKey, at_net, has_net, same_key, shown_net, reserved, started_at, dropped_net, net_floor, new_net, applied, shown, is_told, is_live_of, with_link, with_pair, names_two, names, is_link, has_link, new_link, revived, at_link}
+use Rattle.zb_model.specs.Data.{Bytes, Trust, Nwk, Reserve, Floor, Start, Moved, DropNet, Row, Pair, Removed}
+use Rattle.zb_model.specs.State.{NodeState, SenderFloor, NetKey, LinkKey, PairKey, at_net, has_net, shown_net, reserved, started_at, dropped_net, applied, shown, is_told, is_live_of, with_link, with_pair, names_two, names, is_link, has_link, new_link, revived, at_link}
 use Rattle.zb_model.specs.Fits.{keeps_rules, rows_have_room, keys_differ, at_most_two_live, active_is_live, partners_agree, links_are_marked, floors_are_kept, limits_are_started, duty_is_kept, pairs_are_kept, senders_ascend, most_nets, most_links, most_pairs, most_senders}
 use Rattle.zb_keys.specs.declared.contents.Contents.{Contents}
 use Rattle.zb_keys.specs.declared.net.NetRow.{NetRow}
@@ -16,9 +16,10 @@ use Rattle.zb_keys.specs.declared.link.LinkRow.{LinkRow}
 use Rattle.zb_keys.specs.declared.pair.Pair as program
 use Rattle.zb_keys.specs.Rows.{net_key, link_key, pair_key}
 use Rattle.zb_keys.specs.Senders.{live_floor, HasRoom}
-use Rattle.zb_keys.specs.Tables.{state_of, Becomes, IsSound, Forgets}
+use Rattle.zb_keys.specs.Tables.{state_of, with_row, Becomes, IsSound, Forgets}
+use Rattle.zb_record.specs.Redoing.{limited, with_limit}
 use Rattle.zb_keys.proofs.Mapping.{list_any-map}
-use Rattle.zb_keys.proofs.ShownLemmas.{shown_reserved, shown_started, shown_dropped, shown_stored, shown_twice, filter-map, installed_new, installed_same}
+use Rattle.zb_keys.proofs.ShownLemmas.{shown_reserved, shown_started, shown_dropped, shown_stored, shown_twice, shown_limited}
 
 pub both : (a b : Bool) → (a && b) ≡ true → (a ≡ true) × (b ≡ true)
 both true b e = (refl, e)
@@ -28,6 +29,16 @@ both false b e = absurd (cc)
 pub becomes_nets : (now : NodeState) (a : Contents) (rows : List NetRow) → length rows ≡ a.nets.len → record (state_of a) { nets = map net_key rows } ≡ now → Becomes now a (record a { nets = with_items a.nets rows })
 becomes_nets now a rows long is = record {
   state = ap (λ l. record (state_of a) { nets = map net_key l }) (with_items_is a.nets rows long) ∙ is;
+  role = refl;
+  nets_room = omega arith;
+  links_room = omega arith;
+  pairs_room = omega arith;
+}
+
+-- and another declared start
+pub becomes_limited : (now : NodeState) (a : Contents) (limit : ℕ) (rows : List NetRow) → length rows ≡ a.nets.len → record (state_of a) { declared = limit; nets = map net_key rows } ≡ now → Becomes now a (record a { declared = limit; nets = with_items a.nets rows })
+becomes_limited now a limit rows long is = record {
+  state = ap (λ l. record (state_of a) { declared = limit; nets = map net_key l }) (with_items_is a.nets rows long) ∙ is;
   role = refl;
   nets_room = omega arith;
   links_room = omega arith;
@@ -48,6 +59,10 @@ unfolding applied shown
 reserved_state s key limit nets active forgets e =
     rw active (ap (λ l. record s { nets = l; active = Some key }) (e ∙ sym (shown_reserved key limit s.nets forgets)))
 
+pub limited_state : (s : NodeState) (limit : ℕ) (nets : List NetKey) → Forgets s → nets ≡ map (limited limit) s.nets → record s { declared = limit; nets = nets } ≡ shown (with_limit limit s)
+unfolding shown
+limited_state s limit nets forgets e = ap (λ l. record s { declared = limit; nets = l }) (e ∙ sym (shown_limited limit s.nets forgets))
+
 pub started_state : (s : NodeState) (key : Bytes) (value : ℕ) (nets : List NetKey) → Forgets s → nets ≡ at_net key (started_at value) s.nets → record s { nets = nets } ≡ shown (applied (Start key value) s)
 unfolding applied shown
 started_state s key value nets forgets e = ap (λ l. record s { nets = l }) (e ∙ sym (shown_started key value s.nets forgets))
@@ -60,9 +75,9 @@ pub stored_state : (s : NodeState) (key : Bytes) (sender value : ℕ) (nets : Li
 unfolding applied shown
 stored_state s key sender value nets forgets e = ap (λ l. record s { nets = l }) (e ∙ sym (shown_stored key sender value s.nets forgets))
 
-pub installed_state : (s : NodeState) (key : Bytes) (sequence : ℕ) (nets : List NetKey) → nets ≡ map shown_net (if has_net key s.nets then s.nets else s.nets ++ new_net key sequence ∷ []) → record s { nets = nets } ≡ shown (applied (Moved (Install key sequence)) s)
-unfolding applied shown
-installed_state s key sequence nets e = ap (λ l. record s { nets = l }) e
+pub installed_state : (s : NodeState) (row : NetKey) (nets : List NetKey) → nets ≡ map shown_net (if has_net row.key s.nets then s.nets else s.nets ++ row ∷ []) → record s { nets = nets } ≡ shown (with_row row s)
+unfolding shown
+installed_state s row nets e = ap (λ l. record s { nets = l }) e
 
 pub linked_state : (s : NodeState) (partner : ℕ) (key : Bytes) (trust : Trust) (told : Bool) (links : List LinkKey) → Forgets s → told ≡ is_told s partner → links ≡ with_link partner key trust told s.links → record s { links = links } ≡ shown (applied (Moved (Row partner key trust)) s)
 unfolding applied shown

@@ -1,5 +1,5 @@
 -- What the tables of a node hold, as the model's state of a node, and what they keep of themselves.
-use Rattle.std.specs.Prelude.{◌≡◌, ℕ, ◌≤◌, true, map, Option, Some, None, vec_capacity}
+use Rattle.std.specs.Prelude.{◌≡◌, ◌≤◌, true, if◌then◌else◌, [], ◌∷◌, ◌++◌, map, Option, Some, None, vec_capacity}
 use Rattle.zb_base.specs.declared.key.Key.{Key}
 use Rattle.zb_change.specs.Changes.{duty, stage, is_sending}
 use Rattle.zb_keys.specs.declared.contents.Contents.{Contents}
@@ -7,7 +7,7 @@ use Rattle.zb_keys.specs.Rows.{net_key, link_key, pair_key}
 use Rattle.zb_record.specs.declared.record.Record.{Record}
 use Rattle.zb_record.specs.Records.{record_seen}
 use Rattle.zb_model.specs.Data.{Bytes}
-use Rattle.zb_model.specs.State.{NodeState, shown_net}
+use Rattle.zb_model.specs.State.{NodeState, NetKey, has_net, shown_net}
 use Rattle.zb_model.specs.Fits.{keeps_rules, most_nets, most_links, most_pairs}
 
 abbrev pub active_bytes : Option Key → Option Bytes
@@ -27,6 +27,10 @@ state_of a = record {
   links = map link_key a.links.items;
   pairs = map pair_key a.pairs.items;
 }
+
+-- a row is added where its key has none
+abbrev pub with_row : NetKey → NodeState → NodeState
+with_row row s = record s { nets = if has_net row.key s.nets then s.nets else s.nets ++ row ∷ [] }
 
 -- a dropped network key keeps no floors
 abbrev pub Forgets : NodeState → Type 0

@@ -5,7 +5,7 @@ ghost use Rattle.zb_change.specs.Changes.{tier, trust, stage, edit, is_sending};
 ghost use Rattle.zb_keys.specs.Rows.{net_key, link_key};
 ghost use Rattle.zb_keys.specs.Senders.{HasRoom, live_floor};
 ghost use Rattle.zb_keys.specs.Reading.{outgoing_of, place_of_key};
-ghost use Rattle.zb_keys.specs.Tables.{state_of, Becomes, IsSound, Forgets};
+ghost use Rattle.zb_keys.specs.Tables.{state_of, with_row, Becomes, IsSound, Forgets};
 ghost use Rattle.zb_model.specs.Data.{Nwk, Aps, Reserve, Floor, Start, Moved, DropNet, DropLink, Install, Active, Row, Pair as Paired, Became, Live, Removed, Roll, Told, Untold};
 ghost use Rattle.zb_model.specs.State.{applied, shown, at_net, next_counter, stored_limit, active_row, counted, heard, with_declared, current, offered};
 ghost use Rattle.zb_model.specs.Fits.{keeps_rules};
@@ -260,7 +260,7 @@ impl Contents {
     }
 
     /// Reserves outgoing counters of the application support layer.
-    fn reserve_aps(&mut self, limit: u32)
+    pub(crate) fn reserve_aps(&mut self, limit: u32)
         requires { Forgets (state_of self.old) }
         ensures { Becomes (shown (applied (Reserve Aps limit) (state_of self.old))) self.old self.new }
     {
@@ -306,8 +306,17 @@ impl Contents {
         requires fits { length (applied (Moved (Install key.0 sequence)) (state_of self.old)).nets ≤ vec_capacity self.old.nets }
         ensures { Becomes (shown (applied (Moved (Install key.0 sequence)) (state_of self.old))) self.old self.new }
     {
-        if !has_key(self.nets.as_slice(), &key) {
-            let row = NetRow::installed(key, sequence);
+        self.add_net(NetRow::installed(key, sequence));
+    }
+
+    /// Adds the row of a network key that has none, for which there is room.
+    pub(crate) fn add_net(&mut self, row: NetRow)
+        requires forgets { Forgets (state_of self.old) }
+        requires live { (net_key row).live ≡ true }
+        requires fits { length (with_row (net_key row) (state_of self.old)).nets ≤ vec_capacity self.old.nets }
+        ensures { Becomes (shown (with_row (net_key row) (state_of self.old))) self.old self.new }
+    {
+        if !has_key(self.nets.as_slice(), &row.key) {
             add(&mut self.nets, row);
         }
     }

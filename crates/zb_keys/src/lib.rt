@@ -4,6 +4,7 @@
 
 mod calls;
 mod contents;
+mod first;
 mod fitting;
 mod link;
 mod link_planning;

@@ -3,8 +3,9 @@ ghost use Rattle.std.specs.Prelude.{◌≡◌, ◌+◌, ◌<◌, ◌≤◌, [], 
 ghost use Rattle.std.specs.List.{list_any};
 ghost use Rattle.std.specs.Option.{option_copied};
 ghost use Rattle.zb_keys.specs.Rows.{net_key, heard_floor};
-ghost use Rattle.zb_model.specs.State.{most, at_net, new_net, same_key, reserved, started_at, dropped_net, shown_net, next_at, net_floor, net_kept, floor_stored, floor_kept};
+ghost use Rattle.zb_model.specs.State.{most, at_net, new_net, given_net, same_key, reserved, started_at, dropped_net, shown_net, next_at, net_floor, net_kept, floor_stored, floor_kept};
 ghost use Rattle.zb_keys.specs.Reading.{floor_of_row};
+ghost use Rattle.zb_record.specs.Redoing.{limited};
 ghost use Rattle.zb_keys.specs.Senders.{IsPlace, IsAbsent, HasRoom, live_floor, counted_row};
 
 use arrayvec::ArrayVec;
@@ -58,6 +59,30 @@ impl NetRow {
             next: 0,
             floors: ArrayVec::new(),
         }
+    }
+
+    /// A key that was just installed and counts as started, with the limit that all keys have.
+    pub(crate) fn given(key: Key, sequence: u8, limit: u32) -> NetRow
+        ensures { net_key result ≡ given_net limit key.0 sequence }
+    {
+        NetRow {
+            key,
+            sequence,
+            live: true,
+            started: true,
+            limit,
+            next: limit,
+            floors: ArrayVec::new(),
+        }
+    }
+
+    /// Goes on from a limit that all keys have, started. A limit never falls.
+    pub(crate) fn limit_to(&mut self, limit: u32)
+        ensures { net_key self.new ≡ limited limit (net_key self.old) }
+    {
+        self.started = true;
+        self.limit = self.limit.max(limit);
+        self.next = self.next.max(limit);
     }
 
     /// Drops the row and forgets its floors, if it has that key.
@@ -211,6 +236,15 @@ pub(crate) fn reserve_net(rows: &mut [NetRow], key: &Key, limit: u32)
 {
     for row in rows.iter_mut() {
         row.reserve_at(key, limit);
+    }
+}
+
+/// Gives all keys one limit.
+pub(crate) fn limit_nets(rows: &mut [NetRow], limit: u32)
+    ensures { map net_key rows.new ≡ map (limited limit) (map net_key rows.old) }
+{
+    for row in rows.iter_mut() {
+        row.limit_to(limit);
     }
 }
 

@@ -8,47 +8,53 @@ use crate::Tables;
 use crate::contents::Contents;
 use zb_change::KeyError;
 use zb_cursor::Reader;
-use zb_record::read_change;
+use zb_record::{Version, read_change};
 
 impl Contents {
-    /// Makes the change at the front again. A fault is told by the number of bytes from the change's first one on.
-    fn redo_change(&mut self, reader: &mut Reader<usize>) -> Result<(), usize>
+    /// Makes the change at the front again, behind a record of a version. A fault is told by the number of bytes from the
+    /// change's first one on.
+    fn redo_change(&mut self, version: Version, reader: &mut Reader<usize>) -> Result<(), usize>
         requires { IsSound self.old }
-        ensures redone { Redoes result reader.new.rest.now (state_of self.new) (change_redone reader.old.rest.now (state_of self.old)) }
+        ensures redone { Redoes result reader.new.rest.now (state_of self.new) (change_redone version reader.old.rest.now (state_of self.old)) }
         ensures sound { IsSound self.new }
         ensures shorter { OnOk result (length reader.new.rest.now ≤ length reader.old.rest.now) }
     {
         let left = reader.rest.len();
         reader.cut = left;
         let change = read_change(reader)?;
-        if !self.fits(&change) {
+        if !self.fits_behind(version, &change) {
             return Err(left);
         }
-        self.change(&change);
+        self.change_behind(version, &change);
         Ok(())
     }
 
     /// Makes so many changes again.
-    fn redo_changes(&mut self, reader: &mut Reader<usize>, count: u8) -> Result<(), usize>
+    fn redo_changes(
+        &mut self,
+        version: Version,
+        reader: &mut Reader<usize>,
+        count: u8,
+    ) -> Result<(), usize>
         requires { IsSound self.old }
-        ensures redone { Redoes result reader.new.rest.now (state_of self.new) (changes_redone count reader.old.rest.now (state_of self.old)) }
+        ensures redone { Redoes result reader.new.rest.now (state_of self.new) (changes_redone version count reader.old.rest.now (state_of self.old)) }
         ensures sound { IsSound self.new }
         ensures shorter { OnOk result (length reader.new.rest.now ≤ length reader.old.rest.now) }
     {
         for _ in 0..count {
-            self.redo_change(reader)?;
+            self.redo_change(version, reader)?;
         }
         Ok(())
     }
 
     /// Makes the changes of all payloads again.
-    fn redo(&mut self, reader: &mut Reader<usize>) -> Result<(), usize>
+    fn redo(&mut self, version: Version, reader: &mut Reader<usize>) -> Result<(), usize>
         requires { IsSound self.old }
-        ensures redone { Redoes result [] (state_of self.new) (redone reader.old.rest.now (state_of self.old)) }
+        ensures redone { Redoes result [] (state_of self.new) (redone version reader.old.rest.now (state_of self.old)) }
         ensures sound { IsSound self.new }
     {
         while let Some(count) = next_count(reader) {
-            self.redo_changes(reader, count)?;
+            self.redo_changes(version, reader, count)?;
         }
         Ok(())
     }
@@ -67,19 +73,20 @@ fn next_count(reader: &mut Reader<usize>) -> Option<u8>
 
 impl Tables {
     /// Makes the changes of journal entries again: `entries` is their payloads, one behind the other, as `change_bytes`
-    /// wrote them.
+    /// wrote them, behind a record of a version. Behind one of version 1 all network keys have one NWK limit, which is the
+    /// declared start: a NWK reserve sets it, whether a key is active or not, and a new key goes on from it, started.
     ///
     /// Refused as `BadRecord` where a change isn't whole, is none or doesn't fit: at the place of its first byte, which is
-    /// its kind. Then the changes before it are made.
-    pub fn redo(&mut self, entries: &[u8]) -> Result<(), KeyError>
-        ensures answer { result ≡ redo_answer (length entries.now) (redone entries.now self.old).1 }
-        ensures made { self.new ≡ (redone entries.now self.old).0 }
+    /// its kind. Behind a record of version 1 a start and a pair are none. Then the changes before it are made.
+    pub fn redo(&mut self, version: Version, entries: &[u8]) -> Result<(), KeyError>
+        ensures answer { result ≡ redo_answer (length entries.now) (redone version entries.now self.old).1 }
+        ensures made { self.new ≡ (redone version entries.now self.old).0 }
     {
         let mut reader = Reader {
             rest: entries,
             cut: 0,
         };
-        match self.contents.redo(&mut reader) {
+        match self.contents.redo(version, &mut reader) {
             Ok(()) => Ok(()),
             Err(left) => Err(bad_record(entries.len(), left)),
         }

@@ -23,7 +23,7 @@ mod LockoutDeeds
 mod ConfirmsLines
 pub mod ConfirmsRuns
 mod RecordLaws
-mod RecordBack
+pub mod RecordBack
 mod GroupStates
 mod LockoutRows
 mod LockoutKept

@@ -7,3 +7,5 @@ pub mod Steady
 pub mod Entries
 pub mod RecordAgain
 pub mod WholeAgain
+pub mod First
+pub mod OneLimit

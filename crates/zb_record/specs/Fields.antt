@@ -1,5 +1,5 @@
 -- Fields of one byte that stand for one of a few values; another byte is refused as a missing one is.
-use Rattle.std.specs.Prelude.{ℕ, List, Option, Some, None, Result, Ok, Err, ◌==◌, if◌then◌else◌}
+use Rattle.std.specs.Prelude.{ℕ, List, [], ◌∷◌, Option, Some, None, Ok, Err, ◌==◌, if◌then◌else◌}
 use Rattle.zb_base.specs.declared.label.Layer.{Layer}
 use Rattle.zb_base.specs.declared.label.Layer.TheVariants as layer
 use Rattle.zb_base.specs.declared.node.Role.{Role}
@@ -69,6 +69,11 @@ role_at = do
 
 abbrev pub version_of : ℕ → Option Version
 version_of b = if b == 1 then Some version.First else if b == 2 then Some version.Second else if b == 3 then Some version.Third else None
+
+-- the version of a record, which its first byte says
+abbrev pub record_version : List ℕ → Option Version
+record_version [] = None
+record_version (b ∷ bytes) = version_of b
 
 unfoldable pub version_at : {E : Type 0} → Reading E Version
 version_at = do

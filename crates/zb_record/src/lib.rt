@@ -18,4 +18,4 @@ pub use net::NetRecord;
 pub use pair::PairRecord;
 pub use record::{Head, Node, Record, read_record};
 pub use sender::SenderRecord;
-pub use version::Version;
+pub use version::{Version, version_of};

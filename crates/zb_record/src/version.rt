@@ -1,7 +1,7 @@
 //! The versions of records.
 ghost use Rattle.std.specs.Prelude.{◌≡◌};
 ghost use Rattle.zb_cursor.specs.Reading.{Gives};
-ghost use Rattle.zb_record.specs.Fields.{version_at};
+ghost use Rattle.zb_record.specs.Fields.{record_version, version_at};
 
 use zb_cursor::Reader;
 
@@ -26,5 +26,17 @@ pub(crate) fn read_version(reader: &mut Reader<usize>) -> Result<Version, usize>
         2 => Ok(Version::Second),
         3 => Ok(Version::Third),
         _ => Err(reader.cut),
+    }
+}
+
+/// The version that the first byte of a record says, if it is one.
+pub fn version_of(bytes: &[u8]) -> Option<Version>
+    ensures { result ≡ record_version bytes.now }
+{
+    match bytes.first() {
+        Some(1) => Some(Version::First),
+        Some(2) => Some(Version::Second),
+        Some(3) => Some(Version::Third),
+        _ => None,
     }
 }

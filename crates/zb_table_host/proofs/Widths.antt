@@ -1,5 +1,5 @@
 -- What is read as a record has values within the widths of a record.
-use Rattle.std.proofs.Common.{◌≡◌, ℕ, zero, suc, ◌+◌, ◌<◌, ◌≤◌, ◌^◌, Bool, true, false, if◌then◌else◌, List, [], ◌∷◌, ◌++◌, length, take, drop, get_or, Option, Some, None, Result, Ok, Err, nat_lt, refl, sym, ap, ◌∙◌, subst, arith, ltb-false, ◌==◌}
+use Rattle.std.proofs.Common.{◌≡◌, ℕ, zero, suc, ◌<◌, ◌^◌, Bool, true, false, if◌then◌else◌, List, [], ◌∷◌, ◌++◌, length, take, drop, get_or, Option, Some, None, Result, Ok, Err, nat_lt, refl, ap, subst, arith, ltb-false, ◌==◌}
 use Rattle.std.specs.Int.{Width, w16, w32, w64, byte_len, from_le_bytes}
 use Rattle.std.specs.List.{AllByRecursion}
 use Rattle.std.proofs.lemmas.List.{length-take}
@@ -14,11 +14,11 @@ use Rattle.zb_record.specs.declared.version.Version.TheVariants.{First, Second, 
 use Rattle.zb_record.specs.declared.record.Node.{Node}
 use Rattle.zb_record.specs.declared.record.Head.{Head}
 use Rattle.zb_record.specs.Fields.{chosen, version_of, role_of, state_of, rollover_of, attribute_of, version_at, role_at, state_at, rollover_at, attribute_at}
-use Rattle.zb_record.specs.Placed.{Placed, onward, ◌>>=◌, give, judged, field, whole, rows_at}
+use Rattle.zb_record.specs.Placed.{Placed, ◌>>=◌, give, judged, field, whole, rows_at}
 use Rattle.zb_record.specs.Ranges.{IsKey, NetFits, LinkFits, PairFits, FitsBytes}
-use Rattle.zb_record.specs.Rows.{net_at, net_flags_fit, net_limit_at, is_started, is_new_net, allows_limit, sender_at, floors_at, live_floors_at, all_floors_at, is_last, isnt_zero, has_few, link_at, links_at, link_row, is_new_link, link_flags_fit, has_link_room, pair_at, all_pairs_at, pairs_at, is_new_pair, is_one, has_pair_room}
+use Rattle.zb_record.specs.Rows.{net_at, net_flags_fit, net_limit_at, is_started, is_new_net, allows_limit, sender_at, floors_at, live_floors_at, all_floors_at, is_last, isnt_zero, has_few, link_at, links_at, is_new_link, link_flags_fit, has_link_room, pair_at, all_pairs_at, pairs_at, is_new_pair, is_one, has_pair_room}
 use Rattle.zb_record.specs.Records.{may_enter, may_roll, node_at, head_at, has_net_room, is_place, nets_at, state_from, record_at, record_read, ended}
-use Rattle.zb_record.proofs.Sound.{Both, both_read}
+use Rattle.zb_record.proofs.Sound.{both_read}
 
 abbrev pub AreBytes : List ℕ → Type 0
 AreBytes bytes = AllByRecursion (λ b. b < 256) bytes

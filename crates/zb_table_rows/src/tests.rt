@@ -6,6 +6,7 @@ use zb_base::{Layer, OrMemory, Role};
 use zb_change::KeyError;
 use zb_disk::MemDisk;
 use zb_keys::Tables;
+use zb_record::{Version, version_of};
 use zb_store::{Store, StoreFault};
 
 // A record of version 1: a centre with the NWK limit 8, and one network key, which is live and active.
@@ -23,7 +24,7 @@ const THIRD: [u8; 43] = [
 // An entry: NWK counters are reserved up to 16.
 const RESERVED: [u8; 7] = [1, 1, 0, 16, 0, 0, 0];
 
-// An entry behind the record of version 1: up to 12.
+// An entry: NWK counters are reserved up to 12.
 const FIRST_RESERVED: [u8; 7] = [1, 1, 0, 12, 0, 0, 0];
 
 // A disk with a slot that stands open: a record, and entries.
@@ -53,7 +54,8 @@ fn restore(alloc: Global, record: &[u8], entries: &[u8]) -> Result<Result<Tables
     if tables.role() != Role::Centre {
         return Ok(Err(1));
     }
-    match tables.redo(entries) {
+    let version = version_of(record).unwrap_or(Version::Third);
+    match tables.redo(version, entries) {
         Ok(()) => Ok(Ok(tables)),
         Err(KeyError::BadRecord { at }) => {
             let before = u32::try_from(record.len()).unwrap_or(0);
@@ -101,7 +103,7 @@ fn goes_on_from_the_limit_of_a_first_version(rt: HostRuntime) -> Result<(), Fail
     let mut disk = disk_of(&rt, &FIRST)?;
     let (store, record, _) = Store::open(rt.alloc(), &mut disk)?;
     let mut tables = Tables::from_record(rt.alloc(), record.as_slice())?;
-    tables.redo(&FIRST_RESERVED)?;
+    tables.redo(Version::Third, &FIRST_RESERVED)?;
     put(rt.alloc(), store, &mut disk, &tables)?;
     assert_eq!(rt; seal(&rt, &mut tables), 8);
     let (record, _) = Store::peek(rt.alloc(), &mut disk)?;
@@ -113,7 +115,7 @@ fn goes_on_from_the_limit_of_a_first_version(rt: HostRuntime) -> Result<(), Fail
 #[test]
 fn goes_on_from_the_limit_of_a_key(rt: HostRuntime) -> Result<(), Fail> {
     let mut tables = Tables::from_record(rt.alloc(), &THIRD)?;
-    tables.redo(&RESERVED)?;
+    tables.redo(Version::Third, &RESERVED)?;
     assert_eq!(rt; seal(&rt, &mut tables), 12);
     Ok(())
 }
@@ -143,16 +145,19 @@ fn bytes_that_are_all_ones(rt: HostRuntime) -> Result<(), Fail> {
 
 #[test]
 fn entries_at_fault(rt: HostRuntime) -> Result<(), Fail> {
-    let journals: [(&[u8], Result<u32, u32>); 6] = [
-        (&[], Ok(12)),
-        (&[1, 1, 0, 16, 0, 0, 0], Ok(16)),
-        (&[1, 0x7F], Err(44)),
-        (&[1, 1, 0, 16, 0, 0, 0, 1, 0x7F], Err(51)),
-        (&[1, 1, 0, 16, 0, 0], Err(44)),
-        (&[1, 1, 0, 11, 0, 0, 0], Err(44)),
+    let journals: [(&[u8], &[u8], Result<u32, u32>); 9] = [
+        (&THIRD, &[], Ok(12)),
+        (&THIRD, &RESERVED, Ok(16)),
+        (&THIRD, &[1, 0x7F], Err(44)),
+        (&THIRD, &[1, 1, 0, 16, 0, 0, 0, 1, 0x7F], Err(51)),
+        (&THIRD, &[1, 1, 0, 16, 0, 0], Err(44)),
+        (&THIRD, &[1, 1, 0, 11, 0, 0, 0], Err(44)),
+        (&FIRST, &RESERVED, Ok(16)),
+        (&FIRST, &[1, 1, 0, 7, 0, 0, 0], Err(38)),
+        (&FIRST, &[1, 1, 0, 16, 0, 0, 0, 1, 0x0E], Err(45)),
     ];
-    for (entries, want) in journals {
-        assert_eq!(rt; limit_of(rt.alloc(), &THIRD, entries)?, want);
+    for (record, entries, want) in journals {
+        assert_eq!(rt; limit_of(rt.alloc(), record, entries)?, want);
     }
     Ok(())
 }
