@@ -11,6 +11,11 @@ use std::fmt;
 pub struct Failed;
 
 impl fmt::Display for Failed {
+    ghost use Rattle.std.specs.Prelude.{Some};
+    ghost use Rattle.zb_base.specs.Texts.{failed_text};
+
+    ghost output = { λ fault. Some failed_text };
+
     fn fmt<W: fmt::Write>(&self, f: &mut fmt::Formatter<W>) -> fmt::Result {
         f.write_str("an outside object failed")
     }
@@ -23,6 +28,11 @@ impl Error for Failed {}
 pub struct NoMemory;
 
 impl fmt::Display for NoMemory {
+    ghost use Rattle.std.specs.Prelude.{Some};
+    ghost use Rattle.zb_base.specs.Texts.{no_memory_text};
+
+    ghost output = { λ fault. Some no_memory_text };
+
     fn fmt<W: fmt::Write>(&self, f: &mut fmt::Formatter<W>) -> fmt::Result {
         f.write_str("no memory")
     }

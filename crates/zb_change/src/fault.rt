@@ -24,6 +24,11 @@ pub enum KeyError {
 }
 
 impl fmt::Display for KeyError {
+    ghost use Rattle.std.specs.Prelude.{Some};
+    ghost use Rattle.zb_change.specs.Texts.{key_error_text};
+
+    ghost output = { λ it. Some (key_error_text it) };
+
     fn fmt<W: fmt::Write>(&self, f: &mut fmt::Formatter<W>) -> fmt::Result {
         match self {
             KeyError::KeyOld { place } => write!(
@@ -32,7 +37,7 @@ impl fmt::Display for KeyError {
             ),
             KeyError::KeysFull => f.write_str("no room for another network key"),
             KeyError::RowsFull => f.write_str("no room for another row"),
-            KeyError::KeyInUse { partner } => write!(f, "the key is that of {:016X}", partner.0),
+            KeyError::KeyInUse { .. } => f.write_str("another partner has the key"),
             KeyError::NoRow => f.write_str("no such row"),
             KeyError::WrongHash => f.write_str("the hash is of no key"),
             KeyError::BadRecord { at } => write!(f, "no record, at byte {at}"),

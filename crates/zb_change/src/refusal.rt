@@ -14,6 +14,11 @@ pub enum Place {
 }
 
 impl fmt::Display for Place {
+    ghost use Rattle.std.specs.Prelude.{Some};
+    ghost use Rattle.zb_change.specs.Texts.{place_text};
+
+    ghost output = { λ it. Some (place_text it) };
+
     fn fmt<W: fmt::Write>(&self, f: &mut fmt::Formatter<W>) -> fmt::Result {
         f.write_str(match self {
             Place::Nwk => "nwk",

@@ -44,6 +44,11 @@ pub enum Rollover {
 }
 
 impl fmt::Display for State {
+    ghost use Rattle.std.specs.Prelude.{Some};
+    ghost use Rattle.zb_change.specs.Texts.{state_text};
+
+    ghost output = { λ it. Some (state_text it) };
+
     fn fmt<W: fmt::Write>(&self, f: &mut fmt::Formatter<W>) -> fmt::Result {
         f.write_str(match self {
             State::Fresh => "fresh",
@@ -58,6 +63,11 @@ impl fmt::Display for State {
 }
 
 impl fmt::Display for Attribute {
+    ghost use Rattle.std.specs.Prelude.{Some};
+    ghost use Rattle.zb_change.specs.Texts.{attribute_text};
+
+    ghost output = { λ it. Some (attribute_text it) };
+
     fn fmt<W: fmt::Write>(&self, f: &mut fmt::Formatter<W>) -> fmt::Result {
         f.write_str(match self {
             Attribute::Provisional => "provisional",
@@ -68,6 +78,11 @@ impl fmt::Display for Attribute {
 }
 
 impl fmt::Display for Rollover {
+    ghost use Rattle.std.specs.Prelude.{Some};
+    ghost use Rattle.zb_change.specs.Texts.{rollover_text};
+
+    ghost output = { λ it. Some (rollover_text it) };
+
     fn fmt<W: fmt::Write>(&self, f: &mut fmt::Formatter<W>) -> fmt::Result {
         f.write_str(match self {
             Rollover::Idle => "idle",

@@ -15,6 +15,11 @@ use zb_base::{Eui, Frame, Key, Short};
 pub struct TooLong;
 
 impl fmt::Display for TooLong {
+    ghost use Rattle.std.specs.Prelude.{Some};
+    ghost use Rattle.zb_cursor.specs.Texts.{too_long_text};
+
+    ghost output = { λ fault. Some too_long_text };
+
     fn fmt<W: fmt::Write>(&self, f: &mut fmt::Formatter<W>) -> fmt::Result {
         f.write_str("a frame has at most 127 bytes")
     }

@@ -17,6 +17,11 @@ pub enum PlayFault {
 }
 
 impl fmt::Display for PlayFault {
+    ghost use Rattle.std.specs.Prelude.{Some};
+    ghost use Rattle.zb_player.specs.FaultTexts.{fault_text};
+
+    ghost output = { λ it. Some (fault_text it) };
+
     fn fmt<W: fmt::Write>(&self, f: &mut fmt::Formatter<W>) -> fmt::Result {
         f.write_str(match self {
             PlayFault::Write => "the transcript can't be written",

@@ -8,14 +8,8 @@ use Rattle.zb_base.specs.declared.label.Layer.{Layer}
 use Rattle.zb_base.specs.declared.label.Layer.TheVariants as layer
 use Rattle.zb_base.specs.declared.label.Label.{Label}
 use Rattle.zb_base.specs.declared.label.Label.TheVariants as label
-use Rattle.zb_change.specs.declared.state.State.{State}
-use Rattle.zb_change.specs.declared.state.State.TheVariants as state
-use Rattle.zb_change.specs.declared.state.Attribute.{Attribute}
-use Rattle.zb_change.specs.declared.state.Attribute.TheVariants as attribute
-use Rattle.zb_change.specs.declared.state.Rollover.{Rollover}
-use Rattle.zb_change.specs.declared.state.Rollover.TheVariants as rollover
+pub use Rattle.zb_change.specs.Texts.{attribute_text, place_text, rollover_text, state_text}
 use Rattle.zb_change.specs.declared.refusal.Place.{Place}
-use Rattle.zb_change.specs.declared.refusal.Place.TheVariants as place
 use Rattle.zb_change.specs.declared.refusal.Refusal.{Refusal}
 use Rattle.zb_change.specs.declared.refusal.Refusal.TheVariants as refusal
 use Rattle.zb_seal.specs.declared.term.Term.{Term}
@@ -104,29 +98,6 @@ label_text label.Data = codes "data"
 label_text label.Network = codes "network"
 label_text label.Transport = codes "transport"
 label_text label.Load = codes "load"
-
-abbrev pub attribute_text : Attribute → List ℕ
-attribute_text attribute.Provisional = codes "provisional"
-attribute_text attribute.Unverified = codes "unverified"
-attribute_text attribute.Verified = codes "verified"
-
-abbrev pub state_text : State → List ℕ
-state_text state.Fresh = codes "fresh"
-state_text state.Knocked = codes "knocked"
-state_text state.Joined = codes "joined"
-state_text state.Offered = codes "offered"
-state_text state.Confirmed = codes "confirmed"
-state_text state.Rejoining = codes "rejoining"
-state_text state.Gone = codes "gone"
-
-abbrev pub rollover_text : Rollover → List ℕ
-rollover_text rollover.Sending = codes "sending"
-rollover_text rollover.Idle = codes "idle"
-
-abbrev pub place_text : Place → List ℕ
-place_text place.Nwk = codes "nwk"
-place_text place.Aps = codes "aps"
-place_text place.Event = codes "event"
 
 abbrev pub answer_text : Bool → List ℕ
 answer_text true = codes "yes"

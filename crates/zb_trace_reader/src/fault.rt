@@ -9,6 +9,11 @@ pub struct TraceError {
 }
 
 impl fmt::Display for TraceError {
+    ghost use Rattle.std.specs.Prelude.{Some};
+    ghost use Rattle.zb_trace_reader.specs.Texts.{fault_text};
+
+    ghost output = { λ it. Some (fault_text it) };
+
     fn fmt<W: fmt::Write>(&self, f: &mut fmt::Formatter<W>) -> fmt::Result {
         let line = self.line;
         write!(f, "line {line} is no line of a transcript")
