@@ -1,5 +1,5 @@
 -- Looking for a row in the program's list and in the model's.
-use Rattle.std.proofs.Common.{◌≡◌, ℕ, ◌+◌, ◌<◌, arith, length, List, [], ◌∷◌, map, refl, sym, ap, ◌∙◌, Bool, true, false, if◌then◌else◌, Option, Some, None}
+use Rattle.std.proofs.Common.{◌≡◌, ℕ, ◌+◌, ◌<◌, arith, length, List, [], ◌∷◌, map, refl, ap, ◌∙◌, Bool, true, false, if◌then◌else◌, Some, None}
 use Rattle.std.specs.Prelude.{find, position, option_map}
 use Rattle.std.specs.Prelude.{not, nat_lt}
 use Rattle.std.specs.List.{prefix_len, position_or_len}

@@ -9,7 +9,7 @@ use Rattle.zb_change.specs.declared.change.Change.TheVariants as change
 use Rattle.zb_change.specs.Changes.{edit}
 use Rattle.zb_fits.specs.Fitting.{leaves_rules}
 use Rattle.zb_fits.proofs.FitLaws.{fits_is}
-use Rattle.zb_model.specs.Data.{Reserve, Nwk, Aps}
+use Rattle.zb_model.specs.Data.{Reserve, Aps}
 use Rattle.zb_model.specs.State.{NodeState, applied}
 use Rattle.zb_model.specs.Fits.{keeps_rules, fits}
 use Rattle.zb_record.specs.Redoing.{first_fits, first_applied}

@@ -1,5 +1,5 @@
 -- Network keys in use, counted in the program's list and in the model's.
-use Rattle.std.proofs.Common.{◌≡◌, List, map, length, sym, ap, ◌∙◌}
+use Rattle.std.proofs.Common.{◌≡◌, List, map, length, ap, ◌∙◌}
 use Rattle.std.specs.Prelude.{filter}
 use Rattle.std.proofs.lemmas.List.{length-map}
 use Rattle.zb_model.specs.State.{NetKey}

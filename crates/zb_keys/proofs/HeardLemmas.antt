@@ -1,11 +1,11 @@
 -- What seals and accepted frames do to the contents of tables.
-use Rattle.std.proofs.Common.{◌≡◌, ℕ, ◌+◌, ◌<◌, ◌≤◌, List, [], map, length, refl, sym, ap, ◌∙◌, arith, Bool, true, false, if◌then◌else◌, subst, Option, Some, None}
-use Rattle.std.specs.Prelude.{vec_capacity, find, nat_lt, nat_eq}
+use Rattle.std.proofs.Common.{◌≡◌, ℕ, ◌+◌, ◌<◌, List, [], map, length, refl, sym, ap, ◌∙◌, Bool, true, false, if◌then◌else◌, subst, Some}
+use Rattle.std.specs.Prelude.{nat_lt}
 use Rattle.std.specs.Vec.{with_items}
 use Rattle.std.proofs.lemmas.List.{with_items_is}
 use borrow.Author.Tests.{lt-ltb}
-use Rattle.zb_model.specs.Data.{Bytes, Nwk, Aps}
-use Rattle.zb_model.specs.State.{NodeState, NetKey, LinkKey, same_key, at_net, at_link, is_link, shown_net, next_at, net_kept, floor_kept, link_kept, counted, heard, of_active, next_counter, stored_limit, active_row, net_of, SenderFloor}
+use Rattle.zb_model.specs.Data.{Bytes, Nwk}
+use Rattle.zb_model.specs.State.{NodeState, NetKey, LinkKey, same_key, at_net, at_link, is_link, shown_net, next_at, net_kept, link_kept, counted, of_active, next_counter, stored_limit, active_row}
 use Rattle.zb_model.specs.Fits.{keeps_rules, keys_differ, all_apart}
 use Rattle.zb_keys.specs.declared.contents.Contents.{Contents}
 use Rattle.zb_keys.specs.declared.net.NetRow.{NetRow}
@@ -15,7 +15,7 @@ use Rattle.zb_keys.specs.Senders.{counted_row}
 use Rattle.zb_keys.specs.Tables.{state_of, IsSound, Forgets}
 use Rattle.zb_keys.proofs.ShownLemmas.{shown_at}
 use Rattle.zb_keys.proofs.StateLemmas.{both, rules_of}
-use Rattle.zb_keys.proofs.RuleLemmas.{Mild, mild_at, counted_is_mild, heard_is_mild, kept_by_map, kept_by_links, at_net_found}
+use Rattle.zb_keys.proofs.RuleLemmas.{Mild, mild_at, kept_by_map, kept_by_links, at_net_found}
 
 -- network rows that are changed where nothing of the rules is told
 pub sound_nets : (a : Contents) (rows : List NetRow) (key : Bytes) (f : NetKey → NetKey) → Mild f → ((r : NetKey) → shown_net r ≡ r → shown_net (f r) ≡ f r)

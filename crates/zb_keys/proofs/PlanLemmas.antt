@@ -1,29 +1,27 @@
 -- Pieces of changes, one behind the other, and what the words of the policy come to.
-use Rattle.std.proofs.Common.{◌≡◌, ℕ, ◌+◌, ◌<◌, ◌≤◌, List, [], ◌∷◌, ◌++◌, map, length, take, drop, get_or, refl, sym, ap, ◌∙◌, arith, Bool, true, false, not, if◌then◌else◌, ◌&&◌, ◌||◌, subst, Option, Some, None, append_assoc, append-nil, length-append}
-use Rattle.std.specs.Prelude.{find, filter, option_map, Result, Ok, Err, nat_le, nat_eq, reverse, is_none, min, max}
+use Rattle.std.proofs.Common.{◌≡◌, ℕ, ◌+◌, ◌<◌, ◌≤◌, List, [], ◌∷◌, ◌++◌, map, length, take, drop, get_or, refl, sym, ap, ◌∙◌, arith, Bool, true, false, not, if◌then◌else◌, ◌&&◌, ◌||◌, Option, Some, None, append_assoc, append-nil, length-append}
+use Rattle.std.specs.Prelude.{find, filter, option_map, Result, Ok, Err, nat_le, nat_eq, reverse, min, max}
 use Rattle.std.specs.List.{list_any}
 use borrow.Author.Tests.{lt-leb, le-leb, eqb-true, eq-eqb}
-use Rattle.zb_change.specs.declared.fault.KeyError.TheVariants.{KeysFull, KeyOld, NoRow, RowsFull, WrongHash}
+use Rattle.zb_change.specs.declared.fault.KeyError.TheVariants.{KeysFull, RowsFull}
 use Rattle.zb_change.specs.declared.fault.KeyError.{KeyError}
 use mathlib.Core.List.{reverse-cons}
 use Rattle.std.proofs.lemmas.List.{map_push, map_more, map-append, length_push, length-map, drop_more, drop_all, take_all, take-append-drop}
 use Rattle.std.proofs.lemmas.List.Elements.{filter-append}
 use Rattle.std.proofs.lemmas.Bool.{not-true}
-use Rattle.zb_base.specs.declared.key.Key.{Key}
 use Rattle.zb_change.specs.declared.change.Change.{Change}
-use Rattle.zb_change.specs.declared.change.Change.TheVariants as change
 use Rattle.zb_change.specs.Changes.{edit, edits}
-use Rattle.zb_model.specs.Data.{Bytes, Move, DropNet, Edit, Moved, Active, Start, Install, Row, Live, Removed, Pair, Provisional, Unverified, Verified}
-use Rattle.zb_model.specs.State.{NodeState, NetKey, LinkKey, live_nets, same_key, net_of, has_net, has_link, is_live_of, is_unverified, live_of, last_where, newest, other_user, current, offered, is_centre}
+use Rattle.zb_model.specs.Data.{Bytes, Move, DropNet, Edit, Moved, Active, Install, Row, Live, Removed, Pair, Provisional, Unverified, Verified}
+use Rattle.zb_model.specs.State.{NodeState, NetKey, LinkKey, live_nets, same_key, has_net, has_link, is_live_of, is_unverified, live_of, last_where, newest, other_user, current, offered, is_centre}
 use Rattle.zb_model.specs.Fits.{keeps_rules, partners_agree, all_apart, like_rows, same_bool, most_links}
-use Rattle.zb_model.specs.Rules.{drop_old, first_drop, is_active, nets_full, links_full, drop_link, drop_partner, drop_row}
-use Rattle.zb_model.specs.Commands.{dropped_at, activates, has_key, verified_current}
-use Rattle.zb_model.specs.Answer.{is_active_key, start_edit, start_for, is_started_key, row_is_started, first_counter}
+use Rattle.zb_model.specs.Rules.{drop_old, first_drop, is_active, links_full, drop_link, drop_partner, drop_row}
+use Rattle.zb_model.specs.Commands.{dropped_at, activates, has_key}
+use Rattle.zb_model.specs.Answer.{is_active_key, start_edit, start_for, is_started_key, row_is_started}
 use Rattle.zb_keys.specs.declared.contents.Contents.{Contents}
 use Rattle.zb_keys.specs.declared.net.NetRow.{NetRow}
 use Rattle.zb_keys.specs.declared.link.LinkRow.{LinkRow}
 use Rattle.zb_keys.specs.Rows.{net_key, link_key}
-use Rattle.zb_keys.specs.Planning.{Adds, moves, activation, taken, installing, installing_after, switching, switching_to, taking, unless_other, providing, offering, partnering, is_proof, verified_row, verifying, dropping, pairing}
+use Rattle.zb_keys.specs.Planning.{Adds, moves, activation, taken, installing, installing_after, switching, switching_to, taking, unless_other, providing, offering, partnering, dropping, pairing}
 use Rattle.zb_keys.specs.Tables.{state_of, active_bytes, IsSound}
 use Rattle.zb_keys.proofs.Mapping.{list_any-map}
 use Rattle.zb_keys.proofs.FindLemmas.{find_map}
@@ -291,24 +289,6 @@ pub partner_takes : (s : NodeState) (partner : ℕ) (key : Bytes) (answer : Resu
     → taking s partner key (moves (drop_partner s partner) ++ Moved (Row partner key Verified) ∷ []) ≡ answer → partnering s partner key ≡ answer
 unfolding partnering
 partner_takes s partner key answer isnt is = rw isnt is
-
-pub verify_offered : (s : NodeState) (partner : ℕ) (hash : Bytes) → is_proof hash (offered s partner) ≡ true → verifying s partner hash ≡ Ok (moves (drop_row (current s partner)) ++ verified_row partner (offered s partner))
-unfolding verifying
-verify_offered s partner hash is = rw is refl
-
-pub verify_again : (s : NodeState) (partner : ℕ) (hash : Bytes) → is_proof hash (offered s partner) ≡ false → is_proof hash (verified_current s partner) ≡ true → verifying s partner hash ≡ Ok []
-unfolding verifying
-verify_again s partner hash isnt is = rw (isnt, is) refl
-
-pub verify_nothing : (s : NodeState) (partner : ℕ) (hash : Bytes) → is_proof hash (offered s partner) ≡ false → is_proof hash (verified_current s partner) ≡ false
-    → (is_none (offered s partner) && is_none (verified_current s partner)) ≡ true → verifying s partner hash ≡ Err NoRow
-unfolding verifying
-verify_nothing s partner hash a b none = rw (a, b, none) refl
-
-pub verify_wrong : (s : NodeState) (partner : ℕ) (hash : Bytes) → is_proof hash (offered s partner) ≡ false → is_proof hash (verified_current s partner) ≡ false
-    → (is_none (offered s partner) && is_none (verified_current s partner)) ≡ false → verifying s partner hash ≡ Err WrongHash
-unfolding verifying
-verify_wrong s partner hash a b some = rw (a, b, some) refl
 
 pub dropping_centre : (s : NodeState) (partner : ℕ) → is_centre s.duty ≡ true → moves (drop_partner s partner) ++ Moved (Removed partner) ∷ [] ≡ dropping s partner
 unfolding dropping

@@ -1,10 +1,9 @@
 -- What readers find in the contents of tables.
-use Rattle.std.proofs.Common.{◌≡◌, ℕ, ◌+◌, ◌<◌, ◌≤◌, List, [], ◌∷◌, map, length, refl, sym, ap, ◌∙◌, arith, Bool, true, false, if◌then◌else◌, subst, Option, Some, None}
-use Rattle.std.specs.Prelude.{vec_capacity, find, position, option_map, nat_eq, nat_le}
+use Rattle.std.proofs.Common.{◌≡◌, ℕ, ◌+◌, ◌<◌, ◌≤◌, [], map, length, sym, ap, ◌∙◌, arith, Bool, true, Option, Some, None}
+use Rattle.std.specs.Prelude.{find, position, option_map, nat_eq, nat_le}
 use Rattle.zb_base.specs.declared.key.Key.{Key}
-use Rattle.zb_counter.specs.declared.receiving.Floor.{Floor}
 use Rattle.zb_counter.specs.declared.sending.Outgoing.{Outgoing}
-use Rattle.zb_model.specs.Data.{Bytes, Nwk, Aps}
+use Rattle.zb_model.specs.Data.{Nwk}
 use Rattle.zb_model.specs.State as model
 use Rattle.zb_model.specs.State.{NodeState, NetKey, same_key, counted, active_row, net_of_active, next_counter, stored_limit, with_declared, declared_at, sender_floor, floor_of_sender}
 use Rattle.zb_model.specs.Fits.{keeps_rules, rows_have_room, keys_differ, at_most_two_live, active_is_live, partners_agree, links_are_marked, floors_are_kept, limits_are_started, duty_is_kept, pairs_are_kept}

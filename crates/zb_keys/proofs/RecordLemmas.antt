@@ -1,22 +1,20 @@
 -- The parts of a record make the record.
-use Rattle.std.proofs.Common.{◌≡◌, ℕ, ◌+◌, ◌<◌, ◌≤◌, List, [], ◌∷◌, ◌++◌, length, map, take, drop, get_or, refl, sym, ap, ◌∙◌, arith, append_assoc, Bool, true, false, if◌then◌else◌, subst, Some, None}
-use Rattle.std.specs.Prelude.{filter, nat_le}
+use Rattle.std.proofs.Common.{◌≡◌, ℕ, ◌≤◌, List, [], ◌∷◌, ◌++◌, length, map, refl, ap, arith, append_assoc, Bool, true, false, if◌then◌else◌}
+use Rattle.std.specs.Prelude.{filter}
 use Rattle.std.specs.List.{flat_map}
 use Rattle.std.proofs.lemmas.List.{length-map}
 use borrow.Author.Tests.{leb-true}
-use Rattle.zb_base.specs.declared.key.Key.{Key}
 use Rattle.zb_change.specs.Changes.{duty, stage, is_sending}
 use Rattle.zb_model.specs.Data.{Duty, Centre, Router, Device}
-use Rattle.zb_model.specs.State.{NodeState, NetKey, live_nets}
-use Rattle.zb_model.specs.Fits.{keeps_rules, at_most_two_live, rows_have_room, most_links}
-use Rattle.zb_model.specs.Record.{record_of, active_place, place_from, duty_byte, stage_byte, two_bytes, four_bytes, net_bytes, floors_bytes, link_bytes, pair_bytes, worth}
+use Rattle.zb_model.specs.State.{NetKey, live_nets}
+use Rattle.zb_model.specs.Fits.{at_most_two_live, most_links}
+use Rattle.zb_model.specs.Record.{record_of, active_place, duty_byte, stage_byte, two_bytes, four_bytes, net_bytes, floors_bytes, link_bytes, pair_bytes, worth}
 use Rattle.zb_keys.specs.declared.contents.Contents.{Contents}
 use Rattle.zb_keys.specs.declared.net.NetRow.{NetRow}
 use Rattle.zb_keys.specs.Rows.{net_key, link_key, pair_key}
-use Rattle.zb_keys.specs.Tables.{state_of, active_bytes, IsSound}
-use Rattle.zb_keys.specs.Written.{Writes}
+use Rattle.zb_keys.specs.Tables.{state_of, IsSound}
 use Rattle.zb_keys.proofs.ShownLemmas.{filter-map}
-use Rattle.zb_keys.proofs.StateLemmas.{Rooms, rooms_of, rules_of}
+use Rattle.zb_keys.proofs.StateLemmas.{rooms_of, rules_of}
 
 -- the bytes of the rows that pass, one after the other
 flat_map_if : (spell : NetKey → List ℕ) (rows : List NetRow) → flat_map (λ (r : NetRow). if (net_key r).live then spell (net_key r) else []) rows ≡ flat_map spell (filter (λ (r : NetKey). r.live) (map net_key rows))

@@ -1,13 +1,13 @@
 -- Rows of a record as rows of tables.
-use Rattle.std.proofs.Common.{◌≡◌, ℕ, zero, suc, ◌+◌, ◌<◌, ◌≤◌, List, [], ◌∷◌, ◌++◌, length, map, take, get_or, refl, sym, ap, ◌∙◌, Option, Some, None, subst, true, Ok, arith}
+use Rattle.std.proofs.Common.{◌≡◌, ℕ, zero, suc, ◌<◌, ◌≤◌, List, [], ◌∷◌, length, map, get_or, refl, sym, ap, Some, None, subst, true, Ok, arith}
 use Rattle.zb_model.specs.Fits.{keeps_rules}
 use Rattle.zb_keys.specs.declared.contents.Contents.{Contents}
 use Rattle.zb_keys.specs.declared.net.NetRow.{NetRow}
 use Rattle.zb_keys.specs.Rows.{net_key}
-use Rattle.zb_keys.specs.Tables.{active_bytes, state_of, IsSound, IsRestored, Forgets}
+use Rattle.zb_keys.specs.Tables.{IsSound, IsRestored, Forgets}
 use Rattle.zb_record.specs.declared.record.Record.{Record}
 use Rattle.zb_record.specs.Records.{key_of, record_read, record_seen}
-use Rattle.zb_record.proofs.Sound.{IsKept, read_kept}
+use Rattle.zb_record.proofs.Sound.{read_kept}
 
 -- the key of a row, and none behind the rows
 key_past_at : (rows : List NetRow) (place : ℕ) → length rows ≤ place → None ≡ key_of place (map net_key rows)

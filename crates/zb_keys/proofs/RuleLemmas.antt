@@ -1,11 +1,11 @@
 -- The rules for records stand where rows change only in what they do not speak of.
-use Rattle.std.proofs.Common.{◌≡◌, ℕ, ◌+◌, ◌<◌, ◌≤◌, List, [], ◌∷◌, ◌++◌, length, map, filter, refl, sym, ap, ◌∙◌, arith, Bool, true, false, not, if◌then◌else◌, ◌&&◌, ◌||◌, Option, Some, None, subst, max, min}
+use Rattle.std.proofs.Common.{◌≡◌, ℕ, ◌+◌, List, [], ◌∷◌, ◌++◌, length, map, filter, refl, sym, ap, ◌∙◌, Bool, true, false, not, if◌then◌else◌, ◌&&◌, ◌||◌, Option, Some, None, max, min}
 use Rattle.std.specs.Prelude.{find, nat_le, nat_lt, nat_eq}
 use Rattle.std.specs.List.{list_any, list_all}
 use Rattle.std.proofs.lemmas.List.{length-map, map-append}
-use Rattle.zb_model.specs.Data.{Bytes, Duty, Tier, Nwk, Aps, Move, Draw, DropNet, DropLink, Install, Active, Row, Pair, Became, Live, Removed, Roll, Told, Untold, Edit, Reserve, Floor, Start, Moved}
-use Rattle.zb_model.specs.State.{NodeState, SenderFloor, NetKey, LinkKey, PairKey, same_key, net_of, live_nets, shown, shown_net, applied, applied_all, at_net, has_net, reserved, started_at, dropped_net, net_floor, new_net, of_active, is_told, most, next_at, net_kept, floor_kept, is_centre, is_provisional, is_unverified}
-use Rattle.zb_model.specs.Fits.{keeps_rules, rows_have_room, keys_differ, at_most_two_live, active_is_live, partners_agree, links_are_marked, floors_are_kept, limits_are_started, duty_is_kept, pairs_are_kept, senders_ascend, most_senders, row_is_live, all_apart, like_rows, same_bool, most_links, fits, all_fit, may_change}
+use Rattle.zb_model.specs.Data.{Bytes, Duty, Nwk, Aps, Move, Draw, DropNet, DropLink, Install, Active, Row, Pair, Became, Live, Removed, Roll, Told, Untold, Edit, Reserve, Floor, Start, Moved}
+use Rattle.zb_model.specs.State.{NodeState, SenderFloor, NetKey, LinkKey, same_key, live_nets, shown, shown_net, applied, at_net, has_net, reserved, started_at, dropped_net, net_floor, new_net, of_active, is_told, most, next_at, net_kept, floor_kept, is_centre, is_provisional, is_unverified}
+use Rattle.zb_model.specs.Fits.{keeps_rules, rows_have_room, keys_differ, at_most_two_live, active_is_live, partners_agree, links_are_marked, floors_are_kept, limits_are_started, duty_is_kept, pairs_are_kept, senders_ascend, most_senders, row_is_live, all_apart, like_rows, same_bool, most_links, fits, may_change}
 use Rattle.std.proofs.lemmas.Bool.{not-true}
 use Rattle.std.proofs.lemmas.Bool.Decides.{same_from_decides}
 use Rattle.std.proofs.lemmas.Slice.Eq.{bytes_eq-Decides}
@@ -13,7 +13,7 @@ use Rattle.std.proofs.lemmas.List.Folds.{list_all-map}
 use Rattle.zb_keys.specs.Senders.{counted_row}
 use Rattle.zb_keys.proofs.Mapping.{list_any-map}
 use Rattle.zb_keys.proofs.ShownLemmas.{filter-map, shown_twice}
-use Rattle.zb_keys.proofs.StateLemmas.{both, Rules, rules_of, rules_back}
+use Rattle.zb_keys.proofs.StateLemmas.{both, rules_of, rules_back}
 
 abbrev pub floors_rule : NetKey → Bool
 floors_rule r = nat_le (length r.floors) most_senders && (list_all (λ (f : SenderFloor). nat_lt 0 f.stored) r.floors && senders_ascend r.floors)

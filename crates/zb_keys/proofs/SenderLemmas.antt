@@ -1,6 +1,6 @@
 -- Storing a floor among ascending senders: walking past the smaller ones, and what the place says.
 use Rattle.std.proofs.Common.{◌≡◌, ℕ, ◌+◌, ◌<◌, ◌≤◌, List, [], ◌∷◌, ◌++◌, length, map, take, drop, get_or, refl, sym, ap, ◌∙◌, arith, max, append_assoc, add-one, length-append}
-use Rattle.std.specs.Prelude.{slice_set, nat_lt, nat_eq, if◌then◌else◌, insert, true, false, ◌≢◌}
+use Rattle.std.specs.Prelude.{slice_set, nat_lt, nat_eq, insert, true, false}
 use Rattle.std.proofs.lemmas.List.{take_more, drop_more, map_push, map-append, drop_all, take_at, set_split, length-map, take-append-drop}
 use Rattle.std.specs.List.{refill}
 use Rattle.std.proofs.lemmas.Bool.Decides.{nat_tests}

@@ -1,10 +1,9 @@
 -- What tables show of a state after a change: they keep no floors of dropped network keys.
-use Rattle.std.proofs.Common.{◌≡◌, ℕ, ◌+◌, ◌<◌, ◌≤◌, List, [], ◌∷◌, ◌++◌, length, map, filter, refl, sym, ap, ◌∙◌, arith, Bool, true, false, not, if◌then◌else◌, length-append, cond, Option, Some, None, max, min}
-use Rattle.std.specs.Prelude.{bytes_eq}
+use Rattle.std.proofs.Common.{◌≡◌, ℕ, ◌<◌, ◌≤◌, List, [], ◌∷◌, ◌++◌, length, map, filter, refl, sym, ap, ◌∙◌, arith, Bool, true, false, if◌then◌else◌, length-append}
 use Rattle.std.specs.List.{list_any}
 use Rattle.std.proofs.lemmas.List.{map-append, length-map}
 use Rattle.zb_model.specs.Data.{Bytes}
-use Rattle.zb_model.specs.State.{NetKey, LinkKey, PairKey, at_net, has_net, same_key, shown_net, reserved, started_at, dropped_net, net_floor}
+use Rattle.zb_model.specs.State.{NetKey, at_net, has_net, same_key, shown_net, reserved, started_at, dropped_net, net_floor}
 use Rattle.zb_keys.specs.declared.net.NetRow.{NetRow}
 use Rattle.zb_keys.specs.Rows.{net_key}
 use Rattle.zb_keys.specs.Senders.{live_floor}

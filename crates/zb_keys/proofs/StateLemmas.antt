@@ -1,14 +1,14 @@
 -- One change of the contents of tables and the model's change of their state.
-use Rattle.std.proofs.Common.{◌≡◌, ℕ, ◌+◌, ◌<◌, ◌≤◌, List, [], ◌∷◌, ◌++◌, length, map, filter, refl, sym, ap, ◌∙◌, arith, Bool, true, false, not, if◌then◌else◌, ◌&&◌, length-append, Option, Some, None, IsTrue, subst}
-use Rattle.std.specs.Prelude.{vec_capacity, vec_len, All, nat_le, nat_lt}
+use Rattle.std.proofs.Common.{◌≡◌, ℕ, ◌<◌, ◌≤◌, List, [], ◌∷◌, ◌++◌, length, map, filter, refl, sym, ap, ◌∙◌, arith, Bool, true, false, not, if◌then◌else◌, ◌&&◌, length-append, Some, subst}
+use Rattle.std.specs.Prelude.{vec_capacity, All, nat_le, nat_lt}
 use Rattle.std.specs.Vec.{with_items}
 use Rattle.std.specs.List.{list_any, list_all}
 use Rattle.std.proofs.lemmas.List.{map-append, length-map, with_items_is}
 use Rattle.std.proofs.lemmas.List.Elements.{All-nil, All-cons}
 use borrow.Author.Tests.{leb-true}
 use Rattle.zb_change.specs.Changes.{duty}
-use Rattle.zb_model.specs.Data.{Bytes, Trust, Nwk, Aps, Reserve, Floor, Start, Moved, DropNet, DropLink, Install, Active, Row, Pair, Became, Live, Removed, Roll, Told, Untold}
-use Rattle.zb_model.specs.State.{NodeState, SenderFloor, NetKey, LinkKey, PairKey, at_net, has_net, same_key, shown_net, reserved, started_at, dropped_net, net_floor, applied, shown, is_told, is_live_of, with_link, with_pair, names_two, names, is_link, has_link, new_link, revived, at_link}
+use Rattle.zb_model.specs.Data.{Bytes, Trust, Nwk, Reserve, Floor, Start, Moved, DropNet, Row, Pair, Removed}
+use Rattle.zb_model.specs.State.{NodeState, SenderFloor, NetKey, LinkKey, PairKey, at_net, has_net, shown_net, reserved, started_at, dropped_net, applied, shown, is_told, is_live_of, with_link, with_pair, names_two, names, is_link, has_link, new_link, revived, at_link}
 use Rattle.zb_model.specs.Fits.{keeps_rules, rows_have_room, keys_differ, at_most_two_live, active_is_live, partners_agree, links_are_marked, floors_are_kept, limits_are_started, duty_is_kept, pairs_are_kept, senders_ascend, most_nets, most_links, most_pairs, most_senders}
 use Rattle.zb_keys.specs.declared.contents.Contents.{Contents}
 use Rattle.zb_keys.specs.declared.net.NetRow.{NetRow}
@@ -19,7 +19,7 @@ use Rattle.zb_keys.specs.Senders.{live_floor, HasRoom}
 use Rattle.zb_keys.specs.Tables.{state_of, with_row, Becomes, IsSound, Forgets}
 use Rattle.zb_record.specs.Redoing.{limited, with_limit}
 use Rattle.zb_keys.proofs.Mapping.{list_any-map}
-use Rattle.zb_keys.proofs.ShownLemmas.{shown_reserved, shown_started, shown_dropped, shown_stored, shown_twice, filter-map, shown_limited}
+use Rattle.zb_keys.proofs.ShownLemmas.{shown_reserved, shown_started, shown_dropped, shown_stored, shown_twice, shown_limited}
 
 pub both : (a b : Bool) → (a && b) ≡ true → (a ≡ true) × (b ≡ true)
 both true b e = (refl, e)

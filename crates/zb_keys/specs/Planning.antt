@@ -1,7 +1,6 @@
 -- The changes of rows that each call on tables tells, in the words of the policy. Draws of keys and states of the node are
 -- not among them.
-use Rattle.std.specs.Prelude.{◌≡◌, ℕ, ◌+◌, Bool, true, false, not, if◌then◌else◌, ◌&&◌, ◌||◌, List, [], ◌∷◌, ◌++◌, map, filter, ◌≤◌, length, find, min, max, Option, Some, None, Result, Ok, Err, is_none}
-use Rattle.zb_base.specs.declared.address.Eui.{Eui}
+use Rattle.std.specs.Prelude.{◌≡◌, ℕ, ◌+◌, Bool, false, not, if◌then◌else◌, ◌&&◌, ◌||◌, List, [], ◌∷◌, ◌++◌, map, ◌≤◌, length, find, min, max, Option, Some, None, Result, Ok, Err, is_none}
 use Rattle.zb_mmo.specs.Keyed.{verify_hash}
 use Rattle.zb_change.specs.declared.change.Change.{Change}
 use Rattle.zb_change.specs.declared.fault.KeyError.{KeyError}
@@ -9,7 +8,7 @@ use Rattle.zb_change.specs.declared.fault.KeyError.TheVariants.{KeyOld, KeysFull
 use Rattle.zb_change.specs.Changes.{edits}
 use Rattle.zb_model.specs.Data.{Bytes, Provisional, Unverified, Verified, Move, Install, Active, Row, Pair, Live, Removed, Edit, Moved}
 use Rattle.zb_model.specs.State.{NodeState, NetKey, LinkKey, is_centre, has_net, has_link, is_live_of, same_key, current, offered, other_user, live_of}
-use Rattle.zb_model.specs.Rules.{nets_full, links_full, pairs_full, waits_for_key, drop_old, drop_row, drop_partner}
+use Rattle.zb_model.specs.Rules.{nets_full, links_full, pairs_full, drop_old, drop_row, drop_partner}
 use Rattle.zb_model.specs.Commands.{dropped_at, activates, has_key, verified_current}
 use Rattle.zb_model.specs.Answer.{is_active_key, start_edit, start_for}
 

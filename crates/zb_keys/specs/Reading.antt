@@ -1,5 +1,5 @@
 -- What the readers of tables answer, asked of the state of the node.
-use Rattle.std.specs.Prelude.{ℕ, ◌+◌, Bool, List, Option, Some, None, position, slice_get, find}
+use Rattle.std.specs.Prelude.{ℕ, List, Option, Some, None, position, slice_get}
 use Rattle.zb_counter.specs.declared.receiving.Floor.{Floor}
 use Rattle.zb_counter.specs.declared.sending.Outgoing.{Outgoing}
 use Rattle.zb_model.specs.Data.{Bytes, Tier, Nwk, Aps}

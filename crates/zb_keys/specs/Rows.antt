@@ -1,6 +1,5 @@
 -- The rows of the program as the model's.
-use Rattle.std.specs.Prelude.{ℕ, List, [], ◌∷◌, map, find, Option, Some, None}
-use Rattle.zb_counter.specs.declared.receiving.Floor.{Floor}
+use Rattle.std.specs.Prelude.{map}
 use Rattle.zb_change.specs.Changes.{trust}
 use Rattle.zb_keys.specs.declared.net.NetRow.{NetRow}
 use Rattle.zb_keys.specs.declared.net.SenderFloor as program

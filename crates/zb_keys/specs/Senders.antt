@@ -1,5 +1,5 @@
 -- The floors of senders in a row of the program, which has room for 64 of them.
-use Rattle.std.specs.Prelude.{◌≡◌, ℕ, ◌+◌, ◌<◌, ◌≤◌, List, [], ◌∷◌, ◌++◌, length, map, take, drop, ◌≢◌, nat_lt, if◌then◌else◌}
+use Rattle.std.specs.Prelude.{◌≡◌, ℕ, ◌+◌, ◌≤◌, List, ◌∷◌, ◌++◌, length, map, take, drop, ◌≢◌, nat_lt, if◌then◌else◌}
 use Rattle.zb_model.specs.State.{NetKey, floor_stored, net_floor, next_at}
 use Rattle.zb_keys.specs.declared.net.SenderFloor.{SenderFloor}
 use Rattle.zb_keys.specs.Rows.{heard_floor}

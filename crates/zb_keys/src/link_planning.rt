@@ -243,18 +243,33 @@ impl Contents {
     }
 
     /// What it takes that a hash proves a key.
+    #[tactic(auto, unfolding(crate::specs::Planning::verifying))]
     pub(crate) fn verify(&self, partner: Eui, hash: &[u8; 16]) -> Result<Changes, KeyError>
         ensures { Tells (λ changes. changes.items) result (verifying (state_of self.now) partner.0 hash.now) }
     {
-        if is_proved(self.offered(partner), hash) {
+        if self.proves_offered(partner, hash) {
             Ok(self.verified(partner))
-        } else if is_proved(self.verified_current(partner), hash) {
+        } else if self.proves_current(partner, hash) {
             Ok(ArrayVec::new())
         } else if self.has_no_proof(partner) {
             Err(KeyError::NoRow)
         } else {
             Err(KeyError::WrongHash)
         }
+    }
+
+    /// Whether the hash proves the offered key of a partner.
+    fn proves_offered(&self, partner: Eui, hash: &[u8; 16]) -> bool
+        ensures { result ≡ is_proof hash.now (offered (state_of self.now) partner.0) }
+    {
+        is_proved(self.offered(partner), hash)
+    }
+
+    /// Whether the hash proves the verified current key of a partner.
+    fn proves_current(&self, partner: Eui, hash: &[u8; 16]) -> bool
+        ensures { result ≡ is_proof hash.now (verified_current (state_of self.now) partner.0) }
+    {
+        is_proved(self.verified_current(partner), hash)
     }
 
     /// The current row of a partner, if it is verified.

@@ -23,7 +23,7 @@ mod LockoutDeeds
 mod ConfirmsLines
 pub mod ConfirmsRuns
 mod RecordLaws
-mod RecordBack
+pub mod RecordBack
 mod GroupStates
 mod LockoutRows
 mod LockoutKept
@@ -35,6 +35,8 @@ mod LockoutRuns
 pub mod LockoutLaw
 mod SpentRules
 mod SpentRuns
+mod Within
+pub mod SpentLaw
 pub mod StoredChanges
 pub mod StoredFits
-mod SpentSteps
+pub mod SpentSteps

@@ -1,21 +1,29 @@
--- Whole runs: who answers counter-spent has no counter left.
-use Rattle.std.proofs.Common.{◌≡◌, ℕ, ◌≤◌, ◌+◌, Bool, true, false, cond, List, [], ◌∷◌, ◌++◌, map, filter, length, Option, Some, None, option_map, option_to_list, find, flat_map, refl, sym, ap, ◌∙◌, subst, leb-true, inl, inr}
+-- The groups of events: who answers counter-spent has no counter left.
+use Rattle.std.proofs.Common.{◌≡◌, ℕ, ◌≤◌, ◌+◌, ◌⊎◌, Bool, true, false, cond, List, [], ◌∷◌, ◌++◌, map, filter, length, Option, Some, None, option_map, option_to_list, find, flat_map, refl, sym, ap, ◌∙◌, subst, leb-true, inl, inr}
 use Rattle.std.specs.List.{AllByRecursion}
 use Rattle.zb_model.specs.Data.{Bytes, Tier, Nwk, Aps, Sealing, Edit, Reserve, Floor, Start, Moved, Spot, Reason, CounterSpent, Down, WrongState, Task, Received, DoRoll}
-use Rattle.zb_model.specs.Lines.{LogLine, Declared, GivenNet, GivenLink, Counter, Changed, Accept, Refuse, Seal, Boot, DownReset}
+use Rattle.zb_model.specs.Lines.{LogLine, Counter, Changed, Accept, Refuse, Seal, Boot, DownReset}
 use Rattle.zb_model.specs.State.{most, NetKey, NodeState, same_key, at_net, of_active, net_of_active, active_row, next_of, next_counter, reserved, net_floor, net_kept, applied, heard, accepted}
 use Rattle.zb_model.specs.Tools.{Tools}
 use Rattle.zb_model.specs.Rules.{Setting, Plan, Outcome, Stop, Does, spent}
 use Rattle.zb_model.specs.Answer.{Answer, Counting, answer_by, plan_of, counting_of, edits_of, reserve_edit, floor_edit, move_edits, changes, moves_of}
 use Rattle.zb_model.specs.Readings.{state_of, after, is_up, air}
-use Rattle.zb_model.specs.Play.{World, Act, Own, RollOver, Deliver, Reset, PowerOn, ShowRecord, ArmStop, ArmFail, InjectBytes, ForgeNet, ForgeNetAps, ForgeOpen, Step, Disk, Armed, NotArmed, StopAfter, FailAt, Calls, BootCalls, setting_of, start, disk_of, with_disk, falls, stands, calls_for, leaves_both, commit_lines, refuse_lines, send_lines, stored_lines, told_lines, group_of, cut_of, fallen_line, answer_step, boot_step, refused_step, answer_counted, task_step, deliver_step, frame_at, supply, forged_net, forged_both, forged_open, step_by, step, groups}
-use Rattle.zb_model.specs.Transcript.{run_lines, transcript, end_line}
+use Rattle.zb_model.specs.Play.{World, Act, Own, RollOver, Deliver, Reset, PowerOn, ShowRecord, ArmStop, ArmFail, InjectBytes, ForgeNet, ForgeNetAps, ForgeOpen, Step, Disk, Armed, NotArmed, StopAfter, FailAt, Calls, BootCalls, setting_of, disk_of, with_disk, falls, stands, calls_for, leaves_both, commit_lines, refuse_lines, send_lines, stored_lines, told_lines, group_of, cut_of, fallen_line, answer_step, boot_step, refused_step, answer_counted, task_step, deliver_step, frame_at, supply, forged_net, forged_both, forged_open, step_by, step, groups}
 use Rattle.zb_model.specs.Claims.{Each}
-use Rattle.zb_laws.specs.Spent.{StandsAtEnd, SpentLine}
 use Rattle.zb_laws.proofs.Basics.{each-append, find-map}
-use Rattle.zb_laws.proofs.FreshLines.{all-append, all-map}
+use Rattle.zb_laws.proofs.FreshLines.{all-append}
 use Rattle.zb_laws.proofs.Groups.{lines-keep}
 use Rattle.zb_laws.proofs.SpentRules.{IsSpent, Fits, plan-fits}
+
+-- the next counter has reached the greatest, at one of the layers
+abbrev pub ReachesEnd : NodeState → Type 0
+ReachesEnd s = (most ≤ next_counter Nwk s) ⊎ (most ≤ next_counter Aps s)
+
+-- A line of a group: no limit at the start, and no refusal for a spent counter that isn't at its end.
+abbrev pub GroupLine : List LogLine → LogLine → Type 0
+GroupLine h (Refuse e n spot CounterSpent) = ReachesEnd (state_of h n)
+GroupLine h (Counter n layer v) = ⊥
+GroupLine h _ = Unit {0}
 
 -- Counters that stay
 
@@ -76,12 +84,12 @@ heard-same Nwk k sender counter Aps s = refl
 heard-same Aps k sender counter Nwk s = same-active s.active s (heard Aps k sender counter s) refl
 heard-same Aps k sender counter Aps s = refl
 
-ends : (s t : NodeState) → ((layer : Tier) → next_counter layer t ≡ next_counter layer s) → StandsAtEnd s → StandsAtEnd t
+ends : (s t : NodeState) → ((layer : Tier) → next_counter layer t ≡ next_counter layer s) → ReachesEnd s → ReachesEnd t
 ends s t same (inl e) = inl (subst (λ n. most ≤ n) (sym (same Nwk)) e)
 ends s t same (inr e) = inr (subst (λ n. most ≤ n) (sym (same Aps)) e)
 
 abbrev KeepsEnd : LogLine → Type 0
-KeepsEnd l = (s : NodeState) → StandsAtEnd s → StandsAtEnd (after l s)
+KeepsEnd l = (s : NodeState) → ReachesEnd s → ReachesEnd (after l s)
 
 changes-keep : (number n : ℕ) (es : List Edit) → AllByRecursion Mild es → AllByRecursion KeepsEnd (map (Changed number n) es)
 unfolding after
@@ -119,18 +127,20 @@ refused-edits s k p e =
     (all-append Mild (reserve_edit k Nwk ++ reserve_edit k Aps) (flat_map (floor_edit k) p.accepts ++ []) (all-append Mild (reserve_edit k Nwk) (reserve_edit k Aps) (reserve-mild Nwk (k.reserve Nwk)) (reserve-mild Aps (k.reserve Aps)))
     (all-append Mild (flat_map (floor_edit k) p.accepts) [] (floors-mild k p.accepts) tt))
 
--- Lines without a refusal
+-- Lines without a refusal, and none of the start
 
 unfoldable NoRefusal : LogLine → Type 0
 NoRefusal (Refuse e n spot reason) = ⊥
+NoRefusal (Counter n layer v) = ⊥
 NoRefusal _ = Unit {0}
 
-plain-line : (h : List LogLine) (l : LogLine) → NoRefusal l → SpentLine h l
+plain-line : (h : List LogLine) (l : LogLine) → NoRefusal l → GroupLine h l
 unfolding NoRefusal
 plain-line h (Refuse e n spot reason) k = absurd k
+plain-line h (Counter n layer v) k = absurd k
 plain-line h _ k = tt
 
-plain : (h ls : List LogLine) → AllByRecursion NoRefusal ls → Each SpentLine h ls
+plain : (h ls : List LogLine) → AllByRecursion NoRefusal ls → Each GroupLine h ls
 plain h [] a = tt
 plain h (l ∷ ls) a = (plain-line h l a.0, plain (h ++ l ∷ []) ls a.1)
 
@@ -179,17 +189,17 @@ cut-plain armed calls number n a = all-append NoRefusal (cond (stands armed call
 
 -- A group
 
-reached : (s : NodeState) → IsSpent s → StandsAtEnd s
+reached : (s : NodeState) → IsSpent s → ReachesEnd s
 unfolding spent
 reached s (inl e) = inl (leb-true most (next_counter Nwk s) e)
 reached s (inr e) = inr (leb-true most (next_counter Aps s) e)
 
-stop-line : (number n : ℕ) (h0 h : List LogLine) (spot : Spot) (reason : Reason) → Rattle.zb_laws.proofs.SpentRules.ReasonFits (state_of h0 n) reason → (StandsAtEnd (state_of h0 n) → StandsAtEnd (state_of h n)) → SpentLine h (Refuse number n spot reason)
+stop-line : (number n : ℕ) (h0 h : List LogLine) (spot : Spot) (reason : Reason) → Rattle.zb_laws.proofs.SpentRules.ReasonFits (state_of h0 n) reason → (ReachesEnd (state_of h0 n) → ReachesEnd (state_of h n)) → GroupLine h (Refuse number n spot reason)
 stop-line number n h0 h spot CounterSpent f k = k (reached (state_of h0 n) f)
 stop-line number n h0 h spot _ f k = tt
 
 refusal-spent : (tools : Tools) (c : Setting) (number n : ℕ) (h : List LogLine) (kk : Counting) (p : Plan) (a : Answer) (o : Outcome) → p.outcome ≡ o → a.edits ≡ edits_of (state_of h n) kk p → Fits (state_of h n) o
-    → Each SpentLine ((h ++ stored_lines number n a) ++ map (Accept number n) p.accepts) (refuse_lines number n p.spot (Rattle.zb_model.specs.Answer.reason_of o))
+    → Each GroupLine ((h ++ stored_lines number n a) ++ map (Accept number n) p.accepts) (refuse_lines number n p.spot (Rattle.zb_model.specs.Answer.reason_of o))
 unfolding stored_lines
 refusal-spent tools c number n h kk p a (Does moves sending) e same f = tt
 refusal-spent tools c number n h kk p a (Stop reason) e same f = (stop-line number n h ((h ++ stored) ++ map (Accept number n) p.accepts) p.spot reason f keep, tt)
@@ -200,16 +210,16 @@ refusal-spent tools c number n h kk p a (Stop reason) e same f = (stop-line numb
     mild : AllByRecursion Mild a.edits
     mild = subst (λ es. AllByRecursion Mild es) (sym same) (refused-edits (state_of h n) kk p (ap moves_of e))
 
-    keep : StandsAtEnd (state_of h n) → StandsAtEnd (state_of ((h ++ stored) ++ map (Accept number n) p.accepts) n)
-    keep k = lines-keep StandsAtEnd n (h ++ stored) (map (Accept number n) p.accepts) (accepts-keep number n p.accepts)
-        (lines-keep StandsAtEnd n h stored (all-append KeepsEnd (map (Changed number n) a.edits) (commit_lines number n a.edits) (changes-keep number n a.edits mild) (commit-keeps number n a.edits)) k)
+    keep : ReachesEnd (state_of h n) → ReachesEnd (state_of ((h ++ stored) ++ map (Accept number n) p.accepts) n)
+    keep k = lines-keep ReachesEnd n (h ++ stored) (map (Accept number n) p.accepts) (accepts-keep number n p.accepts)
+        (lines-keep ReachesEnd n h stored (all-append KeepsEnd (map (Changed number n) a.edits) (commit_lines number n a.edits) (changes-keep number n a.edits mild) (commit-keeps number n a.edits)) k)
 
-group-spent : (tools : Tools) (c : Setting) (h h0 : List LogLine) (number n : ℕ) (p : Plan) → Fits (state_of h n) p.outcome → Each SpentLine h (group_of h0 number n (answer_by tools c (state_of h n) (counting_of c (state_of h n) p) p))
+group-spent : (tools : Tools) (c : Setting) (h h0 : List LogLine) (number n : ℕ) (p : Plan) → Fits (state_of h n) p.outcome → Each GroupLine h (group_of h0 number n (answer_by tools c (state_of h n) (counting_of c (state_of h n) p) p))
 unfolding group_of told_lines answer_by
 group-spent tools c h h0 number n p f =
-    each-append SpentLine h stored (accepts ++ (refusal ++ (seals ++ send))) (plain h stored (stored-plain number n a))
-    (each-append SpentLine (h ++ stored) accepts (refusal ++ (seals ++ send)) (plain (h ++ stored) accepts (accepts-plain number n p.accepts))
-    (each-append SpentLine ((h ++ stored) ++ accepts) refusal (seals ++ send) (refusal-spent tools c number n h (counting_of c (state_of h n) p) p a p.outcome refl refl f)
+    each-append GroupLine h stored (accepts ++ (refusal ++ (seals ++ send))) (plain h stored (stored-plain number n a))
+    (each-append GroupLine (h ++ stored) accepts (refusal ++ (seals ++ send)) (plain (h ++ stored) accepts (accepts-plain number n p.accepts))
+    (each-append GroupLine ((h ++ stored) ++ accepts) refusal (seals ++ send) (refusal-spent tools c number n h (counting_of c (state_of h n) p) p a p.outcome refl refl f)
     (plain (((h ++ stored) ++ accepts) ++ refusal) (seals ++ send) (all-append NoRefusal seals send (seals-plain number n a.seals) (send-plain number (Some n) (length (air h0) + 1) a.frame)))))
   where
     a : Answer
@@ -236,9 +246,9 @@ either : (P : List LogLine → Type 0) (b : Bool) (u v : Step) → P u.lines →
 either P true u v p q = p
 either P false u v p q = q
 
-answer-spent : (tools : Tools) (c : Setting) (h : List LogLine) (disks : List Disk) (number n : ℕ) (p : Plan) → Fits (state_of h n) p.outcome → Each SpentLine h (answer_step h disks number n (answer_by tools c (state_of h n) (counting_of c (state_of h n) p) p)).lines
+answer-spent : (tools : Tools) (c : Setting) (h : List LogLine) (disks : List Disk) (number n : ℕ) (p : Plan) → Fits (state_of h n) p.outcome → Each GroupLine h (answer_step h disks number n (answer_by tools c (state_of h n) (counting_of c (state_of h n) p) p)).lines
 answer-spent tools c h disks number n p f =
-    either (Each SpentLine h) (falls (disk_of disks n).armed (calls_for h n a.edits)) cut whole
+    either (Each GroupLine h) (falls (disk_of disks n).armed (calls_for h n a.edits)) cut whole
     (plain h cut.lines (cut-plain (disk_of disks n).armed (calls_for h n a.edits) number n a)) (group-spent tools c h h number n p f)
   where
     a : Answer
@@ -250,34 +260,34 @@ answer-spent tools c h disks number n p f =
     whole : Step
     whole = record { lines = group_of h number n a; disks = disks }
 
-task-spent : (tools : Tools) (w : World) (h : List LogLine) (disks : List Disk) (number n : ℕ) (task : Task) → Each SpentLine h (task_step tools counting_of w h disks number n task).lines
+task-spent : (tools : Tools) (w : World) (h : List LogLine) (disks : List Disk) (number n : ℕ) (task : Task) → Each GroupLine h (task_step tools counting_of w h disks number n task).lines
 unfolding task_step
 task-spent tools w h disks number n task =
-    either (Each SpentLine h) (is_up h n) (answer_step h disks number n (answer_counted tools counting_of (setting_of w n) (state_of h n) (plan_of tools (setting_of w n) (state_of h n) task))) (refused_step disks number n Down)
+    either (Each GroupLine h) (is_up h n) (answer_step h disks number n (answer_counted tools counting_of (setting_of w n) (state_of h n) (plan_of tools (setting_of w n) (state_of h n) task))) (refused_step disks number n Down)
     (answer-spent tools (setting_of w n) h disks number n (plan_of tools (setting_of w n) (state_of h n) task) (plan-fits tools (setting_of w n) (state_of h n) task)) (tt, tt)
 
-by-power : (h : List LogLine) (number n : ℕ) (b : Bool) → SpentLine h (Refuse number n Spot.AtEvent (cond b Reason.NoFrame Down))
+by-power : (h : List LogLine) (number n : ℕ) (b : Bool) → GroupLine h (Refuse number n Spot.AtEvent (cond b Reason.NoFrame Down))
 by-power h number n true = tt
 by-power h number n false = tt
 
-deliver-spent : (tools : Tools) (w : World) (h : List LogLine) (disks : List Disk) (number n : ℕ) (o : Option Bytes) → Each SpentLine h (deliver_step tools counting_of w h disks number n o).lines
+deliver-spent : (tools : Tools) (w : World) (h : List LogLine) (disks : List Disk) (number n : ℕ) (o : Option Bytes) → Each GroupLine h (deliver_step tools counting_of w h disks number n o).lines
 deliver-spent tools w h disks number n None = (by-power h number n (is_up h n), tt)
 deliver-spent tools w h disks number n (Some bytes) = task-spent tools w h disks number n (Received bytes (supply w h))
 
-boot-spent : (h : List LogLine) (disks : List Disk) (number n : ℕ) → Each SpentLine h (boot_step disks number n).lines
+boot-spent : (h : List LogLine) (disks : List Disk) (number n : ℕ) → Each GroupLine h (boot_step disks number n).lines
 boot-spent h disks number n =
-    either (Each SpentLine h) (falls (disk_of disks n).armed (BootCalls (disk_of disks n).both_open))
+    either (Each GroupLine h) (falls (disk_of disks n).armed (BootCalls (disk_of disks n).both_open))
     (record { lines = fallen_line (disk_of disks n).armed number n; disks = with_disk disks n (record { armed = NotArmed; both_open = leaves_both (disk_of disks n).armed (BootCalls (disk_of disks n).both_open) }) })
     (record { lines = Boot number n ∷ []; disks = with_disk disks n (record { armed = (disk_of disks n).armed; both_open = false }) })
     (plain h (fallen_line (disk_of disks n).armed number n) (fallen-plain (disk_of disks n).armed number n)) (tt, tt)
 
-step-spent : (tools : Tools) (w : World) (h : List LogLine) (disks : List Disk) (number : ℕ) (act : Act) → Each SpentLine h (step tools w h disks number act).lines
+step-spent : (tools : Tools) (w : World) (h : List LogLine) (disks : List Disk) (number : ℕ) (act : Act) → Each GroupLine h (step tools w h disks number act).lines
 unfolding step step_by forged_net forged_both forged_open
 step-spent tools w h disks number (Own n task) = task-spent tools w h disks number n task
 step-spent tools w h disks number (RollOver n) = task-spent tools w h disks number n (DoRoll (supply w h))
 step-spent tools w h disks number (Deliver frame n) = deliver-spent tools w h disks number n (frame_at h frame)
-step-spent tools w h disks number (Reset n) = either (Each SpentLine h) (is_up h n) (record { lines = DownReset number n ∷ []; disks = disks }) (refused_step disks number n Down) (tt, tt) (tt, tt)
-step-spent tools w h disks number (PowerOn n) = either (Each SpentLine h) (is_up h n) (refused_step disks number n WrongState) (boot_step disks number n) (tt, tt) (boot-spent h disks number n)
+step-spent tools w h disks number (Reset n) = either (Each GroupLine h) (is_up h n) (record { lines = DownReset number n ∷ []; disks = disks }) (refused_step disks number n Down) (tt, tt) (tt, tt)
+step-spent tools w h disks number (PowerOn n) = either (Each GroupLine h) (is_up h n) (refused_step disks number n WrongState) (boot_step disks number n) (tt, tt) (boot-spent h disks number n)
 step-spent tools w h disks number (ShowRecord n) = (tt, tt)
 step-spent tools w h disks number (ArmStop n calls torn) = tt
 step-spent tools w h disks number (ArmFail n call) = tt
@@ -286,24 +296,9 @@ step-spent tools w h disks number (ForgeNet to from source key sequence counter 
 step-spent tools w h disks number (ForgeNetAps to from source key sequence counter label base aps_counter command) = (tt, (tt, (tt, tt)))
 step-spent tools w h disks number (ForgeOpen to from source label base aps_counter command) = (tt, (tt, tt))
 
-groups-spent : (tools : Tools) (w : World) (h : List LogLine) (disks : List Disk) (number : ℕ) (acts : List Act) → Each SpentLine h (groups tools w h disks number acts)
+pub groups-spent : (tools : Tools) (w : World) (h : List LogLine) (disks : List Disk) (number : ℕ) (acts : List Act) → Each GroupLine h (groups tools w h disks number acts)
 unfolding groups
 groups-spent tools w h disks number [] = tt
 groups-spent tools w h disks number (act ∷ acts) =
-    each-append SpentLine h (step tools w h disks number act).lines (groups tools w (h ++ (step tools w h disks number act).lines) (step tools w h disks number act).disks (number + 1) acts)
+    each-append GroupLine h (step tools w h disks number act).lines (groups tools w (h ++ (step tools w h disks number act).lines) (step tools w h disks number act).disks (number + 1) acts)
     (step-spent tools w h disks number act) (groups-spent tools w (h ++ (step tools w h disks number act).lines) (step tools w h disks number act).disks (number + 1) acts)
-
-begins-plain : (l : LogLine) → Rattle.zb_laws.proofs.OutsiderRuns.Beginning l → NoRefusal l
-unfolding Rattle.zb_laws.proofs.OutsiderRuns.Beginning NoRefusal
-begins-plain (Declared p) b = tt
-begins-plain (GivenNet n key q) b = tt
-begins-plain (GivenLink n p key) b = tt
-begins-plain (Counter n layer v) b = tt
-begins-plain _ b = absurd b
-
-pub transcript-spent : (tools : Tools) (w : World) → Each SpentLine [] (transcript tools w)
-unfolding transcript run_lines end_line
-transcript-spent tools w =
-    each-append SpentLine [] (start w ++ groups tools w (start w) [] 1 w.acts) (end_line tools (length w.acts) (start w ++ groups tools w (start w) [] 1 w.acts) ∷ [])
-    (each-append SpentLine [] (start w) (groups tools w (start w) [] 1 w.acts) (plain [] (start w) (all-map Rattle.zb_laws.proofs.OutsiderRuns.Beginning NoRefusal begins-plain (start w) (Rattle.zb_laws.proofs.OutsiderRuns.start-begins w)))
-    (groups-spent tools w (start w) [] 1 w.acts)) (tt, tt)

@@ -4,7 +4,7 @@ use Rattle.std.specs.Prelude.{filter}
 use Rattle.std.specs.List.{list_any, list_all}
 use Rattle.std.proofs.lemmas.List.{length-map}
 use Rattle.zb_model.specs.Data.{Bytes, Nwk, Aps, Draw, DropNet, DropLink, Install, Active, Row, Pair, Became, Live, Removed, Roll, Told, Untold, Edit, Reserve, Floor, Start, Moved}
-use Rattle.zb_model.specs.State.{SenderFloor, NetKey, LinkKey, NodeState, same_key, has_net, is_link, is_live_of, is_live, is_unverified, net_of, net_of_active, active_row, live_nets, sender_floor, floor_of_sender, stored_limit, limit_of, pair_of, applied, booted_floor, booted_net, booted_link, after_boot}
+use Rattle.zb_model.specs.State.{SenderFloor, NetKey, LinkKey, NodeState, same_key, has_net, is_link, is_live_of, is_live, is_unverified, net_of, net_of_active, active_row, sender_floor, floor_of_sender, stored_limit, limit_of, pair_of, applied, booted_floor, booted_net, booted_link, after_boot}
 use Rattle.zb_model.specs.Fits.{all_apart, rows_have_room, most_nets, most_links, most_pairs, keys_differ, at_most_two_live, active_is_live, row_is_live, partners_agree, like_rows, same_bool, links_are_marked, floors_are_kept, most_senders, senders_ascend, limits_are_started, duty_is_kept, pairs_are_kept, keeps_rules, may_change, live_net, live_link, net_stored, link_stored, net_limit, fits}
 use Rattle.zb_laws.proofs.Basics.{find-map}
 use Rattle.zb_laws.proofs.StoredChanges.{any_net, any_link, change_again}

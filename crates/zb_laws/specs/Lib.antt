@@ -5,3 +5,4 @@ pub mod Commanding
 pub mod Records
 pub mod KeysApart
 pub mod Spent
+pub mod Premises

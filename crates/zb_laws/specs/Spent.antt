@@ -1,13 +1,13 @@
 -- Which lines take counters, and who answers that a counter is spent.
-use Rattle.std.specs.Prelude.{ℕ, ◌≡◌, ◌≤◌, ◌+◌, ◌⊎◌, if◌then◌else◌, ◌&&◌, List, [], ◌∷◌, ◌++◌, Some, option_map, nat_eq, ⊤}
+use Rattle.std.specs.Prelude.{ℕ, ◌≡◌, ◌+◌, ◌⊎◌, if◌then◌else◌, ◌&&◌, List, [], ◌∷◌, ◌++◌, Some, option_map, nat_eq, ⊤}
 use Rattle.zb_model.specs.Data.{Bytes, Nwk, Aps, Start, CounterSpent}
 use Rattle.zb_model.specs.Lines.{LogLine, Counter, Changed, Refuse, Seal, Boot}
 use Rattle.zb_model.specs.State.{most, NetKey, NodeState, same_key, net_of, next_counter}
 use Rattle.zb_model.specs.Readings.{state_of, alike_tier}
 
--- the next counter has reached the greatest, at one of the layers
+-- the next counter is the greatest, at one of the layers
 abbrev pub StandsAtEnd : NodeState → Type 0
-StandsAtEnd s = (most ≤ next_counter Nwk s) ⊎ (most ≤ next_counter Aps s)
+StandsAtEnd s = (next_counter Nwk s ≡ most) ⊎ (next_counter Aps s ≡ most)
 
 abbrev pub SpentLine : List LogLine → LogLine → Type 0
 SpentLine h (Refuse e n spot CounterSpent) = StandsAtEnd (state_of h n)

@@ -102,9 +102,9 @@ pub fn no_counter_is_skipped_without_a_boot()
     ensures { (tools : Tools) (w : World) → IsSchedule w → Each TakesAll [] (transcript tools w) }
 {}
 
-/// Who answers that a counter is spent has reached the greatest counter, 2^32 - 1, at one of the layers.
+/// Who answers that a counter is spent stands at the greatest counter, 2^32 - 1, at one of the layers.
 pub fn who_has_spent_its_counters_stands_at_the_end()
-    ensures { (tools : Tools) (w : World) → Each SpentLine [] (transcript tools w) }
+    ensures { (tools : Tools) (w : World) → IsSchedule w → Each SpentLine [] (transcript tools w) }
 {}
 
 /// A limit is reserved only where the counter has reached it, and is then one outgoing block ahead, or the greatest counter.

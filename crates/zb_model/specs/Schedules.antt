@@ -1,14 +1,17 @@
 -- What every schedule keeps that is read from a text: the premises of the laws about runs.
-use Rattle.std.specs.Prelude.{ℕ, ◌≡◌, ◌<◌, ◌^◌, true, is_some, ⊤}
+use Rattle.std.specs.Prelude.{ℕ, ◌≡◌, ◌<◌, ◌≤◌, ◌^◌, true, is_some, ⊤}
 use Rattle.std.specs.List.{AllByRecursion}
+use Rattle.zb_model.specs.State.{most}
 use Rattle.zb_model.specs.Rules.{station_of}
 use Rattle.zb_model.specs.Play.{World, Member, Act, Own, RollOver, Deliver, Reset, PowerOn, ShowRecord, ArmStop, ArmFail, stations}
 
--- a declared node: its EUI has 64 bits, and its blocks aren't empty
+-- a declared node: its EUI has 64 bits, its blocks aren't empty, and its stored limits at the start are counters
 pub record IsMember (m : Member) : Type 0 where
   pub eui : m.station.eui < 2 ^ 64
   pub out_block : 0 < m.station.out_block
   pub in_block : 0 < m.station.in_block
+  pub start_nwk : m.start_nwk ≤ most
+  pub start_aps : m.start_aps ≤ most
 
 abbrev pub Names : World → ℕ → Type 0
 Names w n = is_some (station_of (stations w) n) ≡ true

@@ -1,9 +1,8 @@
 -- The entries that were written are made again, behind any others.
-use Rattle.std.proofs.Common.{◌≡◌, ℕ, zero, suc, ◌+◌, ◌<◌, ◌≤◌, Bool, true, false, if◌then◌else◌, List, [], ◌∷◌, ◌++◌, length, map, filter, flat_map, Result, Ok, Err, refl, sym, ap, ◌≢◌, ◌∙◌, subst, arith, append_assoc, append-nil, length-append, ◌&&◌}
+use Rattle.std.proofs.Common.{◌≡◌, ℕ, zero, suc, ◌+◌, ◌≤◌, Bool, true, false, if◌then◌else◌, List, [], ◌∷◌, ◌++◌, length, filter, flat_map, Result, Ok, Err, refl, sym, ap, ◌≢◌, ◌∙◌, subst, arith, append_assoc, append-nil, length-append}
 use Rattle.std.specs.List.{AllByRecursion}
 use Rattle.std.proofs.lemmas.List.Concat.{flat_map-cons}
 use Rattle.zb_change.specs.declared.change.Change.{Change}
-use Rattle.zb_change.specs.declared.change.Change.TheVariants as change
 use Rattle.zb_change.specs.Changes.{edit, edits}
 use Rattle.zb_model.specs.Data.{Draw, DropNet, DropLink, Install, Active, Row, Pair, Became, Live, Removed, Roll, Told, Untold, Edit, Reserve, Floor, Start, Moved}
 use Rattle.zb_model.specs.State.{NodeState, shown, applied, applied_all}

@@ -8,3 +8,4 @@ pub mod Entries
 pub mod RecordAgain
 pub mod WholeAgain
 pub mod First
+pub mod OneLimit

@@ -1,9 +1,9 @@
 -- Rows read one after the other, as the loops do.
-use Rattle.std.proofs.Common.{◌≡◌, ℕ, zero, suc, ◌+◌, ◌-◌, ◌<◌, ◌≤◌, List, [], ◌∷◌, ◌++◌, length, map, take, drop, get_or, Result, Ok, Err, refl, sym, ap, ◌∙◌, arith, length-drop}
+use Rattle.std.proofs.Common.{◌≡◌, ℕ, suc, ◌+◌, ◌-◌, ◌<◌, ◌≤◌, List, [], ◌∷◌, ◌++◌, length, map, take, drop, get_or, Result, Ok, Err, refl, sym, ap, ◌∙◌, arith, length-drop}
 use Rattle.std.specs.Prelude.{slice_set}
 use Rattle.std.proofs.lemmas.List.{map_push, take_more_set, drop_more, get_or-drop, drop-set-lt, drop-drop, drop_all, take_all}
 use Rattle.zb_model.specs.State.{NetKey}
-use Rattle.zb_record.specs.Placed.{Placed, onward, rows_at}
+use Rattle.zb_record.specs.Placed.{Placed, rows_at}
 use Rattle.zb_record.specs.declared.net.NetRecord.{NetRecord}
 use Rattle.zb_record.specs.Rows.{net_seen, live_floors_at, all_floors_at}
 

@@ -1,9 +1,9 @@
 -- A record that is written is read again, as it is after a boot.
-use Rattle.std.proofs.Common.{◌≡◌, ℕ, zero, suc, ◌+◌, ◌^◌, ◌<◌, ◌≤◌, List, [], ◌∷◌, ◌++◌, length, map, filter, flat_map, Result, Ok, Err, refl, sym, ap, ◌∙◌, subst, arith, Bool, true, false, not, if◌then◌else◌, ◌&&◌, ◌||◌, Option, Some, None, append_assoc, append-nil, length-append}
-use Rattle.std.specs.Prelude.{nat_eq, nat_le, nat_lt, ◌==◌}
-use Rattle.std.specs.Int.{w16, w32, w64}
+use Rattle.std.proofs.Common.{◌≡◌, ℕ, zero, suc, ◌+◌, ◌^◌, ◌<◌, ◌≤◌, List, [], ◌∷◌, ◌++◌, length, map, filter, flat_map, Result, Ok, refl, sym, ap, ◌∙◌, subst, arith, Bool, true, false, not, if◌then◌else◌, ◌&&◌, ◌||◌, append_assoc, append-nil, length-append}
+use Rattle.std.specs.Prelude.{nat_eq, nat_le, nat_lt}
+use Rattle.std.specs.Int.{w32}
 use Rattle.std.specs.List.{list_any, list_all, AllByRecursion}
-use Rattle.std.proofs.lemmas.Bool.{not-true, not-false, leb-true, le-leb, ltb-true, lt-ltb, eq-eqb, ne_eqb}
+use Rattle.std.proofs.lemmas.Bool.{not-true, lt-ltb, ne_eqb}
 use Rattle.std.proofs.lemmas.List.{map-append, length-map}
 use Rattle.std.proofs.lemmas.List.Concat.{flat_map-cons}
 use Rattle.std.proofs.lemmas.List.Elements.{filter-append}
@@ -13,20 +13,20 @@ use Rattle.zb_base.specs.declared.key.Key.{Key}
 use Rattle.zb_change.specs.declared.state.Attribute.{Attribute}
 use Rattle.zb_change.specs.declared.state.Attribute.TheVariants as attribute
 use Rattle.zb_change.specs.Changes.{trust}
-use Rattle.zb_cursor.specs.Spelling.{bit, number, eui, key}
+use Rattle.zb_cursor.specs.Spelling.{bit}
 use Rattle.zb_cursor.specs.Reading.{Reading, byte_at, number_at, eui_at, key_at}
-use Rattle.zb_cursor.proofs.ReadAgain.{wide16, wide32, number_again, eui_again, key_again}
-use Rattle.zb_model.specs.Data.{Bytes, Duty, Trust, Provisional, Unverified, Verified}
+use Rattle.zb_cursor.proofs.ReadAgain.{wide32, number_again, eui_again, key_again}
+use Rattle.zb_model.specs.Data.{Duty, Trust, Provisional, Unverified, Verified}
 use Rattle.zb_model.specs.State.{SenderFloor, NetKey, LinkKey, PairKey, same_key, has_net, booted_floor, booted_net, booted_link, shown_net}
-use Rattle.zb_model.specs.Fits.{senders_ascend, all_apart, most_senders, most_links}
-use Rattle.zb_model.specs.Record.{worth, net_bytes, sender_bytes, floors_bytes, link_bytes, pair_bytes, trust_byte, four_bytes, two_bytes, eight_bytes}
-use Rattle.zb_fits.proofs.Tests.{both, any_map, any_same, apart_snoc}
-use Rattle.zb_fits.proofs.Parts.{nets_alike, links_alike, pairs_alike, pair_rule, floors_rule, limit_rule, same_key_sym}
+use Rattle.zb_model.specs.Fits.{senders_ascend, all_apart, most_senders}
+use Rattle.zb_model.specs.Record.{worth, net_bytes, sender_bytes, floors_bytes, link_bytes, pair_bytes, trust_byte, four_bytes, eight_bytes}
+use Rattle.zb_fits.proofs.Tests.{both, any_map, apart_snoc}
+use Rattle.zb_fits.proofs.Parts.{nets_alike, links_alike, pairs_alike, pair_rule, floors_rule, limit_rule}
 use Rattle.zb_record.specs.declared.version.Version.TheVariants.{Third}
 use Rattle.zb_record.specs.Fields.{attribute_at}
-use Rattle.zb_record.specs.Placed.{Placed, onward, ◌>>=◌, give, judged, field, whole, rows_at}
+use Rattle.zb_record.specs.Placed.{Placed, onward, ◌>>=◌, give, judged, field, rows_at}
 use Rattle.zb_record.specs.Ranges.{NetFits, LinkFits, PairFits}
-use Rattle.zb_record.specs.Rows.{net_at, net_flags_fit, is_new_net, allows_limit, lives, sender_at, floors_at, live_floors_at, all_floors_at, is_last, isnt_zero, has_few, link_at, link_row, is_new_link, is_marked, link_fits, link_flags_fit, kinds_alike, told_apart, pair_at, is_pair, is_new_pair, is_one}
+use Rattle.zb_record.specs.Rows.{net_at, net_flags_fit, is_new_net, allows_limit, lives, sender_at, floors_at, live_floors_at, all_floors_at, is_last, isnt_zero, has_few, link_at, link_row, is_new_link, is_marked, link_fits, link_flags_fit, kinds_alike, told_apart, pair_at, is_pair, is_new_pair}
 use Rattle.zb_record.proofs.ReadAgain.{attribute_again}
 use Rattle.zb_record.proofs.Sound.{live_at}
 

@@ -1,11 +1,11 @@
 -- Making changes again: how the loops go on and end.
-use Rattle.std.proofs.Common.{◌≡◌, ℕ, zero, suc, ◌+◌, ◌-◌, ◌<◌, ◌≤◌, Bool, true, false, if◌then◌else◌, List, [], ◌∷◌, ◌++◌, length, Result, Ok, Err, refl, sym, ap, ◌∙◌, subst, arith, length-append}
+use Rattle.std.proofs.Common.{◌≡◌, ℕ, zero, suc, ◌+◌, ◌-◌, ◌<◌, ◌≤◌, true, false, List, [], ◌∷◌, ◌++◌, length, Ok, Err, refl, sym, ap, ◌∙◌, arith, length-append}
 use Rattle.zb_change.specs.declared.change.Change.{Change}
 use Rattle.zb_change.specs.Changes.{edit}
 use Rattle.zb_model.specs.State.{NodeState, shown}
 use Rattle.zb_record.specs.Changes.{change_at}
 use Rattle.zb_record.specs.declared.version.Version.{Version}
-use Rattle.zb_record.specs.Redoing.{Redone, onward, made, fits_behind, applied_behind, change_redone, changes_redone, payloads_redone, redone}
+use Rattle.zb_record.specs.Redoing.{Redone, made, fits_behind, applied_behind, change_redone, changes_redone, payloads_redone, redone}
 
 -- one change
 

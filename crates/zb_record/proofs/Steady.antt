@@ -1,12 +1,11 @@
 -- What was read is read again where more bytes stand behind it, and nothing is left that wasn't there.
-use Rattle.std.proofs.Common.{◌≡◌, ℕ, zero, suc, ◌+◌, ◌<◌, ◌≤◌, Bool, true, false, ltb, List, [], ◌∷◌, ◌++◌, length, take, drop, Option, Some, None, Result, Ok, Err, refl, sym, ap, ◌∙◌, arith, length-append, length-drop, if◌then◌else◌}
+use Rattle.std.proofs.Common.{◌≡◌, ℕ, ◌≤◌, Bool, true, false, List, [], ◌∷◌, ◌++◌, length, take, drop, Option, Some, None, Result, Ok, Err, refl, ap, arith, length-append, length-drop, if◌then◌else◌}
 use Rattle.std.specs.Int.{Width, w32, w64, byte_len, from_le_bytes}
 use Rattle.std.specs.Prelude.{nat_lt, ◌==◌}
 use Rattle.std.proofs.lemmas.Bool.{le-ltb, ltb-false}
 use Rattle.std.proofs.lemmas.List.{take-append-le, drop-append-le}
 use Rattle.zb_base.specs.declared.address.Eui.{Eui}
 use Rattle.zb_base.specs.declared.key.Key.{Key}
-use Rattle.zb_change.specs.declared.change.Change.{Change}
 use Rattle.zb_cursor.specs.Reading.{Reading, follow, ◌>>=◌, give, byte_at, bytes_at, number_at, eui_at, key_at}
 use Rattle.zb_record.specs.Fields.{chosen, layer_of, attribute_of, state_of, rollover_of, layer_at, attribute_at, state_at, rollover_at}
 use Rattle.zb_record.specs.Changes.{reserve_at, floor_at, drop_net_at, drop_link_at, install_at, active_at, row_at, became_at, roll_at, told_at, untold_at, live_at, removed_at, start_at, pair_at, later_of, fields_of, change_at}

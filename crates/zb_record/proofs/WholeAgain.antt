@@ -1,10 +1,8 @@
 -- The whole record of a state is read again as that state after a boot.
-use Rattle.std.proofs.Common.{◌≡◌, ℕ, zero, suc, ◌+◌, ◌^◌, ◌<◌, ◌≤◌, List, [], ◌∷◌, ◌++◌, length, map, filter, flat_map, Result, Ok, Err, refl, sym, ap, ◌∙◌, subst, arith, Bool, true, false, not, if◌then◌else◌, ◌&&◌, ◌||◌, Option, Some, None, append_assoc, append-nil}
-use Rattle.std.specs.Prelude.{find, nat_eq, nat_le, nat_lt, ◌==◌}
+use Rattle.std.proofs.Common.{◌≡◌, ℕ, zero, suc, ◌+◌, ◌^◌, ◌<◌, ◌≤◌, List, [], ◌∷◌, ◌++◌, length, map, flat_map, Ok, refl, sym, ap, ◌∙◌, arith, Bool, true, false, not, if◌then◌else◌, ◌&&◌, ◌||◌, Option, Some, None, append-nil}
+use Rattle.std.specs.Prelude.{find, nat_eq, nat_lt, ◌==◌}
 use Rattle.std.specs.Int.{w16, w32}
-use Rattle.std.specs.List.{list_any, list_all, AllByRecursion}
-use Rattle.std.proofs.lemmas.Bool.{le-leb, lt-ltb, eq-eqb, eqb-true, leb-true}
-use Rattle.std.proofs.lemmas.List.{length-map}
+use Rattle.std.proofs.lemmas.Bool.{le-leb, lt-ltb, eqb-true}
 use Rattle.zb_base.specs.declared.node.Role.{Role}
 use Rattle.zb_base.specs.declared.node.Role.TheVariants as role
 use Rattle.zb_change.specs.declared.state.State.{State}
@@ -15,8 +13,8 @@ use Rattle.zb_change.specs.Changes.{duty, stage, is_sending}
 use Rattle.zb_cursor.specs.Reading.{number_at}
 use Rattle.zb_cursor.proofs.ReadAgain.{wide16, wide32, number_again}
 use Rattle.zb_model.specs.Data.{Bytes, Duty, Centre, Router, Device, Stage, Fresh, Knocked, Joined, Offered, Confirmed, Rejoining, Gone}
-use Rattle.zb_model.specs.State.{NodeState, NetKey, LinkKey, PairKey, same_key, is_centre, net_of, live_nets, booted_net, booted_link, after_boot, shown, shown_net}
-use Rattle.zb_model.specs.Fits.{keeps_rules, duty_is_kept, active_is_live, row_is_live, is_fresh, most_nets, most_links, most_pairs}
+use Rattle.zb_model.specs.State.{NodeState, NetKey, same_key, is_centre, live_nets, booted_net, booted_link, after_boot, shown, shown_net}
+use Rattle.zb_model.specs.Fits.{keeps_rules, duty_is_kept, active_is_live, row_is_live, is_fresh, most_nets, most_pairs}
 use Rattle.zb_model.specs.Record.{record_of, active_place, place_from, duty_byte, stage_byte, worth, two_bytes, four_bytes, net_bytes, floors_bytes, link_bytes, pair_bytes}
 use Rattle.zb_fits.proofs.Tests.{both}
 use Rattle.zb_fits.proofs.Parts.{Rules, rules_of, same_key_is}
@@ -24,12 +22,12 @@ use Rattle.zb_record.specs.declared.version.Version.TheVariants.{Third}
 use Rattle.zb_record.specs.declared.record.Node.{Node}
 use Rattle.zb_record.specs.declared.record.Head.{Head}
 use Rattle.zb_record.specs.Fields.{version_at, role_at, state_at, rollover_at}
-use Rattle.zb_record.specs.Placed.{Placed, onward, ◌>>=◌, give, judged, field, whole, rows_at}
+use Rattle.zb_record.specs.Placed.{rows_at}
 use Rattle.zb_record.specs.Ranges.{FitsBytes}
-use Rattle.zb_record.specs.Rows.{net_at, all_floors_at, link_at, links_at, has_link_room, pair_at, all_pairs_at, pairs_at, has_pair_room, pairs_room}
+use Rattle.zb_record.specs.Rows.{net_at, all_floors_at, link_at, links_at, has_link_room, pair_at, all_pairs_at, has_pair_room, pairs_room}
 use Rattle.zb_record.specs.Records.{may_enter, may_roll, has_net_room, is_place, node_at, head_at, nets_at, key_of, state_from, record_at, record_read, ended}
 use Rattle.zb_record.proofs.Sound.{live_at}
-use Rattle.zb_record.proofs.RecordAgain.{found, field_again, rows_again, NetsCan, net_again, bare_boot, booted_row, all_floors_again, live_bytes, filtered, LinksCan, link_again, PairsCan, pair_again, same_pair, map_same}
+use Rattle.zb_record.proofs.RecordAgain.{found, field_again, rows_again, NetsCan, net_again, bare_boot, booted_row, all_floors_again, filtered, LinksCan, link_again, PairsCan, pair_again, same_pair, map_same}
 
 -- what the program says for the model's words
 

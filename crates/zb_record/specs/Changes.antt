@@ -1,6 +1,6 @@
 -- The changes of a journal entry, read from their bytes: a kind byte, and the fields of that kind. Each fault of a change is
 -- that of a change that isn't whole.
-use Rattle.std.specs.Prelude.{ℕ, List, Result, Err, ◌==◌, if◌then◌else◌}
+use Rattle.std.specs.Prelude.{ℕ, Err, ◌==◌, if◌then◌else◌}
 use Rattle.std.specs.Int.{w32}
 use Rattle.zb_change.specs.declared.change.Change.{Change}
 use Rattle.zb_change.specs.declared.change.Change.TheVariants.{Reserve, Floor, DropNet, DropLink, Install, Active, Row, State, Roll, Told, Untold, Live, Removed, Start, Pair}

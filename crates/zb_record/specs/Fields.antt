@@ -1,5 +1,5 @@
 -- Fields of one byte that stand for one of a few values; another byte is refused as a missing one is.
-use Rattle.std.specs.Prelude.{ℕ, List, [], ◌∷◌, Option, Some, None, Result, Ok, Err, ◌==◌, if◌then◌else◌}
+use Rattle.std.specs.Prelude.{ℕ, List, [], ◌∷◌, Option, Some, None, Ok, Err, ◌==◌, if◌then◌else◌}
 use Rattle.zb_base.specs.declared.label.Layer.{Layer}
 use Rattle.zb_base.specs.declared.label.Layer.TheVariants as layer
 use Rattle.zb_base.specs.declared.node.Role.{Role}

@@ -1,5 +1,5 @@
 -- The values of changes that can be spelled: keys of 16 bytes, numbers within their widths.
-use Rattle.std.specs.Prelude.{◌≡◌, ℕ, ◌^◌, ◌<◌, length}
+use Rattle.std.specs.Prelude.{◌≡◌, ◌^◌, ◌<◌, length}
 use Rattle.std.specs.List.{AllByRecursion}
 use Rattle.zb_model.specs.State.{SenderFloor, NetKey, LinkKey, PairKey, NodeState}
 use Rattle.zb_base.specs.declared.key.Key.{Key}

@@ -1,6 +1,6 @@
 -- The record of a node, read from its bytes: versions 1, 2 and 3. Each field is whole and keeps the rules for records beside
 -- the fields before it; a rule over several fields is broken by the last of them.
-use Rattle.std.specs.Prelude.{◌≡◌, ℕ, zero, suc, Bool, not, ◌&&◌, ◌||◌, ◌==◌, if◌then◌else◌, List, [], ◌∷◌, length, map, Option, Some, None, Result, Ok, Err, nat_le, nat_lt}
+use Rattle.std.specs.Prelude.{◌≡◌, ℕ, zero, suc, Bool, not, ◌||◌, ◌==◌, if◌then◌else◌, List, [], ◌∷◌, length, map, Option, Some, None, Result, Ok, Err, nat_le, nat_lt}
 use Rattle.std.specs.Int.{w16, w32}
 use Rattle.zb_base.specs.declared.fault.OrMemory.{OrMemory}
 use Rattle.zb_base.specs.declared.fault.OrMemory.TheVariants.{Fault, NoMemory}
@@ -11,7 +11,7 @@ use Rattle.zb_change.specs.declared.state.State.{State}
 use Rattle.zb_change.specs.declared.state.Rollover.{Rollover}
 use Rattle.zb_change.specs.Changes.{duty, stage, is_sending}
 use Rattle.zb_cursor.specs.Reading.{number_at}
-use Rattle.zb_model.specs.Data.{Bytes, Duty}
+use Rattle.zb_model.specs.Data.{Bytes}
 use Rattle.zb_model.specs.State.{NodeState, NetKey, LinkKey, PairKey, is_centre}
 use Rattle.zb_model.specs.Fits.{most_nets, is_fresh}
 use Rattle.zb_record.specs.declared.record.Node.{Node}

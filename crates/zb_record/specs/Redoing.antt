@@ -2,6 +2,7 @@
 -- whole, is none, or doesn't fit. Behind a record of version 1 two kinds of changes are made otherwise than ever, and two
 -- don't stand.
 use Rattle.std.specs.Prelude.{◌≡◌, ℕ, zero, suc, ◌-◌, max, min, Bool, true, false, nat_le, List, [], ◌∷◌, ◌++◌, length, map, Result, Ok, Err, if◌then◌else◌}
+use Rattle.std.specs.List.{AllByRecursion}
 use Rattle.zb_change.specs.declared.change.Change.{Change}
 use Rattle.zb_change.specs.declared.fault.KeyError.{KeyError}
 use Rattle.zb_change.specs.declared.fault.KeyError.TheVariants.{BadRecord}
@@ -89,6 +90,14 @@ redone v entries s = payloads_redone v (length entries) entries s
 abbrev pub Redoes : Result (Unit {0}) ℕ → List ℕ → NodeState → Redone → Type 0
 Redoes (Ok done) rest s r = r ≡ (s, Ok rest)
 Redoes (Err left) rest s r = r ≡ (s, Err left)
+
+-- a row is started, and goes on from that limit
+abbrev pub GoesOn : ℕ → NetKey → Type 0
+GoesOn limit r = (r.started ≡ true) × (r.limit ≡ limit) × (r.next ≡ limit)
+
+-- all network rows go on from the declared start
+abbrev pub HasOneLimit : NodeState → Type 0
+HasOneLimit s = AllByRecursion (GoesOn s.declared) s.nets
 
 -- the place of a fault: how many bytes stand before it, or 2^32 - 1 where there are more
 abbrev pub place_of : ℕ → ℕ → ℕ

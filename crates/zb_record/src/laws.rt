@@ -1,5 +1,5 @@
 //! Laws of entries and records: what is written is read back. Each function here says laws and does nothing.
-ghost use Rattle.std.specs.Prelude.{◌≡◌, ℕ, List, [], ◌++◌, ◌≢◌, Ok, true};
+ghost use Rattle.std.specs.Prelude.{◌≡◌, ℕ, List, [], ◌++◌, ◌≢◌, Ok, Some, true};
 ghost use Rattle.std.specs.List.{AllByRecursion};
 ghost use Rattle.zb_change.specs.Changes.{edits};
 ghost use Rattle.zb_change.specs.declared.change.Change.{Change};
@@ -8,7 +8,8 @@ ghost use Rattle.zb_model.specs.Record.{payload, record_of};
 ghost use Rattle.zb_model.specs.State.{NodeState, after_boot, applied_all, shown};
 ghost use Rattle.zb_record.specs.Ranges.{FitsBytes, InRange};
 ghost use Rattle.zb_record.specs.Records.{record_read};
-ghost use Rattle.zb_record.specs.Redoing.{redone};
+ghost use Rattle.zb_record.specs.Fields.{record_version};
+ghost use Rattle.zb_record.specs.Redoing.{redone, HasOneLimit};
 ghost use Rattle.zb_record.specs.declared.version.Version.{Version};
 ghost use Rattle.zb_record.specs.declared.version.Version.TheVariants.{First};
 
@@ -29,4 +30,11 @@ pub fn what_is_read_keeps_the_rules()
 #[tactic(auto, using(crate::proofs::WholeAgain::record_again))]
 pub fn a_written_record_is_read()
     ensures { (s : NodeState) → keeps_rules s ≡ true → FitsBytes s → record_read (record_of s) ≡ Ok (shown (after_boot s)) }
+{}
+
+/// A record of version 1 has one limit, and the entries behind it leave it one: each network key is started, and goes on
+/// from the declared start.
+pub fn a_first_version_has_one_limit()
+    ensures read { (bytes : List ℕ) (s : NodeState) → record_version bytes ≡ Some First → record_read bytes ≡ Ok s → HasOneLimit s }
+    ensures redone { (q : List ℕ) (s : NodeState) → HasOneLimit s → HasOneLimit (redone First q s).0 }
 {}

@@ -9,3 +9,4 @@ pub mod CoreLaws
 pub mod Restoring
 pub mod Reserving
 pub mod Short
+pub mod Readings

@@ -1,5 +1,5 @@
 //! Laws of tables on a disk. Each function here says laws and does nothing.
-ghost use Rattle.std.specs.Prelude.{◌≡◌, ◌≢◌, ◌<◌, ◌≤◌, ◌++◌, ℕ, List, [], length, get_or, min, max, Ok, true};
+ghost use Rattle.std.specs.Prelude.{◌≡◌, ◌≢◌, ◌<◌, ◌≤◌, ◌++◌, ℕ, List, [], length, get_or, min, max, Ok, Some, true};
 ghost use Rattle.std.specs.List.{AllByRecursion};
 ghost use Rattle.zb_change.specs.declared.change.Change.{Change};
 ghost use Rattle.zb_change.specs.Changes.{edit, edits};
@@ -8,7 +8,9 @@ ghost use Rattle.zb_model.specs.Data.{Bytes, Duty, Tier, Reserve};
 ghost use Rattle.zb_model.specs.Fits.{fits, keeps_rules};
 ghost use Rattle.zb_model.specs.Record.{payload, record_of};
 ghost use Rattle.zb_model.specs.State.{NodeState, after_boot, applied, counted, heard, most, next_counter, shown, stored_limit};
+ghost use Rattle.zb_record.specs.declared.version.Version.TheVariants.{Third};
 ghost use Rattle.zb_record.specs.Changes.{change_at};
+ghost use Rattle.zb_record.specs.Fields.{record_version};
 ghost use Rattle.zb_record.specs.Ranges.{FitsBytes, InRange};
 ghost use Rattle.zb_record.specs.Records.{record_read};
 ghost use Rattle.zb_table_host.specs.Stored.{state_given, restored, IsKept, IsStorable, IsStoredAfter, MayReserve};
@@ -17,6 +19,11 @@ ghost use Rattle.zb_table_host.specs.Stored.{state_given, restored, IsKept, IsSt
 #[tactic(auto, using(crate::proofs::Widths::read_fits))]
 pub fn what_is_read_fits_a_record()
     ensures { (bytes : List ℕ) (s : NodeState) → AllByRecursion (λ b. b < 256) bytes → record_read bytes ≡ Ok s → FitsBytes s }
+{}
+
+/// Bytes of version 3 that are read as a state are its record. So what is read is a record, and nothing else is.
+pub fn what_is_read_has_these_bytes_as_its_record()
+    ensures { (bytes : List ℕ) (s : NodeState) → AllByRecursion (λ b. b < 256) bytes → record_version bytes ≡ Some Third → record_read bytes ≡ Ok s → record_of s ≡ bytes }
 {}
 
 /// A change that is read from the bytes of an entry is made of values that can be spelled again.

@@ -3,5 +3,5 @@ mod Confirming
 mod Keys
 mod Orders
 mod OwnKeys
-mod RealRuns
+pub mod RealRuns
 mod SameTerms

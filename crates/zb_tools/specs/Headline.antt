@@ -1,8 +1,10 @@
 -- What holds of the run of a schedule with real frames, as one record: the claims on transcripts, none of which asks anything of
 -- the air, of the disks, or of the strength of the cipher, but for the two words of the end line.
-use Rattle.std.specs.Prelude.{◌≡◌, true, List}
+use Rattle.std.specs.Prelude.{◌≡◌, true, List, []}
 use Rattle.zb_counted.specs.Counted.{Counted}
-use Rattle.zb_model.specs.Claims.{Confirms, Fresh, Lawful, Locked, Once}
+use Rattle.zb_counted.specs.Floors.{FloorsAreFor}
+use Rattle.zb_laws.specs.Spent.{SpentLine, TakesAll}
+use Rattle.zb_model.specs.Claims.{Confirms, Each, Fresh, Lawful, Locked, Once}
 use Rattle.zb_model.specs.Lines.{LogLine}
 use Rattle.zb_model.specs.Play.{World}
 use Rattle.zb_model.specs.Secrets.{ideal, private}
@@ -14,6 +16,11 @@ pub record Holds (w : World) : Type 0 where
   pub lawful : Lawful real w (transcript real w)
   pub counted : Counted real w (transcript real w)
   pub alone : (lines : List LogLine) → Lawful real w lines → Counted real w lines → lines ≡ transcript real w
+  -- so no counter is skipped without a boot, no floor is more than the incoming block above the counter for which it was stored,
+  -- and a node that answers counter-spent stands at 2^32 - 1
+  pub in_order : Each TakesAll [] (transcript real w)
+  pub floors : FloorsAreFor w (transcript real w)
+  pub spent : Each SpentLine [] (transcript real w)
   -- no node seals twice under one key and nonce; no receiver accepts a sender's counter twice under one key, resets included
   pub fresh : Fresh real (transcript real w)
   pub once : Once (transcript real w)

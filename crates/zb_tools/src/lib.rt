@@ -4,11 +4,10 @@
 
 ghost use Rattle.std.specs.Prelude.{◌≡◌, ℕ, List};
 ghost use Rattle.zb_base.specs.declared.label.Label.{Label};
-ghost use Rattle.zb_laws.specs.Commanding.{OneCentre, ShowsKeys, SpellsConfirm};
-ghost use Rattle.zb_laws.specs.KeysApart.{KeysApart};
+ghost use Rattle.zb_laws.specs.Commanding.{ShowsKeys, SpellsConfirm};
 ghost use Rattle.zb_laws.specs.Opening.{Opens};
+ghost use Rattle.zb_laws.specs.Premises.{Premises};
 ghost use Rattle.zb_model.specs.Play.{World};
-ghost use Rattle.zb_model.specs.Schedules.{IsSchedule};
 ghost use Rattle.zb_model.specs.Tools.{sealing_key as model_key};
 ghost use Rattle.zb_seal.specs.Keys.{sealing_key};
 ghost use Rattle.zb_seal.specs.Terms.{purpose, sealing};
@@ -48,10 +47,11 @@ pub fn frames_show_their_own_keys()
     ensures { ShowsKeys real }
 {}
 
-/// For every schedule, of real frames: the run is lawful and counted, and no other lines are; no node seals twice under one key and
-/// nonce; no receiver accepts a counter twice, resets included; only stored keys are confirmed; and where the end line says
-/// `yes yes`, removed devices are locked out. The schedule has EUIs of 64 bits and blocks, names declared nodes, has one centre,
-/// and its keys are different keys.
+/// For every schedule, of real frames: the run is lawful and counted, and no other lines are; no counter is skipped without a
+/// boot, no floor is more than one incoming block above its counter, and who answers counter-spent stands at the greatest
+/// counter; no node seals twice under one key and nonce; no receiver accepts a counter twice, resets included; only stored keys
+/// are confirmed; and where the end line says `yes yes`, removed devices are locked out. `Premises` is of the schedule: its
+/// numbers are in their ranges, it names declared nodes, has one centre, and its keys are different keys.
 pub fn every_run_of_real_frames_holds()
-    ensures { (w : World) → IsSchedule w → OneCentre w → KeysApart w → Holds w }
+    ensures { (w : World) → Premises w → Holds w }
 {}

@@ -1,12 +1,12 @@
 -- A watch that stands for some lines stands for one more, where each part takes in what the line adds to its readings.
-use Rattle.std.proofs.Common.{◌≡◌, ℕ, List, [], ◌∷◌, ◌++◌, Bool, true, false, ◌||◌, ◌&&◌, Option, Some, None, refl, ap, sym, ◌∙◌, bytes_eq, nat_eq, subst}
+use Rattle.std.proofs.Common.{◌≡◌, ℕ, List, [], ◌∷◌, ◌++◌, Bool, true, false, ◌||◌, ◌&&◌, Option, Some, None, ◌⊎◌, inl, inr, refl, ap, sym, ◌∙◌, bytes_eq, nat_eq, subst}
 use Rattle.std.specs.List.{list_any, flat_map}
 use Rattle.std.specs.Prelude.{if◌then◌else◌}
 use Rattle.zb_base.specs.declared.key.Key.{Key}
 use Rattle.zb_model.specs.Data.{Bytes, Sealing, Station, nobody}
 use Rattle.zb_model.specs.Lines.{LogLine}
 use Rattle.zb_model.specs.Readings.{station_line, stations_of}
-use Rattle.zb_model.specs.Secrets.{base_in, based_line, carried, code_in, ever_in, exposed, forged_in, holds, holds_some, ideal_line, network_in, network_keys, outside, passes_on, removed_in, same_term, terms_in}
+use Rattle.zb_model.specs.Secrets.{base_in, based_line, came_by, carried, code_in, ever_in, exposed, forged_in, holds, holds_some, ideal_line, network_in, network_keys, outside, passes_on, removed_in, same_term, terms_in}
 use Rattle.zb_model.specs.Tools.{Tools}
 use Rattle.zb_seal.specs.Terms.{sealing}
 use Rattle.zb_seal.specs.declared.term.Term.{Term}
@@ -21,13 +21,15 @@ use Rattle.zb_watch.specs.declared.origins.Origins.{Origins}
 use Rattle.zb_watch.specs.declared.passing.Passing.{Passing}
 use Rattle.zb_watch.specs.declared.watch.Watch.{Watch}
 use Rattle.zb_watch.proofs.Alike.{bytes_eq_sym, list_any_alike}
-use Rattle.zb_watch.proofs.Growth.{and_all, based_more, bases_more, codes_more, ever_more, forged_more, ideal_more, network_more, or_none, passes_by_forged, passes_by_network, passes_nothing, removed_more, stations_more, terms_more}
+use Rattle.zb_watch.proofs.Growth.{and_all, based_more, bases_more, came_more, codes_more, ever_more, forged_more, ideal_more, network_more, or_none, passes_by_forged, passes_by_network, passes_nothing, removed_more, stations_more, terms_more}
 use Rattle.zb_watch.proofs.Outsiders.{exposed_is_settled, known_is_exposed}
 
 pub record OriginsTake (tools : Tools) (old new : Origins) (h : List LogLine) (l : LogLine) : Type 0 where
   pub terms : (t : Term) → has_term new.terms t ≡ (has_term old.terms t || list_any (same_term (sealing t)) (terms_in l))
   pub codes : (n : ℕ) → nat_eq n nobody ≡ false → (k : Bytes) → node_has new.codes n k ≡ (node_has old.codes n k || holds (code_in n l) k)
   pub bases : (n : ℕ) → nat_eq n nobody ≡ false → (k : Bytes) → node_has new.bases n k ≡ (node_has old.bases n k || holds (base_in n l) k)
+  pub carriers : (b k : Bytes) → is_carried new.carriers k b ≡ (is_carried old.carriers k b || list_any (carries tools b k) (terms_in l))
+  pub traced : (n : ℕ) → nat_eq n nobody ≡ false → (k : Bytes) → node_has new.traced n k ≡ true → (node_has old.traced n k ≡ true) ⊎ (came_by tools h n k ≡ true)
   pub ideal : new.ideal ≡ (old.ideal && ideal_line tools h l)
 
 pub record PassingTakes (tools : Tools) (old new : Passing) (h : List LogLine) (l : LogLine) : Type 0 where
@@ -61,6 +63,13 @@ module _ (tools : Tools) (old new : Watch) (h : List LogLine) (l : LogLine) (sta
   somebody_new : list_any (nat_eq nobody) (Rattle.zb_model.specs.Secrets.removed_devices (h ++ l ∷ [])) ≡ false
   somebody_new = removed_more h l nobody ∙ both_of _ _ _ _ stands.somebody exposure.somebody
 
+  traced_new : (n : ℕ) → nat_eq n nobody ≡ false → (k : Bytes) → node_has new.origins.traced n k ≡ true → came_by tools (h ++ l ∷ []) n k ≡ true
+  traced_new n some k it =
+      elim (origins.traced n some k it) [
+        | inl before ↦ came_more tools h l n k (stands.traced n some k before)
+        | inr now ↦ came_more tools h l n k now
+      ]
+
   pub advances : Stands tools new (h ++ l ∷ [])
   advances = record {
     nodes = subst (λ (known : List Station). Declares new.nodes known) (sym (stations_more h l)) nodes;
@@ -69,6 +78,8 @@ module _ (tools : Tools) (old new : Watch) (h : List LogLine) (l : LogLine) (sta
     ever = ever_new;
     codes = λ n some k. origins.codes n some k ∙ (ap (λ (x : Bool). x || holds (code_in n l) k) (stands.codes n some k) ∙ sym (codes_more h l n k));
     bases = λ n some k. origins.bases n some k ∙ (ap (λ (x : Bool). x || holds (base_in n l) k) (stands.bases n some k) ∙ sym (bases_more h l n k));
+    carriers = λ b k. origins.carriers b k ∙ (ap (λ (x : Bool). x || list_any (carries tools b k) (terms_in l)) (stands.carriers b k) ∙ sym (terms_more (carries tools b k) h l));
+    traced = traced_new;
     removed = removed_new;
     somebody = somebody_new;
     known =
@@ -93,6 +104,8 @@ module _ (tools : Tools) (w : Watch) (h : List LogLine) (l : LogLine) (stands : 
     terms = λ t. sym (ap (λ (ts : List Sealing). has_term w.origins.terms t || list_any (same_term (sealing t)) ts) none ∙ or_none (has_term w.origins.terms t));
     codes = λ n some k. sym (ap (λ (ks : List Bytes). node_has w.origins.codes n k || holds ks k) (no_code n) ∙ or_none (node_has w.origins.codes n k));
     bases = λ n some k. sym (ap (λ (ks : List Bytes). node_has w.origins.bases n k || holds ks k) (no_base n) ∙ or_none (node_has w.origins.bases n k));
+    carriers = λ b k. sym (ap (λ (ts : List Sealing). is_carried w.origins.carriers k b || list_any (carries tools b k) ts) none ∙ or_none (is_carried w.origins.carriers k b));
+    traced = λ n some k it. inl it;
     ideal = sym (ap (λ (x : Bool). w.origins.ideal && x) fine ∙ and_all w.origins.ideal);
   }
 

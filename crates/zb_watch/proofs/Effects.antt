@@ -1,5 +1,5 @@
 -- What each line adds, and what the watch makes of it.
-use Rattle.std.proofs.Common.{◌≡◌, ℕ, List, [], ◌∷◌, ◌++◌, Bool, true, false, ◌||◌, ◌&&◌, Option, Some, None, refl, ap, sym, ◌∙◌, bytes_eq, nat_eq, subst, ◌<◌, ◌^◌, ◌%◌}
+use Rattle.std.proofs.Common.{◌≡◌, ℕ, List, [], ◌∷◌, ◌++◌, Bool, true, false, ◌||◌, ◌&&◌, Option, Some, None, ◌⊎◌, inl, inr, refl, ap, sym, ◌∙◌, bytes_eq, nat_eq, subst, ◌<◌, ◌^◌, ◌%◌}
 use Rattle.std.specs.List.{list_any}
 use Rattle.std.specs.Option.{option_map}
 use Rattle.std.specs.Prelude.{if◌then◌else◌, get_or}
@@ -18,7 +18,7 @@ use Rattle.zb_model.specs.Data.{Bytes, Sealing, Station, nobody}
 use Rattle.zb_model.specs.Lines as log
 use Rattle.zb_model.specs.Lines.{LogLine}
 use Rattle.zb_model.specs.Readings.{station_line, stations_of}
-use Rattle.zb_model.specs.Secrets.{base_in, based_line, carried, carried_at, code_in, ever_in, forged_in, holds, holds_some, ideal_line, is_the_centre, network_in, network_keys, removed_in, same_term, terms_in}
+use Rattle.zb_model.specs.Secrets.{base_in, based_line, came_by, carried, carried_at, code_in, ever_in, forged_in, holds, holds_some, ideal_line, is_the_centre, network_in, network_keys, removed_in, same_term, terms_in}
 use Rattle.zb_model.specs.Tools.{Tools}
 use Rattle.zb_seal.specs.Terms.{sealing}
 use Rattle.zb_seal.specs.declared.term.Term.{Term}
@@ -28,7 +28,7 @@ use Rattle.zb_trace.specs.declared.line.Line.TheVariants as line
 use Rattle.zb_watch.specs.Carrying as carrying
 use Rattle.zb_watch.specs.Exposure.{IsSettled, was_removed}
 use Rattle.zb_watch.specs.Nodes.{address_of, is_first_centre, is_joiner, Declares}
-use Rattle.zb_watch.specs.Origins.{came}
+use Rattle.zb_watch.specs.Origins.{IsTraced, came}
 use Rattle.zb_watch.specs.Passing.{has_that, is_code}
 use Rattle.zb_watch.specs.Sets.{has, is_carried, is_key, is_node, node_has}
 use Rattle.zb_watch.specs.Standing.{FindKeys, Stands, carries, is_that}
@@ -40,7 +40,7 @@ use Rattle.zb_watch.specs.declared.passing.Passing.{Passing}
 use Rattle.zb_watch.specs.declared.watch.Watch.{Watch}
 use Rattle.zb_watch.proofs.Advancing.{ExposureTakes, OriginsTake, advances, exposure_stays, nodes_stay, origins_stay, passing_gains, passing_hears, passing_stays}
 use Rattle.zb_watch.proofs.Declaring.{not_nobody}
-use Rattle.zb_watch.proofs.Found.{came_is, centre_is, node_is}
+use Rattle.zb_watch.proofs.Found.{came_is, came_of, centre_is, joiner_is_traced, node_is}
 use Rattle.zb_watch.proofs.Growth.{and_all, or_none}
 use Rattle.zb_watch.proofs.Truth.{turned_number}
 
@@ -57,6 +57,12 @@ carried_is tools find t = carried_as tools find t.layer (sealing t)
 key_that : (key : Option Key) (k : Bytes) → is_key key k ≡ is_that (option_map (λ (key : Key). key.0) key) k
 key_that None k = refl
 key_that (Some key) k = refl
+
+and_turned : (a b : Bool) → (a && b) ≡ (b && a)
+and_turned true true = refl
+and_turned true false = refl
+and_turned false true = refl
+and_turned false false = refl
 
 -- A key that one holds, or two.
 
@@ -78,6 +84,15 @@ pub record Holds (old new : Exposure) (node : Option Eui) (key : Key) : Type 0 w
   pub removed : new.removed ≡ old.removed
   pub carried : new.carried ≡ old.carried
   pub based : new.based ≡ old.based
+
+-- What a call says that takes a key in.
+pub record TakesIn (old new : Origins) (node : Option Eui) (key : Bytes) : Type 0 where
+  pub ideal : IsTraced old node key → new.ideal ≡ (old.ideal && came old node key)
+  pub traced : (n : ℕ) (k : Bytes) → node_has new.traced n k ≡ true → (node_has old.traced n k ≡ true) ⊎ (((is_node node n && bytes_eq k key) ≡ true) × (came old node key ≡ true))
+  pub terms : new.terms ≡ old.terms
+  pub codes : new.codes ≡ old.codes
+  pub bases : new.bases ≡ old.bases
+  pub carriers : new.carriers ≡ old.carriers
 
 module _ (tools : Tools) (w : Watch) (h : List LogLine) (stands : Stands tools w h) where
   quiet : (l : LogLine) → station_line (stations_of h) l ≡ stations_of h → terms_in l ≡ [] → ((n : ℕ) → code_in n l ≡ []) → ((n : ℕ) → base_in n l ≡ []) → ideal_line tools h l ≡ true
@@ -142,17 +157,19 @@ module _ (tools : Tools) (w : Watch) (h : List LogLine) (stands : Stands tools w
       → ((k : Bytes) → has passing.network k ≡ (has w.passing.network k || bytes_eq k key.0)) → passing.forged ≡ w.passing.forged → passing.passed_on ≡ (w.passing.passed_on || has w.passing.forged key.0)
       → ((n : ℕ) (k : Bytes) → node_has origins.codes n k ≡ (node_has w.origins.codes n k || (is_node (address_of w.nodes name) n && bytes_eq k key.0)))
       → ((n : ℕ) (k : Bytes) → node_has origins.bases n k ≡ (node_has w.origins.bases n k || (is_node (address_of w.nodes name) n && bytes_eq k key.0)))
-      → origins.terms ≡ w.origins.terms → origins.ideal ≡ w.origins.ideal
+      → origins.terms ≡ w.origins.terms → origins.carriers ≡ w.origins.carriers → origins.traced ≡ w.origins.traced → origins.ideal ≡ w.origins.ideal
       → Holds w.exposure exposure (address_of w.nodes name) key
       → Stands tools (record w { passing = passing; origins = origins; exposure = exposure }) (h ++ log.GivenLink (named (stations_of h) name.bytes) partner key.0 ∷ [])
   unfolding ideal_line
-  given_link_follows name key partner passing origins exposure network forged passed codes bases terms ideal holds_it =
+  given_link_follows name key partner passing origins exposure network forged passed codes bases terms carriers traced ideal holds_it =
       let l : LogLine = log.GivenLink (named (stations_of h) name.bytes) partner key.0 in
       let from : OriginsTake tools w.origins origins h l = record {
         terms = λ t. ap (λ s. has_term s t) terms ∙ sym (or_none (has_term w.origins.terms t));
         codes = λ n some k.
             codes n k ∙ ap (λ (x : Bool). node_has w.origins.codes n k || x) (ap (λ (b : Bool). b && bytes_eq k key.0) (node_is tools w h stands name n some) ∙ sym (holds_if key.0 (nat_eq (named (stations_of h) name.bytes) n) k));
         bases = bases_by_node name w.origins origins key bases;
+        carriers = λ b k. ap (λ c. is_carried c k b) carriers ∙ sym (or_none (is_carried w.origins.carriers k b));
+        traced = λ n some k it. inl (ap (λ c. node_has c n k) (sym traced) ∙ it);
         ideal = ideal ∙ sym (and_all w.origins.ideal);
       } in
       advances tools w (record w { passing = passing; origins = origins; exposure = exposure }) h l stands (nodes_stay tools w h l stands refl) from
@@ -173,18 +190,27 @@ module _ (tools : Tools) (w : Watch) (h : List LogLine) (stands : Stands tools w
   abbrev joiner : ArrayString → Option Eui
   joiner name = if is_joiner w.nodes (address_of w.nodes name) then address_of w.nodes name else None
 
+  traced_in : (name : ArrayString) (key : Key) (origins : Origins) → TakesIn w.origins origins (joiner name) key.0
+      → (n : ℕ) → nat_eq n nobody ≡ false → (k : Bytes) → node_has origins.traced n k ≡ true → (node_has w.origins.traced n k ≡ true) ⊎ (came_by tools h n k ≡ true)
+  traced_in name key origins is n some k it =
+      elim (is.traced n k it) [
+        | inl before ↦ inl before
+        | inr now ↦ inr (came_of tools w h stands (joiner name) n k key.0 some now.0 now.1)
+      ]
+
   pub install_follows : (name : ArrayString) (key : Key) (event sequence : ℕ) (origins : Origins) (exposure : Exposure)
-      → origins ≡ record w.origins { ideal = w.origins.ideal && came w.origins w.exposure.carried (joiner name) key.0 }
-      → Holds w.exposure exposure (address_of w.nodes name) key
+      → TakesIn w.origins origins (joiner name) key.0 → Holds w.exposure exposure (address_of w.nodes name) key
       → Stands tools (record w { origins = origins; exposure = exposure }) (h ++ log.Changed event (named (stations_of h) name.bytes) (model.Moved (model.Install key.0 sequence)) ∷ [])
   unfolding ideal_line
   install_follows name key event sequence origins exposure is holds_it =
       let l : LogLine = log.Changed event (named (stations_of h) name.bytes) (model.Moved (model.Install key.0 sequence)) in
       let from : OriginsTake tools w.origins origins h l = record {
-        terms = λ t. ap (λ (o : Origins). has_term o.terms t) is ∙ sym (or_none (has_term w.origins.terms t));
-        codes = λ n some k. ap (λ (o : Origins). node_has o.codes n k) is ∙ sym (or_none (node_has w.origins.codes n k));
-        bases = λ n some k. ap (λ (o : Origins). node_has o.bases n k) is ∙ sym (or_none (node_has w.origins.bases n k));
-        ideal = ap (λ (o : Origins). o.ideal) is ∙ ap (λ (x : Bool). w.origins.ideal && x) (came_is tools w h stands name key.0);
+        terms = λ t. ap (λ s. has_term s t) is.terms ∙ sym (or_none (has_term w.origins.terms t));
+        codes = λ n some k. ap (λ s. node_has s n k) is.codes ∙ sym (or_none (node_has w.origins.codes n k));
+        bases = λ n some k. ap (λ s. node_has s n k) is.bases ∙ sym (or_none (node_has w.origins.bases n k));
+        carriers = λ b k. ap (λ c. is_carried c k b) is.carriers ∙ sym (or_none (is_carried w.origins.carriers k b));
+        traced = traced_in name key origins is;
+        ideal = is.ideal (joiner_is_traced tools w h stands name key.0) ∙ ap (λ (x : Bool). w.origins.ideal && x) (came_is tools w h stands name key.0);
       } in
       advances tools w (record w { origins = origins; exposure = exposure }) h l stands (nodes_stay tools w h l stands refl) from (passing_stays tools w h l stands refl refl)
       (exposure_gains l exposure key (nat_eq (named (stations_of h) name.bytes)) holds_it.settled (by_node name exposure key holds_it) holds_it.removed holds_it.carried holds_it.based refl (λ d. refl) refl refl)
@@ -236,21 +262,23 @@ module _ (tools : Tools) (w : Watch) (h : List LogLine) (stands : Stands tools w
 
   pub row_follows : (name : ArrayString) (partner : Eui) (key : Key) (a : Attribute) (event : ℕ) (passing : Passing) (taken origins : Origins) (middle exposure : Exposure)
       → ((k : Bytes) → has passing.network k ≡ (has w.passing.network k || (is_code a && bytes_eq k key.0))) → passing.forged ≡ w.passing.forged → passing.passed_on ≡ (w.passing.passed_on || (is_code a && has w.passing.forged key.0))
-      → taken ≡ record w.origins { ideal = w.origins.ideal && came w.origins w.exposure.carried (joiner name) key.0 }
+      → TakesIn w.origins taken (joiner name) key.0
       → ((n : ℕ) (k : Bytes) → node_has origins.bases n k ≡ (node_has taken.bases n k || (is_node (address_of w.nodes name) n && bytes_eq k key.0)))
-      → origins.codes ≡ taken.codes → origins.terms ≡ taken.terms → origins.ideal ≡ taken.ideal
+      → origins.codes ≡ taken.codes → origins.terms ≡ taken.terms → origins.carriers ≡ taken.carriers → origins.traced ≡ taken.traced → origins.ideal ≡ taken.ideal
       → Holds w.exposure middle (if is_first_centre w.nodes.centre (address_of w.nodes name) then Some partner else None) key → Holds middle exposure (address_of w.nodes name) key
       → Stands tools (record w { passing = passing; origins = origins; exposure = exposure }) (h ++ log.Changed event (named (stations_of h) name.bytes) (model.Moved (model.Row partner.0 key.0 (trust a))) ∷ [])
   unfolding ideal_line
-  row_follows name partner key a event passing taken origins middle exposure network forged passed is bases codes terms ideal one two =
+  row_follows name partner key a event passing taken origins middle exposure network forged passed is bases codes terms carriers traced ideal one two =
       let l : LogLine = log.Changed event (named (stations_of h) name.bytes) (model.Moved (model.Row partner.0 key.0 (trust a))) in
       let from : OriginsTake tools w.origins origins h l = record {
-        terms = λ t. ap (λ s. has_term s t) (terms ∙ ap (λ (o : Origins). o.terms) is) ∙ sym (or_none (has_term w.origins.terms t));
-        codes = λ n some k. ap (λ s. node_has s n k) (codes ∙ ap (λ (o : Origins). o.codes) is) ∙ sym (or_none (node_has w.origins.codes n k));
+        terms = λ t. ap (λ s. has_term s t) (terms ∙ is.terms) ∙ sym (or_none (has_term w.origins.terms t));
+        codes = λ n some k. ap (λ s. node_has s n k) (codes ∙ is.codes) ∙ sym (or_none (node_has w.origins.codes n k));
         bases = λ n some k.
             bases_by_node name taken origins key bases n some k
-            ∙ ap (λ (o : Origins). node_has o.bases n k || holds (if nat_eq (named (stations_of h) name.bytes) n then key.0 ∷ [] else []) k) is;
-        ideal = ideal ∙ (ap (λ (o : Origins). o.ideal) is ∙ ap (λ (x : Bool). w.origins.ideal && x) (came_is tools w h stands name key.0));
+            ∙ ap (λ s. node_has s n k || holds (if nat_eq (named (stations_of h) name.bytes) n then key.0 ∷ [] else []) k) is.bases;
+        carriers = λ b k. ap (λ c. is_carried c k b) (carriers ∙ is.carriers) ∙ sym (or_none (is_carried w.origins.carriers k b));
+        traced = λ n some k it. traced_in name key taken is n some k (ap (λ c. node_has c n k) (sym traced) ∙ it);
+        ideal = ideal ∙ (is.ideal (joiner_is_traced tools w h stands name key.0) ∙ ap (λ (x : Bool). w.origins.ideal && x) (came_is tools w h stands name key.0));
       } in
       advances tools w (record w { passing = passing; origins = origins; exposure = exposure }) h l stands (nodes_stay tools w h l stands refl) from
       (passing_gains tools w h l stands passing key (is_code a) (code_key event (named (stations_of h) name.bytes) partner.0 key.0 a) refl network forged passed)
@@ -292,6 +320,8 @@ module _ (tools : Tools) (w : Watch) (h : List LogLine) (stands : Stands tools w
         terms = λ s. ap (λ (o : Origins). has_term o.terms s) is ∙ sym (or_none (has_term w.origins.terms s));
         codes = λ n some k. ap (λ (o : Origins). node_has o.codes n k) is ∙ sym (or_none (node_has w.origins.codes n k));
         bases = λ n some k. ap (λ (o : Origins). node_has o.bases n k) is ∙ sym (or_none (node_has w.origins.bases n k));
+        carriers = λ b k. ap (λ (o : Origins). is_carried o.carriers k b) is ∙ sym (or_none (is_carried w.origins.carriers k b));
+        traced = λ n some k it. inl (ap (λ (o : Origins). node_has o.traced n k) (sym is) ∙ it);
         ideal = ap (λ (o : Origins). o.ideal) is ∙ ap (λ (x : Bool). w.origins.ideal && x) (stands.terms t);
       } in
       advances tools w (record w { origins = origins }) h l stands (nodes_stay tools w h l stands refl) from (passing_stays tools w h l stands refl refl) (exposure_stays tools w h l stands refl (λ n. refl) refl refl)
@@ -308,12 +338,20 @@ module _ (tools : Tools) (w : Watch) (h : List LogLine) (stands : Stands tools w
 
     sealed_terms : (l : LogLine) (origins : Origins) → terms_in l ≡ sealing t ∷ [] → ((n : ℕ) → code_in n l ≡ []) → ((n : ℕ) → base_in n l ≡ []) → ideal_line tools h l ≡ true
         → ((s : Term) → has_term origins.terms s ≡ (has_term w.origins.terms s || same_term (sealing s) (sealing t)))
-        → origins.codes ≡ w.origins.codes → origins.bases ≡ w.origins.bases → origins.ideal ≡ w.origins.ideal → OriginsTake tools w.origins origins h l
-    sealed_terms l origins one no_code no_base fine terms codes bases ideal = record {
+        → origins.codes ≡ w.origins.codes → origins.bases ≡ w.origins.bases
+        → ((k b : Bytes) → is_carried origins.carriers k b ≡ (is_carried w.origins.carriers k b || (is_key key k && bytes_eq b t.base.0))) → origins.traced ≡ w.origins.traced
+        → origins.ideal ≡ w.origins.ideal → OriginsTake tools w.origins origins h l
+    sealed_terms l origins one no_code no_base fine terms codes bases carriers traced ideal = record {
       terms = λ s.
           terms s ∙ ap (λ (x : Bool). has_term w.origins.terms s || x) (sym (ap (λ (ts : List Sealing). list_any (same_term (sealing s)) ts) one ∙ or_none (same_term (sealing s) (sealing t))));
       codes = λ n some k. ap (λ o. node_has o n k) codes ∙ sym (ap (λ (ks : List Bytes). node_has w.origins.codes n k || holds ks k) (no_code n) ∙ or_none (node_has w.origins.codes n k));
       bases = λ n some k. ap (λ o. node_has o n k) bases ∙ sym (ap (λ (ks : List Bytes). node_has w.origins.bases n k || holds ks k) (no_base n) ∙ or_none (node_has w.origins.bases n k));
+      carriers = λ b k.
+          carriers k b
+          ∙ ap (λ (x : Bool). is_carried w.origins.carriers k b || x)
+          (ap (λ (x : Bool). x && bytes_eq b t.base.0) (that_key k)
+          ∙ (and_turned (is_that (carried tools (sealing t)) k) (bytes_eq b t.base.0) ∙ sym (ap (λ (ts : List Sealing). list_any (carries tools b k) ts) one ∙ or_none (carries tools b k (sealing t)))));
+      traced = λ n some k it. inl (ap (λ c. node_has c n k) (sym traced) ∙ it);
       ideal = ideal ∙ sym (ap (λ (x : Bool). w.origins.ideal && x) fine ∙ and_all w.origins.ideal);
     }
 
@@ -324,12 +362,14 @@ module _ (tools : Tools) (w : Watch) (h : List LogLine) (stands : Stands tools w
 
     pub seal_follows : (event node : ℕ) (origins : Origins) (exposure : Exposure)
         → ((s : Term) → has_term origins.terms s ≡ (has_term w.origins.terms s || same_term (sealing s) (sealing t)))
-        → origins.codes ≡ w.origins.codes → origins.bases ≡ w.origins.bases → origins.ideal ≡ w.origins.ideal
+        → origins.codes ≡ w.origins.codes → origins.bases ≡ w.origins.bases
+        → ((k b : Bytes) → is_carried origins.carriers k b ≡ (is_carried w.origins.carriers k b || (is_key key k && bytes_eq b t.base.0))) → origins.traced ≡ w.origins.traced
+        → origins.ideal ≡ w.origins.ideal
         → (IsSettled w.exposure → IsSettled exposure) → exposure.ever ≡ w.exposure.ever → exposure.removed ≡ w.exposure.removed
         → ((b k : Bytes) → is_carried exposure.carried b k ≡ (is_carried w.exposure.carried b k || (bytes_eq b t.base.0 && is_key key k))) → exposure.based ≡ w.exposure.based
         → Stands tools (record w { origins = origins; exposure = exposure }) (h ++ log.Seal event node (sealing t) ∷ [])
     unfolding ideal_line
-    seal_follows event node origins exposure terms codes bases ideal settled ever removed carried based =
+    seal_follows event node origins exposure terms codes bases carriers traced ideal settled ever removed carried based =
         let l : LogLine = log.Seal event node (sealing t) in
         let from : ExposureTakes tools w.exposure exposure h l = record {
           settled = settled;
@@ -340,18 +380,20 @@ module _ (tools : Tools) (w : Watch) (h : List LogLine) (stands : Stands tools w
           based = based ∙ sym (and_all w.exposure.based);
         } in
         advances tools w (record w { origins = origins; exposure = exposure }) h l stands (nodes_stay tools w h l stands refl)
-        (sealed_terms l origins refl (λ n. refl) (λ n. refl) refl terms codes bases ideal) (passing_stays tools w h l stands refl refl) from
+        (sealed_terms l origins refl (λ n. refl) (λ n. refl) refl terms codes bases carriers traced ideal) (passing_stays tools w h l stands refl refl) from
 
     pub forge_follows : (event : ℕ) (origins : Origins) (passing : Passing) (told exposure : Exposure)
         → ((s : Term) → has_term origins.terms s ≡ (has_term w.origins.terms s || same_term (sealing s) (sealing t)))
-        → origins.codes ≡ w.origins.codes → origins.bases ≡ w.origins.bases → origins.ideal ≡ w.origins.ideal
+        → origins.codes ≡ w.origins.codes → origins.bases ≡ w.origins.bases
+        → ((k b : Bytes) → is_carried origins.carriers k b ≡ (is_carried w.origins.carriers k b || (is_key key k && bytes_eq b t.base.0))) → origins.traced ≡ w.origins.traced
+        → origins.ideal ≡ w.origins.ideal
         → passing.network ≡ w.passing.network → ((k : Bytes) → has passing.forged k ≡ (has w.passing.forged k || is_key key k)) → passing.passed_on ≡ (w.passing.passed_on || has_that w.passing.network key)
         → told ≡ record w.exposure { based = w.exposure.based && has w.exposure.known t.base.0 }
         → (IsSettled told → IsSettled exposure) → exposure.ever ≡ told.ever → exposure.removed ≡ told.removed
         → ((b k : Bytes) → is_carried exposure.carried b k ≡ (is_carried told.carried b k || (bytes_eq b t.base.0 && is_key key k))) → exposure.based ≡ told.based
         → Stands tools (record w { origins = origins; passing = passing; exposure = exposure }) (h ++ log.Forge event (sealing t) ∷ [])
     unfolding ideal_line
-    forge_follows event origins passing told exposure terms codes bases ideal network forged passed is settled ever removed adds based =
+    forge_follows event origins passing told exposure terms codes bases carriers traced ideal network forged passed is settled ever removed adds based =
         let l : LogLine = log.Forge event (sealing t) in
         let from : ExposureTakes tools w.exposure exposure h l = record {
           settled = λ s. settled (subst IsSettled (sym is) (rebased w.exposure (w.exposure.based && has w.exposure.known t.base.0) s));
@@ -362,7 +404,7 @@ module _ (tools : Tools) (w : Watch) (h : List LogLine) (stands : Stands tools w
           based = based ∙ (ap (λ (e : Exposure). e.based) is ∙ ap (λ (x : Bool). w.exposure.based && x) (stands.known t.base.0));
         } in
         advances tools w (record w { origins = origins; passing = passing; exposure = exposure }) h l stands (nodes_stay tools w h l stands refl)
-        (sealed_terms l origins refl (λ n. refl) (λ n. refl) refl terms codes bases ideal)
+        (sealed_terms l origins refl (λ n. refl) (λ n. refl) refl terms codes bases carriers traced ideal)
         (passing_hears tools w h l stands passing (sealing t) key refl refl that_key (test_key (carried tools (sealing t)) key (key_is ∙ sym (carried_is tools find t))) network forged passed) from
 
   -- A line that the watch passes over.

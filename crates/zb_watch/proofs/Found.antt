@@ -18,12 +18,12 @@ use Rattle.zb_model.specs.Secrets.{bases, brings, came_by, carried, holds, is_th
 use Rattle.zb_model.specs.Tools.{Tools}
 use Rattle.zb_trace.specs.Views.{duty, eui_or_nobody, named}
 use Rattle.zb_watch.specs.Nodes.{address_of, is_first_centre, is_joiner, is_member, role_in}
-use Rattle.zb_watch.specs.Origins.{came, carried_under}
-use Rattle.zb_watch.specs.Sets.{eui_cmp, is_carried, is_node, keys_at}
+use Rattle.zb_watch.specs.Origins.{IsTraced, came}
+use Rattle.zb_watch.specs.Sets.{eui_cmp, is_carried, is_node, key_cmp, keys_at, meet}
 use Rattle.zb_watch.specs.Standing.{Stands, carries, is_that}
 use Rattle.zb_watch.specs.declared.watch.Watch.{Watch}
-use Rattle.zb_watch.proofs.Alike.{bytes_eq_sym, list_any_alike}
-use Rattle.zb_watch.proofs.Truth.{turned_number}
+use Rattle.zb_watch.proofs.Alike.{any_any, bytes_eq_sym, list_any_alike}
+use Rattle.zb_watch.proofs.Truth.{and_left, and_right, same_bytes, same_number, turned_number}
 
 -- Nobody is declared.
 
@@ -121,24 +121,6 @@ any_and p q (x ∷ xs) = ap (λ (b : Bool). (p x && q) || b) (any_and p q xs) �
     spread true false false = refl
     spread false b q = refl
 
-any_or : {X : Type 0} (p q : X → Bool) (xs : List X) → list_any (λ x. p x || q x) xs ≡ (list_any p xs || list_any q xs)
-any_or p q [] = refl
-any_or p q (x ∷ xs) = ap (λ (b : Bool). (p x || q x) || b) (any_or p q xs) ∙ swapped (p x) (q x) (list_any p xs) (list_any q xs)
-  where
-    swapped : (a b c d : Bool) → ((a || b) || (c || d)) ≡ ((a || c) || (b || d))
-    swapped true b c d = refl
-    swapped false true true d = refl
-    swapped false true false d = refl
-    swapped false false c d = refl
-
-none_of : {X : Type 0} (xs : List X) → list_any (λ (x : X). false) xs ≡ false
-none_of [] = refl
-none_of (x ∷ xs) = none_of xs
-
-any_any : {X Y : Type 0} (p : X → Y → Bool) (xs : List X) (ys : List Y) → list_any (λ x. list_any (p x) ys) xs ≡ list_any (λ y. list_any (λ x. p x y) xs) ys
-any_any p xs [] = none_of xs
-any_any p xs (y ∷ ys) = any_or (λ x. p x y) (λ x. list_any (p x) ys) xs ∙ ap (λ (b : Bool). list_any (λ x. p x y) xs || b) (any_any p xs ys)
-
 brings_as : (tools : Tools) (keys : List Bytes) (key : Bytes) (t : Sealing) (o : Option Bytes) → carried tools t ≡ o → (holds keys t.base && is_that (carried tools t) key) ≡ brings tools keys key t
 brings_as tools keys key t None e = rw e refl
 brings_as tools keys key t (Some k) e = rw e (ap (λ (b : Bool). holds keys t.base && b) (bytes_eq_sym key k))
@@ -165,10 +147,10 @@ module _ (tools : Tools) (w : Watch) (h : List LogLine) (stands : Stands tools w
       (found_somebody (λ (p : Station). is_centre p.duty) (stations_of h) stands.nodes.somebody)
       ∙ sym (centre_as (stations_of h) (eui_or_nobody (find (λ (s : Station). bytes_eq s.name name.bytes) (stations_of h))) (find (λ (p : Station). is_centre p.duty) (stations_of h)) refl)
 
-  carried_under_is : (node : Eui) (key : Bytes) → nat_eq node.0 nobody ≡ false
-      → carried_under w.exposure.carried (keys_at eui_cmp w.origins.bases node) key ≡ list_any (brings tools (bases h node.0) key) (terms_of h)
-  carried_under_is node key some =
-      list_any_alike (λ (b : Key). is_carried w.exposure.carried b.0 key) (λ (b : Key). list_any (carries tools b.0 key) (terms_of h)) (λ b. stands.carried b.0 key) (keys_at eui_cmp w.origins.bases node)
+  came_under_is : (node : Eui) (key : Bytes) → nat_eq node.0 nobody ≡ false
+      → meet (keys_at eui_cmp w.origins.bases node) (keys_at key_cmp w.origins.carriers (record { 0 = key })) ≡ list_any (brings tools (bases h node.0) key) (terms_of h)
+  came_under_is node key some =
+      list_any_alike (λ (b : Key). is_carried w.origins.carriers key b.0) (λ (b : Key). list_any (carries tools b.0 key) (terms_of h)) (λ b. stands.carriers b.0 key) (keys_at eui_cmp w.origins.bases node)
       ∙ (any_any (λ (b : Key) (t : Sealing). carries tools b.0 key t) (keys_at eui_cmp w.origins.bases node) (terms_of h)
       ∙ list_any_alike (λ (t : Sealing). list_any (λ (b : Key). carries tools b.0 key t) (keys_at eui_cmp w.origins.bases node)) (brings tools (bases h node.0) key)
       (λ t.
@@ -178,19 +160,19 @@ module _ (tools : Tools) (w : Watch) (h : List LogLine) (stands : Stands tools w
       ∙ brings_as tools (bases h node.0) key t (carried tools t) refl))
       (terms_of h))
 
-  came_at : (node : Eui) (key : Bytes) → nat_eq node.0 nobody ≡ false → came w.origins w.exposure.carried (Some node) key ≡ came_by tools h node.0 key
+  came_at : (node : Eui) (key : Bytes) → nat_eq node.0 nobody ≡ false → came w.origins (Some node) key ≡ came_by tools h node.0 key
   unfolding came_by
-  came_at node key some = rw (stands.codes node.0 some key, carried_under_is node key some) refl
+  came_at node key some = rw (stands.codes node.0 some key, came_under_is node key some) refl
 
   came_as : (node : Option Eui) (found : Option Station) → Same node found → IfSome found (λ (s : Station). nat_eq s.eui nobody ≡ false) → (key : Bytes) (b : Bool) → is_joiner w.nodes node ≡ b
-      → came w.origins w.exposure.carried (if b then node else None) key ≡ (not b || came_by tools h (eui_or_nobody found) key)
+      → came w.origins (if b then node else None) key ≡ (not b || came_by tools h (eui_or_nobody found) key)
   came_as who found e some key false is = refl
   came_as None found e some key true is = cc
   came_as (Some x) None e some key true is = cc
   came_as (Some x) (Some y) e some key true is = let it : x.0 ≡ y.eui = cc in came_at x key (ap (λ (n : ℕ). nat_eq n nobody) it ∙ some) ∙ ap (λ (n : ℕ). came_by tools h n key) it
 
   pub came_is : (name : ArrayString) (key : Bytes)
-      → came w.origins w.exposure.carried (if is_joiner w.nodes (address_of w.nodes name) then address_of w.nodes name else None) key
+      → came w.origins (if is_joiner w.nodes (address_of w.nodes name) then address_of w.nodes name else None) key
       ≡ (not (joins h (named (stations_of h) name.bytes)) || came_by tools h (named (stations_of h) name.bytes) key)
   unfolding named
   came_is name key =
@@ -198,3 +180,26 @@ module _ (tools : Tools) (w : Watch) (h : List LogLine) (stands : Stands tools w
       (found_somebody (λ (s : Station). bytes_eq s.name name.bytes) (stations_of h) stands.nodes.somebody) key (is_joiner w.nodes (address_of w.nodes name)) refl
       ∙ ap (λ (b : Bool). not b || came_by tools h (eui_or_nobody (find (λ (s : Station). bytes_eq s.name name.bytes) (stations_of h))) key)
       (joiner_as (address_of w.nodes name) (find (λ (s : Station). bytes_eq s.name name.bytes) (stations_of h)) (stands.nodes.addresses name))
+
+  -- What was traced came.
+
+  traced_as : (node : Option Eui) (found : Option Station) → Same node found → IfSome found (λ (s : Station). nat_eq s.eui nobody ≡ false) → (key : Bytes) (b : Bool) → IsTraced w.origins (if b then node else None) key
+  traced_as who found e some key false = tt
+  traced_as None found e some key true = tt
+  traced_as (Some x) None e some key true = cc
+  traced_as (Some x) (Some y) e some key true =
+      let it : x.0 ≡ y.eui = cc in
+      let somebody : nat_eq x.0 nobody ≡ false = ap (λ (n : ℕ). nat_eq n nobody) it ∙ some in
+      λ traced. came_at x key somebody ∙ stands.traced x.0 somebody key traced
+
+  pub joiner_is_traced : (name : ArrayString) (key : Bytes) → IsTraced w.origins (if is_joiner w.nodes (address_of w.nodes name) then address_of w.nodes name else None) key
+  joiner_is_traced name key =
+      traced_as (address_of w.nodes name) (find (λ (s : Station). bytes_eq s.name name.bytes) (stations_of h)) (stands.nodes.addresses name)
+      (found_somebody (λ (s : Station). bytes_eq s.name name.bytes) (stations_of h) stands.nodes.somebody) key (is_joiner w.nodes (address_of w.nodes name))
+
+  pub came_of : (node : Option Eui) (n : ℕ) (k key : Bytes) → nat_eq n nobody ≡ false → (is_node node n && bytes_eq k key) ≡ true → came w.origins node key ≡ true → came_by tools h n k ≡ true
+  came_of None n k key some is it = cc
+  came_of (Some x) n k key some is it =
+      let same : n ≡ x.0 = same_number n x.0 (and_left _ _ is) in
+      let key_is : k ≡ key = same_bytes k key (and_right (nat_eq n x.0) _ is) in
+      rw (same, key_is) (sym (came_at x key (ap (λ (m : ℕ). nat_eq m nobody) (sym same) ∙ some)) ∙ it)

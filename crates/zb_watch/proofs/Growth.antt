@@ -1,5 +1,5 @@
 -- What one more line adds to each reading of a list of lines.
-use Rattle.std.proofs.Common.{◌≡◌, ℕ, List, [], ◌∷◌, ◌++◌, Bool, true, false, ◌||◌, ◌&&◌, Option, Some, None, refl, ap, sym, ◌∙◌, bytes_eq, nat_eq, append_assoc}
+use Rattle.std.proofs.Common.{◌≡◌, ℕ, List, [], ◌∷◌, ◌++◌, Bool, true, false, ◌||◌, ◌&&◌, Option, Some, None, inl, inr, refl, ap, sym, ◌∙◌, bytes_eq, nat_eq, append_assoc}
 use Rattle.std.specs.List.{list_any, flat_map}
 use Rattle.std.specs.Prelude.{fold}
 use Rattle.std.proofs.lemmas.Grind.{flat_map-append}
@@ -9,9 +9,10 @@ use Rattle.std.proofs.lemmas.List.Sums.{fold-append}
 use Rattle.zb_model.specs.Data.{Bytes, Sealing, Station}
 use Rattle.zb_model.specs.Lines.{LogLine}
 use Rattle.zb_model.specs.Readings.{station_line, stations_of}
-use Rattle.zb_model.specs.Secrets.{base_in, bases, based_line, carried, code_in, codes_of, each_line, ever, ever_from, ever_in, forged_in, holds, holds_some, ideal, ideal_line, network_in, network_keys, passes_on, removed_devices, removed_in, terms_in, terms_of}
+use Rattle.zb_model.specs.Secrets.{base_in, bases, based_line, brings, came_by, carried, code_in, codes_of, each_line, ever, ever_from, ever_in, forged_in, holds, holds_some, ideal, ideal_line, network_in, network_keys, passes_on, removed_devices, removed_in, terms_in, terms_of}
 use Rattle.zb_model.specs.Tools.{Tools}
-use Rattle.zb_watch.proofs.Alike.{list_any_alike}
+use Rattle.zb_watch.proofs.Alike.{any_or, list_any_alike}
+use Rattle.zb_watch.proofs.Truth.{either, or_left, or_right}
 
 pub or_none : (a : Bool) → (a || false) ≡ a
 or_none true = refl
@@ -105,16 +106,6 @@ some_none : (o : Option Bytes) → holds_some [] o ≡ false
 some_none None = refl
 some_none (Some k) = refl
 
-any_or : {X : Type 0} (p q : X → Bool) (xs : List X) → list_any (λ x. p x || q x) xs ≡ (list_any p xs || list_any q xs)
-any_or p q [] = refl
-any_or p q (x ∷ xs) = ap (λ (b : Bool). (p x || q x) || b) (any_or p q xs) ∙ swapped (p x) (q x) (list_any p xs) (list_any q xs)
-  where
-    swapped : (a b c d : Bool) → ((a || b) || (c || d)) ≡ ((a || c) || (b || d))
-    swapped true b c d = refl
-    swapped false true true d = refl
-    swapped false true false d = refl
-    swapped false false c d = refl
-
 same_some : (keys all : List Bytes) → ((k : Bytes) → holds all k ≡ holds keys k) → (o : Option Bytes) → holds_some all o ≡ holds_some keys o
 same_some keys all so None = refl
 same_some keys all so (Some k) = so k
@@ -147,3 +138,30 @@ pub passes_nothing : (tools : Tools) (h : List LogLine) (l : LogLine) → networ
 passes_nothing tools h l none nothing =
     passes_by_forged tools h l none
     ∙ (ap (λ (more : List Sealing). passes_on tools h || list_any (λ (t : Sealing). holds_some (network_keys h) (carried tools t)) more) nothing ∙ or_none (passes_on tools h))
+
+-- What came stays so.
+
+any_grows : {X : Type 0} (p q : X → Bool) → ((x : X) → p x ≡ true → q x ≡ true) → (xs : List X) → list_any p xs ≡ true → list_any q xs ≡ true
+any_grows p q more [] it = cc
+any_grows p q more (x ∷ xs) it =
+    elim (either (p x) (list_any p xs) it) [
+      | inl here ↦ or_left (q x) (list_any q xs) (more x here)
+      | inr there ↦ or_right (q x) (list_any q xs) (any_grows p q more xs there)
+    ]
+
+and_grows : (a b c : Bool) → (a ≡ true → b ≡ true) → (a && c) ≡ true → (b && c) ≡ true
+and_grows true b c more it = rw (more refl) it
+and_grows false b c more it = cc
+
+pub came_more : (tools : Tools) (h : List LogLine) (l : LogLine) (n : ℕ) (key : Bytes) → came_by tools h n key ≡ true → came_by tools (h ++ l ∷ []) n key ≡ true
+unfolding came_by
+came_more tools h l n key it =
+    elim (either (holds (codes_of h n) key) (list_any (brings tools (bases h n) key) (terms_of h)) it) [
+      | inl code ↦ or_left _ _ (codes_more h l n key ∙ or_left _ _ code)
+      | inr term ↦
+          or_right _ _
+          (terms_more (brings tools (bases (h ++ l ∷ []) n) key) h l
+          ∙ or_left _ _
+          (any_grows (brings tools (bases h n) key) (brings tools (bases (h ++ l ∷ []) n) key)
+          (λ t. and_grows (holds (bases h n) t.base) (holds (bases (h ++ l ∷ []) n) t.base) _ (λ here. bases_more h l n t.base ∙ or_left _ _ here)) (terms_of h) term))
+    ]

@@ -7,7 +7,7 @@ use Rattle.std.specs.BTreeSet.{BTreeSet, contains}
 use Rattle.std.specs.Ordering.{is_eq, nat_cmp}
 use Rattle.zb_base.specs.declared.address.Eui.{Eui}
 use Rattle.zb_base.specs.declared.key.Key.{Key}
-use Rattle.zb_watch.specs.Sets.{eui_cmp, held, is_carried, is_node, key_cmp, node_has}
+use Rattle.zb_watch.specs.Sets.{eui_cmp, held, is_carried, is_key, is_node, key_cmp, node_has}
 use Rattle.zb_watch.specs.declared.holdings.Holdings.{Holdings}
 use Rattle.zb_watch.proofs.Alike.{bytes_alike, bytes_eq_sym, true_or}
 use Rattle.zb_watch.proofs.Truth.{number_alike}
@@ -38,3 +38,9 @@ pub added_at : (result : Result (Unit {0}) AllocError) (new old : Holdings Eui) 
     → OnOk result ((n : ℕ) (k : List ℕ) → node_has new n k ≡ (node_has old n k || (is_node node n && bytes_eq k key.0)))
 added_at (Ok u) new old who eui key is adds = λ n k. added_number new old eui key adds n k ∙ ap (λ (o : Option Eui). node_has old n k || (is_node o n && bytes_eq k key.0)) (sym is)
 added_at (Err e) new old who eui key is adds = tt
+
+pub added_under : (result : Result (Unit {0}) AllocError) (new old : Holdings Key) (owner : Option Key) (one key : Key) → owner ≡ Some one
+    → OnOk result ((o : Key) (k : List ℕ) → held key_cmp new o k ≡ (held key_cmp old o k || (is_eq (key_cmp one o) && bytes_eq k key.0)))
+    → OnOk result ((o k : List ℕ) → is_carried new o k ≡ (is_carried old o k || (is_key owner o && bytes_eq k key.0)))
+added_under (Ok u) new old who one key is adds = λ o k. added_bytes new old one key adds o k ∙ ap (λ (w : Option Key). is_carried old o k || (is_key w o && bytes_eq k key.0)) (sym is)
+added_under (Err e) new old who one key is adds = tt

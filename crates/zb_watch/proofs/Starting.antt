@@ -25,7 +25,6 @@ use Rattle.zb_model.specs.Tools.{Tools}
 use Rattle.zb_seal.specs.declared.term.Term.{Term}
 use Rattle.zb_watch.specs.Exposure.{IsSettled, was_removed}
 use Rattle.zb_watch.specs.Nodes.{Declares}
-use Rattle.zb_watch.specs.Origins.{came}
 use Rattle.zb_watch.specs.Sets.{has, is_carried, is_node, node_has}
 use Rattle.zb_watch.specs.Carrying.{command_key, frame_key, is_command}
 use Rattle.zb_watch.specs.Readers.{aps_sight, auxiliary, order_sight, with_readers}
@@ -38,14 +37,11 @@ use Rattle.zb_watch.specs.declared.origins.Origins.{Origins}
 use Rattle.zb_watch.specs.declared.passing.Passing.{Passing}
 use Rattle.zb_watch.specs.declared.watch.Watch.{Watch}
 use Rattle.zb_watch.proofs.Outsiders.{known_is_exposed}
+use Rattle.zb_watch.proofs.Truth.{not_both}
 
 -- A node, if there is one, has one more key.
 abbrev pub node_has_more : Holdings Eui → Holdings Eui → Option Eui → Key → Type 0
 node_has_more old new node key = (n : ℕ) (k : Bytes) → node_has new n k ≡ (node_has old n k || (is_node node n && bytes_eq k key.0))
-
--- A node, if there is one, took a key in.
-abbrev pub taken_in : Origins → Holdings Key → Option Eui → Bytes → Origins
-taken_in o carried node key = record o { ideal = o.ideal && came o carried node key }
 
 pub on_ok : {T E : Type 0} (r : Result T E) (P Q : Type 0) → (P → Q) → OnOk r P → OnOk r Q
 on_ok (Ok x) P Q f p = f p
@@ -61,17 +57,19 @@ private_is tools w h stands = rw (stands.based, stands.passed_on) refl
 
 module _ (tools : Tools) (nodes : Nodes) (origins : Origins) (passing : Passing) (exposure : Exposure) where
   pub new_stands : Declares nodes [] → ((t : Term) → has_term origins.terms t ≡ false) → ((n : ℕ) (k : Bytes) → node_has origins.codes n k ≡ false) → ((n : ℕ) (k : Bytes) → node_has origins.bases n k ≡ false)
-      → origins.ideal ≡ true → ((k : Bytes) → has passing.network k ≡ false) → ((k : Bytes) → has passing.forged k ≡ false) → passing.passed_on ≡ false
+      → ((k b : Bytes) → is_carried origins.carriers k b ≡ false) → ((n : ℕ) (k : Bytes) → node_has origins.traced n k ≡ false) → origins.ideal ≡ true → ((k : Bytes) → has passing.network k ≡ false) → ((k : Bytes) → has passing.forged k ≡ false) → passing.passed_on ≡ false
       → IsSettled exposure → ((n : ℕ) (k : Bytes) → node_has exposure.ever n k ≡ false) → ((d : ℕ) → was_removed exposure d ≡ false) → ((b k : Bytes) → is_carried exposure.carried b k ≡ false) → exposure.based ≡ true
       → Stands tools (record { nodes = nodes; origins = origins; passing = passing; exposure = exposure }) []
   unfolding stations_of terms_of ever codes_of bases removed_devices network_keys passes_on ideal each_line
-  new_stands declares terms codes bases ideal network forged passed settled ever removed carried based = record {
+  new_stands declares terms codes bases carriers traced ideal network forged passed settled ever removed carried based = record {
     nodes = declares;
     terms = terms;
     carried = carried;
     ever = λ n some k. ever n k;
     codes = λ n some k. codes n k;
     bases = λ n some k. bases n k;
+    carriers = λ b k. carriers k b;
+    traced = λ n some k it. absurd (not_both _ it (traced n k));
     removed = removed;
     somebody = refl;
     known = known_is_exposed tools exposure [] carried (λ n some k. ever n k) removed refl settled;

@@ -18,6 +18,10 @@ is_among keys key = list_any (λ (other : Key). bytes_eq key other.0) keys
 abbrev pub has : Keys → List ℕ → Bool
 has set key = is_among set.keys.keys key
 
+-- whether two lists have a key in common
+abbrev pub meet : List Key → List Key → Bool
+meet keys others = list_any (λ (key : Key). is_among others key.0) keys
+
 abbrev pub keys_of : Option Keys → List Key
 keys_of None = []
 keys_of (Some set) = set.keys.keys

@@ -1,10 +1,10 @@
 -- What a watch stands for: a list of transcript lines, by the readings of the model.
-use Rattle.std.specs.Prelude.{◌≡◌, ℕ, ◌&&◌, List, [], ◌∷◌, ◌++◌, Bool, false, bytes_eq, nat_eq, Option, Some, None, flat_map}
+use Rattle.std.specs.Prelude.{◌≡◌, ℕ, ◌&&◌, List, [], ◌∷◌, ◌++◌, Bool, true, false, bytes_eq, nat_eq, Option, Some, None, flat_map}
 use Rattle.std.specs.List.{list_any}
 use Rattle.zb_model.specs.Data.{Bytes, Sealing, nobody}
 use Rattle.zb_model.specs.Lines.{LogLine}
 use Rattle.zb_model.specs.Readings.{stations_of}
-use Rattle.zb_model.specs.Secrets.{based_line, bases, carried, clear_key, codes_of, each_line, ever, exposed, forged_in, holds, ideal, key_of_sight, network_keys, outside, passes_on, removed_devices, same_term, terms_of}
+use Rattle.zb_model.specs.Secrets.{based_line, bases, came_by, carried, clear_key, codes_of, each_line, ever, exposed, forged_in, holds, ideal, key_of_sight, network_keys, outside, passes_on, removed_devices, same_term, terms_of}
 use Rattle.zb_model.specs.Tools.{Tools}
 use Rattle.zb_aps.specs.Reading.{frame_of}
 use Rattle.zb_cmd.specs.Reading.{command_of}
@@ -41,6 +41,9 @@ pub record Stands (tools : Tools) (w : Watch) (h : List LogLine) : Type 0 where
   pub ever : (node : ℕ) → nat_eq node nobody ≡ false → (key : Bytes) → node_has w.exposure.ever node key ≡ holds (ever h node) key
   pub codes : (node : ℕ) → nat_eq node nobody ≡ false → (key : Bytes) → node_has w.origins.codes node key ≡ holds (codes_of h node) key
   pub bases : (node : ℕ) → nat_eq node nobody ≡ false → (key : Bytes) → node_has w.origins.bases node key ≡ holds (bases h node) key
+  -- under which keys a key was carried; and what was traced came
+  pub carriers : (base key : Bytes) → is_carried w.origins.carriers key base ≡ list_any (carries tools base key) (terms_of h)
+  pub traced : (node : ℕ) → nat_eq node nobody ≡ false → (key : Bytes) → node_has w.origins.traced node key ≡ true → came_by tools h node key ≡ true
   -- the removed devices; nobody is none of them
   pub removed : (device : ℕ) → was_removed w.exposure device ≡ list_any (nat_eq device) (removed_devices h)
   pub somebody : list_any (nat_eq nobody) (removed_devices h) ≡ false

@@ -2,8 +2,7 @@
 ghost use Rattle.std.specs.Prelude.{◌≡◌, ◌||◌, ◌&&◌, ◌++◌, ℕ, List, OnOk, bytes_eq, false};
 ghost use Rattle.std.specs.Ordering.{is_eq};
 ghost use Rattle.std.specs.BTreeMap.{get};
-ghost use Rattle.zb_watch.specs.Origins.{carried_under};
-ghost use Rattle.zb_watch.specs.Sets.{eui_cmp, held, is_node, keys_at, node_has};
+ghost use Rattle.zb_watch.specs.Sets.{held, is_carried, is_key, is_node, keys_at, meet, node_has};
 
 use crate::keys::Keys;
 use std::alloc::{AllocError, Global};
@@ -49,6 +48,16 @@ impl<O: Ord + Drop> Holdings<O> {
         Ok(())
     }
 
+    /// Whether a key of the set is one of the owner's.
+    pub fn meets(&self, owner: &O, keys: &Keys) -> bool
+        ensures { result ≡ meet keys.now.keys.keys (keys_at O.cmp self.now owner.now) }
+    {
+        match self.sets.get(owner) {
+            Some(own) => keys.meets(own),
+            None => false,
+        }
+    }
+
     /// Puts the keys of an owner behind those of a list.
     pub fn append_to(&self, owner: &O, list: &mut Vec<Key>) -> Result<(), AllocError>
         ensures { OnOk result (list.new.items ≡ list.old.items ++ keys_at O.cmp self.now owner.now) }
@@ -61,25 +70,19 @@ impl<O: Ord + Drop> Holdings<O> {
 }
 
 impl Holdings<Key> {
-    /// Whether one of the keys that an owner has elsewhere is an owner here, and has the key.
-    pub fn any_has(&self, owners: &Holdings<Eui>, eui: &Eui, key: &Key) -> bool
-        ensures { result ≡ carried_under self.now (keys_at eui_cmp owners.now eui.now) key.now.0 }
+    /// Adds a key for another one, if there is one.
+    pub fn add_under(
+        &mut self,
+        alloc: Global,
+        owner: Option<Key>,
+        key: Key,
+    ) -> Result<(), AllocError>
+        ensures { OnOk result ((o k : List ℕ) → is_carried self.new o k ≡ (is_carried self.old o k || (is_key owner o && bytes_eq k key.0))) }
     {
-        match owners.sets.get(eui) {
-            Some(keys) => self.one_has(keys, key),
-            None => false,
+        match owner {
+            Some(owner) => self.add(alloc, owner, key),
+            None => Ok(()),
         }
-    }
-
-    fn one_has(&self, owners: &Keys, key: &Key) -> bool
-        ensures { result ≡ carried_under self.now owners.now.keys.keys key.now.0 }
-    {
-        for owner in &owners.keys {
-            if self.has(owner, key) {
-                return true;
-            }
-        }
-        false
     }
 }
 

@@ -1,6 +1,6 @@
 //! Sets of keys.
 ghost use Rattle.std.specs.Prelude.{◌≡◌, ◌||◌, ◌++◌, ℕ, List, bytes_eq, IfOk, OnOk, false, not};
-ghost use Rattle.zb_watch.specs.Sets.{has};
+ghost use Rattle.zb_watch.specs.Sets.{has, meet};
 
 use std::alloc::{AllocError, Global};
 use std::collections::BTreeSet;
@@ -36,6 +36,30 @@ impl Keys {
     {
         let new = self.keys.insert(key)?;
         Ok(new)
+    }
+
+    /// Whether the two sets have a key in common: the keys of the smaller one are looked up in the other.
+    #[tactic(auto, using(crate::proofs::Alike::meet_turned))]
+    pub fn meets(&self, other: &Keys) -> bool
+        ensures { result ≡ meet self.now.keys.keys other.now.keys.keys }
+    {
+        if self.keys.len() <= other.keys.len() {
+            self.any_is_in(other)
+        } else {
+            other.any_is_in(self)
+        }
+    }
+
+    // Whether a key of this set is in the other.
+    fn any_is_in(&self, other: &Keys) -> bool
+        ensures { result ≡ meet self.now.keys.keys other.now.keys.keys }
+    {
+        for key in &self.keys {
+            if other.has(key) {
+                return true;
+            }
+        }
+        false
     }
 
     /// Puts the keys behind those of a list.

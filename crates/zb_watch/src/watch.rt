@@ -24,8 +24,9 @@ use zb_trace::Line;
 
 /// What is known of a transcript after the lines so far. A watch keeps no line.
 ///
-/// A line costs logarithmic work, and a look-up for each key that the node has where a router or device takes a key in.
-/// What comes out under a key that outsiders come to know is looked through once, whenever that is.
+/// A line costs logarithmic work, but for two things that each happen once. Where a router or device takes a key in for the
+/// first time, either its link keys or the base keys under which the key was carried are looked through, whichever are
+/// fewer. And what comes out under a key that outsiders come to know is looked through, whenever that is.
 #[derive(Drop)]
 pub struct Watch {
     pub nodes: Nodes,
@@ -149,7 +150,7 @@ impl Watch {
     {
         let node = self.nodes.named(node);
         let joiner = self.nodes.joiner(node);
-        self.origins.take_in(joiner, &key, &self.exposure.carried);
+        self.origins.take_in(alloc, joiner, key)?;
         self.exposure.hold(alloc, node, key)?;
         Ok(())
     }
@@ -168,7 +169,7 @@ impl Watch {
         let joiner = self.nodes.joiner(node);
         let partner = self.nodes.partner(node, partner);
         self.passing.row_key(key, attribute)?;
-        self.origins.take_in(joiner, &key, &self.exposure.carried);
+        self.origins.take_in(alloc, joiner, key)?;
         self.origins.row(alloc, node, key)?;
         self.exposure.hold(alloc, partner, key)?;
         self.exposure.hold(alloc, node, key)?;
@@ -202,7 +203,7 @@ impl Watch {
     {
         let key = carried(term);
         self.exposure.carry(alloc, term.base, key)?;
-        self.origins.term(term)?;
+        self.origins.term(alloc, term, key)?;
         Ok(())
     }
 
@@ -213,7 +214,7 @@ impl Watch {
         self.exposure.forge(&term.base);
         self.passing.forged_key(key)?;
         self.exposure.carry(alloc, term.base, key)?;
-        self.origins.term(term)?;
+        self.origins.term(alloc, term, key)?;
         Ok(())
     }
 }

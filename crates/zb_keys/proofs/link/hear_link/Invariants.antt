@@ -1,6 +1,5 @@
-use Rattle.std.proofs.Common.{if◌then◌else◌, false}
-use Rattle.zb_model.specs.State.{LinkKey, is_link, is_live_of, link_kept, revived, told_as}
-use Rattle.zb_change.specs.Changes.{trust}
+use Rattle.std.proofs.Common.{if◌then◌else◌}
+use Rattle.zb_model.specs.State.{LinkKey, is_link, link_kept}
 use Rattle.zb_keys.specs.Rows.{link_key}
 use Rattle.zb_keys.proofs.Mapping.{Mapped}
 use Rattle.zb_keys.proofs.link.hear_link.Given as goal

@@ -1,6 +1,5 @@
-use Rattle.std.proofs.Common.{if◌then◌else◌, false}
-use Rattle.zb_model.specs.State.{LinkKey, is_link, is_live_of, dropped_link, link_floor, revived, told_as}
-use Rattle.zb_change.specs.Changes.{trust}
+use Rattle.std.proofs.Common.{false}
+use Rattle.zb_model.specs.State.{LinkKey, told_as}
 use Rattle.zb_keys.specs.Rows.{link_key}
 use Rattle.zb_keys.proofs.Mapping.{Mapped}
 use Rattle.zb_keys.proofs.link.untell_links.Given as goal

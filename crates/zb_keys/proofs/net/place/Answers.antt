@@ -1,5 +1,4 @@
-use Rattle.std.proofs.Common.{arith}
-use Rattle.zb_keys.proofs.SenderLemmas.{goes_past, is_here, is_end}
+use Rattle.zb_keys.proofs.SenderLemmas.{goes_past, is_here}
 use Rattle.zb_keys.proofs.net.place.Goals as goal
 
 pub returns-then-floor-sender : goal.returns-then-floor-sender

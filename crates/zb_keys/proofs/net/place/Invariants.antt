@@ -1,6 +1,3 @@
-use Rattle.std.proofs.Common.{◌≡◌, ℕ, ◌++◌, map, take, drop}
-use Rattle.zb_model.specs.State.{floor_stored}
-use Rattle.zb_keys.specs.Rows.{heard_floor}
 use Rattle.zb_keys.proofs.SenderLemmas.{Passed}
 use Rattle.zb_keys.proofs.net.place.Given as goal
 

@@ -1,4 +1,4 @@
-use Rattle.std.proofs.Common.{rules, ◌≡◌, get_or, max}
+use Rattle.std.proofs.Common.{rules}
 use Rattle.zb_keys.proofs.SenderLemmas.{raised}
 use Rattle.zb_keys.proofs.net.raise.Goals as goal
 

@@ -1,5 +1,5 @@
-use Rattle.std.proofs.Common.{if◌then◌else◌, min, ◌+◌}
-use Rattle.zb_model.specs.State.{NetKey, most, same_key, shown_net, dropped_net, reserved, started_at, next_at, net_floor}
+use Rattle.std.proofs.Common.{if◌then◌else◌}
+use Rattle.zb_model.specs.State.{NetKey, same_key, started_at}
 use Rattle.zb_keys.specs.Rows.{net_key}
 use Rattle.zb_keys.proofs.Mapping.{Mapped}
 use Rattle.zb_keys.proofs.net.start_net.Given as goal

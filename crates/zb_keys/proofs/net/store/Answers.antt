@@ -1,9 +1,8 @@
-use Rattle.std.proofs.Common.{◌≡◌, ◌∙◌, length, map, refl, sym, ap, subst, arith}
+use Rattle.std.proofs.Common.{◌≡◌, ◌∙◌, length, map, refl, ap, subst, arith}
 use Rattle.std.specs.Prelude.{insert}
 use Rattle.std.specs.List.{refill}
 use Rattle.zb_keys.specs.Rows.{heard_floor}
 use Rattle.zb_keys.specs.Senders.{IsPlace}
-use Rattle.zb_model.specs.State.{floor_stored}
 use Rattle.zb_keys.proofs.SenderLemmas.{inserted, has_room, refilled}
 use Rattle.zb_keys.proofs.net.store.Goals as goal
 

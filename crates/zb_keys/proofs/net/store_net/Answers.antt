@@ -1,6 +1,5 @@
 use Rattle.std.proofs.Common.{if◌then◌else◌}
 use Rattle.zb_model.specs.State.{NetKey, same_key}
-use Rattle.zb_keys.specs.Rows.{net_key}
 use Rattle.zb_keys.specs.Senders.{HasRoom, live_floor}
 use Rattle.zb_keys.proofs.Mapping.{next_read, room_beside}
 use Rattle.zb_keys.proofs.net.store_net.Goals as goal

@@ -1,5 +1,5 @@
-use Rattle.std.proofs.Common.{if◌then◌else◌, min, ◌+◌}
-use Rattle.zb_model.specs.State.{NetKey, most, same_key, shown_net, dropped_net, reserved, started_at}
+use Rattle.std.proofs.Common.{if◌then◌else◌}
+use Rattle.zb_model.specs.State.{NetKey, same_key}
 use Rattle.zb_keys.specs.Senders.{live_floor}
 use Rattle.zb_keys.specs.Rows.{net_key}
 use Rattle.zb_keys.proofs.Mapping.{Mapped}

@@ -1,4 +1,3 @@
-use Rattle.std.proofs.Common.{◌≡◌}
 use Rattle.zb_keys.proofs.RestoreLemmas.{key_within, key_past}
 use Rattle.zb_keys.proofs.restore.key_at.Goals as goal
 

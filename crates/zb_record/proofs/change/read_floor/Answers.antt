@@ -1,4 +1,4 @@
-use Rattle.std.proofs.Common.{◌≡◌, ◌++◌, ◌∷◌, append_assoc}
+use Rattle.std.proofs.Common.{append_assoc}
 use Rattle.zb_model.specs.Record.{edit_bytes}
 use Rattle.zb_record.proofs.change.read_floor.Goals as goal
 

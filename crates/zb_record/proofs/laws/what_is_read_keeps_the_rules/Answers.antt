@@ -1,4 +1,4 @@
-use Rattle.std.proofs.Common.{◌≡◌, ap}
+use Rattle.std.proofs.Common.{ap}
 use Rattle.zb_model.specs.State.{shown}
 use Rattle.zb_record.proofs.Sound.{read_kept}
 use Rattle.zb_record.proofs.laws.what_is_read_keeps_the_rules.Goals as goal

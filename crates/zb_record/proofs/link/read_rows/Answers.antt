@@ -1,4 +1,4 @@
-use Rattle.std.proofs.Common.{◌≡◌, [], ◌∷◌, ◌++◌, ◌∙◌, sym, ap, subst, map, ◌-◌, ◌+◌}
+use Rattle.std.proofs.Common.{[], ◌∙◌, sym, ap, map, ◌-◌, ◌+◌}
 use Rattle.zb_change.specs.Changes.{duty}
 use Rattle.zb_record.specs.Rows.{link_seen, link_at}
 use Rattle.zb_record.specs.Placed.{rows_at}

@@ -1,4 +1,4 @@
-use Rattle.std.proofs.Common.{◌≡◌, ◌∙◌, sym, ap}
+use Rattle.std.proofs.Common.{◌∙◌, sym, ap}
 use Rattle.std.specs.Prelude.{nat_lt}
 use Rattle.zb_model.specs.State.{NetKey}
 use Rattle.zb_record.specs.Rows.{net_seen}

@@ -1,4 +1,4 @@
-use Rattle.std.proofs.Common.{◌≡◌, [], ◌∷◌, ◌++◌, ◌∙◌, sym, ap, subst, map, ◌-◌, ◌+◌}
+use Rattle.std.proofs.Common.{[], ◌∙◌, sym, ap, map, ◌-◌, ◌+◌}
 use Rattle.zb_record.specs.Rows.{net_seen, net_at}
 use Rattle.zb_record.specs.Placed.{rows_at}
 use Rattle.zb_record.proofs.Placing.{go_on, stop, all_read}

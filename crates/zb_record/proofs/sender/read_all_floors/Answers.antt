@@ -1,7 +1,6 @@
-use Rattle.std.proofs.Common.{◌≡◌, [], ◌∙◌, sym, ap, map}
+use Rattle.std.proofs.Common.{[], map}
 use Rattle.std.proofs.lemmas.Result.{err_from_is_err_and}
-use Rattle.zb_record.specs.declared.net.NetRecord.{NetRecord}
-use Rattle.zb_record.specs.Rows.{net_seen, live_floors_at, all_floors_at}
+use Rattle.zb_record.specs.Rows.{net_seen, all_floors_at}
 use Rattle.zb_record.proofs.Placing.{fill_next, fill_stop, fill_end}
 use Rattle.zb_record.proofs.sender.read_all_floors.Goals as goal
 

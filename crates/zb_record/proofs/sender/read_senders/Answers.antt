@@ -1,4 +1,4 @@
-use Rattle.std.proofs.Common.{◌≡◌, [], ◌∷◌, ◌++◌, ◌∙◌, sym, ap, map, ◌-◌, ◌+◌, length, arith, length-append}
+use Rattle.std.proofs.Common.{[], ◌∷◌, ◌∙◌, sym, ap, map, ◌-◌, ◌+◌, length, arith, length-append}
 use Rattle.std.proofs.lemmas.Result.{err_from_is_err_and}
 use Rattle.zb_record.specs.Rows.{sender_seen, sender_at}
 use Rattle.zb_record.specs.Placed.{rows_at}

@@ -1,11 +1,10 @@
-use Rattle.std.proofs.Common.{rules, ◌≡◌, ◌∙◌, sym, ap, subst, true}
+use Rattle.std.proofs.Common.{◌≡◌, ◌∙◌, sym, ap, subst, true}
 use Rattle.zb_change.specs.Changes.{edit}
-use Rattle.zb_model.specs.Fits.{keeps_rules}
 use Rattle.zb_model.specs.State.{shown}
 use Rattle.zb_keys.specs.Tables.{state_of}
 use Rattle.zb_record.specs.declared.version.Version.{Version}
-use Rattle.zb_record.specs.declared.version.Version.TheVariants.{First, Second, Third}
-use Rattle.zb_record.specs.Redoing.{fits_behind, applied_behind, first_applied}
+use Rattle.zb_record.specs.declared.version.Version.TheVariants.{Second, Third}
+use Rattle.zb_record.specs.Redoing.{fits_behind, applied_behind}
 use Rattle.zb_record.proofs.First.{behind_shown}
 use Rattle.zb_keys.proofs.contents.Contents.change_behind.Goals as goal
 

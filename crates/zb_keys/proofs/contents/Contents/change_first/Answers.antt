@@ -3,7 +3,7 @@ use Rattle.zb_change.specs.declared.change.Change.{Change}
 use Rattle.zb_change.specs.declared.change.Change.TheVariants as change
 use Rattle.zb_change.specs.Changes.{edit}
 use Rattle.zb_model.specs.Fits.{keeps_rules}
-use Rattle.zb_model.specs.State.{NodeState, applied, shown}
+use Rattle.zb_model.specs.State.{NodeState, shown}
 use Rattle.zb_keys.specs.Tables.{state_of}
 use Rattle.zb_keys.proofs.FirstLemmas.{applied_as_ever}
 use Rattle.zb_keys.proofs.StateLemmas.{sound_again, rooms}

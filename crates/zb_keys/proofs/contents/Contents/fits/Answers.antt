@@ -1,4 +1,4 @@
-use Rattle.std.proofs.Common.{◌≡◌, ◌∙◌, sym, ap, ◌&&◌}
+use Rattle.std.proofs.Common.{◌∙◌, sym, ap, ◌&&◌}
 use Rattle.zb_change.specs.Changes.{edit}
 use Rattle.zb_fits.proofs.FitLaws.{fits_is}
 use Rattle.zb_fits.specs.Fitting.{leaves_rules}

@@ -1,4 +1,4 @@
-use Rattle.std.proofs.Common.{◌≡◌, ◌∙◌, sym, ap, false}
+use Rattle.std.proofs.Common.{◌∙◌, sym, ap}
 use Rattle.zb_change.specs.declared.change.Change.{Change}
 use Rattle.zb_change.specs.Changes.{edit}
 use Rattle.zb_keys.specs.Tables.{state_of}

@@ -1,4 +1,4 @@
-use Rattle.std.proofs.Common.{◌≡◌, ◌∙◌, sym, ap}
+use Rattle.std.proofs.Common.{◌∙◌, sym, ap}
 use Rattle.zb_base.specs.declared.label.Layer.{Layer}
 use Rattle.zb_change.specs.Changes.{tier}
 use Rattle.zb_model.specs.Data.{Reserve}

@@ -1,11 +1,8 @@
-use Rattle.std.proofs.Common.{◌≡◌, ◌∙◌, sym, ap, map, refl, ◌+◌}
-use Rattle.zb_model.specs.Data.{Nwk, Aps}
-use Rattle.zb_model.specs.State.{NodeState, at_net, at_link, net_kept, link_kept, counted, heard}
-use Rattle.zb_keys.specs.Rows.{net_key, link_key}
-use Rattle.zb_keys.specs.Senders.{counted_row}
-use Rattle.zb_keys.specs.Tables.{state_of, active_bytes}
-use Rattle.zb_keys.proofs.RuleLemmas.{counted_is_mild, heard_is_mild}
-use Rattle.zb_keys.proofs.HeardLemmas.{sound_nets, state_nets, state_links, counted_shows, heard_shows, link_heard, counted_nets}
+use Rattle.std.proofs.Common.{◌∙◌, ap, map, ◌+◌}
+use Rattle.zb_model.specs.State.{at_net, net_kept, heard}
+use Rattle.zb_keys.specs.Rows.{net_key}
+use Rattle.zb_keys.proofs.RuleLemmas.{heard_is_mild}
+use Rattle.zb_keys.proofs.HeardLemmas.{sound_nets, state_nets, heard_shows}
 use Rattle.zb_keys.proofs.contents.Contents.hear_nwk.Goals as goal
 
 pub returns-clause-state : goal.returns-clause-state

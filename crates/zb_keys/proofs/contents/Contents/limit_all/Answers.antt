@@ -1,4 +1,4 @@
-use Rattle.std.proofs.Common.{◌≡◌, ◌∙◌, ap, map}
+use Rattle.std.proofs.Common.{◌∙◌, ap, map}
 use Rattle.zb_keys.specs.Rows.{net_key}
 use Rattle.zb_keys.specs.Tables.{state_of}
 use Rattle.zb_record.specs.Redoing.{limited}

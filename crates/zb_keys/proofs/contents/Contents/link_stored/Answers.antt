@@ -1,4 +1,4 @@
-use Rattle.std.proofs.Common.{◌≡◌, ◌∙◌, sym, ap}
+use Rattle.std.proofs.Common.{◌∙◌, sym, ap}
 use Rattle.std.specs.Prelude.{find, option_map}
 use Rattle.zb_keys.specs.declared.link.LinkRow.{LinkRow}
 use Rattle.zb_keys.specs.Rows.{link_key}

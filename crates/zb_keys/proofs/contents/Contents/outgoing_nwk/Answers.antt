@@ -1,11 +1,6 @@
-use Rattle.std.proofs.Common.{◌≡◌, ◌∙◌, sym, ap, map, refl, ◌+◌, Some, None, subst}
-use Rattle.std.specs.Prelude.{find, position, option_map}
-use Rattle.zb_model.specs.Data.{Nwk, Aps}
-use Rattle.zb_model.specs.State.{same_key, counted}
-use Rattle.zb_keys.specs.declared.net.NetRow.{NetRow}
-use Rattle.zb_keys.specs.Rows.{net_key, link_key}
-use Rattle.zb_keys.specs.Tables.{state_of, active_bytes}
-use Rattle.zb_keys.proofs.ReadLemmas.{counted_none, active_found, active_none, outgoing_row, outgoing_none, declared_sound, declared_state, aps_sound, place_found, place_none, place_fits}
+use Rattle.zb_keys.specs.Rows.{net_key}
+use Rattle.zb_keys.specs.Tables.{state_of}
+use Rattle.zb_keys.proofs.ReadLemmas.{outgoing_row, outgoing_none}
 use Rattle.zb_keys.proofs.contents.Contents.outgoing_nwk.Goals as goal
 
 pub returns-in-Some : goal.returns-in-Some

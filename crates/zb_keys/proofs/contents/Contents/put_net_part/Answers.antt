@@ -1,11 +1,10 @@
-use Rattle.std.proofs.Common.{◌≡◌, ◌++◌, length, map, List, ℕ, [], if◌then◌else◌}
+use Rattle.std.proofs.Common.{◌++◌, length, map, [], if◌then◌else◌}
 use Rattle.std.specs.List.{flat_map}
 use Rattle.zb_model.specs.Record.{two_bytes, net_bytes, floors_bytes, active_place}
 use Rattle.zb_keys.specs.declared.net.NetRow.{NetRow}
 use Rattle.zb_keys.specs.Rows.{net_key}
 use Rattle.zb_keys.specs.Tables.{state_of}
-use Rattle.zb_keys.specs.Written.{Writes}
-use Rattle.zb_keys.proofs.WritingLemmas.{writes_then, rows_then}
+use Rattle.zb_keys.proofs.WritingLemmas.{rows_then}
 use Rattle.zb_keys.proofs.contents.Contents.put_net_part.Goals as goal
 
 pub returns-clause-writes : goal.returns-clause-writes

@@ -1,7 +1,6 @@
-use Rattle.std.proofs.Common.{◌≡◌, ◌∙◌, ◌≤◌, sym, ap, arith}
-use Rattle.zb_keys.specs.Written.{Writes}
+use Rattle.std.proofs.Common.{◌∙◌, arith}
 use Rattle.zb_keys.proofs.WritingLemmas.{writes_then}
-use Rattle.zb_keys.proofs.RecordLemmas.{parts_are, counts, Counts}
+use Rattle.zb_keys.proofs.RecordLemmas.{parts_are, counts}
 use Rattle.zb_keys.proofs.contents.Contents.put_record.Goals as goal
 
 pub put_net_part-at-requires : goal.put_net_part-at-requires

@@ -1,4 +1,4 @@
-use Rattle.std.proofs.Common.{◌≡◌, ◌∙◌, sym, ap, Ok, Err}
+use Rattle.std.proofs.Common.{◌∙◌, sym, ap, Ok}
 use Rattle.std.proofs.lemmas.Result.{err_from_is_err_and}
 use Rattle.zb_keys.specs.Tables.{state_of}
 use Rattle.zb_record.proofs.Redone.{one_failed, one_unfit, one_made}

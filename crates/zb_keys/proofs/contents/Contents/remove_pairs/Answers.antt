@@ -1,13 +1,6 @@
-use Rattle.std.proofs.Common.{rules, ◌≡◌, ◌∙◌, sym, ap, arith, map, refl, length, ◌<◌, ◌≤◌, subst, ◌&&◌, true, false, Bool}
-use Rattle.std.specs.Prelude.{vec_len, vec_capacity}
-use Rattle.std.specs.List.{list_any}
-use Rattle.zb_change.specs.Changes.{trust}
-use Rattle.zb_model.specs.State.{NodeState, at_net, at_link, applied, shown, shown_net, same_key, is_link, is_live_of, names_two, revived}
-use Rattle.zb_keys.specs.declared.net.NetRow.{NetRow}
-use Rattle.zb_keys.specs.declared.link.LinkRow.{LinkRow}
-use Rattle.zb_keys.specs.declared.pair.Pair as program
-use Rattle.zb_keys.specs.Rows.{net_key, link_key, pair_key}
-use Rattle.zb_keys.specs.Tables.{state_of, active_bytes, Becomes}
+use Rattle.std.proofs.Common.{rules, ◌∙◌, sym, ap, map, refl}
+use Rattle.zb_keys.specs.Rows.{pair_key}
+use Rattle.zb_keys.specs.Tables.{state_of}
 use Rattle.std.proofs.Common.{not}
 use Rattle.zb_model.specs.State.{PairKey, names}
 use Rattle.zb_keys.proofs.ShownLemmas.{filter-map}

@@ -1,9 +1,7 @@
-use Rattle.std.proofs.Common.{rules, ◌≡◌, ◌∙◌, sym, ap, arith, map, refl, length, ◌<◌, ◌≤◌}
-use Rattle.std.specs.Prelude.{vec_len, vec_capacity}
-use Rattle.zb_model.specs.State.{NodeState, at_net, applied, shown, shown_net, dropped_net, reserved, started_at}
-use Rattle.zb_keys.specs.Rows.{net_key, link_key, pair_key}
-use Rattle.zb_keys.specs.Senders.{live_floor}
-use Rattle.zb_keys.specs.Tables.{state_of, active_bytes, Becomes}
+use Rattle.std.proofs.Common.{◌∙◌, ap, map}
+use Rattle.zb_model.specs.State.{at_net, reserved}
+use Rattle.zb_keys.specs.Rows.{net_key}
+use Rattle.zb_keys.specs.Tables.{state_of, active_bytes}
 use Rattle.zb_keys.proofs.StateLemmas.{becomes_nets, reserved_state}
 use Rattle.zb_keys.proofs.contents.Contents.reserve_nwk.Goals as goal
 

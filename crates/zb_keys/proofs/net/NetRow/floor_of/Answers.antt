@@ -1,4 +1,4 @@
-use Rattle.std.proofs.Common.{◌≡◌, ◌∙◌, sym, ap, Some}
+use Rattle.std.proofs.Common.{◌∙◌, ap}
 use Rattle.std.specs.Prelude.{find, nat_eq}
 use Rattle.zb_counter.specs.declared.receiving.Floor.{Floor}
 use Rattle.zb_model.specs.State as model

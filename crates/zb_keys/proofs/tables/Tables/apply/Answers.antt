@@ -1,4 +1,4 @@
-use Rattle.std.proofs.Common.{◌≡◌, true, subst, sym, length}
+use Rattle.std.proofs.Common.{◌≡◌, true, subst, sym}
 use Rattle.zb_change.specs.Changes.{edits}
 use Rattle.zb_model.specs.Fits.{all_fit}
 use Rattle.zb_keys.proofs.ApplyLemmas.{begins, change_fits, change_made}

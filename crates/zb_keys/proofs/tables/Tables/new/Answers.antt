@@ -1,7 +1,4 @@
-use Rattle.std.proofs.Common.{rules, ◌≡◌, ◌≤◌, [], refl, arith, sym, subst}
-use Rattle.std.specs.Prelude.{vec_capacity}
-use Rattle.zb_change.specs.Changes.{duty}
-use Rattle.zb_model.specs.Fits.{most_links}
+use Rattle.std.proofs.Common.{◌≡◌, [], refl, arith}
 use Rattle.zb_keys.proofs.ApplyLemmas.{sound_new}
 use Rattle.zb_keys.proofs.tables.Tables.new.Goals as goal
 

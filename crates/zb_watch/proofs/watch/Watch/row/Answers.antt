@@ -2,9 +2,8 @@ use Rattle.std.proofs.Common.{◌≡◌, ◌∙◌, Option, None, Some, ap, subs
 use Rattle.std.specs.Prelude.{if◌then◌else◌}
 use Rattle.zb_base.specs.declared.address.Eui.{Eui}
 use Rattle.zb_watch.specs.Nodes.{address_of, is_first_centre, is_joiner}
-use Rattle.zb_watch.proofs.Effects.{Holds, row_follows}
+use Rattle.zb_watch.proofs.Effects.{Holds, TakesIn, row_follows}
 use Rattle.zb_watch.proofs.Starting.{node_has_more}
-use Rattle.zb_watch.proofs.Starting.{taken_in}
 use Rattle.zb_watch.proofs.watch.Watch.row.Goals as goal
 
 pub returns : goal.returns
@@ -28,9 +27,17 @@ returns c =
     c.joiner-joiner.ensures ∙ ap (λ (n : Option Eui). if is_joiner c.args.self.now.nodes n then n else None) c.named-node.ensures in
     let partner : c.partner-partner.result ≡ (if is_first_centre c.args.self.now.nodes.centre (address_of c.args.self.now.nodes c.args.node.now) then Some c.args.partner else None) =
     c.partner-partner.ensures ∙ ap (λ (n : Option Eui). if is_first_centre c.args.self.now.nodes.centre n then Some c.args.partner else None) c.named-node.ensures in
+    let taken : TakesIn c.args.self.now.origins c.take_in.new.self c.joiner-joiner.result c.args.key.0 = record {
+      ideal = c.in_ok-take_in.ensures.ideal;
+      traced = c.in_ok-take_in.ensures.traced;
+      terms = c.in_ok-take_in.ensures.terms;
+      codes = c.in_ok-take_in.ensures.codes;
+      bases = c.in_ok-take_in.ensures.bases;
+      carriers = c.in_ok-take_in.ensures.carriers;
+    } in
     row_follows tools c.args.self.now h stands c.args.node.now c.args.partner c.args.key c.args.attribute event c.row_key.new.self c.take_in.new.self c.row.new.self c.hold.new.self c.hold-2.new.self
     c.in_ok-row_key.ensures.network c.in_ok-row_key.ensures.forged c.in_ok-row_key.ensures.passed
-    (c.take_in.ensures ∙ ap (λ (n : Option Eui). taken_in c.args.self.now.origins c.args.self.now.exposure.carried n c.args.key.0) joiner)
-    (subst (λ (n : Option Eui). node_has_more c.take_in.new.self.bases c.row.new.self.bases n c.args.key) c.named-node.ensures c.in_ok-row.ensures.bases) c.in_ok-row.ensures.codes c.in_ok-row.ensures.terms
+    (subst (λ (n : Option Eui). TakesIn c.args.self.now.origins c.take_in.new.self n c.args.key.0) joiner taken)
+    (subst (λ (n : Option Eui). node_has_more c.take_in.new.self.bases c.row.new.self.bases n c.args.key) c.named-node.ensures c.in_ok-row.ensures.bases) c.in_ok-row.ensures.codes c.in_ok-row.ensures.terms c.in_ok-row.ensures.carriers c.in_ok-row.ensures.traced
     c.in_ok-row.ensures.ideal (subst (λ (n : Option Eui). Holds c.args.self.now.exposure c.hold.new.self n c.args.key) partner first)
     (subst (λ (n : Option Eui). Holds c.hold.new.self c.hold-2.new.self n c.args.key) c.named-node.ensures second)

@@ -1,0 +1,5 @@
+pub mod Nodes
+pub mod Meets
+pub mod Holding
+pub mod TextLemmas
+mod Cases
