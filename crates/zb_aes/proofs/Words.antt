@@ -50,3 +50,12 @@ unfolding xored mix_column
 mix_column-sum a b c d = simp (times_2_0, times_3_0, xor_zero_r, xor_zero_l)
 
 pub ruleset columns = (mix_column-sum)
+
+-- Bytes that stand alone in their rows, put together.
+pub parts-sum : (a b c d : ℕ)
+    → xored (xored (a ∷ 0 ∷ 0 ∷ 0 ∷ []) (0 ∷ b ∷ 0 ∷ 0 ∷ [])) (xored (0 ∷ 0 ∷ c ∷ 0 ∷ []) (0 ∷ 0 ∷ 0 ∷ d ∷ []))
+    ≡ a ∷ b ∷ c ∷ d ∷ []
+unfolding xored
+parts-sum a b c d = simp (xor_zero_r, xor_zero_l)
+
+pub ruleset parts = (parts-sum)

@@ -2,6 +2,7 @@
 
 ghost use Rattle.std.specs.Prelude.{◌≡◌};
 ghost use Rattle.zb_aes.specs.Block.{enciphered};
+ghost use Rattle.zb_aes.specs.Columns.{state_bytes};
 
 use crate::state::State;
 use std::marker::Model;
@@ -43,7 +44,14 @@ impl Cipher {
     pub fn encrypt(&self, block: &[u8; 16]) -> [u8; 16]
         ensures { result ≡ enciphered self.now block.now }
     {
-        State::read(block)
+        self.encrypt_state(State::read(block)).bytes()
+    }
+
+    /// Enciphers a block that is held as four columns.
+    pub fn encrypt_state(&self, block: State) -> State
+        ensures { state_bytes result ≡ enciphered self.now (state_bytes block) }
+    {
+        block
             .plus(self.keys[0])
             .round(self.keys[1])
             .round(self.keys[2])
@@ -55,6 +63,5 @@ impl Cipher {
             .round(self.keys[8])
             .round(self.keys[9])
             .last_round(self.keys[10])
-            .bytes()
     }
 }

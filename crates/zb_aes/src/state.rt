@@ -7,7 +7,8 @@ ghost use Rattle.zb_aes.specs.Columns.{state_bytes};
 
 use crate::word::{mixed_column, packed, substituted_column, sum, turned_word};
 
-/// The state, or a round key, as four columns.
+/// A block, the state of the cipher, or a round key, as its four columns: each is a word whose highest byte is the one of
+/// row 0. A contract sees its 16 bytes, column after column, by `state_bytes`.
 #[derive(Clone, Copy)]
 pub struct State(pub u32, pub u32, pub u32, pub u32);
 

@@ -6,7 +6,7 @@ ghost use Rattle.zb_aes.specs.Block.{mix_column, turned};
 ghost use Rattle.zb_aes.specs.Columns.{mixed_column_of, substituted_column_of};
 ghost use Rattle.zb_aes.specs.Field.{substitute};
 
-use crate::tables::{FIRST, FOURTH, SECOND, SUBSTITUTION, THIRD};
+use crate::tables::{MIXED, SUBSTITUTION};
 
 #[inline(always)]
 #[tactic(auto, using(crate::proofs::Table::substitution_at))]
@@ -22,7 +22,7 @@ fn substituted(byte: u8) -> u8
 fn first(byte: u8) -> u32
     ensures { word_bytes result ≡ mix_column (substitute byte) 0 0 0 }
 {
-    FIRST[byte as usize]
+    MIXED[byte as usize]
 }
 
 #[inline(always)]
@@ -30,7 +30,7 @@ fn first(byte: u8) -> u32
 fn second(byte: u8) -> u32
     ensures { word_bytes result ≡ mix_column 0 (substitute byte) 0 0 }
 {
-    SECOND[byte as usize]
+    MIXED[256 + byte as usize]
 }
 
 #[inline(always)]
@@ -38,7 +38,7 @@ fn second(byte: u8) -> u32
 fn third(byte: u8) -> u32
     ensures { word_bytes result ≡ mix_column 0 0 (substitute byte) 0 }
 {
-    THIRD[byte as usize]
+    MIXED[512 + byte as usize]
 }
 
 #[inline(always)]
@@ -46,7 +46,7 @@ fn third(byte: u8) -> u32
 fn fourth(byte: u8) -> u32
     ensures { word_bytes result ≡ mix_column 0 0 0 (substitute byte) }
 {
-    FOURTH[byte as usize]
+    MIXED[768 + byte as usize]
 }
 
 /// The sum of two columns.
@@ -118,6 +118,48 @@ pub fn mixed_column(a: u32, b: u32, c: u32, d: u32, key: u32) -> u32
     sum(mixed(row_0(a), row_1(b), row_2(c), row_3(d)), key)
 }
 
+// A substituted byte alone in each row: what a mixed column has of it once.
+#[inline(always)]
+#[tactic(auto, using(crate::proofs::Table::alone_0_at))]
+fn alone_0(byte: u8) -> u32
+    ensures { word_bytes result ≡ substitute byte ∷ 0 ∷ 0 ∷ 0 ∷ [] }
+{
+    MIXED[512 + byte as usize] & 0xff00_0000
+}
+
+#[inline(always)]
+#[tactic(auto, using(crate::proofs::Table::alone_1_at))]
+fn alone_1(byte: u8) -> u32
+    ensures { word_bytes result ≡ 0 ∷ substitute byte ∷ 0 ∷ 0 ∷ [] }
+{
+    MIXED[768 + byte as usize] & 0x00ff_0000
+}
+
+#[inline(always)]
+#[tactic(auto, using(crate::proofs::Table::alone_2_at))]
+fn alone_2(byte: u8) -> u32
+    ensures { word_bytes result ≡ 0 ∷ 0 ∷ substitute byte ∷ 0 ∷ [] }
+{
+    MIXED[byte as usize] & 0x0000_ff00
+}
+
+#[inline(always)]
+#[tactic(auto, using(crate::proofs::Table::alone_3_at))]
+fn alone_3(byte: u8) -> u32
+    ensures { word_bytes result ≡ 0 ∷ 0 ∷ 0 ∷ substitute byte ∷ [] }
+{
+    MIXED[256 + byte as usize] & 0x0000_00ff
+}
+
+// Four bytes of the rows 0 to 3, substituted.
+#[inline(always)]
+#[tactic(auto, using(crate::proofs::Words::parts))]
+fn substituted_bytes(a: u8, b: u8, c: u8, d: u8) -> u32
+    ensures { word_bytes result ≡ substitute a ∷ substitute b ∷ substitute c ∷ substitute d ∷ [] }
+{
+    sum(sum(alone_0(a), alone_1(b)), sum(alone_2(c), alone_3(d)))
+}
+
 /// The same in the last round, which mixes no columns.
 #[inline(always)]
 pub fn substituted_column(a: u32, b: u32, c: u32, d: u32, key: u32) -> u32
@@ -125,12 +167,7 @@ pub fn substituted_column(a: u32, b: u32, c: u32, d: u32, key: u32) -> u32
         ≡ substituted_column_of (word_bytes a) (word_bytes b) (word_bytes c) (word_bytes d) (word_bytes key) }
 {
     sum(
-        packed(
-            substituted(row_0(a)),
-            substituted(row_1(b)),
-            substituted(row_2(c)),
-            substituted(row_3(d)),
-        ),
+        substituted_bytes(row_0(a), row_1(b), row_2(c), row_3(d)),
         key,
     )
 }

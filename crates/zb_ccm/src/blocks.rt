@@ -1,11 +1,24 @@
-//! Blocks of 16 bytes.
+//! Blocks of 16 bytes, as bytes and as the columns that the cipher takes.
 
 ghost use Rattle.std.specs.Prelude.{◌≡◌, ◌+◌, ◌≤◌, ◌++◌, ◌∷◌, length, take, replicate};
 ghost use Rattle.std.specs.Int.{w16, to_be_bytes};
 ghost use Rattle.zb_aes.specs.Bytes.{xored};
+ghost use Rattle.zb_aes.specs.Columns.{state_bytes};
+
+use zb_aes::State;
+
+/// The first 16 bytes of a text, filled up with zeros, as a block.
+pub fn block_of(bytes: &[u8]) -> State
+    ensures { state_bytes result ≡ take 16 (bytes.now ++ replicate 16 0) }
+{
+    match bytes.first_chunk::<16>() {
+        Some(block) => State::read(block),
+        None => State::read(&filled(bytes)),
+    }
+}
 
 /// The first 16 bytes of a text, filled up with zeros.
-pub fn block_of(bytes: &[u8]) -> [u8; 16]
+pub fn filled(bytes: &[u8]) -> [u8; 16]
     ensures { result ≡ take 16 (bytes.now ++ replicate 16 0) }
 {
     let count = bytes.len().min(16);
@@ -25,10 +38,10 @@ pub fn add(piece: &mut [u8], block: &[u8; 16])
 }
 
 /// A block with flags, nonce and a number, its high byte first.
-pub fn numbered(flags: u8, nonce: &[u8; 13], number: u16) -> [u8; 16]
-    ensures { result ≡ flags ∷ nonce.now ++ to_be_bytes w16 number }
+pub fn numbered(flags: u8, nonce: &[u8; 13], number: u16) -> State
+    ensures { state_bytes result ≡ flags ∷ nonce.now ++ to_be_bytes w16 number }
 {
     let [a, b, c, d, e, f, g, h, i, j, k, l, m] = *nonce;
     let [high, low] = number.to_be_bytes();
-    [flags, a, b, c, d, e, f, g, h, i, j, k, l, m, high, low]
+    State::read(&[flags, a, b, c, d, e, f, g, h, i, j, k, l, m, high, low])
 }

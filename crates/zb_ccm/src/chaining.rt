@@ -1,45 +1,46 @@
 //! The code of a message: cipher block chaining over all that is authenticated, enciphered (RFC 3610, 2.2 and 2.3).
 
 ghost use Rattle.std.specs.Prelude.{◌≡◌, ◌≤◌, ◌<◌, length, take};
+ghost use Rattle.zb_aes.specs.Columns.{state_bytes};
 ghost use Rattle.zb_ccm.specs.Blocks.{block_at, blocks_of, chain};
 ghost use Rattle.zb_ccm.specs.Ccm.{code, counted, flags};
 
-use crate::blocks::{block_of, numbered};
+use crate::blocks::{block_of, filled, numbered};
 use crate::keystream::stream_block_of;
-use zb_aes::{Cipher, sum};
+use zb_aes::{Cipher, State};
 
 // Chains the blocks of the bytes to a value.
-fn chained_bytes(cipher: &Cipher, start: [u8; 16], bytes: &[u8]) -> [u8; 16]
-    ensures { result ≡ chain cipher.now start (blocks_of bytes.now) }
+fn chained_bytes(cipher: &Cipher, start: State, bytes: &[u8]) -> State
+    ensures { state_bytes result ≡ chain cipher.now (state_bytes start) (blocks_of bytes.now) }
 {
     let mut value = start;
     for i in 0..bytes.len().div_ceil(16) {
-        let next = cipher.encrypt(&sum(&value, &block_of(&bytes[16 * i..])));
+        let next = cipher.encrypt_state(value.plus(block_of(&bytes[16 * i..])));
         value = next;
     }
     value
 }
 
 // The first block of the authenticated data, which begins with their length.
-fn first_associated(associated: &[u8]) -> [u8; 16]
+fn first_associated(associated: &[u8]) -> State
     requires some { 0 < length associated.now }
     requires fits { length associated.now < 65280 }
-    ensures { result ≡ block_at (counted associated.now) 0 }
+    ensures { state_bytes result ≡ block_at (counted associated.now) 0 }
 {
     let [high, low] = (associated.len() as u16).to_be_bytes();
-    let [a, b, c, d, e, f, g, h, i, j, k, l, m, n, _, _] = block_of(associated);
-    [high, low, a, b, c, d, e, f, g, h, i, j, k, l, m, n]
+    let [a, b, c, d, e, f, g, h, i, j, k, l, m, n, _, _] = filled(associated);
+    State::read(&[high, low, a, b, c, d, e, f, g, h, i, j, k, l, m, n])
 }
 
 // Chains the authenticated data to a value.
-fn chained_associated(cipher: &Cipher, value: [u8; 16], associated: &[u8]) -> [u8; 16]
+fn chained_associated(cipher: &Cipher, value: State, associated: &[u8]) -> State
     requires { length associated.now < 65280 }
-    ensures { result ≡ chain cipher.now value (blocks_of (counted associated.now)) }
+    ensures { state_bytes result ≡ chain cipher.now (state_bytes value) (blocks_of (counted associated.now)) }
 {
     if associated.is_empty() {
         return value;
     }
-    let first = cipher.encrypt(&sum(&value, &first_associated(associated)));
+    let first = cipher.encrypt_state(value.plus(first_associated(associated)));
     chained_bytes(cipher, first, &associated[associated.len().min(14)..])
 }
 
@@ -72,11 +73,11 @@ pub fn code_of(
     ensures { take size result ≡ code cipher.now nonce.now associated.now message.now size }
 {
     let first = numbered(flags_of(associated, size), nonce, message.len() as u16);
-    let start = cipher.encrypt(&first);
+    let start = cipher.encrypt_state(first);
     let value = chained_bytes(
         cipher,
         chained_associated(cipher, start, associated),
         message,
     );
-    sum(&value, &stream_block_of(cipher, nonce, 0))
+    value.plus(stream_block_of(cipher, nonce, 0)).bytes()
 }

@@ -1,18 +1,19 @@
 //! The key stream, which is added to a text (RFC 3610, 2.3).
 
 ghost use Rattle.std.specs.Prelude.{◌≡◌, ◌<◌, ◌≤◌, length};
+ghost use Rattle.zb_aes.specs.Columns.{state_bytes};
 ghost use Rattle.zb_ccm.specs.Blocks.{block_count};
 ghost use Rattle.zb_ccm.specs.Ccm.{crypted, stream, stream_block};
 
 use crate::blocks::{add, numbered};
-use zb_aes::Cipher;
+use zb_aes::{Cipher, State};
 
 /// A block of the key stream.
 #[tactic(auto, unfolding(crate::specs::Ccm::stream_block))]
-pub fn stream_block_of(cipher: &Cipher, nonce: &[u8; 13], number: u16) -> [u8; 16]
-    ensures { result ≡ stream_block cipher.now nonce.now number }
+pub fn stream_block_of(cipher: &Cipher, nonce: &[u8; 13], number: u16) -> State
+    ensures { state_bytes result ≡ stream_block cipher.now nonce.now number }
 {
-    cipher.encrypt(&numbered(1, nonce, number))
+    cipher.encrypt_state(numbered(1, nonce, number))
 }
 
 /// Turns a message into its cipher text, and a cipher text into its message.
@@ -24,6 +25,6 @@ pub fn crypt(cipher: &Cipher, nonce: &[u8; 13], text: &mut [u8])
     let len = text.len();
     for i in 0..len.div_ceil(16) {
         let block = stream_block_of(cipher, nonce, (i + 1) as u16);
-        add(&mut text[16 * i..len.min(16 * i + 16)], &block);
+        add(&mut text[16 * i..len.min(16 * i + 16)], &block.bytes());
     }
 }

@@ -3,7 +3,7 @@ pub mod FirstPathLaws
 mod Toy
 mod Terms
 mod Small
-mod Rows
+pub mod Rows
 mod Refusals
 mod Cases
 mod FitCases

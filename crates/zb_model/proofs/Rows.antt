@@ -1,5 +1,5 @@
 -- Whole runs, computed with the toy tools: each agrees line by line with the run that was worked out for it.
-mod JoinUnderCentre
+pub mod JoinUnderCentre
 mod TwoFrames
 mod FiveFrames
 mod ResetAndBoot
@@ -13,9 +13,9 @@ mod GreatestCounter
 mod NextToGreatest
 mod CounterAtItsEnd
 mod JoinThroughRouter
-mod ConfirmationStopped
+pub mod ConfirmationStopped
 mod VerificationStopped
-mod RemovalAndRollover
+pub mod RemovalAndRollover
 mod ForgedRequest
 mod InjectedRequest
 mod OldNetworkKey
@@ -31,9 +31,9 @@ mod HostileCommands
 mod StopsOfBoth
 mod CounterStartsAnew
 mod CounterGoesOn
-mod ApplicationKeys
+pub mod ApplicationKeys
 mod PairRemoved
 mod DataIsNoCommand
 mod MadeForTwo
 mod MadeForEight
-mod KeyComesInUnseen
+pub mod KeyComesInUnseen

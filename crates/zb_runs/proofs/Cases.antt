@@ -1,5 +1,5 @@
 -- A schedule with each form of line: what it reads as, and the world that it is.
-use Rattle.std.specs.Prelude.{◌≡◌, ℕ, ◌+◌, ◌-◌, ◌*◌, if◌then◌else◌, List, [], ◌∷◌, ◌++◌, Option, Some, None, true, false, nat_lt, codes, refl}
+use Rattle.std.specs.Prelude.{◌≡◌, ℕ, ◌+◌, ◌-◌, ◌*◌, if◌then◌else◌, List, [], ◌∷◌, ◌++◌, Some, None, true, false, nat_lt, codes, refl}
 use Rattle.std.specs.Result.{result_ok}
 use Prim.Native.String.{String}
 use Rattle.hex.specs.Hex.{decode_pairs}

@@ -1,2 +1,12 @@
 pub mod Widths
+pub mod ReadChanges
+pub mod InMemory
+pub mod Made
+pub mod Tested
+pub mod Entries
+pub mod Roles
+pub mod CoreLaws
+pub mod Restoring
+pub mod Reserving
+pub mod Short
 pub mod Readings

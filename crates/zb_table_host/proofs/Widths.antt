@@ -23,7 +23,7 @@ use Rattle.zb_record.proofs.Sound.{both_read}
 abbrev pub AreBytes : List ℕ → Type 0
 AreBytes bytes = AllByRecursion (λ b. b < 256) bytes
 
-abbrev found : {A : Type 0} → A → List ℕ → Result (A × List ℕ) ℕ
+abbrev pub found : {A : Type 0} → A → List ℕ → Result (A × List ℕ) ℕ
 found x rest = Ok (x, rest)
 
 byte_of : (bytes : List ℕ) → AreBytes bytes → (i : ℕ) → get_or bytes i 0 < 256
@@ -48,11 +48,11 @@ below64 : (bytes : List ℕ) → AreBytes bytes → from_le_bytes w64 bytes < 2 
 below64 bytes a = let s = byte_of bytes a in omega (arith, s 0, s 1, s 2, s 3, s 4, s 5, s 6, s 7)
 
 -- What is given is what was found, and the rest is what is left.
-record Given {A : Type 0} (x y : A) (bytes rest : List ℕ) : Type 0 where
-  value : x ≡ y
-  left : bytes ≡ rest
+pub record Given {A : Type 0} (x y : A) (bytes rest : List ℕ) : Type 0 where
+  pub value : x ≡ y
+  pub left : bytes ≡ rest
 
-given : {A : Type 0} (x y : A) (bytes rest : List ℕ) → found x bytes ≡ found y rest → Given x y bytes rest
+pub given : {A : Type 0} (x y : A) (bytes rest : List ℕ) → found x bytes ≡ found y rest → Given x y bytes rest
 given {A} x y bytes rest e =
     let pair : (x, bytes) ≡ (y, rest) = cc in
     record { value = ap (λ (z : A × List ℕ). z.0) pair; left = ap (λ (z : A × List ℕ). z.1) pair }
@@ -60,16 +60,16 @@ given {A} x y bytes rest e =
 -- ---- fields
 
 -- what is read of bytes has a property, and bytes are left
-abbrev Keeps : (A : Type 0) → (A → Type 0) → Reading ℕ A → Type 0
+abbrev pub Keeps : (A : Type 0) → (A → Type 0) → Reading ℕ A → Type 0
 Keeps A P read = (cut : ℕ) (bytes rest : List ℕ) (x : A) → AreBytes bytes → read cut bytes ≡ found x rest → P x × AreBytes rest
 
-abbrev Any : (A : Type 0) → A → Type 0
+abbrev pub Any : (A : Type 0) → A → Type 0
 Any A x = Unit {0}
 
-abbrev Below32 : ℕ → Type 0
+abbrev pub Below32 : ℕ → Type 0
 Below32 n = n < 2 ^ 32
 
-abbrev IsEui : Eui → Type 0
+abbrev pub IsEui : Eui → Type 0
 IsEui e = e.0 < 2 ^ 64
 
 byte_keeps : Keeps ℕ (Any ℕ) byte_at
@@ -86,13 +86,13 @@ number_keeps w P below cut bytes rest x a e = by_test (nat_lt (length bytes) (by
         let g = given (from_le_bytes w (take (byte_len w) bytes)) x (drop (byte_len w) bytes) rest e in
         (subst P g.value (below (take (byte_len w) bytes) (taken (byte_len w) bytes a)), subst AreBytes g.left (dropped (byte_len w) bytes a))
 
-number32 : Keeps ℕ Below32 (number_at w32)
+pub number32 : Keeps ℕ Below32 (number_at w32)
 number32 = number_keeps w32 Below32 below32
 
 number16 : Keeps ℕ (Any ℕ) (number_at w16)
 number16 = number_keeps w16 (Any ℕ) (λ bytes a. tt)
 
-eui_keeps : Keeps Eui IsEui eui_at
+pub eui_keeps : Keeps Eui IsEui eui_at
 unfolding eui_at
 eui_keeps cut bytes rest x a e = by_number (number_at w64 cut bytes) refl e
   where
@@ -104,7 +104,7 @@ eui_keeps cut bytes rest x a e = by_number (number_at w64 cut bytes) refl e
         (subst IsEui g.value k.0, subst AreBytes g.left k.1)
     by_number (Err f) is e = absurd (cc)
 
-key_keeps : Keeps Key IsKey key_at
+pub key_keeps : Keeps Key IsKey key_at
 unfolding key_at bytes_at
 key_keeps cut bytes rest x a e = by_test (nat_lt (length bytes) 16) refl e
   where
@@ -119,7 +119,7 @@ key_keeps cut bytes rest x a e = by_test (nat_lt (length bytes) 16) refl e
         (subst IsKey g.value long, subst AreBytes g.left (dropped 16 bytes a))
 
 -- a byte that stands for a value
-pick_keeps : (A : Type 0) (pick : ℕ → Option A) → Keeps A (Any A) (λ cut bytes. Rattle.zb_cursor.specs.Reading.follow (byte_at cut bytes) (λ b left. chosen (pick b) cut left))
+pub pick_keeps : (A : Type 0) (pick : ℕ → Option A) → Keeps A (Any A) (λ cut bytes. Rattle.zb_cursor.specs.Reading.follow (byte_at cut bytes) (λ b left. chosen (pick b) cut left))
 pick_keeps A pick cut [] rest x a e = absurd (cc)
 pick_keeps A pick cut (b ∷ bytes) rest x a e = by_value (pick b) e
   where

@@ -1,5 +1,6 @@
-//! Tests of a centre's tables over a store: what a boot reads, and what stands after the next seal.
+//! A centre that seals, as a core over tables, and tests of its host.
 #![tactic(auto)]
 
+pub mod sealer;
 #[cfg(test)]
 mod tests;

@@ -3,4 +3,5 @@ pub mod Digits
 pub mod LineCuts
 pub mod NameLemmas
 pub mod NumberLemmas
+pub mod Pairs
 pub mod ReadAgain

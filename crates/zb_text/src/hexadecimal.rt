@@ -1,9 +1,10 @@
 //! Strings of bytes in hexadecimal digits, read in either case and written in upper case.
 
-ghost use Rattle.std.specs.Prelude.{◌≡◌, ◌≤◌, [], ◌∷◌, ◌++◌, length, OnOk, IfSome};
+ghost use Rattle.std.specs.Prelude.{◌≡◌, ◌≤◌, ◌<◌, ◌/◌, [], ◌∷◌, ◌++◌, length, OnOk, IfSome};
 ghost use Rattle.std.specs.Option.{option_map};
-ghost use Rattle.hex.specs.Hex.{encode_upper, IsBytes};
-ghost use Rattle.zb_text.specs.Hexadecimal.{fixed_of, bytes_of, bytes_text};
+ghost use Rattle.std.specs.Result.{result_ok};
+ghost use Rattle.hex.specs.Hex.{decode_of, encode_upper, hex_digit_value, IsBytes};
+ghost use Rattle.zb_text.specs.Hexadecimal.{fixed_of, bytes_of, bytes_text, byte_of_pair};
 
 use arrayvec::ArrayVec;
 use std::alloc::AllocError;
@@ -36,11 +37,63 @@ pub fn bytes<const N: usize>(word: &[u8]) -> Option<ArrayVec<u8, N>>
     if word.is_empty() || count > N {
         return None;
     }
-    let mut bytes = [0; N];
-    hex::decode_to_slice(word, &mut bytes[..count]).ok()?;
-    let found = ArrayVec::try_from(&bytes[..count]).ok()?;
+    let found = pairs_of::<N>(word)?;
     known_bytes(found.as_slice());
     Some(found)
+}
+
+/// The bytes that pairs of digits spell.
+fn pairs_of<const N: usize>(word: &[u8]) -> Option<ArrayVec<u8, N>>
+    requires { length word.now / 2 ≤ N }
+    ensures { option_map (λ found. found.items) result ≡ result_ok (decode_of word.now) }
+{
+    let mut found = ArrayVec::new();
+    let mut rest = word;
+    while let [high, low, more @ ..] = rest {
+        let Some(byte) = pair_value(*high, *low) else {
+            return None;
+        };
+        found.push(byte);
+        rest = more;
+    }
+    if rest.is_empty() { Some(found) } else { None }
+}
+
+/// The value of each digit, in either case, and 255 for each byte that is none.
+static VALUES: [u8; 256] = [
+    255, 255, 255, 255, 255, 255, 255, 255, 255, 255, 255, 255, 255, 255, 255, 255, 255, 255, 255,
+    255, 255, 255, 255, 255, 255, 255, 255, 255, 255, 255, 255, 255, 255, 255, 255, 255, 255, 255,
+    255, 255, 255, 255, 255, 255, 255, 255, 255, 255, 0, 1, 2, 3, 4, 5, 6, 7, 8, 9, 255, 255, 255,
+    255, 255, 255, 255, 10, 11, 12, 13, 14, 15, 255, 255, 255, 255, 255, 255, 255, 255, 255, 255,
+    255, 255, 255, 255, 255, 255, 255, 255, 255, 255, 255, 255, 255, 255, 255, 255, 10, 11, 12, 13,
+    14, 15, 255, 255, 255, 255, 255, 255, 255, 255, 255, 255, 255, 255, 255, 255, 255, 255, 255,
+    255, 255, 255, 255, 255, 255, 255, 255, 255, 255, 255, 255, 255, 255, 255, 255, 255, 255, 255,
+    255, 255, 255, 255, 255, 255, 255, 255, 255, 255, 255, 255, 255, 255, 255, 255, 255, 255, 255,
+    255, 255, 255, 255, 255, 255, 255, 255, 255, 255, 255, 255, 255, 255, 255, 255, 255, 255, 255,
+    255, 255, 255, 255, 255, 255, 255, 255, 255, 255, 255, 255, 255, 255, 255, 255, 255, 255, 255,
+    255, 255, 255, 255, 255, 255, 255, 255, 255, 255, 255, 255, 255, 255, 255, 255, 255, 255, 255,
+    255, 255, 255, 255, 255, 255, 255, 255, 255, 255, 255, 255, 255, 255, 255, 255, 255, 255, 255,
+    255, 255, 255, 255, 255, 255, 255, 255, 255, 255, 255, 255, 255, 255, 255, 255, 255, 255, 255,
+    255, 255, 255,
+];
+
+/// The value of a digit, in either case.
+#[tactic(auto, using(crate::proofs::Pairs::digit_some, crate::proofs::Pairs::digit_none))]
+fn digit(byte: u8) -> Option<u8>
+    ensures value { result ≡ hex_digit_value byte }
+    ensures small { IfSome result (λ value. value < 16) }
+{
+    let value = VALUES[byte as usize];
+    if value < 16 { Some(value) } else { None }
+}
+
+/// The byte of two digits, the first of them for its high four bits.
+fn pair_value(high: u8, low: u8) -> Option<u8>
+    ensures { result ≡ byte_of_pair high low }
+{
+    let high = digit(high)?;
+    let low = digit(low)?;
+    Some(high * 16 + low)
 }
 
 /// Prints bytes in two digits each.

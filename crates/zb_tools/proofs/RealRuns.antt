@@ -1,4 +1,5 @@
 -- The laws over every run, of real frames.
+use Rattle.std.proofs.Common.{◌≡◌, List, [], ◌∷◌, ◌++◌, length, true}
 use Rattle.zb_counted.proofs.Floors.{floors-are-for}
 use Rattle.zb_counted.proofs.Unique.{counted, unique}
 use Rattle.zb_laws.proofs.ConfirmsRuns.{confirms}
@@ -9,12 +10,25 @@ use Rattle.zb_laws.proofs.Runs.{fresh}
 use Rattle.zb_laws.proofs.SpentLaw.{transcript-spent}
 use Rattle.zb_laws.proofs.SpentSteps.{takes-all}
 use Rattle.zb_laws.specs.Premises.{Premises}
+use Rattle.zb_model.specs.Lines.{LogLine}
 use Rattle.zb_model.specs.Play.{World}
-use Rattle.zb_tools.specs.Headline.{Holds}
+use Rattle.zb_model.specs.Secrets.{ideal, private}
+use Rattle.zb_model.specs.Transcript.{end_line, run_lines, transcript}
+use Rattle.zb_tools.specs.Headline.{EndsYesYes, Holds, SaysYesYes}
 use Rattle.zb_tools.specs.Real.{real}
 use Rattle.zb_tools.proofs.Showing.{opens-real}
 use Rattle.zb_tools.proofs.Confirming.{spells-confirm}
 use Rattle.zb_tools.proofs.OwnKeys.{shows-keys}
+
+-- a list of lines ends with its last line
+ends : (ls : List LogLine) (l : LogLine) → EndsYesYes (ls ++ l ∷ []) → SaysYesYes l
+ends [] l e = e
+ends (x ∷ []) l e = e
+ends (x ∷ y ∷ ls) l e = ends (y ∷ ls) l e
+
+two_words : (w : World) → EndsYesYes (transcript real w) → (ideal real (run_lines real w) ≡ true) × (private real (run_lines real w) ≡ true)
+unfolding transcript end_line
+two_words w e = ends (run_lines real w) (end_line real (length w.acts) (run_lines real w)) e
 
 pub holds : (w : World) → Premises w → Holds w
 holds w p = record {
@@ -27,5 +41,5 @@ holds w p = record {
   fresh = fresh real w p.schedule;
   once = once real opens-real w p.schedule;
   confirms = confirms real opens-real spells-confirm w p.schedule p.one_centre;
-  locked = locked real opens-real shows-keys w p.schedule p.one_centre p.keys;
+  locked = λ e. locked real opens-real shows-keys w p.schedule p.one_centre p.keys (two_words w e).0 (two_words w e).1;
 }

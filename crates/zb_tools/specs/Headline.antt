@@ -1,15 +1,24 @@
 -- What holds of the run of a schedule with real frames, as one record: the claims on transcripts, none of which asks anything of
 -- the air, of the disks, or of the strength of the cipher, but for the two words of the end line.
-use Rattle.std.specs.Prelude.{◌≡◌, true, List, []}
+use Rattle.std.specs.Prelude.{◌≡◌, true, List, [], ◌∷◌}
 use Rattle.zb_counted.specs.Counted.{Counted}
 use Rattle.zb_counted.specs.Floors.{FloorsAreFor}
 use Rattle.zb_laws.specs.Spent.{SpentLine, TakesAll}
 use Rattle.zb_model.specs.Claims.{Confirms, Each, Fresh, Lawful, Locked, Once}
-use Rattle.zb_model.specs.Lines.{LogLine}
+use Rattle.zb_model.specs.Lines.{LogLine, End}
 use Rattle.zb_model.specs.Play.{World}
-use Rattle.zb_model.specs.Secrets.{ideal, private}
-use Rattle.zb_model.specs.Transcript.{run_lines, transcript}
+use Rattle.zb_model.specs.Transcript.{transcript}
 use Rattle.zb_tools.specs.Real.{real}
+
+-- the last line is an end line that says `yes yes`
+abbrev pub SaysYesYes : LogLine → Type 0
+SaysYesYes (End events seals accepts refusals ideal private) = (ideal ≡ true) × (private ≡ true)
+SaysYesYes _ = ⊥
+
+abbrev pub EndsYesYes : List LogLine → Type 0
+EndsYesYes [] = ⊥
+EndsYesYes (l ∷ []) = SaysYesYes l
+EndsYesYes (l ∷ m ∷ ls) = EndsYesYes (m ∷ ls)
 
 pub record Holds (w : World) : Type 0 where
   -- each group answers its event by the policy, with the counters that it must have; and no other lines do
@@ -27,4 +36,4 @@ pub record Holds (w : World) : Type 0 where
   -- only stored keys are confirmed
   pub confirms : Confirms real (transcript real w)
   -- where the end line says `yes yes`, a removed device that isn't admitted again is locked out
-  pub locked : ideal real (run_lines real w) ≡ true → private real (run_lines real w) ≡ true → Locked real (transcript real w)
+  pub locked : EndsYesYes (transcript real w) → Locked real (transcript real w)

@@ -27,7 +27,7 @@ d_station = record { name = x "64"; eui = 5149012952875010; short = 6699; duty =
 abbrev r_station : Station
 r_station = record { name = x "72"; eui = 5149012952875011; short = 15437; duty = Duty.Router; out_block = 16; in_block = 4 }
 
-abbrev world : World
+abbrev pub world : World
 world = record {
   members = record { station = c_station; code = None; network = Some (x "000102030405060708090A0B0C0D0E0F", 0); start_nwk = 0; start_aps = 0 } ∷ record { station = d_station; code = Some (x "66B6900981E1EE3CA4206B6B861C02BB"); network = None; start_nwk = 0; start_aps = 0 } ∷ record { station = r_station; code = None; network = Some (x "000102030405060708090A0B0C0D0E0F", 0); start_nwk = 0; start_aps = 0 } ∷ [];
   draws = x "A0A1A2A3A4A5A6A7A8A9AAABACADAEAF" ∷ [];

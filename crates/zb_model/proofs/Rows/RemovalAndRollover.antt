@@ -27,7 +27,7 @@ d_station = record { name = x "64"; eui = 5149012952875010; short = 6699; duty =
 abbrev e_station : Station
 e_station = record { name = x "65"; eui = 5149012952875012; short = 24175; duty = Duty.Device; out_block = 16; in_block = 4 }
 
-abbrev world : World
+abbrev pub world : World
 world = record {
   members = record { station = c_station; code = None; network = Some (x "000102030405060708090A0B0C0D0E0F", 0); start_nwk = 0; start_aps = 0 } ∷ record { station = d_station; code = Some (x "66B6900981E1EE3CA4206B6B861C02BB"); network = None; start_nwk = 0; start_aps = 0 } ∷ record { station = e_station; code = Some (x "A7576CD720766844FC1422177D9260D0"); network = None; start_nwk = 0; start_aps = 0 } ∷ [];
   draws = x "303132333435363738393A3B3C3D3E3F" ∷ x "404142434445464748494A4B4C4D4E4F" ∷ x "505152535455565758595A5B5C5D5E5F" ∷ x "606162636465666768696A6B6C6D6E6F" ∷ [];

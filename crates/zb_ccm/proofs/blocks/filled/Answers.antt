@@ -1,4 +1,4 @@
-use Rattle.zb_ccm.proofs.blocks.block_of.Goals as goal
+use Rattle.zb_ccm.proofs.blocks.filled.Goals as goal
 use Rattle.std.proofs.Common.{◌∙◌, ap, ◌++◌, drop, replicate}
 use Rattle.zb_ccm.proofs.Arrays.{filled}
 

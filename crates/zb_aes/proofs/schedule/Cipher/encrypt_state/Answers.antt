@@ -1,13 +1,14 @@
 use Rattle.std.proofs.Common.{refl, arith}
+use Rattle.zb_aes.specs.Columns.{state_bytes}
 use Rattle.zb_aes.proofs.Keys.{rounds-init, rounds-more, rounds-end}
-use Rattle.zb_aes.proofs.schedule.Cipher.encrypt.Goals as goal
+use Rattle.zb_aes.proofs.schedule.Cipher.encrypt_state.Goals as goal
 
 pub returns : goal.returns
 returns c =
     let key = c.args.self.now in
-    let block = c.args.block.now in
+    let block = state_bytes c.args.block in
     let is = c.self.view_is in
-    let s0 = rounds-init key block _ _ _ is c.read.ensures c.plus.ensures in
+    let s0 = rounds-init key block _ _ _ is refl c.plus.ensures in
     let s1 = rounds-more key block _ _ _ _ 1 (omega arith) is (c.self.invariant.each 1 (omega arith)) s0 c.round.ensures in
     let s2 = rounds-more key block _ _ _ _ 2 (omega arith) is (c.self.invariant.each 2 (omega arith)) s1 c.round-2.ensures in
     let s3 = rounds-more key block _ _ _ _ 3 (omega arith) is (c.self.invariant.each 3 (omega arith)) s2 c.round-3.ensures in
@@ -17,5 +18,4 @@ returns c =
     let s7 = rounds-more key block _ _ _ _ 7 (omega arith) is (c.self.invariant.each 7 (omega arith)) s6 c.round-7.ensures in
     let s8 = rounds-more key block _ _ _ _ 8 (omega arith) is (c.self.invariant.each 8 (omega arith)) s7 c.round-8.ensures in
     let s9 = rounds-more key block _ _ _ _ 9 (omega arith) is (c.self.invariant.each 9 (omega arith)) s8 c.round-9.ensures in
-    rounds-end key block _ _ _ _ _ 10 refl is (c.self.invariant.each 10 (omega arith)) s9 c.last_round.ensures
-    c.bytes.ensures
+    rounds-end key block _ _ _ _ _ 10 refl is (c.self.invariant.each 10 (omega arith)) s9 c.last_round.ensures refl
