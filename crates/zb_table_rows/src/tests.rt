@@ -242,22 +242,34 @@ fn bytes_that_are_all_ones(rt: HostRuntime) -> Result<(), Fail> {
     Ok(())
 }
 
+// A record of version 3 whose role is that byte, a cut one, or a whole one.
+fn record_of_role(alloc: Global, role: u8, len: usize) -> Result<Vec<u8>, Fail> {
+    let mut bytes = THIRD.get(..len).unwrap_or(&THIRD).to_vec(alloc)?;
+    if let Some(byte) = bytes.get_mut(1) {
+        *byte = role;
+    }
+    Ok(bytes)
+}
+
+// A record of another role, or of none, is bad at its second byte, whatever is wrong behind it.
 #[test]
-fn records_and_entries_at_fault(rt: HostRuntime) -> Result<(), Fail> {
-    let mut router = THIRD;
-    router[1] = 1;
-    let mut device = THIRD;
-    device[1] = 2;
-    let stores: [(&[u8], &[&[u8]], Result<u32, u32>); 12] = [
+fn records_of_other_roles(rt: HostRuntime) -> Result<(), Fail> {
+    for (role, len) in [(1, 43), (2, 43), (3, 43), (2, 20), (1, 2), (0, 1)] {
+        let bytes = record_of_role(rt.alloc(), role, len)?;
+        let want = Err(HostFault::BadRecord { at: 1 });
+        assert_eq!(rt; booted_on(&rt, bytes.as_slice(), &[&[1, 0x7F]])?, want);
+    }
+    Ok(())
+}
+
+#[test]
+fn entries_at_fault(rt: HostRuntime) -> Result<(), Fail> {
+    let stores: [(&[u8], &[&[u8]], Result<u32, u32>); 8] = [
         (&THIRD, &[&RESERVED], Ok(16)),
         (&THIRD, &[&[1, 0x7F]], Err(44)),
         (&THIRD, &[&RESERVED, &[1, 0x7F]], Err(51)),
         (&THIRD, &[&[1, 1, 0, 16, 0, 0]], Err(44)),
         (&THIRD, &[&[1, 1, 0, 11, 0, 0, 0]], Err(44)),
-        (&router, &[&RESERVED], Err(1)),
-        (&device, &[&[1, 0x7F]], Err(1)),
-        (&device[..20], &[], Err(1)),
-        (&[3], &[], Err(1)),
         (&FIRST, &[&RESERVED], Ok(16)),
         (&FIRST, &[&[1, 1, 0, 7, 0, 0, 0]], Err(38)),
         (&FIRST, &[&RESERVED, &[1, 0x0E]], Err(45)),
