@@ -16,6 +16,11 @@ pub enum CaptureCause {
 }
 
 impl fmt::Display for CaptureCause {
+    ghost use Rattle.std.specs.Prelude.{Some};
+    ghost use Rattle.zb_capture.specs.Texts.{cause_text};
+
+    ghost output = { λ cause. Some (cause_text cause) };
+
     fn fmt<W: fmt::Write>(&self, f: &mut fmt::Formatter<W>) -> fmt::Result {
         match self {
             CaptureCause::Syntax => f.write_str("syntax"),
@@ -34,6 +39,11 @@ pub struct CaptureError {
 }
 
 impl fmt::Display for CaptureError {
+    ghost use Rattle.std.specs.Prelude.{Some};
+    ghost use Rattle.zb_capture.specs.Texts.{fault_text};
+
+    ghost output = { λ fault. Some (fault_text fault) };
+
     fn fmt<W: fmt::Write>(&self, f: &mut fmt::Formatter<W>) -> fmt::Result {
         let line = self.line;
         write!(f, "{line} ")?;

@@ -10,6 +10,8 @@ mod draft;
 mod fault;
 mod fields;
 mod reading;
+#[cfg(test)]
+mod tests;
 
 pub use capture::Capture;
 pub use fault::{CaptureCause, CaptureError};

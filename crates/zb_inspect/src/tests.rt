@@ -34,7 +34,19 @@ fn reported<H: AllocGlobal + Threads + Sync, G: Gate>(
 ) -> Result<(Result<(), InspectFault>, MemSink), Fail>
     requires { 1 ≤ jobs }
 {
-    let capture = read_capture(rt.alloc(), CAPTURE)?;
+    reported_on(rt, CAPTURE, jobs, gate, fails)
+}
+
+fn reported_on<H: AllocGlobal + Threads + Sync, G: Gate>(
+    rt: &H,
+    text: &[u8],
+    jobs: u32,
+    gate: &G,
+    fails: &[u32],
+) -> Result<(Result<(), InspectFault>, MemSink), Fail>
+    requires { 1 ≤ jobs }
+{
+    let capture = read_capture(rt.alloc(), &text[..text.len().min(4096)])?;
     let mut sink = MemSink::new(rt.alloc(), 4096, fails)?;
     let ended = report(rt, rt.alloc(), &capture, jobs, gate, &mut sink);
     Ok((ended, sink))
@@ -94,5 +106,36 @@ fn two_pieces_run_at_once(rt: HostRuntime) -> Result<(), Fail> {
     assert_eq!(rt; gate.given_up.load(Ordering::SeqCst), 0);
     // Two pieces in each of the two rounds, and two that print.
     assert_eq!(rt; gate.passed.load(Ordering::SeqCst), 6);
+    Ok(())
+}
+
+#[test]
+fn captures_in_which_little_opens(rt: HostRuntime) -> Result<(), Fail> {
+    let captures: [(&[u8], &[u8]); 5] = [
+        (b"", b"end 0 0 1\n"),
+        (
+            b"key 000102030405060708090A0B0C0D0E0F\nkey 000102030405060708090A0B0C0D0E0F\n",
+            b"key 1 000102030405060708090A0B0C0D0E0F given\nend 0 1 1\n",
+        ),
+        // no whole header, a type and a version that are none, and a secured frame that ends in its auxiliary header
+        (
+            b"frame 08\nframe 0A00FFFF00001E00\nframe 0C00FFFF00001E00\nframe 0802FFFF00001E0028\n",
+            b"1 nwk malformed\n2 nwk malformed\n3 nwk malformed\n4 nwk malformed\nend 4 0 1\n",
+        ),
+        // a data frame without a payload, and a command
+        (
+            b"frame 0800FFFF00001E00\nframe 0900FFFF00001E000400\n",
+            b"1 nwk not-secured\n1 aps malformed\n2 nwk not-secured\nend 2 0 1\n",
+        ),
+        // APS security: without a source, with the source of an addr line, and with a source of its own
+        (
+            b"addr 0001 00124B0000000001\nframe 0800FFFF00001E0020010000040101000000000000AAAAAAAA\nframe 0800FFFF01001E0020010000040101000000000000AAAAAAAA\nframe 0800FFFF00001E002001000004010100200000000001000000004B1200AAAAAAAA\n",
+            b"1 nwk not-secured\n1 aps no-source\n2 nwk not-secured\n2 aps no-key\n3 nwk not-secured\n3 aps no-key\nend 3 0 1\n",
+        ),
+    ];
+    for (capture, report) in captures {
+        let (_, sink) = reported_on(&rt, capture, 3, &OpenGate, &[])?;
+        assert_eq!(rt; sink.taken(), report);
+    }
     Ok(())
 }

@@ -2,3 +2,4 @@ pub mod CheckSequence
 pub mod Mac
 pub mod Files
 pub mod Extracts
+pub mod Texts

@@ -18,14 +18,19 @@ pub enum PcapCause {
 }
 
 impl fmt::Display for PcapCause {
+    ghost use Rattle.std.specs.Prelude.{Some};
+    ghost use Rattle.zb_pcap.specs.Texts.{cause_text};
+
+    ghost output = { λ cause. Some (cause_text cause) };
+
     fn fmt<W: fmt::Write>(&self, f: &mut fmt::Formatter<W>) -> fmt::Result {
-        f.write_str(match self {
-            PcapCause::Magic => "magic",
-            PcapCause::Version => "version",
-            PcapCause::Link => "link",
-            PcapCause::Cut => "cut",
-            PcapCause::TooMany => "too-many",
-        })
+        match self {
+            PcapCause::Magic => f.write_str("magic"),
+            PcapCause::Version => f.write_str("version"),
+            PcapCause::Link => f.write_str("link"),
+            PcapCause::Cut => f.write_str("cut"),
+            PcapCause::TooMany => f.write_str("too-many"),
+        }
     }
 }
 
@@ -37,6 +42,11 @@ pub struct PcapError {
 }
 
 impl fmt::Display for PcapError {
+    ghost use Rattle.std.specs.Prelude.{Some};
+    ghost use Rattle.zb_pcap.specs.Texts.{fault_text};
+
+    ghost output = { λ fault. Some (fault_text fault) };
+
     fn fmt<W: fmt::Write>(&self, f: &mut fmt::Formatter<W>) -> fmt::Result {
         let place = self.place;
         write!(f, "{place} ")?;

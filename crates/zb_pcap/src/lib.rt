@@ -11,6 +11,8 @@ mod fault;
 mod header;
 mod mac;
 mod packets;
+#[cfg(test)]
+mod tests;
 
 pub use check::fcs;
 pub use extraction::{Counts, Extraction, extract};
