@@ -31,7 +31,11 @@ fn bad_lines_are_refused_with_their_first_cause(rt: HostRuntime) -> Result<(), F
         (b"frame 08\r\r\n", 1, CaptureCause::Syntax),
         (b"# \xFF\n\nframe \xFF8\n", 3, CaptureCause::Syntax),
         (b"frame 08\nframe\n", 2, CaptureCause::Syntax),
-        (b"key 000102030405060708090A0B0C0D0E", 1, CaptureCause::Syntax),
+        (
+            b"key 000102030405060708090A0B0C0D0E",
+            1,
+            CaptureCause::Syntax,
+        ),
         (
             b"key 000102030405060708090A0B0C0D0E0F 00",
             1,
@@ -61,7 +65,10 @@ fn bad_lines_are_refused_with_their_first_cause(rt: HostRuntime) -> Result<(), F
         (b"boom\ncode 00\n", 1, CaptureCause::Syntax),
     ];
     for (input, line, cause) in inputs {
-        assert_eq!(rt; refusal(rt.alloc(), input), Some(CaptureError { line, cause }));
+        assert_eq!(rt;
+            refusal(rt.alloc(), input),
+            Some(CaptureError { line, cause })
+        );
     }
     Ok(())
 }

@@ -9,20 +9,20 @@ use zb_base::OrMemory;
 /// nanoseconds and bits above the link type.
 const FILES: [[u8; 85]; 2] = [
     [
-        0xd4, 0xc3, 0xb2, 0xa1, 0x02, 0x00, 0x04, 0x00, 0x00, 0x00, 0x00, 0x00, 0x00, 0x00, 0x00, 0x00,
-        0x00, 0x00, 0x00, 0x00, 0xe6, 0x00, 0x00, 0x00, 0x00, 0x00, 0x00, 0x00, 0x00, 0x00, 0x00, 0x00,
-        0x2d, 0x00, 0x00, 0x00, 0x2d, 0x00, 0x00, 0x00, 0x41, 0x88, 0x01, 0x62, 0x1a, 0x2b, 0x1a, 0x00,
-        0x00, 0x08, 0x02, 0x2b, 0x1a, 0x00, 0x00, 0x1e, 0x00, 0x28, 0x00, 0x00, 0x00, 0x00, 0x01, 0x00,
-        0x00, 0x00, 0x00, 0x4b, 0x12, 0x00, 0x00, 0x63, 0xdd, 0x60, 0x3d, 0x81, 0x98, 0x63, 0x1d, 0x3b,
-        0x76, 0x5b, 0x34, 0xba, 0x85,
+        0xd4, 0xc3, 0xb2, 0xa1, 0x02, 0x00, 0x04, 0x00, 0x00, 0x00, 0x00, 0x00, 0x00, 0x00, 0x00,
+        0x00, 0x00, 0x00, 0x00, 0x00, 0xe6, 0x00, 0x00, 0x00, 0x00, 0x00, 0x00, 0x00, 0x00, 0x00,
+        0x00, 0x00, 0x2d, 0x00, 0x00, 0x00, 0x2d, 0x00, 0x00, 0x00, 0x41, 0x88, 0x01, 0x62, 0x1a,
+        0x2b, 0x1a, 0x00, 0x00, 0x08, 0x02, 0x2b, 0x1a, 0x00, 0x00, 0x1e, 0x00, 0x28, 0x00, 0x00,
+        0x00, 0x00, 0x01, 0x00, 0x00, 0x00, 0x00, 0x4b, 0x12, 0x00, 0x00, 0x63, 0xdd, 0x60, 0x3d,
+        0x81, 0x98, 0x63, 0x1d, 0x3b, 0x76, 0x5b, 0x34, 0xba, 0x85,
     ],
     [
-        0xa1, 0xb2, 0x3c, 0x4d, 0x00, 0x02, 0x00, 0x04, 0x00, 0x00, 0x00, 0x00, 0x00, 0x00, 0x00, 0x00,
-        0x00, 0x00, 0x00, 0x00, 0x00, 0x01, 0x00, 0xe6, 0x00, 0x00, 0x00, 0x00, 0x00, 0x00, 0x00, 0x00,
-        0x00, 0x00, 0x00, 0x2d, 0x00, 0x00, 0x00, 0x2d, 0x41, 0x88, 0x01, 0x62, 0x1a, 0x2b, 0x1a, 0x00,
-        0x00, 0x08, 0x02, 0x2b, 0x1a, 0x00, 0x00, 0x1e, 0x00, 0x28, 0x00, 0x00, 0x00, 0x00, 0x01, 0x00,
-        0x00, 0x00, 0x00, 0x4b, 0x12, 0x00, 0x00, 0x63, 0xdd, 0x60, 0x3d, 0x81, 0x98, 0x63, 0x1d, 0x3b,
-        0x76, 0x5b, 0x34, 0xba, 0x85,
+        0xa1, 0xb2, 0x3c, 0x4d, 0x00, 0x02, 0x00, 0x04, 0x00, 0x00, 0x00, 0x00, 0x00, 0x00, 0x00,
+        0x00, 0x00, 0x00, 0x00, 0x00, 0x00, 0x01, 0x00, 0xe6, 0x00, 0x00, 0x00, 0x00, 0x00, 0x00,
+        0x00, 0x00, 0x00, 0x00, 0x00, 0x2d, 0x00, 0x00, 0x00, 0x2d, 0x41, 0x88, 0x01, 0x62, 0x1a,
+        0x2b, 0x1a, 0x00, 0x00, 0x08, 0x02, 0x2b, 0x1a, 0x00, 0x00, 0x1e, 0x00, 0x28, 0x00, 0x00,
+        0x00, 0x00, 0x01, 0x00, 0x00, 0x00, 0x00, 0x4b, 0x12, 0x00, 0x00, 0x63, 0xdd, 0x60, 0x3d,
+        0x81, 0x98, 0x63, 0x1d, 0x3b, 0x76, 0x5b, 0x34, 0xba, 0x85,
     ],
 ];
 
@@ -57,11 +57,31 @@ fn packets_are_told_apart(rt: HostRuntime) {
         ),
         (b"\x01\x00\x00\xAA\x16\xEB", true, Mac::BadCheck),
         // a beacon, a secured frame, one of version 2, and two of an address mode that there is not
-        (b"\x40\x88\x01\x62\x1A\x2B\x1A\x00\x00\xAA", false, Mac::Other),
-        (b"\x49\x88\x01\x62\x1A\x2B\x1A\x00\x00\xAA", false, Mac::Other),
-        (b"\x41\xA8\x01\x62\x1A\x2B\x1A\x00\x00\xAA", false, Mac::Other),
-        (b"\x41\x84\x01\x62\x1A\x2B\x1A\x00\x00\xAA", false, Mac::Other),
-        (b"\x41\x48\x01\x62\x1A\x2B\x1A\x00\x00\xAA", false, Mac::Other),
+        (
+            b"\x40\x88\x01\x62\x1A\x2B\x1A\x00\x00\xAA",
+            false,
+            Mac::Other,
+        ),
+        (
+            b"\x49\x88\x01\x62\x1A\x2B\x1A\x00\x00\xAA",
+            false,
+            Mac::Other,
+        ),
+        (
+            b"\x41\xA8\x01\x62\x1A\x2B\x1A\x00\x00\xAA",
+            false,
+            Mac::Other,
+        ),
+        (
+            b"\x41\x84\x01\x62\x1A\x2B\x1A\x00\x00\xAA",
+            false,
+            Mac::Other,
+        ),
+        (
+            b"\x41\x48\x01\x62\x1A\x2B\x1A\x00\x00\xAA",
+            false,
+            Mac::Other,
+        ),
         // extended addresses in one network, and in two
         (
             b"\x41\xCC\x01\x62\x1A\x01\x00\x00\x00\x00\x4B\x12\x00\x02\x00\x00\x00\x00\x4B\x12\x00\xAA",
@@ -93,8 +113,22 @@ fn counted(alloc: Global, file: &[u8]) -> Option<Result<Counts, PcapError>> {
 fn both_orders_give_the_same_frame(rt: HostRuntime) -> Result<(), Fail> {
     for file in FILES {
         let found = extract(rt.alloc(), &file, &[]).ok().ok_or("no capture")?;
-        assert!(rt; found.capture.frames.as_slice().iter().all(|frame| frame.as_slice() == &PACKET[9..]));
-        assert_eq!(rt; found.counts, Counts { packets: 1, bad_check: 0, other: 0 });
+        assert!(rt;
+            found
+                .capture
+                .frames
+                .as_slice()
+                .iter()
+                .all(|frame| frame.as_slice() == &PACKET[9..])
+        );
+        assert_eq!(rt;
+            found.counts,
+            Counts {
+                packets: 1,
+                bad_check: 0,
+                other: 0
+            }
+        );
     }
     Ok(())
 }
@@ -129,7 +163,13 @@ fn bad_files_are_refused_at_their_first_fault(rt: HostRuntime) {
     for (len, place, byte, record, cause) in files {
         let file = with_byte(&FILES[0], place, byte);
         let front = &file[..len.min(85)];
-        assert_eq!(rt; counted(rt.alloc(), front), Some(Err(PcapError { place: record, cause })));
+        assert_eq!(rt;
+            counted(rt.alloc(), front),
+            Some(Err(PcapError {
+                place: record,
+                cause
+            }))
+        );
     }
 }
 
@@ -137,9 +177,36 @@ fn bad_files_are_refused_at_their_first_fault(rt: HostRuntime) {
 fn other_files_have_their_counts(rt: HostRuntime) {
     // the same: no record, a packet that was cut, and one whose check sequence is wrong
     let files: [(usize, usize, u8, Counts); 3] = [
-        (24, 0, 0xd4, Counts { packets: 0, bad_check: 0, other: 0 }),
-        (85, 36, 0x2e, Counts { packets: 1, bad_check: 0, other: 1 }),
-        (85, 20, 195, Counts { packets: 1, bad_check: 1, other: 0 }),
+        (
+            24,
+            0,
+            0xd4,
+            Counts {
+                packets: 0,
+                bad_check: 0,
+                other: 0,
+            },
+        ),
+        (
+            85,
+            36,
+            0x2e,
+            Counts {
+                packets: 1,
+                bad_check: 0,
+                other: 1,
+            },
+        ),
+        (
+            85,
+            20,
+            195,
+            Counts {
+                packets: 1,
+                bad_check: 1,
+                other: 0,
+            },
+        ),
     ];
     for (len, place, byte, counts) in files {
         let file = with_byte(&FILES[0], place, byte);
@@ -151,10 +218,39 @@ fn other_files_have_their_counts(rt: HostRuntime) {
 #[test]
 fn a_file_has_at_most_100_000_records(rt: HostRuntime) -> Result<(), Fail> {
     let files: [(u32, usize, Result<Counts, PcapError>); 4] = [
-        (100_000, 0, Ok(Counts { packets: 100_000, bad_check: 0, other: 100_000 })),
-        (100_000, 1, Err(PcapError { place: 100_001, cause: PcapCause::Cut })),
-        (100_001, 0, Err(PcapError { place: 100_001, cause: PcapCause::TooMany })),
-        (100_001, 1, Err(PcapError { place: 100_001, cause: PcapCause::TooMany })),
+        (
+            100_000,
+            0,
+            Ok(Counts {
+                packets: 100_000,
+                bad_check: 0,
+                other: 100_000,
+            }),
+        ),
+        (
+            100_000,
+            1,
+            Err(PcapError {
+                place: 100_001,
+                cause: PcapCause::Cut,
+            }),
+        ),
+        (
+            100_001,
+            0,
+            Err(PcapError {
+                place: 100_001,
+                cause: PcapCause::TooMany,
+            }),
+        ),
+        (
+            100_001,
+            1,
+            Err(PcapError {
+                place: 100_001,
+                cause: PcapCause::TooMany,
+            }),
+        ),
     ];
     for (records, more, answer) in files {
         let mut file = Vec::from_slice(rt.alloc(), &FILES[0][..24])?;
