@@ -5,6 +5,9 @@ use Rattle.std.proofs.lemmas.List.{drop-replicate, take-replicate, take-append-l
 use Rattle.std.proofs.lemmas.List.FromFn.{fill_by_all}
 use Rattle.std.proofs.Math.Seq.{take-append-add}
 use Rattle.std.specs.Int.{w16, to_be_bytes}
+use Rattle.zb_aes.specs.Bytes.{word_bytes}
+use Rattle.zb_aes.specs.Columns.{state_bytes}
+use Rattle.zb_aes.specs.declared.state.State.{State}
 use Rattle.zb_ccm.specs.Blocks.{block_at}
 use Rattle.zb_ccm.specs.Ccm.{counted}
 
@@ -71,3 +74,11 @@ first_counted [] r t h p q = absurd (omega arith)
 first_counted (x ∷ xs) r t h p q =
     rw p (ap (λ l. to_be_bytes w16 (length (x ∷ xs)) ++ l)
     (front_14 (x ∷ xs ++ replicate 16 0) t (omega (arith, length-append (x ∷ xs) (replicate 16 0))) q))
+
+-- A block that is held as its columns.
+pub length_state : (s : State) → length (state_bytes s) ≡ 16
+unfolding word_bytes
+length_state s = refl
+
+pub whole_block : (bytes : List ℕ) → length bytes ≡ 16 → take 16 (bytes ++ replicate 16 0) ≡ bytes
+whole_block bytes h = take-append-le 16 bytes (replicate 16 0) (omega arith) ∙ take_all 16 bytes (omega arith)

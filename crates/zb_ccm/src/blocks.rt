@@ -28,7 +28,20 @@ pub fn filled(bytes: &[u8]) -> [u8; 16]
 }
 
 /// Adds a block to a piece of text that is no longer.
-pub fn add(piece: &mut [u8], block: &[u8; 16])
+#[tactic(auto, using(crate::proofs::Arrays::whole_block, crate::proofs::Arrays::length_state))]
+pub fn add(piece: &mut [u8], block: State)
+    requires { length piece.old ≤ 16 }
+    ensures { piece.new ≡ xored piece.old (state_bytes block) }
+{
+    if piece.len() == 16 {
+        let sum = block_of(piece).plus(block).bytes();
+        piece.copy_from_slice(&sum);
+    } else {
+        add_part(piece, &block.bytes());
+    }
+}
+
+fn add_part(piece: &mut [u8], block: &[u8; 16])
     requires { length piece.old ≤ 16 }
     ensures { piece.new ≡ xored piece.old block.now }
 {

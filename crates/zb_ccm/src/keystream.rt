@@ -25,6 +25,6 @@ pub fn crypt(cipher: &Cipher, nonce: &[u8; 13], text: &mut [u8])
     let len = text.len();
     for i in 0..len.div_ceil(16) {
         let block = stream_block_of(cipher, nonce, (i + 1) as u16);
-        add(&mut text[16 * i..len.min(16 * i + 16)], &block.bytes());
+        add(&mut text[16 * i..len.min(16 * i + 16)], block);
     }
 }

@@ -1,5 +1,6 @@
 use Rattle.zb_ccm.proofs.keystream.crypt.Goals as goal
-use Rattle.std.proofs.Common.{◌∙◌, arith, rules}
+use Rattle.std.proofs.Common.{arith}
+use Rattle.zb_ccm.proofs.Arrays.{length_state}
 use Rattle.zb_ccm.proofs.Streams.{crypted_none, crypted_more, crypted_end, crypted_covers}
 
 pub loop-i-init : goal.loop-i-init
@@ -8,7 +9,7 @@ loop-i-init c = crypted_none c.args.cipher.now c.args.nonce.now c.args.text.now
 pub loop-i-preserved : goal.loop-i-preserved
 loop-i-preserved c =
     crypted_more c.args.cipher.now c.args.nonce.now c.args.text.now c.loop-i.text _ _ c.loop-i.i c.min.result
-    c.loop-i.invariant c.loop-i.auto.text (omega arith) c.min.ensures (c.bytes.ensures ∙ c.stream_block_of-block.ensures) (search rules) c.add.ensures
+    c.loop-i.invariant c.loop-i.auto.text (omega arith) c.min.ensures c.stream_block_of-block.ensures (length_state _) c.add.ensures
 
 pub returns : goal.returns
 returns c = record {

@@ -1,4 +1,4 @@
-use Rattle.zb_ccm.proofs.blocks.add.Goals as goal
+use Rattle.zb_ccm.proofs.blocks.add_part.Goals as goal
 use Rattle.std.proofs.Common.{arith}
 use Rattle.zb_aes.proofs.Xored.{xored_by_index}
 

@@ -1,5 +1,5 @@
 use Rattle.std.proofs.Common.{◌≡◌, ℕ, ◌<◌, ◌≤◌, get_or, bit_xor}
-use Rattle.zb_ccm.proofs.blocks.add.Given as goal
+use Rattle.zb_ccm.proofs.blocks.add_part.Given as goal
 
 -- below `i` the sums, and from there on the piece as it was
 abbrev pub invariant-loop-i : goal.invariant-loop-i
