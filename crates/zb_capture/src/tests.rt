@@ -73,48 +73,46 @@ fn bad_lines_are_refused_with_their_first_cause(rt: HostRuntime) -> Result<(), F
     Ok(())
 }
 
-/// A line, so many times.
-fn repeated(alloc: Global, line: &[u8], count: u32) -> Result<Vec<u8>, Fail> {
-    let mut text = Vec::new(alloc);
+/// A front, and behind it a piece, so many times.
+fn repeated(alloc: Global, front: &[u8], piece: &[u8], count: u32) -> Result<Vec<u8>, Fail> {
+    let mut text = Vec::from_slice(alloc, front)?;
     for _number in 0..count {
-        text.extend_from_slice(line)?;
+        text.extend_from_slice(piece)?;
     }
     Ok(text)
 }
 
 #[test]
 fn captures_at_their_limits(rt: HostRuntime) -> Result<(), Fail> {
-    let inputs: [(&[u8], u32, Option<CaptureError>); 6] = [
-        (b"key 000102030405060708090A0B0C0D0E0F\n", 256, None),
+    // a front, what stands behind it and how often, and the bad line
+    let inputs: [(&[u8], &[u8], u32, Option<(u32, CaptureCause)>); 8] = [
+        (b"", b"key 000102030405060708090A0B0C0D0E0F\n", 256, None),
         (
+            b"",
             b"key 000102030405060708090A0B0C0D0E0F\n",
             257,
-            Some(CaptureError {
-                line: 257,
-                cause: CaptureCause::TooMany,
-            }),
+            Some((257, CaptureCause::TooMany)),
         ),
         (
+            b"#\n",
             b"code 83FED3407A939723A5C639B26916D505C3B5\n",
             257,
-            Some(CaptureError {
-                line: 257,
-                cause: CaptureCause::TooMany,
-            }),
+            Some((258, CaptureCause::TooMany)),
         ),
-        (b"frame 08\n", 100_000, None),
+        (b"", b"frame 08\n", 100_000, None),
         (
+            b"",
             b"frame 08\n",
             100_001,
-            Some(CaptureError {
-                line: 100_001,
-                cause: CaptureCause::TooMany,
-            }),
+            Some((100_001, CaptureCause::TooMany)),
         ),
-        (b"\n", 1_000_000, None),
+        (b"frame ", b"08", 127, None),
+        (b"frame ", b"08", 128, Some((1, CaptureCause::Syntax))),
+        (b"", b"\n", 1_000_000, None),
     ];
-    for (line, count, refused) in inputs {
-        let text = repeated(rt.alloc(), line, count)?;
+    for (front, piece, count, bad) in inputs {
+        let text = repeated(rt.alloc(), front, piece, count)?;
+        let refused = bad.map(|(line, cause)| CaptureError { line, cause });
         assert_eq!(rt; refusal(rt.alloc(), text.as_slice()), refused);
     }
     Ok(())

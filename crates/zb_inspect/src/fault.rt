@@ -17,11 +17,16 @@ pub enum InspectFault {
 }
 
 impl fmt::Display for InspectFault {
+    ghost use Rattle.std.specs.Prelude.{Some};
+    ghost use Rattle.zb_inspect.specs.Texts.{fault_text};
+
+    ghost output = { λ fault. Some (fault_text fault) };
+
     fn fmt<W: fmt::Write>(&self, f: &mut fmt::Formatter<W>) -> fmt::Result {
-        f.write_str(match self {
-            InspectFault::Write => "the report can't be written",
-            InspectFault::NoMemory => "no memory",
-        })
+        match self {
+            InspectFault::Write => f.write_str("the report can't be written"),
+            InspectFault::NoMemory => f.write_str("no memory"),
+        }
     }
 }
 

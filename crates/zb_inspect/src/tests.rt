@@ -111,7 +111,7 @@ fn two_pieces_run_at_once(rt: HostRuntime) -> Result<(), Fail> {
 
 #[test]
 fn captures_in_which_little_opens(rt: HostRuntime) -> Result<(), Fail> {
-    let captures: [(&[u8], &[u8]); 5] = [
+    let captures: [(&[u8], &[u8]); 7] = [
         (b"", b"end 0 0 1\n"),
         (
             b"key 000102030405060708090A0B0C0D0E0F\nkey 000102030405060708090A0B0C0D0E0F\n",
@@ -121,6 +121,16 @@ fn captures_in_which_little_opens(rt: HostRuntime) -> Result<(), Fail> {
         (
             b"frame 08\nframe 0A00FFFF00001E00\nframe 0C00FFFF00001E00\nframe 0802FFFF00001E0028\n",
             b"1 nwk malformed\n2 nwk malformed\n3 nwk malformed\n4 nwk malformed\nend 4 0 1\n",
+        ),
+        // secured frames of another key, without a source, and with a code that is cut
+        (
+            b"frame 0802FFFF00001E00200000000001000000004B1200AAAAAAAA\nframe 0802FFFF00001E00080000000000AAAAAAAA\nframe 0802FFFF00001E00280000000001000000004B120000AAAAAA\n",
+            b"1 nwk malformed\n2 nwk malformed\n3 nwk malformed\nend 3 0 1\n",
+        ),
+        // APS frames of a type and a delivery that are none, and two that are cut
+        (
+            b"frame 0800FFFF00001E0003\nframe 0800FFFF00001E000401000004010100\nframe 0800FFFF00001E000001000004\nframe 0800FFFF00001E00200100000401010000000000\n",
+            b"1 nwk not-secured\n1 aps malformed\n2 nwk not-secured\n2 aps malformed\n3 nwk not-secured\n3 aps malformed\n4 nwk not-secured\n4 aps malformed\nend 4 0 1\n",
         ),
         // a data frame without a payload, and a command
         (
