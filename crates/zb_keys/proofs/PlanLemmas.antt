@@ -27,7 +27,7 @@ use Rattle.zb_keys.proofs.Mapping.{list_any-map}
 use Rattle.zb_keys.proofs.FindLemmas.{find_map}
 use Rattle.zb_keys.proofs.ShownLemmas.{filter-map}
 use Rattle.zb_keys.proofs.StateLemmas.{both, rules_of}
-use Rattle.zb_keys.proofs.RuleLemmas.{neither}
+use Rattle.zb_fits.proofs.Tests.{neither}
 
 pub adds_one : (old new : List Change) (x : Change) → new ≡ old ++ x ∷ [] → Adds (edit x ∷ []) 1 old new
 adds_one old new x is = record { made = ap (map edit) is ∙ map_push edit old x; room = omega (arith, ap (length {A = Change}) is, length_push old x) }

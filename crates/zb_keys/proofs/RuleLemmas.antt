@@ -1,18 +1,19 @@
 -- The rules for records stand where rows change only in what they do not speak of.
-use Rattle.std.proofs.Common.{◌≡◌, ℕ, ◌+◌, List, [], ◌∷◌, ◌++◌, length, map, filter, refl, sym, ap, ◌∙◌, Bool, true, false, not, if◌then◌else◌, ◌&&◌, ◌||◌, Option, Some, None, max, min}
+use Rattle.std.proofs.Common.{◌≡◌, ℕ, ◌+◌, List, [], ◌∷◌, length, map, filter, refl, sym, ap, ◌∙◌, Bool, true, false, not, if◌then◌else◌, ◌&&◌, ◌||◌, Option, Some, None}
 use Rattle.std.specs.Prelude.{find, nat_le, nat_lt, nat_eq}
 use Rattle.std.specs.List.{list_any, list_all}
-use Rattle.std.proofs.lemmas.List.{length-map, map-append}
-use Rattle.zb_model.specs.Data.{Bytes, Duty, Nwk, Aps, Move, Draw, DropNet, DropLink, Install, Active, Row, Pair, Became, Live, Removed, Roll, Told, Untold, Edit, Reserve, Floor, Start, Moved}
-use Rattle.zb_model.specs.State.{NodeState, SenderFloor, NetKey, LinkKey, same_key, live_nets, shown, shown_net, applied, at_net, has_net, reserved, started_at, dropped_net, net_floor, new_net, of_active, is_told, most, next_at, net_kept, floor_kept, is_centre, is_provisional, is_unverified}
+use Rattle.std.proofs.lemmas.List.{length-map}
+use Rattle.zb_model.specs.Data.{Bytes, Duty, Move, Draw, DropNet, DropLink, Install, Active, Row, Pair, Became, Live, Removed, Roll, Told, Untold, Edit, Reserve, Floor, Start, Moved}
+use Rattle.zb_model.specs.State.{NodeState, SenderFloor, NetKey, LinkKey, same_key, live_nets, shown, applied, at_net, next_at, net_kept, floor_kept, is_centre, is_provisional, is_unverified}
 use Rattle.zb_model.specs.Fits.{keeps_rules, rows_have_room, keys_differ, at_most_two_live, active_is_live, partners_agree, links_are_marked, floors_are_kept, limits_are_started, duty_is_kept, pairs_are_kept, senders_ascend, most_senders, row_is_live, all_apart, like_rows, same_bool, most_links, fits, may_change}
 use Rattle.std.proofs.lemmas.Bool.{not-true}
-use Rattle.std.proofs.lemmas.Bool.Decides.{same_from_decides}
-use Rattle.std.proofs.lemmas.Slice.Eq.{bytes_eq-Decides}
 use Rattle.std.proofs.lemmas.List.Folds.{list_all-map}
+use Rattle.zb_fits.proofs.Tests.{neither, any_same}
+use Rattle.zb_fits.proofs.Parts.{same_key_is, same_key_sym}
+use Rattle.zb_fits.proofs.Shown.{rules_shown}
 use Rattle.zb_keys.specs.Senders.{counted_row}
 use Rattle.zb_keys.proofs.Mapping.{list_any-map}
-use Rattle.zb_keys.proofs.ShownLemmas.{filter-map, shown_twice}
+use Rattle.zb_keys.proofs.ShownLemmas.{filter-map}
 use Rattle.zb_keys.proofs.StateLemmas.{both, rules_of, rules_back}
 
 abbrev pub floors_rule : NetKey → Bool
@@ -20,14 +21,6 @@ floors_rule r = nat_le (length r.floors) most_senders && (list_all (λ (f : Send
 
 abbrev pub limit_rule : NetKey → Bool
 limit_rule r = r.started || nat_eq r.limit 0
-
-pub neither : (a b : Bool) → (a || b) ≡ false → (a ≡ false) × (b ≡ false)
-neither true b e = absurd (cc)
-neither false b e = (refl, e)
-
-pub any_same : {X : Type 0} (p q : X → Bool) → ((x : X) → p x ≡ q x) → (xs : List X) → list_any p xs ≡ list_any q xs
-any_same p q each [] = refl
-any_same p q each (x ∷ xs) = ap (λ b. b || list_any p xs) (each x) ∙ ap (λ b. q x || b) (any_same p q each xs)
 
 pub filter_same_tests : {X : Type 0} (p q : X → Bool) → ((x : X) → p x ≡ q x) → (xs : List X) → filter p xs ≡ filter q xs
 filter_same_tests p q each [] = refl
@@ -91,92 +84,6 @@ kept_by_map g mild s kept =
       duty_kept = r.duty_kept;
       pairs_kept = r.pairs_kept;
     })
-
-shown_is_mild : Mild shown_net
-shown_is_mild = record {
-  key = λ r. refl;
-  live = λ r. refl;
-  limit = λ r e. e;
-  floors = λ r e. at_test r r.live e;
-}
-  where
-    at_test : (r : NetKey) (b : Bool) → floors_rule r ≡ true → floors_rule (record r { live = b; floors = if b then r.floors else [] }) ≡ true
-    at_test r true e = e
-    at_test r false e = refl
-
-pub rules_shown : (s : NodeState) → keeps_rules s ≡ true → keeps_rules (shown s) ≡ true
-unfolding shown
-rules_shown s kept = kept_by_map shown_net shown_is_mild s kept
-
--- What is shown after a change does not depend on floors that were not shown before.
-again_at : (key : Bytes) (f : NetKey → NetKey) → ((r : NetKey) → shown_net (f (shown_net r)) ≡ shown_net (f r)) → (nets : List NetKey) → map shown_net (at_net key f (map shown_net nets)) ≡ map shown_net (at_net key f nets)
-again_at key f each [] = refl
-again_at key f each (r ∷ rs) =
-    ap (λ l. shown_net (if same_key r.key key then f (shown_net r) else shown_net r) ∷ l) (again_at key f each rs)
-    ∙ ap (λ x. x ∷ map shown_net (at_net key f rs)) (at_test (same_key r.key key) r.live)
-  where
-    twice : (b : Bool) → record r { live = b; floors = if b then (if b then r.floors else []) else [] } ≡ record r { live = b; floors = if b then r.floors else [] }
-    twice true = refl
-    twice false = refl
-
-    at_test : (b live : Bool) → shown_net (if b then f (shown_net r) else shown_net r) ≡ shown_net (if b then f r else r)
-    at_test true live = each r
-    at_test false live = twice r.live
-
-floor_again : (sender value : ℕ) (r : NetKey) → shown_net (net_floor sender value (shown_net r)) ≡ shown_net (net_floor sender value r)
-floor_again sender value r = by_live r.live
-  where
-    by_live : (b : Bool) → shown_net (net_floor sender value (shown_net (record r { live = b }))) ≡ shown_net (net_floor sender value (record r { live = b }))
-    by_live true = refl
-    by_live false = refl
-
-reserved_again : (limit : ℕ) (r : NetKey) → shown_net (reserved limit (shown_net r)) ≡ shown_net (reserved limit r)
-reserved_again limit r = by_live r.live
-  where
-    by_live : (b : Bool) → shown_net (reserved limit (shown_net (record r { live = b }))) ≡ shown_net (reserved limit (record r { live = b }))
-    by_live true = refl
-    by_live false = refl
-
-started_again : (value : ℕ) (r : NetKey) → shown_net (started_at value (shown_net r)) ≡ shown_net (started_at value r)
-started_again value r = by_live r.live
-  where
-    by_live : (b : Bool) → shown_net (started_at value (shown_net (record r { live = b }))) ≡ shown_net (started_at value (record r { live = b }))
-    by_live true = refl
-    by_live false = refl
-
-installed_again : (key : Bytes) (sequence : ℕ) (nets : List NetKey) → map shown_net (if has_net key (map shown_net nets) then map shown_net nets else map shown_net nets ++ new_net key sequence ∷ []) ≡ map shown_net (if has_net key nets then nets else nets ++ new_net key sequence ∷ [])
-installed_again key sequence nets =
-    ap (λ b. map shown_net (if b then map shown_net nets else map shown_net nets ++ new_net key sequence ∷ [])) (list_any-map (λ (r : NetKey). same_key r.key key) shown_net nets)
-    ∙ at_test (has_net key nets)
-  where
-    at_test : (b : Bool) → map shown_net (if b then map shown_net nets else map shown_net nets ++ new_net key sequence ∷ []) ≡ map shown_net (if b then nets else nets ++ new_net key sequence ∷ [])
-    at_test true = shown_twice nets
-    at_test false = map-append shown_net (map shown_net nets) (new_net key sequence ∷ []) ∙ ap (λ l. l ++ new_net key sequence ∷ []) (shown_twice nets) ∙ sym (map-append shown_net nets (new_net key sequence ∷ []))
-
-active_again : (limit : ℕ) (active : Option Bytes) (nets : List NetKey) → map shown_net (of_active (reserved limit) active (map shown_net nets)) ≡ map shown_net (of_active (reserved limit) active nets)
-active_again limit None nets = shown_twice nets
-active_again limit (Some key) nets = again_at key (reserved limit) (reserved_again limit) nets
-
-pub shown_applied : (e : Edit) (s : NodeState) → shown (applied e (shown s)) ≡ shown (applied e s)
-unfolding shown applied is_told
-shown_applied (Reserve Nwk limit) s = ap (λ l. record s { nets = l }) (active_again limit s.active s.nets)
-shown_applied (Reserve Aps limit) s = ap (λ l. record s { nets = l; aps_limit = max s.aps_limit (min limit most) }) (shown_twice s.nets)
-shown_applied (Floor Nwk key sender value) s = ap (λ l. record s { nets = l }) (again_at key (net_floor sender value) (floor_again sender value) s.nets)
-shown_applied (Floor Aps key sender value) s = ap (λ l. record (applied (Floor Aps key sender value) s) { nets = l }) (shown_twice s.nets)
-shown_applied (Start key value) s = ap (λ l. record s { nets = l }) (again_at key (started_at value) (started_again value) s.nets)
-shown_applied (Moved (Draw key)) s = ap (λ l. record s { nets = l }) (shown_twice s.nets)
-shown_applied (Moved (DropNet key)) s = ap (λ l. record s { nets = l }) (again_at key dropped_net (λ r. refl) s.nets)
-shown_applied (Moved (DropLink partner key)) s = ap (λ l. record (applied (Moved (DropLink partner key)) s) { nets = l }) (shown_twice s.nets)
-shown_applied (Moved (Install key sequence)) s = ap (λ l. record s { nets = l }) (installed_again key sequence s.nets)
-shown_applied (Moved (Active key)) s = ap (λ l. record (applied (Moved (Active key)) s) { nets = l }) (shown_twice s.nets)
-shown_applied (Moved (Row partner key trust)) s = ap (λ l. record (applied (Moved (Row partner key trust)) s) { nets = l }) (shown_twice s.nets)
-shown_applied (Moved (Pair first second key)) s = ap (λ l. record (applied (Moved (Pair first second key)) s) { nets = l }) (shown_twice s.nets)
-shown_applied (Moved (Became stage)) s = ap (λ l. record (applied (Moved (Became stage)) s) { nets = l }) (shown_twice s.nets)
-shown_applied (Moved (Live device)) s = ap (λ l. record (applied (Moved (Live device)) s) { nets = l }) (shown_twice s.nets)
-shown_applied (Moved (Removed device)) s = ap (λ l. record (applied (Moved (Removed device)) s) { nets = l }) (shown_twice s.nets)
-shown_applied (Moved (Roll sending)) s = ap (λ l. record (applied (Moved (Roll sending)) s) { nets = l }) (shown_twice s.nets)
-shown_applied (Moved (Told device)) s = ap (λ l. record (applied (Moved (Told device)) s) { nets = l }) (shown_twice s.nets)
-shown_applied (Moved (Untold device)) s = ap (λ l. record (applied (Moved (Untold device)) s) { nets = l }) (shown_twice s.nets)
 
 -- A change that fits leaves the rules.
 move_kept : (m : Move) (s : NodeState) → fits (Moved m) s ≡ true → keeps_rules (shown s) ≡ true → keeps_rules (shown (applied (Moved m) s)) ≡ true
@@ -331,15 +238,6 @@ kept_by_links g each s kept =
     })
 
 -- only one row has a key
-pub same_key_is : (a b : Bytes) → same_key a b ≡ true → a ≡ b
-same_key_is a b e = (bytes_eq-Decides a b).0 e
-
-pub same_key_of : (a b : Bytes) → a ≡ b → same_key a b ≡ true
-same_key_of a b e = (bytes_eq-Decides a b).1 e
-
-pub same_key_sym : (a b : Bytes) → same_key a b ≡ same_key b a
-same_key_sym a b = same_from_decides (same_key a b) (same_key b a) (bytes_eq-Decides a b) ((λ e. sym (same_key_is b a e)), (λ e. same_key_of b a (sym e)))
-
 none_at : (key : Bytes) (f : NetKey → NetKey) (nets : List NetKey) → list_any (λ (r : NetKey). same_key r.key key) nets ≡ false → at_net key f nets ≡ nets
 none_at key f [] none = refl
 none_at key f (r ∷ rs) none =

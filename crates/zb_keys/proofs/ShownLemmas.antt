@@ -83,14 +83,3 @@ filter-map p view (x ∷ xs) = at_test (p (view x)) (filter-map p view xs)
         → (if b then view x ∷ filter p (map view xs) else filter p (map view xs)) ≡ map view (if b then x ∷ filter (λ y. p (view y)) xs else filter (λ y. p (view y)) xs)
     at_test true e = ap (λ l. view x ∷ l) e
     at_test false e = e
-
-pub shown_twice : (nets : List NetKey) → map shown_net (map shown_net nets) ≡ map shown_net nets
-shown_twice [] = refl
-shown_twice (r ∷ rs) = ap (λ x. x ∷ map shown_net (map shown_net rs)) (again r) ∙ ap (λ l. shown_net r ∷ l) (shown_twice rs)
-  where
-    again : (r : NetKey) → shown_net (shown_net r) ≡ shown_net r
-    again r = by_live r.live
-      where
-        by_live : (b : Bool) → record r { live = b; floors = if b then (if b then r.floors else []) else [] } ≡ record r { live = b; floors = if b then r.floors else [] }
-        by_live true = refl
-        by_live false = refl
