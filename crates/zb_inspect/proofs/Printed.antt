@@ -1,10 +1,10 @@
 -- The texts of pieces are those of all frames.
-use Rattle.std.proofs.Common.{◌≡◌, ℕ, zero, suc, ◌+◌, ◌<◌, List, [], ◌∷◌, ◌++◌, length, get_or, take, drop, add-one, Option, Some, None, Vec, Global, Result, Ok, Err, OnErr, refl, ap, sym, ◌∙◌, subst, arith, append_assoc, append-nil, add-zero, length-append, IfOk}
-use Rattle.std.specs.List.{AllByRecursion, AllZip, flat_map}
+use Rattle.std.proofs.Common.{◌≡◌, ℕ, zero, suc, ◌+◌, ◌<◌, List, [], ◌∷◌, ◌++◌, length, get_or, take, drop, add-one, Option, Some, None, Vec, Global, Result, Ok, Err, OnErr, refl, ap, sym, ◌∙◌, subst, arith, append_assoc, append-nil, add-zero}
+use Rattle.std.specs.List.{AllByRecursion, AllZip}
 use Rattle.std.specs.Io.KnownBytes.{Appends, Keeps}
-use Rattle.std.proofs.KnownBytes.{Appends-nil, Appends-trans}
+use Rattle.std.proofs.KnownBytes.{Appends-trans}
 use Rattle.std.proofs.lemmas.Grind.{flat_map-append}
-use Rattle.std.proofs.lemmas.List.{length-map, take-append-drop}
+use Rattle.std.proofs.lemmas.List.{length-map}
 use Rattle.arrayvec.specs.ArrayVec.{ArrayVec}
 use Rattle.zb_base.specs.Outside.{AppendsFront}
 use Rattle.zb_base.specs.declared.address.Eui.{Eui}
@@ -13,7 +13,7 @@ use Rattle.zb_base.specs.declared.key.Key.{Key}
 use Rattle.zb_capture.specs.Grammar.{IsCapture}
 use Rattle.zb_capture.specs.declared.capture.Capture.{Capture}
 use Rattle.zb_sight.specs.declared.sight.Sight.{Sight}
-use Rattle.zb_ring.specs.Pieces.{all_frames, all_sights, Numbered, Shown, AllShown, IsCut}
+use Rattle.zb_ring.specs.Pieces.{all_sights, Numbered, AllShown, IsCut}
 use Rattle.zb_ring.specs.Rings.{keys_of, sights, ring_of}
 use Rattle.zb_ring.specs.declared.piece.Piece.{Piece}
 use Rattle.zb_ring.specs.declared.ring.Ring.{Ring}

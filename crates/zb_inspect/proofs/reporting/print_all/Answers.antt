@@ -1,4 +1,4 @@
-use Rattle.std.proofs.Common.{◌≡◌, ℕ, ◌<◌, List, length, get_or, sym, ap, ◌∙◌, subst, map, Ok, IfOk, Vec, Global}
+use Rattle.std.proofs.Common.{◌≡◌, ℕ, List, get_or, sym, ◌∙◌, subst, map, Ok, IfOk, Vec, Global}
 use Rattle.std.specs.List.{AllZip}
 use Rattle.zb_ring.specs.declared.piece.Piece.{Piece}
 use Rattle.zb_ring.proofs.Lists.{oks_zip, if_ok}

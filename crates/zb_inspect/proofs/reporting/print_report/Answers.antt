@@ -1,4 +1,4 @@
-use Rattle.std.proofs.Common.{◌≡◌, ◌++◌, ◌∙◌, ap}
+use Rattle.std.proofs.Common.{◌++◌, ◌∙◌, ap}
 use Rattle.zb_ring.specs.Pieces.{all_sights}
 use Rattle.zb_inspect.specs.Report.{sights_text}
 use Rattle.zb_inspect.specs.Texts.{all_text}

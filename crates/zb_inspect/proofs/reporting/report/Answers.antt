@@ -5,7 +5,6 @@ use Rattle.arrayvec.specs.ArrayVec.{ArrayVec}
 use Rattle.std.proofs.lemmas.Result.{err_from_is_err_and}
 use Rattle.zb_ring.specs.Rings.{keys_of}
 use Rattle.zb_inspect.specs.Report.{report_of}
-use Rattle.zb_inspect.specs.Reports.{Reports}
 use Rattle.zb_inspect.specs.Texts.{all_text}
 use Rattle.zb_inspect.proofs.Printed.{is_report, shown_fit}
 use Rattle.zb_inspect.proofs.reporting.report.Goals as goal

@@ -1,4 +1,4 @@
-use Rattle.std.proofs.Common.{◌≡◌, ◌∙◌, ℕ, List, Option, arith, subst, sym}
+use Rattle.std.proofs.Common.{ℕ, List, arith, subst}
 use Rattle.std.specs.Io.KnownBytes.{Appends}
 use Rattle.zb_base.specs.Outside.{AppendsFront}
 use Rattle.zb_inspect.proofs.Printed.{front_at, whole_next, on_err}
