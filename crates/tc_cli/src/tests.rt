@@ -266,7 +266,7 @@ fn other_lines_are_refused_at_the_first_bad_one(rt: HostRuntime) -> Result<(), F
 
 #[test]
 fn other_words_are_no_command(rt: HostRuntime) -> Result<(), Fail> {
-    let wrong: [&[&str]; 13] = [
+    let wrong: [&[&str]; 21] = [
         &[],
         &["play", "now"],
         &["install"],
@@ -280,6 +280,15 @@ fn other_words_are_no_command(rt: HostRuntime) -> Result<(), Fail> {
         &["make", ""],
         &["make", "4294967297"],
         &["make", "1", "1"],
+        &["inspect"],
+        &["inspect", "0"],
+        &["inspect", "65"],
+        &["inspect", "1", "1"],
+        &["sniff"],
+        &["sniff", "0"],
+        // Half a key, and an install code with another check.
+        &["sniff", "1", "0001020304050607"],
+        &["sniff", "1", "83FED3407A939723A5C639B26916D505C3B4"],
     ];
     for words in wrong {
         let ran = over(&rt, words, TWO_FRAMES, &[], &[])?;
