@@ -13,11 +13,11 @@ use crate::status::{Cause, Status};
 use std::alloc::Global;
 use std::thread::Threads;
 use zb_base::{OrMemory, Sink, Source};
-use zb_capture::{Capture, read_capture};
+use zb_capture::{Capture, read_in_pieces};
 use zb_inspect::{InspectFault, report};
 use zb_ring::OpenGate;
 
-/// Writes the report on the capture on the input, worked out by so many jobs.
+/// Writes the report on the capture on the input, read and worked out by so many jobs.
 pub(crate) fn inspect_input<T: Threads + Sync, R: Source, W: Sink>(
     rt: &T,
     alloc: Global,
@@ -36,7 +36,7 @@ pub(crate) fn inspect_input<T: Threads + Sync, R: Source, W: Sink>(
         Err(InputFault::TooLong) => return Status::TooLong { limit: LONGEST },
         Err(InputFault::NoMemory) => return Status::NoMemory,
     };
-    match read_capture(alloc, bytes.as_slice()) {
+    match read_in_pieces(rt, alloc, jobs, bytes.as_slice()) {
         Ok(capture) => report_on(rt, alloc, &capture, jobs, output),
         Err(OrMemory::Fault(fault)) => Status::Refused {
             line: fault.line,

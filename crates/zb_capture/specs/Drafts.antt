@@ -8,7 +8,7 @@ use Rattle.zb_capture.specs.declared.fault.CaptureCause.{CaptureCause}
 use Rattle.zb_capture.specs.declared.fault.CaptureError.{CaptureError}
 
 abbrev pub capture_of : Draft → Capture
-capture_of draft = record { keys = draft.keys.items; addrs = draft.addrs.items; frames = draft.frames.items }
+capture_of draft = record { keys = draft.keys.items; addrs = draft.addrs; frames = draft.frames.items }
 
 -- A step led to `new`, or to its fault, where `next` is what it has to lead to; it says nothing where memory is wanting.
 abbrev pub Steps : Result (Unit {0}) (OrMemory CaptureCause) → Capture → Result Capture CaptureCause → Type 0

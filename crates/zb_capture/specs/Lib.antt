@@ -1,3 +1,5 @@
 pub mod Grammar
 pub mod Drafts
+pub mod Pieces
+pub mod Sets
 pub mod Texts

@@ -5,14 +5,17 @@
 //! `#` are skipped, and count as lines.
 #![tactic(auto)]
 
+mod addresses;
 mod capture;
 mod draft;
 mod fault;
 mod fields;
+mod pieces;
 mod reading;
 #[cfg(test)]
 mod tests;
 
 pub use capture::Capture;
 pub use fault::{CaptureCause, CaptureError};
+pub use pieces::read_in_pieces;
 pub use reading::read_capture;

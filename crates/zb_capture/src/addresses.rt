@@ -1,0 +1,65 @@
+//! The addresses of a capture that is being read.
+ghost use Rattle.std.specs.Prelude.{◌≡◌};
+
+use std::alloc::Global;
+use std::collections::BTreeSet;
+use std::marker::Model;
+use zb_base::{Eui, List, NoMemory, Short};
+
+/// Addresses, of which each network address is looked up without a walk through all of them. A contract sees them as
+/// their list.
+#[derive(Drop)]
+pub(crate) struct Addresses {
+    pairs: Vec<(Short, Eui)>,
+    /// The network addresses of all pairs.
+    shorts: BTreeSet<Short>,
+}
+
+impl Model for Addresses {
+    ghost use Rattle.std.specs.Prelude.{List};
+    ghost use Rattle.zb_base.specs.declared.address.Eui.{Eui as EuiValue};
+    ghost use Rattle.zb_base.specs.declared.address.Short.{Short as ShortValue};
+    ghost use Rattle.zb_capture.specs.Sets.{HaveShorts};
+
+    ghost Value = { List (ShortValue × EuiValue) };
+
+    ghost view = { λ a. a.pairs.items };
+
+    ghost invariant = { λ a. HaveShorts a.shorts a.pairs.items };
+}
+
+impl Addresses {
+    ghost use Rattle.std.specs.Prelude.{◌≡◌, ◌++◌, [], ◌∷◌, if◌then◌else◌, IfOk, not};
+    ghost use Rattle.std.specs.List.{list_any};
+    ghost use Rattle.zb_capture.specs.Grammar.{has_short};
+
+    /// No addresses.
+    pub fn new(alloc: Global) -> Addresses
+        ensures { result ≡ [] }
+    {
+        Addresses {
+            pairs: Vec::new(alloc),
+            shorts: BTreeSet::new(alloc),
+        }
+    }
+
+    /// Adds an address if its network address is new, and answers whether it is.
+    pub fn add(&mut self, addr: (Short, Eui)) -> Result<bool, NoMemory>
+        ensures new { IfOk result (λ new. new ≡ not (list_any (has_short addr.0) self.old)) }
+        ensures adds { IfOk result (λ new. self.new ≡ (if new then self.old ++ addr ∷ [] else self.old)) }
+    {
+        self.pairs.reserve(1)?;
+        let new = self.shorts.insert(addr.0)?;
+        if new {
+            self.pairs.push(addr)?;
+        }
+        Ok(new)
+    }
+
+    /// The list of the addresses.
+    pub fn into_list(self) -> List<(Short, Eui)>
+        ensures { result ≡ self }
+    {
+        List::from_vec(self.pairs)
+    }
+}
