@@ -37,6 +37,15 @@ impl Draft {
         }
     }
 
+    /// A draft of no lines, with room for so many frames.
+    pub fn with_room(alloc: Global, frames: usize) -> Result<Draft, NoMemory>
+        ensures { IfOk result (λ draft. capture_of draft ≡ empty) }
+    {
+        let mut draft = Draft::new(alloc);
+        draft.frames.reserve(frames)?;
+        Ok(draft)
+    }
+
     /// The capture of all lines.
     pub fn into_capture(self) -> Capture
         ensures { result ≡ capture_of self }

@@ -17,7 +17,8 @@ pub fn read_capture(alloc: Global, bytes: &[u8]) -> Result<Capture, OrMemory<Cap
     ensures exact { Answers result (captured bytes.now) }
     ensures valid { IfOk result (λ c. IsCapture c) }
 {
-    let mut draft = Draft::new(alloc);
+    // The line of a frame has at least 9 bytes.
+    let mut draft = Draft::with_room(alloc, (bytes.len() / 9).min(100_000))?;
     let mut number: u32 = 1;
     let mut rest = bytes;
     while let Some((line, more)) = next_line(rest) {
