@@ -42,7 +42,7 @@ pub fn read_in_pieces<T: Threads + Sync>(
 }
 
 /// The capture, or None where the pieces give none.
-fn read_pieces<T: Threads + Sync>(
+pub(crate) fn read_pieces<T: Threads + Sync>(
     rt: &T,
     alloc: Global,
     jobs: u32,

@@ -1,8 +1,11 @@
-//! Bad captures, each with its first bad line and the first cause of that, and captures at their limits.
+//! Bad captures, each with its first bad line and the first cause of that, captures at their limits, and captures that
+//! are read in pieces.
 
-use crate::{CaptureCause, CaptureError, read_capture};
+use crate::pieces::read_pieces;
+use crate::{Capture, CaptureCause, CaptureError, read_capture, read_in_pieces};
 use std::alloc::Global;
 use std::test::Fail;
+use std::thread::Threads;
 use zb_base::OrMemory;
 
 /// Why a text of at most 2,000,000 bytes is no capture; None where it is one.
@@ -114,6 +117,62 @@ fn captures_at_their_limits(rt: HostRuntime) -> Result<(), Fail> {
         let text = repeated(rt.alloc(), front, piece, count)?;
         let refused = bad.map(|(line, cause)| CaptureError { line, cause });
         assert_eq!(rt; refusal(rt.alloc(), text.as_slice()), refused);
+    }
+    Ok(())
+}
+
+fn shown(alloc: Global, read: Result<Capture, OrMemory<CaptureError>>) -> Result<String, Fail> {
+    Ok(format!(in alloc; "{read:?}")?)
+}
+
+/// Whether a text of at most 65,536 bytes is read by each number of jobs as by one, and its pieces give a capture where
+/// they should.
+fn reads_alike<H: AllocGlobal + Threads + Sync>(
+    rt: &H,
+    text: &[u8],
+    joins: bool,
+) -> Result<bool, Fail> {
+    let text = &text[..text.len().min(65_536)];
+    let expected = shown(rt.alloc(), read_capture(rt.alloc(), text))?;
+    let mut alike = true;
+    for jobs in [1, 2, 3, 64] {
+        let read = shown(rt.alloc(), read_in_pieces(rt, rt.alloc(), jobs, text))?;
+        let joined = read_pieces(rt, rt.alloc(), jobs, text)?.is_some();
+        alike = alike && read == expected && joined == joins;
+    }
+    Ok(alike)
+}
+
+#[test]
+fn pieces_read_as_the_whole(rt: HostRuntime) -> Result<(), Fail> {
+    // a front, what stands behind it and how often, and whether that is a capture
+    let inputs: [(&[u8], &[u8], u32, bool); 12] = [
+        (
+            b"# of a network\r\nkey 000102030405060708090A0B0C0D0E0F\r\n\naddr 1A2B 00124B0000000001\nframe 08\nframe 0802\r\ncode 83FED3407A939723A5C639B26916D505C3B5\naddr 1A2C 00124B0000000002\nframe 080203",
+            b"",
+            0,
+            true,
+        ),
+        (b"", b"", 0, true),
+        (b"", b"\n", 5, true),
+        (b"frame 08", b"", 0, true),
+        (b"boom\n", b"frame 08\n", 9, false),
+        (b"frame 08\nframe\nframe 0802\n", b"", 0, false),
+        (b"frame 08\nframe 0802\nframe 0", b"", 0, false),
+        (b"frame 08\n", b"boom\ncode 00\n", 9, false),
+        (
+            b"addr 1A2B 00124B0000000001\nframe 08\n",
+            b"addr 1A2B 00124B0000000002\n",
+            1,
+            false,
+        ),
+        (b"", b"key 000102030405060708090A0B0C0D0E0F\n", 256, true),
+        (b"", b"key 000102030405060708090A0B0C0D0E0F\n", 257, false),
+        (b"frame 0802\n", b"frame 08\n", 999, true),
+    ];
+    for (front, piece, count, joins) in inputs {
+        let text = repeated(rt.alloc(), front, piece, count)?;
+        assert!(rt; reads_alike(&rt, text.as_slice(), joins)?);
     }
     Ok(())
 }
