@@ -1,6 +1,6 @@
 use Rattle.std.proofs.Common.{◌≡◌, ◌+◌, ◌++◌, drop}
-use Rattle.zb_inspect.specs.Report.{sights_text}
-use Rattle.zb_inspect.proofs.lines.put_sights.Given as goal
+use Rattle.zb_sight.specs.Lines.{sights_text}
+use Rattle.zb_sight.proofs.lines.put_sights.Given as goal
 
 abbrev pub invariant-loop-sight : goal.invariant-loop-sight
 invariant-loop-sight l =
