@@ -2,7 +2,7 @@ use Rattle.std.proofs.Common.{ℕ, take}
 use Rattle.arrayvec.specs.ArrayVec.{ArrayVec}
 use Rattle.zb_sight.specs.Sights.{sight}
 use Rattle.zb_ring.proofs.Lists.{half_mapped}
-use Rattle.zb_ring.proofs.piece.refresh_all.Goals as goal
+use Rattle.zb_ring.proofs.block.refresh_all.Goals as goal
 
 pub loop-i-preserved : goal.loop-i-preserved
 loop-i-preserved c =
