@@ -7,3 +7,4 @@ pub mod BlockLaws
 pub mod RoundLaws
 pub mod Growth
 pub mod Bound
+pub mod KnownKeys
