@@ -37,7 +37,9 @@ pub(crate) fn look(
     ensures { IfOk result (λ p. IsNextPiece frames.now addrs.now keys.now piece p) }
 {
     let Piece {
-        number, mut blocks, ..
+        number,
+        mut blocks,
+        ..
     } = piece;
     let mut leads = Vec::new(alloc);
     look_at_all(

@@ -110,10 +110,7 @@ fn look_at_all<T: Threads + Sync, G: Gate>(
 }
 
 /// The pieces, where none lacked memory.
-fn gather(
-    alloc: Global,
-    looked: Vec<Result<Piece, NoMemory>>,
-) -> Result<Vec<Piece>, NoMemory>
+fn gather(alloc: Global, looked: Vec<Result<Piece, NoMemory>>) -> Result<Vec<Piece>, NoMemory>
     ensures { IfOk result (λ v. looked.items ≡ map (λ p. Ok p) v.items) }
 {
     let mut pieces = Vec::with_capacity(alloc, looked.len())?;
