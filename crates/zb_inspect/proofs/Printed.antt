@@ -1,10 +1,11 @@
--- The texts of pieces are those of all frames.
-use Rattle.std.proofs.Common.{◌≡◌, ℕ, zero, suc, ◌+◌, ◌<◌, List, [], ◌∷◌, ◌++◌, length, get_or, take, drop, add-one, Option, Some, None, Vec, Global, Result, Ok, Err, OnErr, refl, ap, sym, ◌∙◌, subst, arith, append_assoc, append-nil, add-zero}
-use Rattle.std.specs.List.{AllByRecursion, AllZip}
-use Rattle.std.specs.Io.KnownBytes.{Appends, Keeps}
+-- The lines of blocks are those of all frames.
+use Rattle.std.proofs.Common.{◌≡◌, ℕ, zero, suc, ◌+◌, ◌<◌, ◌≤◌, List, [], ◌∷◌, ◌++◌, length, get_or, take, drop, add-one, Option, Some, None, Result, Ok, Err, OnErr, refl, ap, sym, ◌∙◌, subst, arith, append_assoc, append-nil, add-zero}
+use Rattle.std.specs.List.{AllByRecursion, AllZip, flat_map}
+use Rattle.std.specs.Io.KnownBytes.{Appends}
+use Rattle.std.specs.Prelude.{slice_set}
 use Rattle.std.proofs.KnownBytes.{Appends-trans}
 use Rattle.std.proofs.lemmas.Grind.{flat_map-append}
-use Rattle.std.proofs.lemmas.List.{length-map}
+use Rattle.std.proofs.lemmas.List.{length-map, map-append}
 use Rattle.arrayvec.specs.ArrayVec.{ArrayVec}
 use Rattle.zb_base.specs.Outside.{AppendsFront}
 use Rattle.zb_base.specs.declared.address.Eui.{Eui}
@@ -12,14 +13,19 @@ use Rattle.zb_base.specs.declared.address.Short.{Short}
 use Rattle.zb_base.specs.declared.key.Key.{Key}
 use Rattle.zb_capture.specs.Grammar.{IsCapture}
 use Rattle.zb_capture.specs.declared.capture.Capture.{Capture}
+use Rattle.zb_sight.specs.Lines.{sight_text, sights_text}
 use Rattle.zb_sight.specs.declared.sight.Sight.{Sight}
-use Rattle.zb_ring.specs.Pieces.{all_sights, Numbered, AllShown, IsCut}
+use Rattle.zb_ring.specs.Pieces.{all_blocks, all_frames, block_lines, blocks_lines, pieces_lines, frames_in, found_in, seen_text, HasRoom, StandsFor, Numbered, AllShown, IsCut, IsWithin}
 use Rattle.zb_ring.specs.Rings.{keys_of, sights, ring_of}
+use Rattle.zb_ring.specs.declared.block.Block.{Block}
+use Rattle.zb_ring.specs.declared.block.Seen.{Seen}
+use Rattle.zb_ring.specs.declared.block.Seen.TheVariants.{Nothing, Lines, Sights}
 use Rattle.zb_ring.specs.declared.piece.Piece.{Piece}
 use Rattle.zb_ring.specs.declared.ring.Ring.{Ring}
-use Rattle.zb_ring.proofs.PieceLists.{all_shown, firsts_fit}
-use Rattle.zb_inspect.specs.Report.{sight_text, sights_text, tail_text, report_text, report_of}
-use Rattle.zb_inspect.specs.Texts.{all_text}
+use Rattle.zb_ring.proofs.Lists.{Half, half_get, half_more, all_at}
+use Rattle.zb_ring.proofs.PieceLists.{frames_count, in_pieces, whole_frames, within_cut}
+use Rattle.zb_inspect.specs.Report.{tail_text, report_text, report_of}
+use Rattle.zb_inspect.specs.Texts.{block_text, blocks_text, BlockHasRoom, HaveRoom}
 
 sights_append : (frame : ℕ) (xs ys : List Sight) → sights_text frame (xs ++ ys) ≡ sights_text frame xs ++ sights_text (frame + length xs) ys
 sights_append frame [] ys = ap (λ n. sights_text n ys) (sym (add-zero frame))
@@ -29,53 +35,88 @@ sights_append frame (x ∷ xs) ys =
     ∙ sym (append_assoc first (sights_text (frame + 1) xs) (sights_text (frame + 1 + length xs) ys))
     ∙ ap (λ n. first ++ sights_text (frame + 1) xs ++ sights_text n ys) (omega arith)
 
--- a text is that of a piece
-abbrev pub Prints : Piece → Vec ℕ Global → Type 0
-Prints piece text = text.items ≡ sights_text piece.first piece.sights.items
+-- Blocks that are printed, in their pieces
 
-pub all_printed : (frame : ℕ) (pieces : List Piece) (texts : List (Vec ℕ Global)) → Numbered frame pieces
-    → AllByRecursion (λ (p : Piece). length p.sights.items ≡ length p.frames.now) pieces → AllZip Prints pieces texts
-    → all_text texts ≡ sights_text frame (all_sights pieces)
-all_printed frame [] [] numbers sizes all = refl
-all_printed frame [] (t ∷ texts) numbers sizes all = absurd all
-all_printed frame (p ∷ pieces) [] numbers sizes all = absurd all
-all_printed frame (p ∷ pieces) (t ∷ texts) numbers sizes all =
-    ap (λ zs. zs ++ all_text texts) (all.0 ∙ ap (λ n. sights_text n p.sights.items) numbers.0)
-    ∙ ap (λ zs. sights_text frame p.sights.items ++ zs) (all_printed (frame + length p.frames.now) pieces texts numbers.1 sizes.1 all.1
-    ∙ ap (λ n. sights_text (frame + n) (all_sights pieces)) (sym sizes.0))
-    ∙ sym (sights_append frame p.sights.items (all_sights pieces))
+abbrev pub IsPrinted : Block → Block → Type 0
+IsPrinted old new = block_lines new ≡ block_text old
 
-pub text_more : (texts : List (Vec ℕ Global)) (t : Vec ℕ Global) → all_text (texts ++ t ∷ []) ≡ all_text texts ++ t.items
-text_more texts t = flat_map-append (λ (text : Vec ℕ Global). text.items) texts (t ∷ []) ∙ ap (λ zs. all_text texts ++ zs) (append-nil t.items)
+-- one block more that is printed
+pub printed_more : (i : ℕ) (old now : List Block) (d y : Block) → i < length old → Half IsPrinted i old now → block_lines y ≡ block_text (get_or now i d)
+    → Half IsPrinted (i + 1) old (slice_set now i y)
+printed_more i old now d y within half is =
+    half_more IsPrinted i old now d y within half (is ∙ ap block_text (half_get IsPrinted i old now d within half))
 
--- Pieces that are shown
+pub room_at : (i : ℕ) (old now : List Block) (d : Block) → i < length old → Half IsPrinted i old now → HaveRoom old → BlockHasRoom (get_or now i d)
+room_at i old now d within half room = subst BlockHasRoom (sym (half_get IsPrinted i old now d within half)) (all_at BlockHasRoom old i d within room)
 
-pub shown_sizes : (addrs : List (Short × Eui)) (keys : List Key) (pieces : List Piece) → AllShown addrs keys pieces
-    → AllByRecursion (λ (p : Piece). length p.sights.items ≡ length p.frames.now) pieces
-shown_sizes addrs keys [] all = tt
-shown_sizes addrs keys (p ∷ pieces) all = (ap (length {A = Sight}) all.0.sights ∙ length-map p.frames.now _, shown_sizes addrs keys pieces all.1)
+pub blocks_printed : (old new : List Block) → AllZip IsPrinted old new → blocks_lines new ≡ blocks_text old
+blocks_printed [] [] all = refl
+blocks_printed [] (n ∷ new) all = absurd all
+blocks_printed (o ∷ old) [] all = absurd all
+blocks_printed (o ∷ old) (n ∷ new) all = ap (λ zs. zs ++ blocks_lines new) all.0 ∙ ap (λ zs. block_text o ++ zs) (blocks_printed old new all.1)
 
-sights_fit : (pieces : List Piece) → AllByRecursion (λ (p : Piece). length p.sights.items ≡ length p.frames.now) pieces
-    → AllByRecursion (λ (p : Piece). p.first + length p.frames.now < 4294967296) pieces
-    → AllByRecursion (λ (p : Piece). p.first + length p.sights.items < 4294967296) pieces
-sights_fit [] sizes fits = tt
-sights_fit (p ∷ pieces) sizes fits = (omega (arith, sizes.0, fits.0), sights_fit pieces sizes.1 fits.1)
+abbrev pub IsPiecePrinted : Piece → Piece → Type 0
+IsPiecePrinted old new = blocks_lines new.blocks.items ≡ blocks_text old.blocks.items
 
-pub shown_fit : (c : Capture) (keys : List Key) (pieces : List Piece) → IsCapture c → IsCut c pieces → AllShown c.addrs keys pieces
-    → AllByRecursion (λ (p : Piece). p.first + length p.sights.items < 4294967296) pieces
-shown_fit c keys pieces limits cut shown =
-    sights_fit pieces (shown_sizes c.addrs keys pieces shown)
-    (firsts_fit 1 pieces cut.numbers (omega (arith, ap (length {A = ArrayVec ℕ}) cut.frames, limits.frames)))
+pub pieces_printed : (old new : List Piece) → AllZip IsPiecePrinted old new → pieces_lines new ≡ blocks_text (all_blocks old)
+pieces_printed [] [] all = refl
+pieces_printed [] (n ∷ new) all = absurd all
+pieces_printed (o ∷ old) [] all = absurd all
+pieces_printed (o ∷ old) (n ∷ new) all =
+    ap (λ zs. zs ++ pieces_lines new) all.0 ∙ ap (λ zs. blocks_text o.blocks.items ++ zs) (pieces_printed old new all.1)
+    ∙ sym (flat_map-append block_text o.blocks.items (all_blocks old))
+
+-- Blocks that are shown
+
+seen_shown : (first : ℕ) (found : List Sight) (seen : Seen) → StandsFor first found seen → seen_text first seen ≡ sights_text first found
+seen_shown first found Nothing s = absurd s
+seen_shown first found (Lines text) s = s.0
+seen_shown first found (Sights kept) s = ap (sights_text first) s
+
+has_room : (first frames : ℕ) (found : List Sight) (seen : Seen) → StandsFor first found seen → first + length found < 4294967296 → HasRoom first seen
+has_room first frames found Nothing s room = tt
+has_room first frames found (Lines text) s room = tt
+has_room first frames found (Sights kept) s room = omega (arith, ap (length {A = Sight}) s, room)
+
+found_count : (frames : List (ArrayVec ℕ)) (addrs : List (Short × Eui)) (keys : List Key) (b : Block) → IsWithin (length frames) b
+    → length (found_in frames addrs keys b) ≡ b.count
+found_count frames addrs keys b within = length-map (frames_in frames b) _ ∙ frames_count frames b within
+
+shown_text : (frames : List (ArrayVec ℕ)) (addrs : List (Short × Eui)) (keys : List Key) (frame : ℕ) (blocks : List Block) → Numbered frame blocks
+    → AllByRecursion (IsWithin (length frames)) blocks → AllShown frames addrs keys blocks
+    → blocks_text blocks ≡ sights_text frame (sights addrs keys (all_frames frames blocks))
+shown_text frames addrs keys frame [] numbers within all = refl
+shown_text frames addrs keys frame (b ∷ blocks) numbers within all =
+    let found = found_in frames addrs keys b in
+    let more = sights addrs keys (all_frames frames blocks) in
+    ap (λ zs. zs ++ blocks_text blocks) (seen_shown b.first found b.seen all.0 ∙ ap (λ n. sights_text n found) numbers.0)
+    ∙ ap (λ zs. sights_text frame found ++ zs) (shown_text frames addrs keys (frame + b.count) blocks numbers.1 within.1 all.1)
+    ∙ ap (λ n. sights_text frame found ++ sights_text (frame + n) more) (sym (found_count frames addrs keys b within.0))
+    ∙ sym (sights_append frame found more)
+    ∙ ap (sights_text frame) (sym (map-append _ (frames_in frames b) (all_frames frames blocks)))
+
+shown_room : (frames : List (ArrayVec ℕ)) (addrs : List (Short × Eui)) (keys : List Key) (blocks : List Block) → length frames ≤ 100000
+    → AllByRecursion (IsWithin (length frames)) blocks → AllShown frames addrs keys blocks → HaveRoom blocks
+shown_room frames addrs keys [] few within all = tt
+shown_room frames addrs keys (b ∷ blocks) few within all = (
+  has_room b.first (length frames) (found_in frames addrs keys b) b.seen all.0 (omega (arith, found_count frames addrs keys b within.0, within.0.last, few)),
+  shown_room frames addrs keys blocks few within.1 all.1,
+)
+
+pub room_in_pieces : (c : Capture) (keys : List Key) (pieces : List Piece) → IsCapture c → IsCut c pieces
+    → AllShown c.frames c.addrs keys (all_blocks pieces) → AllByRecursion (λ (p : Piece). HaveRoom p.blocks.items) pieces
+room_in_pieces c keys pieces limits cut shown =
+    in_pieces BlockHasRoom pieces (shown_room c.frames c.addrs keys (all_blocks pieces) limits.frames (within_cut c pieces cut) shown)
 
 -- the report
-pub is_report : (c : Capture) (ring : Ring) (pieces : List Piece) (frames : ℕ) (text : List ℕ) → ring ≡ ring_of c → IsCut c pieces
-    → AllShown c.addrs (keys_of ring.keys) pieces → frames ≡ length c.frames → text ≡ sights_text 1 (all_sights pieces) ++ tail_text frames ring
-    → text ≡ report_of c
+pub is_report : (c : Capture) (ring : Ring) (pieces : List Piece) (frames : ℕ) (lines tail : List ℕ) → ring ≡ ring_of c → IsCut c pieces
+    → AllShown c.frames c.addrs (keys_of ring.keys) (all_blocks pieces) → frames ≡ length c.frames → lines ≡ blocks_text (all_blocks pieces)
+    → tail ≡ tail_text frames ring → lines ++ tail ≡ report_of c
 unfolding report_of
-is_report c ring pieces frames text is cut shown count printed =
-    printed ∙ ap (λ n. sights_text 1 (all_sights pieces) ++ tail_text n ring) count
-    ∙ ap (λ xs. sights_text 1 xs ++ tail_text (length c.frames) ring)
-    (all_shown c.addrs (keys_of ring.keys) pieces shown ∙ ap (sights c.addrs (keys_of ring.keys)) cut.frames)
+is_report c ring pieces frames lines tail is cut shown count printed ends =
+    ap (λ zs. zs ++ tail) (printed ∙ shown_text c.frames c.addrs (keys_of ring.keys) 1 (all_blocks pieces) cut.numbers (within_cut c pieces cut) shown
+    ∙ ap (λ fs. sights_text 1 (sights c.addrs (keys_of ring.keys) fs)) (whole_frames c pieces cut))
+    ∙ ap (λ zs. sights_text 1 (sights c.addrs (keys_of ring.keys) c.frames) ++ zs) (ends ∙ ap (λ n. tail_text n ring) count)
     ∙ ap (report_text c) is
 
 -- Fronts
@@ -96,35 +137,43 @@ front_of a b c xs ys rest first second =
     let r = take_behind xs ys rest second.0 in
     (r.0, subst (Appends a c) (sym r.1) (Appends-trans a b c xs (take second.0 ys) first second.1))
 
-texts_at : (texts : List (Vec ℕ Global)) (i : ℕ) (t : Vec ℕ Global) → i < length texts → t ≡ get_or texts i t
-    → all_text texts ≡ all_text (take i texts) ++ (t.items ++ all_text (drop (suc i) texts))
-texts_at [] i t within is = absurd (omega arith)
-texts_at (x ∷ texts) zero t within is = ap (λ (v : Vec ℕ Global). v.items ++ all_text texts) (sym is)
-texts_at (x ∷ texts) (suc i) t within is =
-    ap (λ zs. x.items ++ zs) (texts_at texts i t (omega arith) is)
-    ∙ sym (append_assoc x.items (all_text (take i texts)) (t.items ++ all_text (drop (suc i) texts)))
+-- a front of what comes first is a front of all; so is all of it and a front of the rest
+pub front_first : (a b : Option (List ℕ)) (xs ys : List ℕ) → AppendsFront a b xs → AppendsFront a b (xs ++ ys)
+front_first a b xs ys first =
+    let r = take_front xs ys first.0 in (r.0, subst (Appends a b) (sym r.1) first.1)
 
-pub front_at : (a b c : Option (List ℕ)) (texts : List (Vec ℕ Global)) (i : ℕ) (t : Vec ℕ Global) → i < length texts → t ≡ get_or texts i t
-    → Appends a b (all_text (take i texts)) → AppendsFront b c t.items → AppendsFront a c (all_text texts)
-front_at a b c texts i t within is first second =
-    subst (AppendsFront a c) (sym (texts_at texts i t within is)) (front_of a b c (all_text (take i texts)) t.items (all_text (drop (suc i) texts)) first second)
+pub front_second : (a b c : Option (List ℕ)) (xs ys : List ℕ) → Appends a b xs → AppendsFront b c ys → AppendsFront a c (xs ++ ys)
+front_second a b c xs ys first second =
+    let P : List ℕ → Type 0 = λ zs. AppendsFront a c (xs ++ zs) in subst P (append-nil ys) (front_of a b c xs ys [] first second)
 
-text_next : (texts : List (Vec ℕ Global)) (i : ℕ) (t : Vec ℕ Global) → i < length texts → t ≡ get_or texts i t
-    → all_text (take (suc i) texts) ≡ all_text (take i texts) ++ t.items
-text_next [] i t within is = absurd (omega arith)
-text_next (x ∷ texts) zero t within is = append-nil x.items ∙ ap (λ (v : Vec ℕ Global). v.items) (sym is)
-text_next (x ∷ texts) (suc i) t within is =
-    ap (λ zs. x.items ++ zs) (text_next texts i t (omega arith) is) ∙ sym (append_assoc x.items (all_text (take i texts)) t.items)
+-- Items that are written one after the other
 
-pub whole_next : (a b c : Option (List ℕ)) (texts : List (Vec ℕ Global)) (i : ℕ) (t : Vec ℕ Global) → i < length texts → t ≡ get_or texts i t
-    → Appends a b (all_text (take i texts)) → Appends b c t.items → Appends a c (all_text (take (i + 1) texts))
-whole_next a b c texts i t within is first second =
-    subst (Appends a c) (sym (ap (λ n. all_text (take n texts)) (add-one i) ∙ text_next texts i t within is))
-    (Appends-trans a b c (all_text (take i texts)) t.items first second)
+text_at : {A : Type 0} (f : A → List ℕ) (items : List A) (i : ℕ) (d : A) → i < length items
+    → flat_map f items ≡ flat_map f (take i items) ++ (f (get_or items i d) ++ flat_map f (drop (suc i) items))
+text_at f [] i d within = absurd (omega arith)
+text_at f (x ∷ items) zero d within = refl
+text_at f (x ∷ items) (suc i) d within =
+    ap (λ zs. f x ++ zs) (text_at f items i d (omega arith))
+    ∙ sym (append_assoc (f x) (flat_map f (take i items)) (f (get_or items i d) ++ flat_map f (drop (suc i) items)))
 
-pub keeps_itself : (a : Option (List ℕ)) → Keeps a a
-keeps_itself None = tt
-keeps_itself (Some xs) = refl
+pub front_at : {A : Type 0} (f : A → List ℕ) (a b c : Option (List ℕ)) (items : List A) (i : ℕ) (d : A) → i < length items
+    → Appends a b (flat_map f (take i items)) → AppendsFront b c (f (get_or items i d)) → AppendsFront a c (flat_map f items)
+front_at f a b c items i d within first second =
+    subst (AppendsFront a c) (sym (text_at f items i d within))
+    (front_of a b c (flat_map f (take i items)) (f (get_or items i d)) (flat_map f (drop (suc i) items)) first second)
+
+text_next : {A : Type 0} (f : A → List ℕ) (items : List A) (i : ℕ) (d : A) → i < length items
+    → flat_map f (take (suc i) items) ≡ flat_map f (take i items) ++ f (get_or items i d)
+text_next f [] i d within = absurd (omega arith)
+text_next f (x ∷ items) zero d within = append-nil (f x)
+text_next f (x ∷ items) (suc i) d within =
+    ap (λ zs. f x ++ zs) (text_next f items i d (omega arith)) ∙ sym (append_assoc (f x) (flat_map f (take i items)) (f (get_or items i d)))
+
+pub whole_next : {A : Type 0} (f : A → List ℕ) (a b c : Option (List ℕ)) (items : List A) (i : ℕ) (d : A) → i < length items
+    → Appends a b (flat_map f (take i items)) → Appends b c (f (get_or items i d)) → Appends a c (flat_map f (take (i + 1) items))
+whole_next f a b c items i d within first second =
+    subst (Appends a c) (sym (ap (λ n. flat_map f (take n items)) (add-one i) ∙ text_next f items i d within))
+    (Appends-trans a b c (flat_map f (take i items)) (f (get_or items i d)) first second)
 
 pub on_err : {T E : Type 0} (r : Result T E) (P : Type 0) → P → OnErr r P
 on_err (Ok x) P p = tt

@@ -1,12 +1,24 @@
--- Texts, one after the other, and those of faults.
-use Rattle.std.specs.Prelude.{ℕ, List, Vec, codes}
-use Rattle.std.specs.List.{flat_map}
-use Rattle.std.specs.declared.alloc.Global.{Global}
+-- The lines of blocks, one after the other, and the texts of faults.
+use Rattle.std.specs.Prelude.{ℕ, List, codes}
+use Rattle.std.specs.List.{AllByRecursion, flat_map}
+use Rattle.zb_ring.specs.Pieces.{seen_text, HasRoom}
+use Rattle.zb_ring.specs.declared.block.Block.{Block}
 use Rattle.zb_inspect.specs.declared.fault.InspectFault.{InspectFault}
 use Rattle.zb_inspect.specs.declared.fault.InspectFault.TheVariants.{Write, NoMemory}
 
-abbrev pub all_text : List (Vec ℕ Global) → List ℕ
-all_text texts = flat_map (λ (text : Vec ℕ Global). text.items) texts
+-- the lines of what blocks keep
+abbrev pub block_text : Block → List ℕ
+block_text block = seen_text block.first block.seen
+
+abbrev pub blocks_text : List Block → List ℕ
+blocks_text blocks = flat_map block_text blocks
+
+-- the numbers of all frames are in their range
+abbrev pub BlockHasRoom : Block → Type 0
+BlockHasRoom block = HasRoom block.first block.seen
+
+abbrev pub HaveRoom : List Block → Type 0
+HaveRoom blocks = AllByRecursion BlockHasRoom blocks
 
 -- how a fault is printed
 abbrev pub fault_text : InspectFault → List ℕ

@@ -20,7 +20,7 @@ use Rattle.zb_ring.specs.declared.ring.Lead.{Lead}
 use Rattle.zb_ring.specs.declared.ring.Ring.{Ring}
 use Rattle.zb_ring.specs.declared.ring.RingKey.{RingKey}
 use Rattle.zb_ring.proofs.Growth.{Kept, Grows, carried_grows}
-use Rattle.zb_ring.proofs.RoundLaws.{learnt_grows, first_keys, not_shorter, unchanged}
+use Rattle.zb_ring.proofs.RingLaws.{learnt_grows, first_keys, not_shorter, unchanged}
 
 -- how many of the keys are new to the ring, repeats counted
 abbrev one_if : Bool → ℕ
@@ -70,12 +70,19 @@ learnt_most round ring (x ∷ xs) =
     learnt_by round ring x xs (record { key = x.key; found = Some (x.frame, round) }) (has_key ring x.key) (λ r. learnt_most round r xs)
 
 -- what was learnt is known
-abbrev AllKnown : List RingKey → List Lead → Type 0
+abbrev pub AllKnown : List RingKey → List Lead → Type 0
 AllKnown ring xs = AllByRecursion (λ (x : Lead). has_key ring x.key ≡ true) xs
 
 or_true : (a b : Bool) → a ≡ true → (a || b) ≡ true
 or_true true b e = refl
 or_true false b e = cc
+
+pub known_more : (ring more : List RingKey) (xs : List Lead) → AllKnown ring xs → AllKnown (ring ++ more) xs
+known_more ring more [] known = tt
+known_more ring more (x ∷ xs) known = (
+  has_more ring more x.key ∙ or_true (has_key ring x.key) (has_key more x.key) known.0,
+  known_more ring more xs known.1,
+)
 
 true_or : (a : Bool) → (a || true) ≡ true
 true_or true = refl
@@ -94,7 +101,7 @@ has_it ring k true has = has
 has_it ring k false has =
     has_more ring (k ∷ []) k.key ∙ ap (λ b. has_key ring k.key || (b || false)) (same_bytes k.key.0) ∙ true_or (has_key ring k.key)
 
-all_known : (round : ℕ) (ring : List RingKey) (xs : List Lead) → AllKnown (learnt round ring xs) xs
+pub all_known : (round : ℕ) (ring : List RingKey) (xs : List Lead) → AllKnown (learnt round ring xs) xs
 all_known round ring [] = tt
 all_known round ring (x ∷ xs) =
     let k : RingKey = record { key = x.key; found = Some (x.frame, round) } in
@@ -109,7 +116,7 @@ known_one ring frame (Some key) b known kept =
     let P : Option Key → Type 0 = λ o. unknown ring (lead_of frame o) + 1 ≤ length (lead_of frame o) in
     subst P (sym kept) (omega (arith, ap one_if known.0))
 
-known_split : (ring : List RingKey) (xs ys : List Lead) → AllKnown ring (xs ++ ys) → AllKnown ring xs × AllKnown ring ys
+pub known_split : (ring : List RingKey) (xs ys : List Lead) → AllKnown ring (xs ++ ys) → AllKnown ring xs × AllKnown ring ys
 known_split ring [] ys known = (tt, known)
 known_split ring (x ∷ xs) ys known = let rest = known_split ring xs ys known.1 in ((known.0, rest.0), rest.1)
 

@@ -1,5 +1,10 @@
 pub mod Lists
 pub mod PieceLists
+pub mod CutLaws
+pub mod RingLaws
+pub mod FreshLeads
+pub mod BlockLaws
 pub mod RoundLaws
 pub mod Growth
 pub mod Bound
+pub mod KnownKeys

@@ -1,9 +1,8 @@
 -- Lists that are mapped from the front on.
-use Rattle.std.proofs.Common.{◌≡◌, ℕ, zero, suc, ◌+◌, ◌-◌, ◌<◌, ◌≤◌, List, [], ◌∷◌, ◌++◌, length, get_or, take, drop, map, refl, ap, sym, ◌∙◌, subst, arith, add-one, length-drop, Result, Ok, Err, IfOk}
-use Rattle.std.specs.List.{AllZip, AllByRecursion}
+use Rattle.std.proofs.Common.{◌≡◌, ℕ, zero, suc, ◌+◌, ◌<◌, ◌≤◌, List, [], ◌∷◌, ◌++◌, length, get_or, take, drop, map, refl, ap, sym, ◌∙◌, subst, arith, add-one, append_assoc, append-nil, Result, Ok, Err, IfOk}
+use Rattle.std.specs.List.{AllZip, AllByRecursion, flat_map}
 use Rattle.std.specs.Prelude.{slice_set}
-use Rattle.std.proofs.lemmas.List.{take-append-drop, map-append, length-map}
-use Rattle.std.proofs.Math.Seq.{take-length}
+use Rattle.std.proofs.lemmas.List.{length-map}
 
 -- one item more is mapped by f in place of g
 set_next : {A B : Type 0} (f g : A → B) (xs : List A) (i : ℕ) (x : A) → i < length xs → x ≡ get_or xs i x
@@ -19,14 +18,80 @@ half_mapped f g xs ys i x y within is new so_far =
     ap (λ z. slice_set ys i z) new ∙ ap (λ zs. slice_set zs i (f x)) so_far ∙ set_next f g xs i x within is
     ∙ ap (λ j. map f (take j xs) ++ map g (drop j xs)) (sym (add-one i))
 
--- the items behind the first n
-pub behind : {A : Type 0} (xs : List A) (n : ℕ) → take (length xs - n) (drop n xs) ≡ drop n xs
-behind xs n = ap (λ k. take k (drop n xs)) (sym (length-drop n xs)) ∙ take-length (drop n xs)
+-- A list of which the first items were replaced, each by one that is related to it.
+abbrev pub Half : {A : Type 0} → (A → A → Type 0) → ℕ → List A → List A → Type 0
+Half R zero old now = now ≡ old
+Half R (suc i) [] now = now ≡ []
+Half R (suc i) (x ∷ old) [] = ⊥
+Half R (suc i) (x ∷ old) (y ∷ now) = R x y × Half R i old now
 
-pub rest_mapped : {A B : Type 0} (f : A → B) (xs : List A) (n : ℕ)
-    → map f (take n xs) ++ map f (take (length xs - n) (drop n xs)) ≡ map f xs
-rest_mapped f xs n =
-    ap (λ zs. map f (take n xs) ++ map f zs) (behind xs n) ∙ sym (map-append f (take n xs) (drop n xs)) ∙ ap (map f) (take-append-drop n xs)
+half_next : {A : Type 0} (R : A → A → Type 0) (i : ℕ) (old now : List A) (d y : A) → i < length old → Half R i old now → R (get_or old i d) y
+    → Half R (suc i) old (slice_set now i y)
+half_next R i [] now d y within half related = absurd (omega arith)
+half_next R zero (x ∷ old) now d y within half related =
+    let P : List _ → Type 0 = λ zs. Half R 1 (x ∷ old) (slice_set zs 0 y) in subst P (sym half) (related, refl)
+half_next R (suc i) (x ∷ old) [] d y within half related = absurd half
+half_next R (suc i) (x ∷ old) (z ∷ now) d y within half related = (half.0, half_next R i old now d y (omega arith) half.1 related)
+
+pub half_more : {A : Type 0} (R : A → A → Type 0) (i : ℕ) (old now : List A) (d y : A) → i < length old → Half R i old now → R (get_or old i d) y
+    → Half R (i + 1) old (slice_set now i y)
+half_more R i old now d y within half related = rw add-one (half_next R i old now d y within half related)
+
+pub half_get : {A : Type 0} (R : A → A → Type 0) (i : ℕ) (old now : List A) (d : A) → i < length old → Half R i old now → get_or now i d ≡ get_or old i d
+half_get R i [] now d within half = absurd (omega arith)
+half_get R zero (x ∷ old) now d within half = ap (λ zs. get_or zs 0 d) half
+half_get R (suc i) (x ∷ old) [] d within half = absurd half
+half_get R (suc i) (x ∷ old) (z ∷ now) d within half = half_get R i old now d (omega arith) half.1
+
+pub half_end : {A : Type 0} (R : A → A → Type 0) (i : ℕ) (old now : List A) → length old ≤ i → Half R i old now → AllZip R old now
+half_end R zero [] now most half = let P : List _ → Type 0 = λ zs. AllZip R [] zs in subst P (sym half) tt
+half_end R zero (x ∷ old) now most half = absurd (omega arith)
+half_end R (suc i) [] now most half = let P : List _ → Type 0 = λ zs. AllZip R [] zs in subst P (sym half) tt
+half_end R (suc i) (x ∷ old) [] most half = absurd half
+half_end R (suc i) (x ∷ old) (y ∷ now) most half = (half.0, half_end R i old now (omega arith) half.1)
+
+pub half_length : {A : Type 0} (R : A → A → Type 0) (i : ℕ) (old now : List A) → Half R i old now → length now ≡ length old
+half_length {A} R zero old now half = ap (length {A = A}) half
+half_length {A} R (suc i) [] now half = ap (length {A = A}) half
+half_length R (suc i) (x ∷ old) [] half = absurd half
+half_length R (suc i) (x ∷ old) (y ∷ now) half = ap suc (half_length R i old now half.1)
+
+-- what holds of all items holds of each
+pub all_at : {A : Type 0} (P : A → Type 0) (xs : List A) (i : ℕ) (d : A) → i < length xs → AllByRecursion P xs → P (get_or xs i d)
+all_at P [] i d within all = absurd (omega arith)
+all_at P (x ∷ xs) zero d within all = all.0
+all_at P (x ∷ xs) (suc i) d within all = all_at P xs i d (omega arith) all.1
+
+pub all_append : {A : Type 0} (P : A → Type 0) (xs ys : List A) → AllByRecursion P xs → AllByRecursion P ys → AllByRecursion P (xs ++ ys)
+all_append P [] ys all more = more
+all_append P (x ∷ xs) ys all more = (all.0, all_append P xs ys all.1 more)
+
+pub all_front : {A : Type 0} (P : A → Type 0) (xs ys : List A) → AllByRecursion P (xs ++ ys) → AllByRecursion P xs
+all_front P [] ys all = tt
+all_front P (x ∷ xs) ys all = (all.0, all_front P xs ys all.1)
+
+pub all_back : {A : Type 0} (P : A → Type 0) (xs ys : List A) → AllByRecursion P (xs ++ ys) → AllByRecursion P ys
+all_back P [] ys all = all
+all_back P (x ∷ xs) ys all = all_back P xs ys all.1
+
+pub zip_append : {A B : Type 0} (R : A → B → Type 0) (xs : List A) (ys : List B) (more : List A) (others : List B)
+    → AllZip R xs ys → AllZip R more others → AllZip R (xs ++ more) (ys ++ others)
+zip_append R [] [] more others all rest = rest
+zip_append R [] (y ∷ ys) more others all rest = absurd all
+zip_append R (x ∷ xs) [] more others all rest = absurd all
+zip_append R (x ∷ xs) (y ∷ ys) more others all rest = (all.0, zip_append R xs ys more others all.1 rest)
+
+-- one item more of what is mapped to lists
+flat_suc : {A B : Type 0} (f : A → List B) (xs : List A) (i : ℕ) (d : A) → i < length xs
+    → flat_map f (take (suc i) xs) ≡ flat_map f (take i xs) ++ f (get_or xs i d)
+flat_suc f [] i d within = absurd (omega arith)
+flat_suc f (x ∷ xs) zero d within = append-nil (f x)
+flat_suc f (x ∷ xs) (suc i) d within =
+    ap (λ zs. f x ++ zs) (flat_suc f xs i d (omega arith)) ∙ sym (append_assoc (f x) (flat_map f (take i xs)) (f (get_or xs i d)))
+
+pub flat_next : {A B : Type 0} (f : A → List B) (xs : List A) (i : ℕ) (d : A) → i < length xs
+    → flat_map f (take (i + 1) xs) ≡ flat_map f (take i xs) ++ f (get_or xs i d)
+flat_next f xs i d within = rw add-one (flat_suc f xs i d within)
 
 -- a relation that holds place by place
 zip_from_index : {A B : Type 0} (R : A → B → Type 0) (xs : List A) (ys : List B) → length xs ≡ length ys
@@ -51,18 +116,6 @@ oks_zip {A} {B} {E} R old new results is same each =
     (λ i d e within.
     let P : Result B E → Type 0 = λ r. IfOk r (λ x. R (get_or old i d) x) in
     subst P (ap (λ rs. get_or rs i (Ok e)) is ∙ get_mapped (λ x. Ok x) new i e) (each i (Ok e) d within))
-
-pub zip_right : {A : Type 0} (P : A → Type 0) (S : A → A → Type 0) (xs ys : List A) → AllZip (λ x y. P y × S x y) xs ys → AllByRecursion P ys
-zip_right P S [] [] all = tt
-zip_right P S [] (y ∷ ys) all = absurd all
-zip_right P S (x ∷ xs) [] all = absurd all
-zip_right P S (x ∷ xs) (y ∷ ys) all = (all.0.0, zip_right P S xs ys all.1)
-
-pub zip_second : {A : Type 0} (P : A → Type 0) (S : A → A → Type 0) (xs ys : List A) → AllZip (λ x y. P y × S x y) xs ys → AllZip S xs ys
-zip_second P S [] [] all = tt
-zip_second P S [] (y ∷ ys) all = absurd all
-zip_second P S (x ∷ xs) [] all = absurd all
-zip_second P S (x ∷ xs) (y ∷ ys) all = (all.0.1, zip_second P S xs ys all.1)
 
 pub if_ok : {A E : Type 0} (P Q : A → Type 0) (r : Result A E) → IfOk r P → ((x : A) → P x → Q x) → IfOk r Q
 if_ok P Q (Ok x) h next = next x h

@@ -1,54 +1,142 @@
--- Frames that are cut into consecutive pieces.
-use Rattle.std.specs.Prelude.{◌≡◌, ℕ, ◌+◌, ◌≤◌, List, [], ◌∷◌, length, take}
-use Rattle.std.specs.List.{AllByRecursion, flat_map}
+-- Frames that are cut into consecutive pieces of work, and these into blocks.
+use Rattle.std.specs.Prelude.{◌≡◌, ℕ, ◌+◌, ◌-◌, ◌<◌, ◌≤◌, ◌^◌, List, [], ◌∷◌, length, take, drop, Bool, true, false}
+use Rattle.std.specs.List.{AllByRecursion, AllZip, flat_map, list_all}
 use Rattle.arrayvec.specs.ArrayVec.{ArrayVec}
 use Rattle.zb_base.specs.declared.address.Eui.{Eui}
 use Rattle.zb_base.specs.declared.address.Short.{Short}
 use Rattle.zb_base.specs.declared.key.Key.{Key}
 use Rattle.zb_capture.specs.declared.capture.Capture.{Capture}
+use Rattle.zb_sight.specs.Lines.{sights_text}
+use Rattle.zb_sight.specs.Settling.{is_settled}
 use Rattle.zb_sight.specs.declared.sight.Sight.{Sight}
 use Rattle.zb_ring.specs.Rings.{leads, sights}
+use Rattle.zb_ring.specs.declared.block.Block.{Block}
+use Rattle.zb_ring.specs.declared.block.Seen.{Seen}
+use Rattle.zb_ring.specs.declared.block.Seen.TheVariants.{Nothing, Lines, Sights}
 use Rattle.zb_ring.specs.declared.piece.Piece.{Piece}
 use Rattle.zb_ring.specs.declared.ring.Lead.{Lead}
 
--- what the pieces have, one after the other
-abbrev pub all_frames : List Piece → List (ArrayVec ℕ)
-all_frames pieces = flat_map (λ (piece : Piece). piece.frames.now) pieces
-
-abbrev pub all_sights : List Piece → List Sight
-all_sights pieces = flat_map (λ (piece : Piece). piece.sights.items) pieces
+-- what pieces have, one after the other
+abbrev pub all_blocks : List Piece → List Block
+all_blocks pieces = flat_map (λ (piece : Piece). piece.blocks.items) pieces
 
 abbrev pub all_leads : List Piece → List Lead
 all_leads pieces = flat_map (λ (piece : Piece). piece.leads.items) pieces
 
--- each piece has the number of its first frame; that of the first piece is `frame`
-abbrev pub Numbered : ℕ → List Piece → Type 0
+-- the frames of a block, among those of a capture; and those of blocks, one after the other
+abbrev pub frames_in : List (ArrayVec ℕ) → Block → List (ArrayVec ℕ)
+frames_in frames block = take block.count (drop (block.first - 1) frames)
+
+abbrev pub all_frames : List (ArrayVec ℕ) → List Block → List (ArrayVec ℕ)
+all_frames frames blocks = flat_map (frames_in frames) blocks
+
+-- blocks are consecutive; the first has the number `frame`
+abbrev pub Numbered : ℕ → List Block → Type 0
 Numbered frame [] = Unit {0}
-Numbered frame (piece ∷ more) = (piece.first ≡ frame) × Numbered (frame + length piece.frames.now) more
+Numbered frame (block ∷ more) = (block.first ≡ frame) × Numbered (frame + block.count) more
 
--- what the first frames of a piece show under the keys; others weren't looked at yet
-pub record Sees (addrs : List (Short × Eui)) (keys : List Key) (piece : Piece) : Type 0 where
-  pub within : length piece.sights.items ≤ length piece.frames.now
-  pub sights : piece.sights.items ≡ sights addrs keys (take (length piece.sights.items) piece.frames.now)
+abbrev pub count_of : List Block → ℕ
+count_of [] = 0
+count_of (block ∷ more) = block.count + count_of more
 
--- what all frames of a piece show under the keys, and the keys that they carry
-pub record Shown (addrs : List (Short × Eui)) (keys : List Key) (piece : Piece) : Type 0 where
-  pub sights : piece.sights.items ≡ sights addrs keys piece.frames.now
-  pub leads : piece.leads.items ≡ leads piece.first piece.sights.items
+-- so many frames hold the block
+pub record IsWithin (frames : ℕ) (block : Block) : Type 0 where
+  pub first : 1 ≤ block.first
+  pub last : block.first + block.count ≤ frames + 1
 
-abbrev pub AllSee : List (Short × Eui) → List Key → List Piece → Type 0
-AllSee addrs keys pieces = AllByRecursion (Sees addrs keys) pieces
+-- What is kept of frames, the first of which has the number `first`, where `found` is what they show: the lines of a report,
+-- where no layer of any of them is closed, or else all of it.
+abbrev pub StandsFor : ℕ → List Sight → Seen → Type 0
+StandsFor first found Nothing = ⊥
+StandsFor first found (Lines text) = (text.items ≡ sights_text first found) × (list_all is_settled found ≡ true)
+StandsFor first found (Sights kept) = kept.items ≡ found
 
-abbrev pub AllShown : List (Short × Eui) → List Key → List Piece → Type 0
-AllShown addrs keys pieces = AllByRecursion (Shown addrs keys) pieces
+-- the same of frames that may not have been looked at yet
+abbrev pub MayStandFor : ℕ → List Sight → Seen → Type 0
+MayStandFor first found Nothing = Unit {0}
+MayStandFor first found (Lines text) = StandsFor first found (Lines text)
+MayStandFor first found (Sights kept) = StandsFor first found (Sights kept)
+
+abbrev pub found_in : List (ArrayVec ℕ) → List (Short × Eui) → List Key → Block → List Sight
+found_in frames addrs keys block = sights addrs keys (frames_in frames block)
+
+-- what the frames of a block show under the keys; they may not have been looked at yet
+abbrev pub Sees : List (ArrayVec ℕ) → List (Short × Eui) → List Key → Block → Type 0
+Sees frames addrs keys block = MayStandFor block.first (found_in frames addrs keys block) block.seen
+
+-- what the frames of a block show under the keys
+abbrev pub Shown : List (ArrayVec ℕ) → List (Short × Eui) → List Key → Block → Type 0
+Shown frames addrs keys block = StandsFor block.first (found_in frames addrs keys block) block.seen
+
+abbrev pub AllSee : List (ArrayVec ℕ) → List (Short × Eui) → List Key → List Block → Type 0
+AllSee frames addrs keys blocks = AllByRecursion (Sees frames addrs keys) blocks
+
+abbrev pub AllShown : List (ArrayVec ℕ) → List (Short × Eui) → List Key → List Block → Type 0
+AllShown frames addrs keys blocks = AllByRecursion (Shown frames addrs keys) blocks
+
+abbrev pub is_nothing : Seen → Bool
+is_nothing Nothing = true
+is_nothing (Lines text) = false
+is_nothing (Sights kept) = false
+
+abbrev pub IsUnseen : Block → Type 0
+IsUnseen block = is_nothing block.seen ≡ true
+
+-- the keys that a look at a block finds: those of frames of which the lines are kept were found before
+abbrev pub new_leads : List Lead → Seen → List Lead
+new_leads found Nothing = found
+new_leads found (Lines text) = []
+new_leads found (Sights kept) = found
+
+abbrev pub fresh : List (ArrayVec ℕ) → List (Short × Eui) → List Key → Block → List Lead
+fresh frames addrs keys block = new_leads (leads block.first (found_in frames addrs keys block)) block.seen
+
+abbrev pub all_fresh : List (ArrayVec ℕ) → List (Short × Eui) → List Key → List Block → List Lead
+all_fresh frames addrs keys blocks = flat_map (fresh frames addrs keys) blocks
 
 -- the same frames
-pub record SameFrames (old new : Piece) : Type 0 where
-  pub number : new.number ≡ old.number
+pub record SameFrames (old new : Block) : Type 0 where
   pub first : new.first ≡ old.first
-  pub frames : new.frames.now ≡ old.frames.now
+  pub count : new.count ≡ old.count
 
--- the pieces are all frames of the capture, in their order
+-- a block that was looked at under the keys
+abbrev pub IsNext : List (ArrayVec ℕ) → List (Short × Eui) → List Key → Block → Block → Type 0
+IsNext frames addrs keys old new = SameFrames old new × Shown frames addrs keys new
+
+-- a piece whose blocks were looked at under the keys, with the keys that were found
+pub record IsNextPiece (frames : List (ArrayVec ℕ)) (addrs : List (Short × Eui)) (keys : List Key) (old new : Piece) : Type 0 where
+  pub number : new.number ≡ old.number
+  pub blocks : AllZip (IsNext frames addrs keys) old.blocks.items new.blocks.items
+  pub leads : new.leads.items ≡ all_fresh frames addrs keys old.blocks.items
+
+-- the blocks of the pieces are all frames of the capture, in their order
 pub record IsCut (c : Capture) (pieces : List Piece) : Type 0 where
-  pub frames : all_frames pieces ≡ c.frames
-  pub numbers : Numbered 1 pieces
+  pub numbers : Numbered 1 (all_blocks pieces)
+  pub count : count_of (all_blocks pieces) ≡ length c.frames
+
+-- the lines that a block keeps; those of pieces, one after the other
+abbrev pub lines_of : Seen → List ℕ
+lines_of Nothing = []
+lines_of (Lines text) = text.items
+lines_of (Sights kept) = []
+
+abbrev pub block_lines : Block → List ℕ
+block_lines block = lines_of block.seen
+
+abbrev pub blocks_lines : List Block → List ℕ
+blocks_lines blocks = flat_map block_lines blocks
+
+abbrev pub pieces_lines : List Piece → List ℕ
+pieces_lines pieces = flat_map (λ (piece : Piece). blocks_lines piece.blocks.items) pieces
+
+-- the lines of what is kept of frames, the first of which has the number `first`
+abbrev pub seen_text : ℕ → Seen → List ℕ
+seen_text first Nothing = []
+seen_text first (Lines text) = text.items
+seen_text first (Sights kept) = sights_text first kept.items
+
+-- the numbers of the frames are in their range
+abbrev pub HasRoom : ℕ → Seen → Type 0
+HasRoom first Nothing = Unit {0}
+HasRoom first (Lines text) = Unit {0}
+HasRoom first (Sights kept) = first + length kept.items < 2 ^ 32

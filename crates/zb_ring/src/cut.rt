@@ -1,55 +1,67 @@
-//! Cutting the frames of a capture into pieces.
-ghost use Rattle.std.specs.Prelude.{◌≡◌, ◌≤◌, length, IfOk};
-ghost use Rattle.zb_ring.specs.Pieces.{all_frames, Numbered, AllSee};
-ghost use Rattle.zb_base.specs.declared.address.Eui.{Eui as EuiValue};
-ghost use Rattle.zb_base.specs.declared.address.Short.{Short as ShortValue};
-ghost use Rattle.std.specs.Prelude.{List, []};
+//! Cutting the frames of a capture into pieces, and these into blocks.
+ghost use Rattle.std.specs.Prelude.{◌≡◌, ◌+◌, ◌≤◌, IfOk};
+ghost use Rattle.std.specs.List.{AllByRecursion};
+ghost use Rattle.zb_ring.specs.Pieces.{all_blocks, count_of, IsUnseen, Numbered};
 
+use crate::block::{BLOCK_FRAMES, Block, Seen};
 use crate::piece::Piece;
 use std::alloc::Global;
-use zb_base::{Frame, NoMemory};
+use zb_base::NoMemory;
 
-/// Cuts frames into consecutive pieces, at most as many as there are jobs, in which no frame was looked at yet. Each
-/// but the last has as many frames as there are for a job, rounded up.
-pub(crate) fn cut<'a>(
-    alloc: Global,
-    frames: &'a [Frame],
-    jobs: u32,
-) -> Result<Vec<Piece<'a>>, NoMemory>
+/// Cuts so many frames into consecutive pieces, at most as many as there are jobs, in which no frame was looked at yet.
+/// Each but the last has as many frames as there are for a job, rounded up.
+pub(crate) fn cut(alloc: Global, frames: u32, jobs: u32) -> Result<Vec<Piece>, NoMemory>
     requires jobs { 1 ≤ jobs }
-    requires frames { length frames.now ≤ 100000 }
-    ensures frames { IfOk result (λ v. all_frames v.items ≡ frames.now) }
-    ensures numbers { IfOk result (λ v. Numbered 1 v.items) }
-    ensures unseen { (addrs : List (ShortValue × EuiValue)) → IfOk result (λ v. AllSee addrs [] v.items) }
+    requires frames { frames ≤ 100000 }
+    ensures numbers { IfOk result (λ v. Numbered 1 (all_blocks v.items)) }
+    ensures count { IfOk result (λ v. count_of (all_blocks v.items) ≡ frames) }
+    ensures unseen { IfOk result (λ v. AllByRecursion IsUnseen (all_blocks v.items)) }
 {
-    let size = frames.len().div_ceil(jobs as usize);
+    let size = frames.div_ceil(jobs);
     let mut pieces = Vec::new(alloc);
     let mut number: u32 = 0;
-    let mut first: u32 = 1;
-    let mut rest = frames;
-    while !rest.is_empty() {
-        let (front, back) = rest.split_at(size.min(rest.len()));
-        pieces.push(unseen(alloc, number, first, front))?;
+    let mut done: u32 = 0;
+    while done < frames {
+        let count = size.min(frames - done);
+        pieces.push(unseen(alloc, number, done + 1, count)?)?;
         number += 1;
-        first += front.len() as u32;
-        rest = back;
+        done += count;
     }
     Ok(pieces)
 }
 
 /// A piece whose frames were not looked at yet.
-fn unseen<'a>(alloc: Global, number: u32, first: u32, frames: &'a [Frame]) -> Piece<'a>
-    ensures number { result.number ≡ number }
-    ensures first { result.first ≡ first }
-    ensures frames { result.frames.now ≡ frames.now }
-    ensures sights { result.sights.items ≡ [] }
-    ensures leads { result.leads.items ≡ [] }
+fn unseen(alloc: Global, number: u32, first: u32, count: u32) -> Result<Piece, NoMemory>
+    requires { first + count ≤ 100001 }
+    ensures numbers { IfOk result (λ p. Numbered first p.blocks.items) }
+    ensures count { IfOk result (λ p. count_of p.blocks.items ≡ count) }
+    ensures unseen { IfOk result (λ p. AllByRecursion IsUnseen p.blocks.items) }
 {
-    Piece {
+    let blocks = cut_blocks(alloc, first, count)?;
+    Ok(Piece {
         number,
-        first,
-        frames,
-        sights: Vec::new(alloc),
+        blocks,
         leads: Vec::new(alloc),
+    })
+}
+
+/// Cuts so many frames into blocks, where the first frame has the number `first`.
+fn cut_blocks(alloc: Global, first: u32, count: u32) -> Result<Vec<Block>, NoMemory>
+    requires { first + count ≤ 100001 }
+    ensures numbers { IfOk result (λ v. Numbered first v.items) }
+    ensures count { IfOk result (λ v. count_of v.items ≡ count) }
+    ensures unseen { IfOk result (λ v. AllByRecursion IsUnseen v.items) }
+{
+    let mut blocks = Vec::new(alloc);
+    let mut done: u32 = 0;
+    while done < count {
+        let size = BLOCK_FRAMES.min(count - done);
+        blocks.push(Block {
+            first: first + done,
+            count: size,
+            seen: Seen::Nothing,
+        })?;
+        done += size;
     }
+    Ok(blocks)
 }

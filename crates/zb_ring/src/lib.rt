@@ -5,12 +5,14 @@
 //! what comes out doesn't depend on how many pieces there are.
 #![tactic(auto)]
 
+mod block;
 mod cut;
 mod gate;
 mod piece;
 mod ring;
 mod rounds;
 
+pub use block::{Block, Seen};
 pub use gate::{Gate, OpenGate};
 pub use piece::Piece;
 pub use ring::{Lead, Ring, RingKey};

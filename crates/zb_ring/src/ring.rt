@@ -1,8 +1,9 @@
 //! The ring of keys as it grows.
 ghost use Rattle.std.specs.Prelude.{◌≡◌, [], IfOk};
-ghost use Rattle.zb_ring.specs.Rings.{has_key as has, learnt, given_from};
+ghost use Rattle.zb_ring.specs.Rings.{learnt, given_from};
 
 use std::alloc::Global;
+use std::collections::BTreeSet;
 use std::marker::Model;
 use zb_base::{Key, List, NoMemory};
 use zb_seal::Ciphers;
@@ -35,23 +36,27 @@ pub struct Lead {
 pub(crate) struct KeyRing {
     keys: Vec<RingKey>,
     ciphers: Vec<Ciphers>,
+    /// The same keys, so that a key is found among them by its order.
+    known: BTreeSet<Key>,
 }
 
 impl Model for KeyRing {
-    ghost use Rattle.std.specs.Prelude.{◌≡◌, List};
-    ghost use Rattle.zb_ring.specs.Rings.{keys_of};
+    ghost use Rattle.std.specs.Prelude.{◌≡◌, ℕ, List};
+    ghost use Rattle.zb_base.specs.declared.key.Key.{Key};
+    ghost use Rattle.zb_ring.specs.Rings.{has_key, keys_of};
+    ghost use Rattle.zb_ring.specs.Known.{is_known};
     ghost use Rattle.zb_ring.specs.declared.ring.RingKey.{RingKey};
 
     ghost Value = { List RingKey };
 
     ghost view = { λ r. r.keys.items };
 
-    ghost invariant = { λ r. r.ciphers.items ≡ keys_of r.keys.items };
+    ghost invariant = { λ r. (r.ciphers.items ≡ keys_of r.keys.items) × ((key : Key) → is_known r.known key ≡ has_key r.keys.items key) };
 }
 
 impl KeyRing {
     ghost use Rattle.std.specs.Prelude.{◌≡◌, [], length, IfOk};
-    ghost use Rattle.zb_ring.specs.Rings.{with_key, keys_of};
+    ghost use Rattle.zb_ring.specs.Rings.{has_key, with_key, keys_of};
 
     /// No keys.
     pub fn new(alloc: Global) -> KeyRing
@@ -60,23 +65,37 @@ impl KeyRing {
         KeyRing {
             keys: Vec::new(alloc),
             ciphers: Vec::new(alloc),
+            known: BTreeSet::new(alloc),
         }
+    }
+
+    /// Whether the ring has the key.
+    fn has(&self, key: &Key) -> bool
+        ensures { result ≡ has_key self.now key.now }
+    {
+        self.known.contains(key)
     }
 
     /// The ring with one key more, if that is new.
     pub fn with(self, key: Key, found: Option<(u32, u32)>) -> Result<KeyRing, NoMemory>
         ensures { IfOk result (λ r. r ≡ with_key self key found) }
     {
-        if has_key(self.keys.as_slice(), &key) {
+        if self.has(&key) {
             return Ok(self);
         }
         let KeyRing {
             mut keys,
             mut ciphers,
+            mut known,
         } = self;
+        known.insert(key)?;
         ciphers.push(Ciphers::new(&key))?;
         keys.push(RingKey { key, found })?;
-        Ok(KeyRing { keys, ciphers })
+        Ok(KeyRing {
+            keys,
+            ciphers,
+            known,
+        })
     }
 
     /// The keys, each with its sealing keys.
@@ -99,13 +118,6 @@ impl KeyRing {
     {
         List::from_vec(self.keys)
     }
-}
-
-/// Whether one of the keys is this one.
-fn has_key(keys: &[RingKey], key: &Key) -> bool
-    ensures { result ≡ has keys.now key.now }
-{
-    keys.iter().any(|known| known.key == *key)
 }
 
 /// The ring of given keys.

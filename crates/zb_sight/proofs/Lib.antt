@@ -1,2 +1,4 @@
 pub mod Trying
 pub mod MoreKeys
+pub mod SettledSights
+pub mod Noted

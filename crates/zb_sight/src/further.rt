@@ -7,15 +7,16 @@ ghost use Rattle.zb_nwk.specs.Reading as nwk_reading;
 ghost use Rattle.zb_sight.specs.Layers.{found_aps, tried};
 ghost use Rattle.zb_sight.specs.Sights.{payload_in, given_in, tunnelled, below, sight};
 
+use crate::addresses::Addresses;
 use crate::layer::{Finding, try_keys};
 use crate::sight::{Below, Sight, data_in, find_inner, sight_under, source_known, tunnelled};
-use zb_base::{Eui, Frame, Short};
+use zb_base::Frame;
 use zb_seal::Ciphers;
 
 /// What a frame shows under all keys, where `seen` is what it shows under the first `known` of them.
 #[tactic(auto, using(crate::proofs::MoreKeys::nwk_further, crate::proofs::MoreKeys::sight_further), unfolding(crate::specs::Sights::sight))]
 pub fn show_more(
-    addrs: &[(Short, Eui)],
+    addrs: &Addresses<'_>,
     keys: &[Ciphers],
     known: u32,
     frame: &Frame,
@@ -52,7 +53,7 @@ fn try_further(keys: &[Ciphers], known: u32, finding: Finding) -> Finding
 /// What the payload of a data frame shows under all keys, where it was known under the first `known`.
 #[tactic(auto, using(crate::proofs::MoreKeys::aps_further, crate::proofs::MoreKeys::below_further))]
 fn look_further(
-    addrs: &[(Short, Eui)],
+    addrs: &Addresses<'_>,
     keys: &[Ciphers],
     known: u32,
     frame: &Frame,
@@ -85,7 +86,7 @@ fn look_further(
 
 /// What the frame in a Tunnel shows, where the payload of a data frame is a Tunnel.
 fn look_inner(
-    addrs: &[(Short, Eui)],
+    addrs: &Addresses<'_>,
     keys: &[Ciphers],
     frame: &Frame,
     nwk: &Finding,

@@ -1,7 +1,7 @@
 //! One layer of a frame, and the keys that are tried on it.
 ghost use Rattle.std.specs.Prelude.{◌≡◌, ◌<◌, ◌≤◌, ◌+◌, ◌^◌, length, IfSome};
 ghost use Rattle.std.specs.Option.{option_copied};
-ghost use Rattle.zb_sight.specs.Layers.{looked, tried, opened_by, clear as clear_of};
+ghost use Rattle.zb_sight.specs.Layers.{looked, tried, opened_by, clear as clear_of, is_closed as closed};
 
 use zb_base::{Eui, Frame};
 use zb_seal::{Ciphers, Envelope, OpenError, Term};
@@ -85,5 +85,18 @@ pub(crate) fn clear<'a>(finding: &'a Finding, body: &'a Frame) -> Option<&'a [u8
         Finding::Malformed => None,
         Finding::NoSource => None,
         Finding::Closed { .. } => None,
+    }
+}
+
+/// Whether no key opened a secured layer.
+pub(crate) fn is_closed(finding: &Finding) -> bool
+    ensures { result ≡ closed finding.now }
+{
+    match finding {
+        Finding::Closed { .. } => true,
+        Finding::Malformed => false,
+        Finding::NotSecured => false,
+        Finding::NoSource => false,
+        Finding::Opened { .. } => false,
     }
 }

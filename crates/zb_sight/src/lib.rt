@@ -1,13 +1,19 @@
-//! What a frame shows under the keys of a ring: at each of its layers, what it is and which key opens it, and the keys
-//! that opened contents carry.
+//! What a frame shows under the keys of a ring: at each of its layers, what it is and which key opens it, the keys that
+//! opened contents carry, and the lines of a report on it.
 #![tactic(auto)]
 
+mod addresses;
 mod carried;
 mod further;
 mod layer;
+mod lines;
+mod settled;
 mod sight;
 
+pub use addresses::Addresses;
 pub use carried::{Carried, carried_keys};
 pub use further::show_more;
 pub use layer::Finding;
+pub use lines::put_sights;
+pub use settled::is_settled;
 pub use sight::{Below, Sight, show};

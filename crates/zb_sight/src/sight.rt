@@ -3,12 +3,13 @@ ghost use Rattle.std.specs.Prelude.{◌≡◌, ◌<◌, ◌≤◌, ◌^◌, leng
 ghost use Rattle.std.specs.Option.{option_map, option_copied};
 ghost use Rattle.zb_aps.specs.Reading as reading;
 ghost use Rattle.zb_nwk.specs.Reading as nwk_reading;
-ghost use Rattle.zb_sight.specs.Layers.{found_nwk, found_aps, is_closed};
-ghost use Rattle.zb_sight.specs.Sights.{source_known, addr_of, data_in, command_in, tunnelled, tunnel_of, below, sight_of, sight};
+ghost use Rattle.zb_sight.specs.Layers.{found_nwk, found_aps};
+ghost use Rattle.zb_sight.specs.Sights.{source_known, data_in, command_in, tunnelled, tunnel_of, below, sight_of, sight};
 
-use crate::layer::{Finding, clear, look, try_keys};
+use crate::addresses::Addresses;
+use crate::layer::{Finding, clear, is_closed, look, try_keys};
 use zb_aps::ApsFrame;
-use zb_base::{Eui, Frame, Short};
+use zb_base::{Eui, Frame};
 use zb_cmd::{Command, read_command};
 use zb_nwk::{NwkFrame, NwkHeader};
 use zb_seal::{Ciphers, look_aps, look_nwk};
@@ -31,9 +32,9 @@ pub struct Below {
     pub inner: Option<Finding>,
 }
 
-/// What a frame shows under the keys of a ring. `addrs` has the IEEE addresses of network addresses.
+/// What a frame shows under the keys of a ring. `addrs` has the IEEE addresses that are known.
 #[tactic(auto, unfolding(crate::specs::Sights::sight))]
-pub fn show(addrs: &[(Short, Eui)], keys: &[Ciphers], frame: &Frame) -> Sight
+pub fn show(addrs: &Addresses<'_>, keys: &[Ciphers], frame: &Frame) -> Sight
     requires { length keys.now < 2 ^ 32 }
     ensures { result ≡ sight addrs.now keys.now frame.now.items }
 {
@@ -44,7 +45,7 @@ pub fn show(addrs: &[(Short, Eui)], keys: &[Ciphers], frame: &Frame) -> Sight
 /// What a frame shows whose NWK layer is found to be this.
 #[tactic(auto, using(crate::proofs::MoreKeys::closed_sight))]
 pub(crate) fn sight_under(
-    addrs: &[(Short, Eui)],
+    addrs: &Addresses<'_>,
     keys: &[Ciphers],
     nwk: Finding,
     frame: &Frame,
@@ -58,19 +59,6 @@ pub(crate) fn sight_under(
     match zb_nwk::read(frame.as_slice()) {
         Err(_) => Sight { nwk, below: None },
         Ok(read) => look_below(addrs, keys, nwk, &read),
-    }
-}
-
-/// Whether no key opened a secured layer.
-fn is_closed(finding: &Finding) -> bool
-    ensures { result ≡ is_closed finding.now }
-{
-    match finding {
-        Finding::Closed { .. } => true,
-        Finding::Malformed => false,
-        Finding::NotSecured => false,
-        Finding::NoSource => false,
-        Finding::Opened { .. } => false,
     }
 }
 
@@ -90,7 +78,7 @@ fn find_aps(keys: &[Ciphers], given: Option<Eui>, bytes: &[u8]) -> Finding
     try_keys(look(look_aps(bytes), given), 0, keys)
 }
 
-fn look_below(addrs: &[(Short, Eui)], keys: &[Ciphers], nwk: Finding, frame: &NwkFrame) -> Sight
+fn look_below(addrs: &Addresses<'_>, keys: &[Ciphers], nwk: Finding, frame: &NwkFrame) -> Sight
     requires { length keys.now < 2 ^ 32 }
     ensures { result ≡ sight_of addrs.now keys.now nwk (Ok frame.now) }
 {
@@ -116,24 +104,13 @@ pub(crate) fn data_in<'a>(nwk: &'a Finding, frame: &'a NwkFrame) -> Option<&'a [
 }
 
 /// The source of an APS frame that names none: the IEEE address of the NWK source, where it is in the frame or known.
-pub(crate) fn source_known(addrs: &[(Short, Eui)], header: &NwkHeader) -> Option<Eui>
+pub(crate) fn source_known(addrs: &Addresses<'_>, header: &NwkHeader) -> Option<Eui>
     ensures { result ≡ source_known addrs.now header.now }
 {
     match header.source_eui {
         Some(eui) => Some(eui),
-        None => addr_of(addrs, header.source),
+        None => addrs.of(header.source),
     }
-}
-
-fn addr_of(addrs: &[(Short, Eui)], short: Short) -> Option<Eui>
-    ensures { result ≡ addr_of short addrs.now }
-{
-    for addr in addrs {
-        if addr.0.0 == short.0 {
-            return Some(addr.1);
-        }
-    }
-    None
 }
 
 fn show_payload(keys: &[Ciphers], given: Option<Eui>, payload: &[u8]) -> Below

@@ -1,26 +1,27 @@
-use Rattle.std.proofs.Common.{◌≡◌, ◌∙◌, ℕ, List, length, ap, subst}
+use Rattle.std.proofs.Common.{◌≡◌, ◌++◌, ◌∙◌, ℕ, List, length, ap, subst}
 use Rattle.std.specs.Io.KnownBytes.{Appends}
 use Rattle.zb_base.specs.Outside.{AppendsFront}
 use Rattle.arrayvec.specs.ArrayVec.{ArrayVec}
 use Rattle.std.proofs.lemmas.Result.{err_from_is_err_and}
+use Rattle.zb_ring.specs.Pieces.{pieces_lines}
 use Rattle.zb_ring.specs.Rings.{keys_of}
 use Rattle.zb_inspect.specs.Report.{report_of}
-use Rattle.zb_inspect.specs.Texts.{all_text}
-use Rattle.zb_inspect.proofs.Printed.{is_report, shown_fit}
+use Rattle.zb_inspect.proofs.Printed.{is_report, room_in_pieces}
 use Rattle.zb_inspect.proofs.reporting.report.Goals as goal
 use Rattle.zb_inspect.proofs.reporting.report.Goals.{After-write_all}
 
-pub print_report-requires-clause-fits : goal.print_report-requires-clause-fits
-print_report-requires-clause-fits g c κs within =
-    shown_fit c.args.capture.now (keys_of c.in_ok-opened.opened.ring.keys) c.in_ok-opened.opened.pieces.items c.requires.capture
+pub print_all-requires-after_bounds : goal.print_all-requires-after_bounds
+print_all-requires-after_bounds g c κs within =
+    room_in_pieces c.args.capture.now (keys_of c.in_ok-opened.opened.ring.keys) c.in_ok-opened.opened.pieces.items c.requires.capture
     c.in_ok-opened.ensures.pieces c.in_ok-opened.ensures.shown
 
--- the texts are the report
-reported : (g : _) (c : After-write_all g) → all_text c.as_slice-2.result.now ≡ report_of c.args.capture.now
+-- the lines that are written are the report
+reported : (g : _) (c : After-write_all g) → pieces_lines c.as_slice-2.result.now ++ c.as_slice-3.result.now ≡ report_of c.args.capture.now
 reported g c =
-    is_report c.args.capture.now c.in_ok-opened.opened.ring c.in_ok-opened.opened.pieces.items (length c.as_slice.result.now) (all_text c.as_slice-2.result.now)
+    is_report c.args.capture.now c.in_ok-opened.opened.ring c.in_ok-opened.opened.pieces.items (length c.as_slice.result.now)
+    (pieces_lines c.as_slice-2.result.now) c.as_slice-3.result.now
     c.in_ok-opened.ensures.ring c.in_ok-opened.ensures.pieces c.in_ok-opened.ensures.shown (ap (length {A = ArrayVec ℕ}) c.as_slice.ensures)
-    (ap all_text c.as_slice-2.ensures.value ∙ c.in_ok-texts.ensures)
+    (ap pieces_lines c.as_slice-2.ensures.value ∙ c.in_ok-pieces.ensures) (c.as_slice-3.ensures.value ∙ c.in_ok-tail.ensures)
 
 pub returns-in_err-write_all-clause-ends : goal.returns-in_err-write_all-clause-ends
 returns-in_err-write_all-clause-ends g c =

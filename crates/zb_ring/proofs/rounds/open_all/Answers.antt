@@ -1,36 +1,42 @@
 use Rattle.std.proofs.Common.{◌≡◌, ◌≢◌, ◌∙◌, ℕ, ◌+◌, ◌<◌, [], length, ap, sym, arith}
-use Rattle.arrayvec.specs.ArrayVec.{ArrayVec}
-use Rattle.zb_ring.specs.Pieces.{all_leads}
+use Rattle.zb_ring.specs.Pieces.{all_blocks, all_leads}
 use Rattle.zb_ring.specs.Rings.{given_from, learnt, ring_after}
 use Rattle.zb_ring.proofs.Bound.{ring_few, ring_is}
-use Rattle.zb_ring.proofs.PieceLists.{firsts_fit}
-use Rattle.zb_ring.proofs.RoundLaws.{Round, one_round, last_round, last_shown, another_first, another_seen, another_length}
+use Rattle.zb_ring.proofs.FreshLeads.{all_unlearnt}
+use Rattle.zb_ring.proofs.PieceLists.{all_unseen}
+use Rattle.zb_ring.proofs.RoundLaws.{Round, one_round, last_round, last_shown, another_first, another_seen, another_learnt, another_length, inside, ready}
 use Rattle.zb_ring.proofs.rounds.open_all.Goals as goal
 use Rattle.zb_ring.proofs.rounds.open_all.Goals.{In_ok-ring-2}
 
 pub rounds-init : goal.rounds-init
 unfolding ring_after
 rounds-init g c = record {
-  ring = c.in_ok-ring.ensures ∙ ap (given_from []) c.as_slice.ensures;
-  pieces = record { frames = c.in_ok-pieces.ensures.frames ∙ c.as_slice-2.ensures; numbers = c.in_ok-pieces.ensures.numbers };
+  ring = c.in_ok-ring.ensures ∙ ap (given_from []) c.as_slice-2.ensures;
+  pieces = record { numbers = c.in_ok-pieces.ensures.numbers; count = c.in_ok-pieces.ensures.count ∙ ap (length {A = _}) c.as_slice-frames.ensures };
   known = omega arith;
-  seen = c.in_ok-pieces.ensures.unseen c.args.capture.now.addrs;
-  few = ring_few c.args.capture.now 0 c.in_ok-ring.ring c.requires.capture (c.in_ok-ring.ensures ∙ ap (given_from []) c.as_slice.ensures);
+  seen = all_unseen c.args.capture.now.frames c.args.capture.now.addrs [] (all_blocks c.in_ok-pieces.pieces.items) c.in_ok-pieces.ensures.unseen;
+  learnt = all_unlearnt c.in_ok-ring.ring c.args.capture.now.frames c.args.capture.now.addrs [] (all_blocks c.in_ok-pieces.pieces.items) c.in_ok-pieces.ensures.unseen;
+  few = ring_few c.args.capture.now 0 c.in_ok-ring.ring c.requires.capture (c.in_ok-ring.ensures ∙ ap (given_from []) c.as_slice-2.ensures);
   grew = omega arith;
   first = λ n some within e. absurd (omega (arith, some, within));
 }
 
-pub look_at_all-requires-clause-numbers : goal.look_at_all-requires-clause-numbers
-look_at_all-requires-clause-numbers g c κs within =
-    firsts_fit 1 c.rounds.pieces.items c.rounds.invariant.pieces.numbers
-    (omega (arith, ap (length {A = ArrayVec ℕ}) c.rounds.invariant.pieces.frames, c.requires.capture.frames))
+pub look_at_all-requires-clause-within : goal.look_at_all-requires-clause-within
+look_at_all-requires-clause-within g c κs within =
+    inside c.args.capture.now c.rounds.pieces.items c.as_slice-frames.result.now c.as_slice-frames.ensures c.rounds.invariant.pieces
+
+pub look_at_all-requires-clause-before : goal.look_at_all-requires-clause-before
+look_at_all-requires-clause-before g c κs within =
+    ready c.args.capture.now c.rounds.known c.rounds.ring c.rounds.pieces.items c.as_slice-frames.result.now c.in_ok-addrs.addrs c.ciphers.result.now
+    c.as_slice-frames.ensures (c.in_ok-addrs.ensures ∙ c.as_slice.ensures) c.ciphers.ensures c.rounds.invariant.seen
 
 -- the round that was done
 done : (g : _) (c : In_ok-ring-2 g) → Round c.args.capture.now c.rounds.rounds c.rounds.ring c.in_ok-ring-2.ring c.in_ok-pieces-2.pieces.items
 done g c =
-    one_round c.args.capture.now c.rounds.rounds c.rounds.ring c.in_ok-ring-2.ring c.rounds.pieces.items c.in_ok-pieces-2.pieces.items
-    c.as_slice-addrs.result.now c.ciphers.result.now c.rounds.invariant.pieces c.in_ok-pieces-2.ensures.same c.as_slice-addrs.ensures c.ciphers.ensures
-    c.in_ok-pieces-2.ensures.shown c.rounds.invariant.ring
+    one_round c.args.capture.now c.rounds.rounds c.rounds.known c.rounds.ring c.in_ok-ring-2.ring c.rounds.pieces.items c.in_ok-pieces-2.pieces.items
+    c.as_slice-frames.result.now c.in_ok-addrs.addrs c.ciphers.result.now c.rounds.invariant.pieces c.in_ok-pieces-2.ensures c.as_slice-frames.ensures
+    (c.in_ok-addrs.ensures ∙ c.as_slice.ensures) c.ciphers.ensures c.rounds.invariant.known c.rounds.invariant.seen c.rounds.invariant.learnt
+    c.rounds.invariant.ring
     (c.in_ok-ring-2.ensures ∙ ap (λ ps. learnt (c.rounds.rounds + 1) c.rounds.ring (all_leads ps)) c.as_slice-in-rounds.ensures.value)
 
 pub returns-then-len-count-clause-rounds : goal.returns-then-len-count-clause-rounds
@@ -77,6 +83,7 @@ rounds-preserved g c =
       pieces = round.cut;
       known = omega (arith, more, c.len-count.ensures);
       seen = another_seen c.args.capture.now c.rounds.rounds c.len-count.result c.rounds.ring c.in_ok-ring-2.ring pieces round c.len-count.ensures;
+      learnt = another_learnt c.args.capture.now c.rounds.rounds c.len-count.result c.rounds.ring c.in_ok-ring-2.ring pieces round c.len-count.ensures;
       few = ring_few c.args.capture.now (c.rounds.rounds + 1) c.in_ok-ring-2.ring c.requires.capture round.after;
       grew = omega (arith, more, c.rounds.invariant.grew);
       first = another_first c.args.capture.now c.rounds.rounds c.rounds.ring c.in_ok-ring-2.ring pieces round c.rounds.invariant.first grew;

@@ -1,6 +1,7 @@
 use Rattle.std.proofs.Common.{◌≡◌, ◌≢◌, ℕ, ◌+◌, ◌-◌, ◌<◌, ◌≤◌, length, take}
-use Rattle.zb_ring.specs.Pieces.{AllSee, IsCut}
+use Rattle.zb_ring.specs.Pieces.{all_blocks, AllSee, IsCut}
 use Rattle.zb_ring.specs.Rings.{keys_of, ring_after}
+use Rattle.zb_ring.proofs.FreshLeads.{AllLearnt}
 use Rattle.zb_ring.proofs.rounds.open_all.Given as goal
 
 abbrev pub invariant-rounds : goal.invariant-rounds
@@ -8,7 +9,8 @@ invariant-rounds g l = record {
   ring : l.ring ≡ ring_after l.capture l.rounds;
   pieces : IsCut l.capture l.pieces.items;
   known : l.known ≤ length l.ring;
-  seen : AllSee l.capture.addrs (take l.known (keys_of l.ring)) l.pieces.items;
+  seen : AllSee l.capture.frames l.capture.addrs (take l.known (keys_of l.ring)) (all_blocks l.pieces.items);
+  learnt : AllLearnt l.ring l.capture.frames l.capture.addrs (take l.known (keys_of l.ring)) (all_blocks l.pieces.items);
   few : length l.ring ≤ 300256;
   grew : l.rounds ≤ length l.ring;
   first : (n : ℕ) → 0 < n → n < l.rounds + 1 → ring_after l.capture n ≢ ring_after l.capture (n - 1);

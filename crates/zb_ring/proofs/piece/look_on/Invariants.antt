@@ -1,6 +1,0 @@
-use Rattle.std.proofs.Common.{◌≡◌, ◌++◌, take, drop}
-use Rattle.zb_ring.specs.Rings.{sights}
-use Rattle.zb_ring.proofs.piece.look_on.Given as goal
-
-abbrev pub invariant-loop-frame : goal.invariant-loop-frame
-invariant-loop-frame l = l.seen.items ++ sights l.addrs l.keys (drop l.frame-index l.rest) ≡ sights l.addrs l.keys l.frames

@@ -1,0 +1,257 @@
+//! A few consecutive frames of a capture, and what they show.
+ghost use Rattle.std.specs.Prelude.{◌≡◌, ◌+◌, ◌<◌, ◌≤◌, ◌^◌, ◌++◌, [], length, take, vec_len, IfOk, OnOk};
+ghost use Rattle.std.specs.List.{list_all};
+ghost use Rattle.zb_sight.specs.Lines.{sights_text};
+ghost use Rattle.zb_sight.specs.Settling.{is_settled as settled};
+ghost use Rattle.zb_sight.specs.Sights.{sight};
+ghost use Rattle.zb_ring.specs.Rings.{lead_of, leads_of, leads as leads_in, sights as sights_of};
+ghost use Rattle.zb_ring.specs.Pieces.{SameFrames, IsWithin, StandsFor, Sees, Shown, fresh, frames_in};
+
+use crate::ring::Lead;
+use std::alloc::{AllocError, Global};
+use std::mem;
+use zb_base::{Frame, Key, NoMemory};
+use zb_seal::Ciphers;
+use zb_sight::{
+    Addresses, Carried, Finding, Sight, carried_keys, is_settled, put_sights, show, show_more,
+};
+
+/// The greatest number of frames of a block.
+pub(crate) const BLOCK_FRAMES: u32 = 32;
+
+/// What is kept of the frames of a block.
+#[derive(Drop)]
+pub enum Seen {
+    /// They weren't looked at yet.
+    Nothing,
+    /// Their lines in a report: no layer of any of them is closed, so further keys show no more.
+    Lines(Vec<u8>),
+    /// All that they show, since a layer of some of them is closed.
+    Sights(Vec<Sight>),
+}
+
+/// A few consecutive frames of a capture, and what they show under the keys that were tried on them.
+#[derive(Drop)]
+pub struct Block {
+    /// The number of the first frame, from 1.
+    pub first: u32,
+    /// How many frames there are.
+    pub count: u32,
+    pub seen: Seen,
+}
+
+/// Looks at a block of the frames of a capture under all keys, where it may have been looked at under the first `known`,
+/// and adds the keys that are found. Frames of which the lines are kept show no more, and their keys were found before.
+pub(crate) fn look_at(
+    alloc: Global,
+    frames: &[Frame],
+    addrs: &Addresses<'_>,
+    keys: &[Ciphers],
+    known: u32,
+    block: &mut Block,
+    leads: &mut Vec<Lead>,
+) -> Result<(), NoMemory>
+    requires known { known ≤ length keys.now }
+    requires keys { length keys.now < 2 ^ 32 }
+    requires frames { length frames.now ≤ 100000 }
+    requires within { IsWithin (length frames.now) block.old }
+    requires before { Sees frames.now addrs.now (take known keys.now) block.old }
+    ensures same { OnOk result (SameFrames block.old block.new) }
+    ensures shown { OnOk result (Shown frames.now addrs.now keys.now block.new) }
+    ensures leads { OnOk result (leads.new.items ≡ leads.old.items ++ fresh frames.now addrs.now keys.now block.old) }
+{
+    let own = own_frames(frames, block);
+    match mem::replace(&mut block.seen, Seen::Nothing) {
+        Seen::Nothing => {
+            let sights = show_all(alloc, addrs, keys, own)?;
+            keep(alloc, block, sights, leads)?;
+        }
+        Seen::Lines(lines) => block.seen = Seen::Lines(lines),
+        Seen::Sights(sights) => {
+            let sights = show_again(addrs, keys, known, own, sights);
+            keep(alloc, block, sights, leads)?;
+        }
+    }
+    Ok(())
+}
+
+/// The frames of a block, among those of a capture.
+fn own_frames<'a>(frames: &'a [Frame], block: &Block) -> &'a [Frame]
+    requires { IsWithin (length frames.now) block.now }
+    ensures frames { result.now ≡ frames_in frames.now block.now }
+    ensures count { length result.now ≡ block.now.count }
+{
+    let from = block.first as usize - 1;
+    &frames[from..from + block.count as usize]
+}
+
+/// What frames show.
+fn show_all(
+    alloc: Global,
+    addrs: &Addresses<'_>,
+    keys: &[Ciphers],
+    frames: &[Frame],
+) -> Result<Vec<Sight>, NoMemory>
+    requires { length keys.now < 2 ^ 32 }
+    ensures { IfOk result (λ v. v.items ≡ sights_of addrs.now keys.now frames.now) }
+{
+    let mut seen = Vec::with_capacity(alloc, frames.len())?;
+    for frame in frames {
+        seen.push(show(addrs, keys, frame))?;
+    }
+    Ok(seen)
+}
+
+/// What frames show under all keys, where it is known under the first `known`.
+fn show_again(
+    addrs: &Addresses<'_>,
+    keys: &[Ciphers],
+    known: u32,
+    frames: &[Frame],
+    seen: Vec<Sight>,
+) -> Vec<Sight>
+    requires within { known ≤ length keys.now }
+    requires fits { length keys.now < 2 ^ 32 }
+    requires before { seen.items ≡ sights_of addrs.now (take known keys.now) frames.now }
+    ensures { result.items ≡ sights_of addrs.now keys.now frames.now }
+{
+    let mut seen = seen;
+    refresh_all(addrs, keys, known, frames, seen.as_mut_slice());
+    seen
+}
+
+/// Looks again at frames that were looked at under the first `known` keys.
+fn refresh_all(
+    addrs: &Addresses<'_>,
+    keys: &[Ciphers],
+    known: u32,
+    frames: &[Frame],
+    seen: &mut [Sight],
+)
+    requires within { known ≤ length keys.now }
+    requires fits { length keys.now < 2 ^ 32 }
+    requires before { seen.old ≡ sights_of addrs.now (take known keys.now) frames.now }
+    ensures { seen.new ≡ sights_of addrs.now keys.now frames.now }
+{
+    for i in 0..frames.len() {
+        refresh(addrs, keys, known, &frames[i], &mut seen[i]);
+    }
+}
+
+fn refresh(addrs: &Addresses<'_>, keys: &[Ciphers], known: u32, frame: &Frame, seen: &mut Sight)
+    requires within { known ≤ length keys.now }
+    requires fits { length keys.now < 2 ^ 32 }
+    requires before { seen.old ≡ sight addrs.now (take known keys.now) frame.now.items }
+    ensures { seen.new ≡ sight addrs.now keys.now frame.now.items }
+{
+    let nothing = Sight {
+        nwk: Finding::Malformed,
+        below: None,
+    };
+    let before = mem::replace(seen, nothing);
+    *seen = show_more(addrs, keys, known, frame, before);
+}
+
+/// Keeps what the frames of a block show, and adds the keys that their opened contents carry.
+fn keep(
+    alloc: Global,
+    block: &mut Block,
+    sights: Vec<Sight>,
+    leads: &mut Vec<Lead>,
+) -> Result<(), AllocError>
+    requires { block.old.first + vec_len sights < 2 ^ 32 }
+    ensures same { OnOk result (SameFrames block.old block.new) }
+    ensures stands { OnOk result (StandsFor block.old.first sights.items block.new.seen) }
+    ensures leads { OnOk result (leads.new.items ≡ leads.old.items ++ leads_in block.old.first sights.items) }
+{
+    add_all_leads(leads, block.first, sights.as_slice())?;
+    block.seen = settle(alloc, block.first, sights)?;
+    Ok(())
+}
+
+/// The lines of frames of which no layer is closed, or else all that they show.
+fn settle(alloc: Global, first: u32, sights: Vec<Sight>) -> Result<Seen, AllocError>
+    requires { first + vec_len sights < 2 ^ 32 }
+    ensures { IfOk result (λ seen. StandsFor first sights.items seen) }
+{
+    if are_settled(sights.as_slice()) {
+        Ok(Seen::Lines(lines_of(alloc, first, sights.as_slice())?))
+    } else {
+        Ok(Seen::Sights(sights))
+    }
+}
+
+fn are_settled(sights: &[Sight]) -> bool
+    ensures { result ≡ list_all settled sights.now }
+{
+    sights.iter().all(|sight| is_settled(sight))
+}
+
+/// The lines of frames, the first of which has the number `first`.
+fn lines_of(alloc: Global, first: u32, sights: &[Sight]) -> Result<Vec<u8>, AllocError>
+    requires { first + length sights.now < 2 ^ 32 }
+    ensures { IfOk result (λ v. v.items ≡ sights_text first sights.now) }
+{
+    let mut lines = Vec::with_capacity(alloc, 4_096)?;
+    put_sights(&mut lines, first, sights)?;
+    Ok(lines)
+}
+
+/// Adds the keys that opened contents carry, in the order of the frames, and in a frame from the inside out.
+fn add_all_leads(found: &mut Vec<Lead>, first: u32, seen: &[Sight]) -> Result<(), AllocError>
+    requires { first + length seen.now < 2 ^ 32 }
+    ensures { OnOk result (found.new.items ≡ found.old.items ++ leads_in first seen.now) }
+{
+    let mut frame = first;
+    for sight in seen {
+        add_leads(found, frame, carried_keys(sight))?;
+        frame += 1;
+    }
+    Ok(())
+}
+
+#[tactic(auto, using(std::proofs::Common::append_assoc))]
+fn add_leads(found: &mut Vec<Lead>, frame: u32, carried: Carried) -> Result<(), AllocError>
+    ensures { OnOk result (found.new.items ≡ found.old.items ++ leads_of frame carried) }
+{
+    add_lead(found, frame, carried.inner)?;
+    add_lead(found, frame, carried.aps)?;
+    add_lead(found, frame, carried.nwk)?;
+    Ok(())
+}
+
+fn add_lead(found: &mut Vec<Lead>, frame: u32, key: Option<Key>) -> Result<(), AllocError>
+    ensures { OnOk result (found.new.items ≡ found.old.items ++ lead_of frame key) }
+{
+    if let Some(key) = key {
+        found.push(Lead { frame, key })?;
+    }
+    Ok(())
+}
+
+impl Block {
+    ghost use Rattle.std.specs.Prelude.{◌≡◌, OnOk};
+    ghost use Rattle.zb_ring.specs.Pieces.{HasRoom, block_lines, seen_text};
+
+    /// Keeps no more than the lines of the frames.
+    pub fn print(&mut self, alloc: Global) -> Result<(), AllocError>
+        requires { HasRoom self.old.first self.old.seen }
+        ensures { OnOk result (block_lines self.new ≡ seen_text self.old.first self.old.seen) }
+    {
+        if let Seen::Sights(sights) = &self.seen {
+            self.seen = Seen::Lines(lines_of(alloc, self.first, sights.as_slice())?);
+        }
+        Ok(())
+    }
+
+    /// The lines of the frames, where they are kept.
+    pub fn lines(&self) -> &[u8]
+        ensures { result.now ≡ block_lines self.now }
+    {
+        match &self.seen {
+            Seen::Nothing => &[],
+            Seen::Lines(lines) => lines.as_slice(),
+            Seen::Sights(_) => &[],
+        }
+    }
+}

@@ -1,0 +1,18 @@
+-- Frames of which further keys show no more.
+use Rattle.std.specs.Prelude.{◌&&◌, Bool, true, not, Option, Some, None}
+use Rattle.zb_sight.specs.Layers.{is_closed}
+use Rattle.zb_sight.specs.declared.layer.Finding.{Finding}
+use Rattle.zb_sight.specs.declared.sight.Below.{Below}
+use Rattle.zb_sight.specs.declared.sight.Sight.{Sight}
+
+abbrev pub inner_settled : Option Finding → Bool
+inner_settled None = true
+inner_settled (Some inner) = not (is_closed inner)
+
+abbrev pub below_settled : Option Below → Bool
+below_settled None = true
+below_settled (Some below) = not (is_closed below.aps) && inner_settled below.inner
+
+-- whether no layer of a frame is closed
+abbrev pub is_settled : Sight → Bool
+is_settled sight = not (is_closed sight.nwk) && below_settled sight.below

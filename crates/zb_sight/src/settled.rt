@@ -1,0 +1,31 @@
+//! Whether further keys could show more of a frame.
+ghost use Rattle.std.specs.Prelude.{◌≡◌};
+ghost use Rattle.zb_sight.specs.Settling.{is_settled as settled, below_settled as below_is, inner_settled as inner_is};
+
+use crate::layer::{Finding, is_closed};
+use crate::sight::{Below, Sight};
+
+/// Whether no layer of a frame is closed. Such a frame shows the same under any further keys.
+pub fn is_settled(sight: &Sight) -> bool
+    ensures { result ≡ settled sight.now }
+{
+    !is_closed(&sight.nwk) && below_settled(&sight.below)
+}
+
+fn below_settled(below: &Option<Below>) -> bool
+    ensures { result ≡ below_is below.now }
+{
+    match below {
+        None => true,
+        Some(below) => !is_closed(&below.aps) && inner_settled(&below.inner),
+    }
+}
+
+fn inner_settled(inner: &Option<Finding>) -> bool
+    ensures { result ≡ inner_is inner.now }
+{
+    match inner {
+        None => true,
+        Some(inner) => !is_closed(inner),
+    }
+}
