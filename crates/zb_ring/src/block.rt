@@ -17,7 +17,7 @@ use zb_sight::{
 };
 
 /// The greatest number of frames of a block.
-pub(crate) const BLOCK_FRAMES: u32 = 32;
+pub(crate) const BLOCK_FRAMES: u32 = 8;
 
 /// What is kept of the frames of a block.
 #[derive(Drop)]
@@ -144,6 +144,9 @@ fn refresh(addrs: &Addresses<'_>, keys: &[Ciphers], known: u32, frame: &Frame, s
     requires before { seen.old ≡ sight addrs.now (take known keys.now) frame.now.items }
     ensures { seen.new ≡ sight addrs.now keys.now frame.now.items }
 {
+    if is_settled(seen) {
+        return;
+    }
     let nothing = Sight {
         nwk: Finding::Malformed,
         below: None,
@@ -192,7 +195,7 @@ fn lines_of(alloc: Global, first: u32, sights: &[Sight]) -> Result<Vec<u8>, Allo
     requires { first + length sights.now < 2 ^ 32 }
     ensures { IfOk result (λ v. v.items ≡ sights_text first sights.now) }
 {
-    let mut lines = Vec::with_capacity(alloc, 4_096)?;
+    let mut lines = Vec::with_capacity(alloc, 128 * sights.len())?;
     put_sights(&mut lines, first, sights)?;
     Ok(lines)
 }
