@@ -116,7 +116,10 @@ impl Watch {
                 ..
             } => self.pair(alloc, *first, *second, *key),
             Line::Removed { device, .. } => self.remove(alloc, *device),
-            Line::Accept { term, .. } => self.accept(term),
+            Line::Accept { term, .. } => {
+                self.accept(term);
+                Ok(())
+            }
             Line::Seal { term, .. } => self.seal(alloc, term),
             Line::Forge { term, .. } => self.forge(alloc, term),
             _ => Ok(()),
@@ -202,11 +205,10 @@ impl Watch {
         Ok(())
     }
 
-    fn accept(&mut self, term: &Term) -> Result<(), NoMemory>
+    fn accept(&mut self, term: &Term)
         ensures { (tools : Tools) (h : List LogLine) (event node : ℕ) → Follows self.old self.new (accepted event node (sealing term.now)) h tools }
     {
         self.origins.accept(term);
-        Ok(())
     }
 
     fn seal(&mut self, alloc: Global, term: &Term) -> Result<(), NoMemory>
