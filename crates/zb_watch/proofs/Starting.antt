@@ -47,10 +47,6 @@ pub on_ok : {T E : Type 0} (r : Result T E) (P Q : Type 0) → (P → Q) → OnO
 on_ok (Ok x) P Q f p = f p
 on_ok (Err e) P Q f p = tt
 
-pub on_ok_all : {T E : Type 0} (r : Result T E) (P : Type 0) → P → OnOk r P
-on_ok_all (Ok x) P p = p
-on_ok_all (Err e) P p = tt
-
 pub private_is : (tools : Tools) (w : Watch) (h : List LogLine) → Stands tools w h → (w.exposure.based && not w.passing.passed_on) ≡ private tools h
 unfolding private
 private_is tools w h stands = rw (stands.based, stands.passed_on) refl

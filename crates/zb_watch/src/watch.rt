@@ -24,9 +24,20 @@ use zb_trace::Line;
 
 /// What is known of a transcript after the lines so far. A watch keeps no line.
 ///
-/// A line costs logarithmic work, but for two things that each happen once. Where a router or device takes a key in for the
-/// first time, either its link keys or the base keys under which the key was carried are looked through, whichever are
-/// fewer. And what comes out under a key that outsiders come to know is looked through, whenever that is.
+/// What it keeps stands in ordered maps and sets, so that a step, which looks a key, a node or a term up or puts it in,
+/// costs logarithmic work. A line takes a fixed number of steps, and those of two tasks:
+///
+/// - Where a key came from is asked the first time that a router or device takes that key in, and no more once the run
+///   isn't ideal. The node's link keys are looked up among the base keys under which the key was carried, or the other way
+///   round, whichever are fewer. Over a run these look-ups are at most as many as its routers and devices times its
+///   lines that carry a key, so with 63 of them at most 63 a line. A transcript of this program asks for at most 64 in
+///   any one line, since a router or device has at most 64 link rows, dropped ones among them.
+/// - What outsiders come to know is followed when they come to know it. Each key becomes known once, and what was carried
+///   under it is walked then. Over n lines that is at most 2n + 1 steps, but a single line, such as a removal, may take
+///   nearly all of them.
+///
+/// So in a network of at most 64 nodes a line costs logarithmic work, counted over the run and not for each line alone.
+/// A foreign transcript may declare more nodes: its n lines ask for at most n times the square root of n look-ups.
 #[derive(Drop)]
 pub struct Watch {
     pub nodes: Nodes,
@@ -105,7 +116,10 @@ impl Watch {
                 ..
             } => self.pair(alloc, *first, *second, *key),
             Line::Removed { device, .. } => self.remove(alloc, *device),
-            Line::Accept { term, .. } => self.accept(term),
+            Line::Accept { term, .. } => {
+                self.accept(term);
+                Ok(())
+            }
             Line::Seal { term, .. } => self.seal(alloc, term),
             Line::Forge { term, .. } => self.forge(alloc, term),
             _ => Ok(()),
@@ -191,11 +205,10 @@ impl Watch {
         Ok(())
     }
 
-    fn accept(&mut self, term: &Term) -> Result<(), NoMemory>
+    fn accept(&mut self, term: &Term)
         ensures { (tools : Tools) (h : List LogLine) (event node : ℕ) → Follows self.old self.new (accepted event node (sealing term.now)) h tools }
     {
         self.origins.accept(term);
-        Ok(())
     }
 
     fn seal(&mut self, alloc: Global, term: &Term) -> Result<(), NoMemory>

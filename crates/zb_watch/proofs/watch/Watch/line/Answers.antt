@@ -4,7 +4,7 @@ use Rattle.zb_trace.specs.Views.{logged, named, the_centre}
 use Rattle.zb_trace.specs.declared.line.Line.{Line}
 use Rattle.zb_watch.specs.Standing.{Follows}
 use Rattle.zb_watch.proofs.Effects.{quiet_follows}
-use Rattle.zb_watch.proofs.Starting.{on_ok, on_ok_all}
+use Rattle.zb_watch.proofs.Starting.{on_ok}
 use Rattle.zb_watch.proofs.watch.Watch.line.Goals as goal
 
 pub returns-in-Node : goal.returns-in-Node
@@ -69,8 +69,7 @@ returns-in-Forge c =
 
 pub returns-in-Accept : goal.returns-in-Accept
 returns-in-Accept c =
-    on_ok_all c.accept.result _
-    (λ tools h. subst (λ (l : Line). Follows c.args.self.now c.accept.new.self (logged (stations_of h) l) h tools) (sym c.in-Accept.is) (c.accept.ensures tools h c.in-Accept.event (named (stations_of h) c.in-Accept.node.bytes)))
+    λ tools h. subst (λ (l : Line). Follows c.args.self.now c.accept.new.self (logged (stations_of h) l) h tools) (sym c.in-Accept.is) (c.accept.ensures tools h c.in-Accept.event (named (stations_of h) c.in-Accept.node.bytes))
 
 pub returns-in_default : goal.returns-in_default
 returns-in_default c =
