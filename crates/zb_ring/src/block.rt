@@ -233,13 +233,15 @@ fn add_lead(found: &mut Vec<Lead>, frame: u32, key: Option<Key>) -> Result<(), A
 }
 
 impl Block {
-    ghost use Rattle.std.specs.Prelude.{◌≡◌, OnOk};
-    ghost use Rattle.zb_ring.specs.Pieces.{HasRoom, block_lines, seen_text};
+    ghost use Rattle.std.specs.Prelude.{◌≡◌, OnErr, OnOk};
+    ghost use Rattle.zb_ring.specs.Pieces.{HasRoom, SameFrames, block_lines, seen_text};
 
-    /// Keeps no more than the lines of the frames.
+    /// Keeps no more than the lines of the frames. Where memory is wanting, all stays as it was.
     pub fn print(&mut self, alloc: Global) -> Result<(), AllocError>
         requires { HasRoom self.old.first self.old.seen }
-        ensures { OnOk result (block_lines self.new ≡ seen_text self.old.first self.old.seen) }
+        ensures lines { OnOk result (block_lines self.new ≡ seen_text self.old.first self.old.seen) }
+        ensures same { SameFrames self.old self.new }
+        ensures kept { OnErr result (self.new ≡ self.old) }
     {
         if let Seen::Sights(sights) = &self.seen {
             self.seen = Seen::Lines(lines_of(alloc, self.first, sights.as_slice())?);
