@@ -4,4 +4,5 @@ pub mod LineCuts
 pub mod NameLemmas
 pub mod NumberLemmas
 pub mod Pairs
+pub mod Places
 pub mod ReadAgain

@@ -129,8 +129,9 @@ pub(crate) fn cut(text: &[u8], separator: u8) -> Option<(&[u8], &[u8])>
     Some((front, &rest[1..]))
 }
 
+#[tactic(auto, using(crate::proofs::Places::first_place))]
 fn place(text: &[u8], separator: u8) -> Option<usize>
     ensures { result ≡ position (λ byte. byte == separator) text.now }
 {
-    text.iter().position(|byte| *byte == separator)
+    memchr::memchr(separator, text)
 }
