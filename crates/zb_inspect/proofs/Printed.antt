@@ -1,5 +1,5 @@
 -- The lines of blocks are those of all frames.
-use Rattle.std.proofs.Common.{◌≡◌, ℕ, zero, suc, ◌+◌, ◌<◌, ◌≤◌, List, [], ◌∷◌, ◌++◌, length, get_or, take, drop, add-one, Option, Some, None, Result, Ok, Err, OnErr, refl, ap, sym, ◌∙◌, subst, arith, append_assoc, append-nil, add-zero}
+use Rattle.std.proofs.Common.{◌≡◌, ℕ, zero, suc, ◌+◌, ◌<◌, ◌≤◌, List, [], ◌∷◌, ◌++◌, length, get_or, take, drop, add-one, Option, Result, Ok, Err, OnErr, refl, ap, sym, ◌∙◌, subst, arith, append_assoc, append-nil}
 use Rattle.std.specs.List.{AllByRecursion, AllZip, flat_map}
 use Rattle.std.specs.Io.KnownBytes.{Appends}
 use Rattle.std.specs.Prelude.{slice_set}
@@ -13,7 +13,7 @@ use Rattle.zb_base.specs.declared.address.Short.{Short}
 use Rattle.zb_base.specs.declared.key.Key.{Key}
 use Rattle.zb_capture.specs.Grammar.{IsCapture}
 use Rattle.zb_capture.specs.declared.capture.Capture.{Capture}
-use Rattle.zb_sight.specs.Lines.{sight_text, sights_text}
+use Rattle.zb_sight.specs.Lines.{sights_text}
 use Rattle.zb_sight.specs.declared.sight.Sight.{Sight}
 use Rattle.zb_ring.specs.Pieces.{all_blocks, all_frames, block_lines, blocks_lines, pieces_lines, frames_in, found_in, seen_text, HasRoom, StandsFor, Numbered, AllShown, IsCut, IsWithin}
 use Rattle.zb_ring.specs.Rings.{keys_of, sights, ring_of}
@@ -22,18 +22,11 @@ use Rattle.zb_ring.specs.declared.block.Seen.{Seen}
 use Rattle.zb_ring.specs.declared.block.Seen.TheVariants.{Nothing, Lines, Sights}
 use Rattle.zb_ring.specs.declared.piece.Piece.{Piece}
 use Rattle.zb_ring.specs.declared.ring.Ring.{Ring}
+use Rattle.zb_ring.proofs.JoinLaws.{sights_append}
 use Rattle.zb_ring.proofs.Lists.{Half, half_get, half_more, all_at}
 use Rattle.zb_ring.proofs.PieceLists.{frames_count, in_pieces, whole_frames, within_cut}
 use Rattle.zb_inspect.specs.Report.{tail_text, report_text, report_of}
 use Rattle.zb_inspect.specs.Texts.{block_text, blocks_text, BlockHasRoom, HaveRoom}
-
-sights_append : (frame : ℕ) (xs ys : List Sight) → sights_text frame (xs ++ ys) ≡ sights_text frame xs ++ sights_text (frame + length xs) ys
-sights_append frame [] ys = ap (λ n. sights_text n ys) (sym (add-zero frame))
-sights_append frame (x ∷ xs) ys =
-    let first = sight_text frame x in
-    ap (λ zs. first ++ zs) (sights_append (frame + 1) xs ys)
-    ∙ sym (append_assoc first (sights_text (frame + 1) xs) (sights_text (frame + 1 + length xs) ys))
-    ∙ ap (λ n. first ++ sights_text (frame + 1) xs ++ sights_text n ys) (omega arith)
 
 -- Blocks that are printed, in their pieces
 

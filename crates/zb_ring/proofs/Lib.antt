@@ -4,6 +4,8 @@ pub mod CutLaws
 pub mod RingLaws
 pub mod FreshLeads
 pub mod BlockLaws
+pub mod JoinLaws
+pub mod PieceLaws
 pub mod RoundLaws
 pub mod Growth
 pub mod Bound

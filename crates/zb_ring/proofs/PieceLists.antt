@@ -10,7 +10,7 @@ use Rattle.zb_base.specs.declared.key.Key.{Key}
 use Rattle.zb_capture.specs.declared.capture.Capture.{Capture}
 use Rattle.zb_sight.specs.Carrying.{keys_carried}
 use Rattle.zb_sight.specs.declared.sight.Sight.{Sight}
-use Rattle.zb_ring.specs.Pieces.{all_blocks, all_frames, all_leads, all_fresh, count_of, frames_in, fresh, found_in, IsCut, IsWithin, Numbered, StandsFor, MayStandFor, Sees, AllSee, AllShown, IsUnseen, is_nothing, IsNext, IsNextPiece}
+use Rattle.zb_ring.specs.Pieces.{all_blocks, all_frames, all_leads, all_fresh, count_of, frames_in, fresh, found_in, IsCut, IsWithin, Numbered, StandsFor, MayStandFor, Sees, AllSee, Shown, AllShown, IsUnseen, is_nothing, IsNext, IsNextPiece}
 use Rattle.zb_ring.specs.Rings.{leads, leads_of, learnt, with_key}
 use Rattle.zb_ring.specs.declared.block.Block.{Block}
 use Rattle.zb_ring.specs.declared.block.Seen.{Seen}
@@ -18,7 +18,7 @@ use Rattle.zb_ring.specs.declared.block.Seen.TheVariants.{Nothing, Lines, Sights
 use Rattle.zb_ring.specs.declared.piece.Piece.{Piece}
 use Rattle.zb_ring.specs.declared.ring.Lead.{Lead}
 use Rattle.zb_ring.specs.declared.ring.RingKey.{RingKey}
-use Rattle.zb_ring.proofs.Lists.{all_front, all_back, zip_append}
+use Rattle.zb_ring.proofs.Lists.{all_append, all_front, all_back}
 
 -- the first of the pieces that are left
 first_left : (pieces : List Piece) (i : ℕ) (p : Piece) → i < length pieces → p ≡ get_or pieces i p → drop i pieces ≡ p ∷ drop (i + 1) pieces
@@ -58,13 +58,13 @@ nothing_more m = omega arith
 one_later : (n m : ℕ) → suc (n + m) ≡ suc n + m
 one_later n m = omega arith
 
-take_more : {A : Type 0} (xs : List A) (n m : ℕ) → take n xs ++ take m (drop n xs) ≡ take (n + m) xs
+pub take_more : {A : Type 0} (xs : List A) (n m : ℕ) → take n xs ++ take m (drop n xs) ≡ take (n + m) xs
 take_more [] zero m = ap (λ k. take k []) (nothing_more m)
 take_more [] (suc n) m = take_none m ∙ sym (take_none (suc n + m))
 take_more (x ∷ xs) zero m = ap (λ k. take k (x ∷ xs)) (nothing_more m)
 take_more (x ∷ xs) (suc n) m = ap (λ zs. x ∷ zs) (take_more xs n m) ∙ ap (λ k. take k (x ∷ xs)) (one_later n m)
 
-drop_more : {A : Type 0} (xs : List A) (n m : ℕ) → drop m (drop n xs) ≡ drop (n + m) xs
+pub drop_more : {A : Type 0} (xs : List A) (n m : ℕ) → drop m (drop n xs) ≡ drop (n + m) xs
 drop_more [] zero m = ap (λ k. drop k []) (nothing_more m)
 drop_more [] (suc n) m = drop_none m ∙ sym (drop_none (suc n + m))
 drop_more (x ∷ xs) zero m = ap (λ k. drop k (x ∷ xs)) (nothing_more m)
@@ -104,16 +104,50 @@ pub in_pieces : (P : Block → Type 0) (pieces : List Piece) → AllByRecursion 
 in_pieces P [] all = tt
 in_pieces P (p ∷ pieces) all = (all_front P p.blocks.items (all_blocks pieces) all, in_pieces P pieces (all_back P p.blocks.items (all_blocks pieces) all))
 
-pub zip_in_pieces : (frames : List (ArrayVec ℕ)) (addrs : List (Short × Eui)) (keys : List Key) (old new : List Piece) → AllZip (IsNextPiece frames addrs keys) old new
-    → AllZip (IsNext frames addrs keys) (all_blocks old) (all_blocks new)
-zip_in_pieces frames addrs keys [] [] all = tt
-zip_in_pieces frames addrs keys [] (p ∷ new) all = absurd all
-zip_in_pieces frames addrs keys (q ∷ old) [] all = absurd all
-zip_in_pieces frames addrs keys (q ∷ old) (p ∷ new) all =
-    zip_append (IsNext frames addrs keys) q.blocks.items p.blocks.items (all_blocks old) (all_blocks new) all.0.blocks (zip_in_pieces frames addrs keys old new all.1)
+pub numbered_front : (frame : ℕ) (xs ys : List Block) → Numbered frame (xs ++ ys) → Numbered frame xs
+numbered_front frame [] ys numbers = tt
+numbered_front frame (x ∷ xs) ys numbers = (numbers.0, numbered_front (frame + x.count) xs ys numbers.1)
 
-pub led : (frames : List (ArrayVec ℕ)) (addrs : List (Short × Eui)) (keys : List Key) (old new : List Piece) → AllZip (IsNextPiece frames addrs keys) old new
-    → all_leads new ≡ all_fresh frames addrs keys (all_blocks old)
+pub numbered_back : (frame : ℕ) (xs ys : List Block) → Numbered frame (xs ++ ys) → Numbered (frame + count_of xs) ys
+numbered_back frame [] ys numbers = let P : ℕ → Type 0 = λ n. Numbered n ys in subst P (sym (add-zero frame)) numbers
+numbered_back frame (x ∷ xs) ys numbers =
+    let P : ℕ → Type 0 = λ n. Numbered n ys in subst P (omega arith) (numbered_back (frame + x.count) xs ys numbers.1)
+
+pub pieces_numbers : (frames : List (ArrayVec ℕ)) (addrs : List (Short × Eui)) (keys : List Key) (frame : ℕ) (old new : List Piece)
+    → AllZip (IsNextPiece frames addrs keys) old new → Numbered frame (all_blocks old) → Numbered frame (all_blocks new)
+pieces_numbers frames addrs keys frame [] [] all numbers = tt
+pieces_numbers frames addrs keys frame [] (p ∷ new) all numbers = absurd all
+pieces_numbers frames addrs keys frame (q ∷ old) [] all numbers = absurd all
+pieces_numbers frames addrs keys frame (q ∷ old) (p ∷ new) all numbers =
+    let P : ℕ → Type 0 = λ n. Numbered (frame + n) (all_blocks new) in
+    numbered_append frame p.blocks.items (all_blocks new) (all.0.numbers frame (numbered_front frame q.blocks.items (all_blocks old) numbers))
+    (subst P (sym all.0.count)
+    (pieces_numbers frames addrs keys (frame + count_of q.blocks.items) old new all.1 (numbered_back frame q.blocks.items (all_blocks old) numbers)))
+
+pub pieces_counts : (frames : List (ArrayVec ℕ)) (addrs : List (Short × Eui)) (keys : List Key) (old new : List Piece)
+    → AllZip (IsNextPiece frames addrs keys) old new → count_of (all_blocks new) ≡ count_of (all_blocks old)
+pieces_counts frames addrs keys [] [] all = refl
+pieces_counts frames addrs keys [] (p ∷ new) all = absurd all
+pieces_counts frames addrs keys (q ∷ old) [] all = absurd all
+pieces_counts frames addrs keys (q ∷ old) (p ∷ new) all =
+    omega (
+      arith,
+      counts_append p.blocks.items (all_blocks new),
+      counts_append q.blocks.items (all_blocks old),
+      all.0.count,
+      pieces_counts frames addrs keys old new all.1,
+    )
+
+pub pieces_shown : (frames : List (ArrayVec ℕ)) (addrs : List (Short × Eui)) (keys : List Key) (old new : List Piece)
+    → AllZip (IsNextPiece frames addrs keys) old new → AllShown frames addrs keys (all_blocks new)
+pieces_shown frames addrs keys [] [] all = tt
+pieces_shown frames addrs keys [] (p ∷ new) all = absurd all
+pieces_shown frames addrs keys (q ∷ old) [] all = absurd all
+pieces_shown frames addrs keys (q ∷ old) (p ∷ new) all =
+    all_append (Shown frames addrs keys) p.blocks.items (all_blocks new) all.0.shown (pieces_shown frames addrs keys old new all.1)
+
+pub led : (frames : List (ArrayVec ℕ)) (addrs : List (Short × Eui)) (keys : List Key) (old new : List Piece)
+    → AllZip (IsNextPiece frames addrs keys) old new → all_leads new ≡ all_fresh frames addrs keys (all_blocks old)
 led frames addrs keys [] [] all = refl
 led frames addrs keys [] (p ∷ new) all = absurd all
 led frames addrs keys (q ∷ old) [] all = absurd all

@@ -13,7 +13,7 @@ use Rattle.zb_ring.specs.declared.piece.Piece.{Piece}
 use Rattle.zb_ring.specs.declared.ring.RingKey.{RingKey}
 use Rattle.zb_ring.proofs.Bound.{AllKnown, all_known}
 use Rattle.zb_ring.proofs.FreshLeads.{AllLearnt, fresh_learnt, learnt_blocks}
-use Rattle.zb_ring.proofs.PieceLists.{in_pieces, led, next_shown, same_counts, same_numbers, shown_seen, whole_frames, within_cut, zip_in_pieces}
+use Rattle.zb_ring.proofs.PieceLists.{in_pieces, led, pieces_counts, pieces_numbers, pieces_shown, shown_seen, whole_frames, within_cut}
 use Rattle.zb_ring.proofs.RingLaws.{first_keys, not_shorter, unchanged}
 
 nat_split : (n m : ℕ) → n < m + 1 → (n < m) ⊎ (n ≡ m)
@@ -70,7 +70,6 @@ pub one_round : (c : Capture) (rounds known : ℕ) (ring new : List RingKey) (ol
     → ring ≡ ring_after c rounds → new ≡ learnt (rounds + 1) ring (all_leads pieces) → Round c rounds ring new pieces
 one_round c rounds known ring new old pieces frames addrs keys cut all f a k within seen known_ones before next =
     let zipped = next_as frames c.frames addrs c.addrs keys (keys_of ring) old pieces f a k all in
-    let blocks = zip_in_pieces c.frames c.addrs (keys_of ring) old pieces zipped in
     let learns : new ≡ learnt (rounds + 1) ring (leads 1 (sights c.addrs (keys_of ring) c.frames)) =
     next ∙ ap (learnt (rounds + 1) ring) (led c.frames c.addrs (keys_of ring) old pieces zipped)
     ∙ fresh_learnt (rounds + 1) c.frames c.addrs (keys_of ring) known 1 (all_blocks old) ring (omega (arith, within, length-map ring (λ (r : RingKey). r.key)))
@@ -78,10 +77,10 @@ one_round c rounds known ring new old pieces frames addrs keys cut all f a k wit
     ∙ ap (λ fs. learnt (rounds + 1) ring (leads 1 (sights c.addrs (keys_of ring) fs))) (whole_frames c old cut) in
     record {
       cut = record {
-        numbers = same_numbers c.frames c.addrs (keys_of ring) 1 (all_blocks old) (all_blocks pieces) blocks cut.numbers;
-        count = same_counts c.frames c.addrs (keys_of ring) (all_blocks old) (all_blocks pieces) blocks ∙ cut.count;
+        numbers = pieces_numbers c.frames c.addrs (keys_of ring) 1 old pieces zipped cut.numbers;
+        count = pieces_counts c.frames c.addrs (keys_of ring) old pieces zipped ∙ cut.count;
       };
-      shown = next_shown c.frames c.addrs (keys_of ring) (all_blocks old) (all_blocks pieces) blocks;
+      shown = pieces_shown c.frames c.addrs (keys_of ring) old pieces zipped;
       before = before;
       next = learns;
       after = round_ends c rounds ring new before learns;

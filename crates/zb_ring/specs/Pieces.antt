@@ -1,5 +1,5 @@
 -- Frames that are cut into consecutive pieces of work, and these into blocks.
-use Rattle.std.specs.Prelude.{◌≡◌, ℕ, ◌+◌, ◌-◌, ◌<◌, ◌≤◌, ◌^◌, List, [], ◌∷◌, length, take, drop, Bool, true, false}
+use Rattle.std.specs.Prelude.{◌≡◌, ℕ, ◌+◌, ◌-◌, ◌<◌, ◌≤◌, ◌^◌, List, [], ◌∷◌, ◌++◌, length, take, drop, Bool, true, false}
 use Rattle.std.specs.List.{AllByRecursion, AllZip, flat_map, list_all}
 use Rattle.arrayvec.specs.ArrayVec.{ArrayVec}
 use Rattle.zb_base.specs.declared.address.Eui.{Eui}
@@ -103,11 +103,17 @@ pub record SameFrames (old new : Block) : Type 0 where
 abbrev pub IsNext : List (ArrayVec ℕ) → List (Short × Eui) → List Key → Block → Block → Type 0
 IsNext frames addrs keys old new = SameFrames old new × Shown frames addrs keys new
 
--- a piece whose blocks were looked at under the keys, with the keys that were found
+-- A piece that was looked at under the keys, with the keys that were found. It has the same frames, in the same blocks or in others.
 pub record IsNextPiece (frames : List (ArrayVec ℕ)) (addrs : List (Short × Eui)) (keys : List Key) (old new : Piece) : Type 0 where
   pub number : new.number ≡ old.number
-  pub blocks : AllZip (IsNext frames addrs keys) old.blocks.items new.blocks.items
+  pub numbers : (frame : ℕ) → Numbered frame old.blocks.items → Numbered frame new.blocks.items
+  pub count : count_of new.blocks.items ≡ count_of old.blocks.items
+  pub shown : AllShown frames addrs keys new.blocks.items
   pub leads : new.leads.items ≡ all_fresh frames addrs keys old.blocks.items
+
+-- so many frames of a capture, of which the first has the number `first`
+abbrev pub frames_from : List (ArrayVec ℕ) → ℕ → ℕ → List (ArrayVec ℕ)
+frames_from frames first count = take count (drop (first - 1) frames)
 
 -- the blocks of the pieces are all frames of the capture, in their order
 pub record IsCut (c : Capture) (pieces : List Piece) : Type 0 where
@@ -140,3 +146,29 @@ abbrev pub HasRoom : ℕ → Seen → Type 0
 HasRoom first Nothing = Unit {0}
 HasRoom first (Lines text) = Unit {0}
 HasRoom first (Sights kept) = first + length kept.items < 2 ^ 32
+
+-- whether lines are kept
+abbrev pub has_lines : Seen → Bool
+has_lines Nothing = false
+has_lines (Lines text) = true
+has_lines (Sights kept) = false
+
+-- one block of two, with the lines of both
+pub record AreJoined (front back joined : Block) : Type 0 where
+  pub first : joined.first ≡ front.first
+  pub count : joined.count ≡ front.count + back.count
+  pub kept : has_lines joined.seen ≡ true
+  pub lines : lines_of joined.seen ≡ lines_of front.seen ++ lines_of back.seen
+
+-- A block behind others, of which it may have become a part: what was shown of all of them still is.
+pub record IsAdded (old : List Block) (block : Block) (new : List Block) : Type 0 where
+  pub numbers : (frame : ℕ) → Numbered frame (old ++ block ∷ []) → Numbered frame new
+  pub count : count_of new ≡ count_of (old ++ block ∷ [])
+  pub shown : (frames : List (ArrayVec ℕ)) (addrs : List (Short × Eui)) (keys : List Key) (frame : ℕ) → 1 ≤ frame → Numbered frame (old ++ block ∷ [])
+      → frame + count_of (old ++ block ∷ []) ≤ length frames + 1 → AllShown frames addrs keys (old ++ block ∷ []) → AllShown frames addrs keys new
+
+-- one block that was not looked at, of these frames
+abbrev pub IsOneUnseen : List Block → ℕ → ℕ → Type 0
+IsOneUnseen [] first count = ⊥
+IsOneUnseen (block ∷ []) first count = (is_nothing block.seen ≡ true) × (block.first ≡ first) × (block.count ≡ count)
+IsOneUnseen (block ∷ other ∷ more) first count = ⊥

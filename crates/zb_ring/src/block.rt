@@ -16,9 +16,6 @@ use zb_sight::{
     Addresses, Carried, Finding, Sight, carried_keys, is_settled, put_sights, show, show_more,
 };
 
-/// The greatest number of frames of a block.
-pub(crate) const BLOCK_FRAMES: u32 = 8;
-
 /// What is kept of the frames of a block.
 #[derive(Drop)]
 pub enum Seen {

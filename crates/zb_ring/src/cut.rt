@@ -1,9 +1,9 @@
-//! Cutting the frames of a capture into pieces, and these into blocks.
+//! Cutting the frames of a capture into pieces.
 ghost use Rattle.std.specs.Prelude.{◌≡◌, ◌+◌, ◌≤◌, IfOk};
 ghost use Rattle.std.specs.List.{AllByRecursion};
 ghost use Rattle.zb_ring.specs.Pieces.{all_blocks, count_of, IsUnseen, Numbered};
 
-use crate::block::{BLOCK_FRAMES, Block, Seen};
+use crate::block::{Block, Seen};
 use crate::piece::Piece;
 use std::alloc::Global;
 use zb_base::NoMemory;
@@ -30,38 +30,21 @@ pub(crate) fn cut(alloc: Global, frames: u32, jobs: u32) -> Result<Vec<Piece>, N
     Ok(pieces)
 }
 
-/// A piece whose frames were not looked at yet.
+/// A piece whose frames were not looked at yet: one block.
 fn unseen(alloc: Global, number: u32, first: u32, count: u32) -> Result<Piece, NoMemory>
-    requires { first + count ≤ 100001 }
     ensures numbers { IfOk result (λ p. Numbered first p.blocks.items) }
     ensures count { IfOk result (λ p. count_of p.blocks.items ≡ count) }
     ensures unseen { IfOk result (λ p. AllByRecursion IsUnseen p.blocks.items) }
 {
-    let blocks = cut_blocks(alloc, first, count)?;
+    let mut blocks = Vec::new(alloc);
+    blocks.push(Block {
+        first,
+        count,
+        seen: Seen::Nothing,
+    })?;
     Ok(Piece {
         number,
         blocks,
         leads: Vec::new(alloc),
     })
-}
-
-/// Cuts so many frames into blocks, where the first frame has the number `first`.
-fn cut_blocks(alloc: Global, first: u32, count: u32) -> Result<Vec<Block>, NoMemory>
-    requires { first + count ≤ 100001 }
-    ensures numbers { IfOk result (λ v. Numbered first v.items) }
-    ensures count { IfOk result (λ v. count_of v.items ≡ count) }
-    ensures unseen { IfOk result (λ v. AllByRecursion IsUnseen v.items) }
-{
-    let mut blocks = Vec::new(alloc);
-    let mut done: u32 = 0;
-    while done < count {
-        let size = BLOCK_FRAMES.min(count - done);
-        blocks.push(Block {
-            first: first + done,
-            count: size,
-            seen: Seen::Nothing,
-        })?;
-        done += size;
-    }
-    Ok(blocks)
 }

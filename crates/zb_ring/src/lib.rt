@@ -7,6 +7,7 @@
 
 mod block;
 mod cut;
+mod first;
 mod gate;
 mod piece;
 mod ring;
