@@ -1,5 +1,5 @@
 -- The lines of blocks are those of all frames.
-use Rattle.std.proofs.Common.{◌≡◌, ℕ, zero, suc, ◌+◌, ◌<◌, ◌≤◌, List, [], ◌∷◌, ◌++◌, length, get_or, take, drop, add-one, Option, Result, Ok, Err, OnErr, refl, ap, sym, ◌∙◌, subst, arith, append_assoc, append-nil}
+use Rattle.std.proofs.Common.{◌≡◌, ℕ, zero, suc, ◌+◌, ◌<◌, ◌≤◌, List, [], ◌∷◌, ◌++◌, length, get_or, take, drop, add-one, Option, Result, Ok, Err, OnErr, Vec, Global, refl, ap, sym, ◌∙◌, subst, arith, append_assoc, append-nil}
 use Rattle.std.specs.List.{AllByRecursion, AllZip, flat_map}
 use Rattle.std.specs.Io.KnownBytes.{Appends}
 use Rattle.std.specs.Prelude.{slice_set}
@@ -15,61 +15,46 @@ use Rattle.zb_capture.specs.Grammar.{IsCapture}
 use Rattle.zb_capture.specs.declared.capture.Capture.{Capture}
 use Rattle.zb_sight.specs.Lines.{sights_text}
 use Rattle.zb_sight.specs.declared.sight.Sight.{Sight}
-use Rattle.zb_ring.specs.Pieces.{all_blocks, all_frames, block_lines, blocks_lines, pieces_lines, frames_in, found_in, seen_text, HasRoom, StandsFor, Numbered, AllShown, IsCut, IsWithin}
+use Rattle.zb_sight.proofs.UnopenedSights.{unopened_lines}
+use Rattle.zb_ring.specs.Pieces.{all_blocks, all_frames, frames_in, found_in, seen_text, HasRoom, StandsFor, Numbered, Shown, AllShown, IsCut, IsWithin}
 use Rattle.zb_ring.specs.Rings.{keys_of, sights, ring_of}
 use Rattle.zb_ring.specs.declared.block.Block.{Block}
 use Rattle.zb_ring.specs.declared.block.Seen.{Seen}
-use Rattle.zb_ring.specs.declared.block.Seen.TheVariants.{Nothing, Lines, Sights}
+use Rattle.zb_ring.specs.declared.block.Seen.TheVariants.{Nothing, Unopened, Lines, Sights}
 use Rattle.zb_ring.specs.declared.piece.Piece.{Piece}
 use Rattle.zb_ring.specs.declared.ring.Ring.{Ring}
 use Rattle.zb_ring.proofs.JoinLaws.{sights_append}
 use Rattle.zb_ring.proofs.Lists.{Half, half_get, half_more, all_at}
 use Rattle.zb_ring.proofs.PieceLists.{frames_count, in_pieces, whole_frames, within_cut}
 use Rattle.zb_inspect.specs.Report.{tail_text, report_text, report_of}
-use Rattle.zb_inspect.specs.Texts.{block_text, blocks_text, BlockHasRoom, HaveRoom}
+use Rattle.zb_inspect.specs.Texts.{block_text, blocks_text, pages_text, BlockHasRoom, HaveRoom}
 
--- Blocks that are printed, in their pieces
+-- Pieces that are printed, a page for each
 
-abbrev pub IsPrinted : Block → Block → Type 0
-IsPrinted old new = block_lines new ≡ block_text old
+abbrev pub IsPagePrinted : Piece → Vec ℕ Global → Type 0
+IsPagePrinted piece page = page.items ≡ blocks_text piece.blocks.items
 
--- one block more that is printed
-pub printed_more : (i : ℕ) (old now : List Block) (d y : Block) → i < length old → Half IsPrinted i old now → block_lines y ≡ block_text (get_or now i d)
-    → Half IsPrinted (i + 1) old (slice_set now i y)
-printed_more i old now d y within half is =
-    half_more IsPrinted i old now d y within half (is ∙ ap block_text (half_get IsPrinted i old now d within half))
-
-pub room_at : (i : ℕ) (old now : List Block) (d : Block) → i < length old → Half IsPrinted i old now → HaveRoom old → BlockHasRoom (get_or now i d)
-room_at i old now d within half room = subst BlockHasRoom (sym (half_get IsPrinted i old now d within half)) (all_at BlockHasRoom old i d within room)
-
-pub blocks_printed : (old new : List Block) → AllZip IsPrinted old new → blocks_lines new ≡ blocks_text old
-blocks_printed [] [] all = refl
-blocks_printed [] (n ∷ new) all = absurd all
-blocks_printed (o ∷ old) [] all = absurd all
-blocks_printed (o ∷ old) (n ∷ new) all = ap (λ zs. zs ++ blocks_lines new) all.0 ∙ ap (λ zs. block_text o ++ zs) (blocks_printed old new all.1)
-
-abbrev pub IsPiecePrinted : Piece → Piece → Type 0
-IsPiecePrinted old new = blocks_lines new.blocks.items ≡ blocks_text old.blocks.items
-
-pub pieces_printed : (old new : List Piece) → AllZip IsPiecePrinted old new → pieces_lines new ≡ blocks_text (all_blocks old)
-pieces_printed [] [] all = refl
-pieces_printed [] (n ∷ new) all = absurd all
-pieces_printed (o ∷ old) [] all = absurd all
-pieces_printed (o ∷ old) (n ∷ new) all =
-    ap (λ zs. zs ++ pieces_lines new) all.0 ∙ ap (λ zs. blocks_text o.blocks.items ++ zs) (pieces_printed old new all.1)
-    ∙ sym (flat_map-append block_text o.blocks.items (all_blocks old))
+pub pages_printed : (pieces : List Piece) (pages : List (Vec ℕ Global)) → AllZip IsPagePrinted pieces pages → pages_text pages ≡ blocks_text (all_blocks pieces)
+pages_printed [] [] all = refl
+pages_printed [] (page ∷ pages) all = absurd all
+pages_printed (piece ∷ pieces) [] all = absurd all
+pages_printed (piece ∷ pieces) (page ∷ pages) all =
+    ap (λ zs. zs ++ pages_text pages) all.0 ∙ ap (λ zs. blocks_text piece.blocks.items ++ zs) (pages_printed pieces pages all.1)
+    ∙ sym (flat_map-append block_text piece.blocks.items (all_blocks pieces))
 
 -- Blocks that are shown
 
-seen_shown : (first : ℕ) (found : List Sight) (seen : Seen) → StandsFor first found seen → seen_text first seen ≡ sights_text first found
+seen_shown : (first : ℕ) (found : List Sight) (seen : Seen) → StandsFor first found seen → seen_text first (length found) seen ≡ sights_text first found
 seen_shown first found Nothing s = absurd s
+seen_shown first found Unopened s = sym (unopened_lines first found s)
 seen_shown first found (Lines text) s = s.0
 seen_shown first found (Sights kept) s = ap (sights_text first) s
 
-has_room : (first frames : ℕ) (found : List Sight) (seen : Seen) → StandsFor first found seen → first + length found < 4294967296 → HasRoom first seen
-has_room first frames found Nothing s room = tt
-has_room first frames found (Lines text) s room = tt
-has_room first frames found (Sights kept) s room = omega (arith, ap (length {A = Sight}) s, room)
+has_room : (first : ℕ) (found : List Sight) (seen : Seen) → StandsFor first found seen → first + length found < 4294967296 → HasRoom first (length found) seen
+has_room first found Nothing s room = tt
+has_room first found Unopened s room = room
+has_room first found (Lines text) s room = tt
+has_room first found (Sights kept) s room = omega (arith, ap (length {A = Sight}) s, room)
 
 found_count : (frames : List (ArrayVec ℕ)) (addrs : List (Short × Eui)) (keys : List Key) (b : Block) → IsWithin (length frames) b
     → length (found_in frames addrs keys b) ≡ b.count
@@ -82,17 +67,26 @@ shown_text frames addrs keys frame [] numbers within all = refl
 shown_text frames addrs keys frame (b ∷ blocks) numbers within all =
     let found = found_in frames addrs keys b in
     let more = sights addrs keys (all_frames frames blocks) in
-    ap (λ zs. zs ++ blocks_text blocks) (seen_shown b.first found b.seen all.0 ∙ ap (λ n. sights_text n found) numbers.0)
+    ap (λ zs. zs ++ blocks_text blocks)
+    (ap (λ n. seen_text b.first n b.seen) (sym (found_count frames addrs keys b within.0)) ∙ seen_shown b.first found b.seen all.0
+    ∙ ap (λ n. sights_text n found) numbers.0)
     ∙ ap (λ zs. sights_text frame found ++ zs) (shown_text frames addrs keys (frame + b.count) blocks numbers.1 within.1 all.1)
     ∙ ap (λ n. sights_text frame found ++ sights_text (frame + n) more) (sym (found_count frames addrs keys b within.0))
     ∙ sym (sights_append frame found more)
     ∙ ap (sights_text frame) (sym (map-append _ (frames_in frames b) (all_frames frames blocks)))
 
+block_room : (frames : List (ArrayVec ℕ)) (addrs : List (Short × Eui)) (keys : List Key) (b : Block) → length frames ≤ 100000 → IsWithin (length frames) b
+    → Shown frames addrs keys b → BlockHasRoom b
+block_room frames addrs keys b few within shown =
+    let count = found_count frames addrs keys b within in
+    let P : ℕ → Type 0 = λ n. HasRoom b.first n b.seen in
+    subst P count (has_room b.first (found_in frames addrs keys b) b.seen shown (omega (arith, count, within.last, few)))
+
 shown_room : (frames : List (ArrayVec ℕ)) (addrs : List (Short × Eui)) (keys : List Key) (blocks : List Block) → length frames ≤ 100000
     → AllByRecursion (IsWithin (length frames)) blocks → AllShown frames addrs keys blocks → HaveRoom blocks
 shown_room frames addrs keys [] few within all = tt
 shown_room frames addrs keys (b ∷ blocks) few within all = (
-  has_room b.first (length frames) (found_in frames addrs keys b) b.seen all.0 (omega (arith, found_count frames addrs keys b within.0, within.0.last, few)),
+  block_room frames addrs keys b few within.0 all.0,
   shown_room frames addrs keys blocks few within.1 all.1,
 )
 

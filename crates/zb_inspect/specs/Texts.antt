@@ -1,5 +1,6 @@
 -- The lines of blocks, one after the other, and the texts of faults.
-use Rattle.std.specs.Prelude.{ℕ, List, codes}
+use Rattle.std.specs.Prelude.{ℕ, List, Vec, codes}
+use Rattle.std.specs.Global.{Global}
 use Rattle.std.specs.List.{AllByRecursion, flat_map}
 use Rattle.zb_ring.specs.Pieces.{seen_text, HasRoom}
 use Rattle.zb_ring.specs.declared.block.Block.{Block}
@@ -8,14 +9,18 @@ use Rattle.zb_inspect.specs.declared.fault.InspectFault.TheVariants.{Write, NoMe
 
 -- the lines of what blocks keep
 abbrev pub block_text : Block → List ℕ
-block_text block = seen_text block.first block.seen
+block_text block = seen_text block.first block.count block.seen
 
 abbrev pub blocks_text : List Block → List ℕ
 blocks_text blocks = flat_map block_text blocks
 
+-- the text of pages, one after the other
+abbrev pub pages_text : List (Vec ℕ Global) → List ℕ
+pages_text pages = flat_map (λ (page : Vec ℕ Global). page.items) pages
+
 -- the numbers of all frames are in their range
 abbrev pub BlockHasRoom : Block → Type 0
-BlockHasRoom block = HasRoom block.first block.seen
+BlockHasRoom block = HasRoom block.first block.count block.seen
 
 abbrev pub HaveRoom : List Block → Type 0
 HaveRoom blocks = AllByRecursion BlockHasRoom blocks

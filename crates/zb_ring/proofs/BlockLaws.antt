@@ -1,5 +1,5 @@
 -- A block that is looked at again, and blocks of which the first were.
-use Rattle.std.proofs.Common.{◌≡◌, ℕ, ◌+◌, ◌<◌, ◌≤◌, List, ◌++◌, length, get_or, take, ap, sym, ◌∙◌, subst, append_assoc, true, Vec, Global}
+use Rattle.std.proofs.Common.{◌≡◌, ℕ, ◌+◌, ◌<◌, ◌≤◌, List, [], ◌∷◌, ◌++◌, refl, length, get_or, take, ap, sym, ◌∙◌, subst, append_assoc, true, Vec, Global}
 use Rattle.std.specs.List.{AllByRecursion, list_all}
 use Rattle.std.specs.Prelude.{slice_set}
 use Rattle.arrayvec.specs.ArrayVec.{ArrayVec}
@@ -7,13 +7,16 @@ use Rattle.zb_base.specs.declared.address.Eui.{Eui}
 use Rattle.zb_base.specs.declared.address.Short.{Short}
 use Rattle.zb_base.specs.declared.key.Key.{Key}
 use Rattle.zb_sight.specs.Lines.{sights_text}
-use Rattle.zb_sight.specs.Settling.{is_settled}
+use Rattle.zb_sight.specs.Settling.{is_settled, is_unopened}
+use Rattle.zb_sight.specs.Sights.{sight}
+use Rattle.zb_sight.proofs.UnopenedSights.{unopened_same}
 use Rattle.zb_ring.specs.Pieces.{all_fresh, frames_in, fresh, found_in, IsNext, MayStandFor, StandsFor, SameFrames, Sees, Shown}
 use Rattle.zb_ring.specs.declared.block.Block.{Block}
 use Rattle.zb_ring.specs.declared.block.Seen.{Seen}
-use Rattle.zb_ring.specs.declared.block.Seen.TheVariants.{Lines}
+use Rattle.zb_ring.specs.declared.block.Seen.TheVariants.{Lines, Unopened}
 use Rattle.zb_ring.specs.declared.ring.Lead.{Lead}
-use Rattle.zb_ring.proofs.FreshLeads.{settled_frames}
+use Rattle.zb_ring.specs.Rings.{sights}
+use Rattle.zb_ring.proofs.FreshLeads.{both_true, settled_frames}
 use Rattle.zb_ring.proofs.Lists.{Half, half_get, half_more, all_at, flat_next}
 
 -- lines that are kept are those under further keys
@@ -24,6 +27,20 @@ lines_stay known frames addrs keys b lines within is seen =
     let may = subst P (sym is) seen in
     let same = settled_frames known addrs keys (frames_in frames b) within may.1 in
     (may.0 ∙ ap (sights_text b.first) (sym same), ap (list_all is_settled) same ∙ may.1)
+
+-- frames that no key opened show what they show under no keys
+pub unopened_frames : (addrs : List (Short × Eui)) (keys : List Key) (frames : List (ArrayVec ℕ)) → list_all is_unopened (sights addrs keys frames) ≡ true
+    → sights addrs [] frames ≡ sights addrs keys frames
+unopened_frames addrs keys [] all = refl
+unopened_frames addrs keys (f ∷ frames) all =
+    let parts = both_true (is_unopened (sight addrs keys f.items)) (list_all is_unopened (sights addrs keys frames)) all in
+    ap (λ s. s ∷ sights addrs [] frames) (sym (unopened_same addrs keys f.items parts.0))
+    ∙ ap (λ zs. sight addrs keys f.items ∷ zs) (unopened_frames addrs keys frames parts.1)
+
+pub unopened_before : (known : ℕ) (frames : List (ArrayVec ℕ)) (addrs : List (Short × Eui)) (keys : List Key) (b : Block) → Unopened ≡ b.seen
+    → Sees frames addrs (take known keys) b → list_all is_unopened (found_in frames addrs (take known keys) b) ≡ true
+unopened_before known frames addrs keys b is seen =
+    let P : Seen → Type 0 = λ s. MayStandFor b.first (found_in frames addrs (take known keys) b) s in subst P (sym is) seen
 
 -- one block more that is looked at
 pub next_half : (frames : List (ArrayVec ℕ)) (addrs : List (Short × Eui)) (keys : List Key) (i : ℕ) (old now : List Block) (d y : Block) → i < length old

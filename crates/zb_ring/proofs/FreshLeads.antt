@@ -14,7 +14,7 @@ use Rattle.zb_ring.specs.Pieces.{all_frames, all_fresh, frames_in, fresh, found_
 use Rattle.zb_ring.specs.Rings.{has_key, with_key, leads, sights, learnt}
 use Rattle.zb_ring.specs.declared.block.Block.{Block}
 use Rattle.zb_ring.specs.declared.block.Seen.{Seen}
-use Rattle.zb_ring.specs.declared.block.Seen.TheVariants.{Nothing, Lines, Sights}
+use Rattle.zb_ring.specs.declared.block.Seen.TheVariants.{Nothing, Unopened, Lines, Sights}
 use Rattle.zb_ring.specs.declared.ring.Lead.{Lead}
 use Rattle.zb_ring.specs.declared.ring.RingKey.{RingKey}
 use Rattle.zb_ring.proofs.Bound.{AllKnown, known_split, known_more}
@@ -24,6 +24,7 @@ use Rattle.zb_ring.proofs.RingLaws.{learnt_grows}
 -- what is found in a block was learnt, where its lines are kept
 abbrev pub IsLearnt : List RingKey → List Lead → Seen → Type 0
 IsLearnt ring found Nothing = Unit {0}
+IsLearnt ring found Unopened = Unit {0}
 IsLearnt ring found (Lines text) = AllKnown ring found
 IsLearnt ring found (Sights kept) = Unit {0}
 
@@ -32,6 +33,7 @@ AllLearnt ring frames addrs keys blocks = AllByRecursion (λ (b : Block). IsLear
 
 unlearnt : (ring : List RingKey) (found : List Lead) (seen : Seen) → is_nothing seen ≡ true → IsLearnt ring found seen
 unlearnt ring found Nothing e = tt
+unlearnt ring found Unopened e = cc
 unlearnt ring found (Lines text) e = cc
 unlearnt ring found (Sights kept) e = tt
 
@@ -43,12 +45,14 @@ all_unlearnt ring frames addrs keys (b ∷ blocks) all =
 
 known_learnt : (ring : List RingKey) (found : List Lead) (seen : Seen) → AllKnown ring found → IsLearnt ring found seen
 known_learnt ring found Nothing known = tt
+known_learnt ring found Unopened known = tt
 known_learnt ring found (Lines text) known = known
 known_learnt ring found (Sights kept) known = tt
 
 learnt_more : (ring now : List RingKey) (found : List Lead) (seen : Seen) → (more : List RingKey) × (now ≡ ring ++ more) → IsLearnt ring found seen
     → IsLearnt now found seen
 learnt_more ring now found Nothing grown was = tt
+learnt_more ring now found Unopened grown was = tt
 learnt_more ring now found (Lines text) grown was =
     let P : List RingKey → Type 0 = λ r. AllKnown r found in subst P (sym grown.1) (known_more ring grown.0 found was)
 learnt_more ring now found (Sights kept) grown was = tt
@@ -65,7 +69,7 @@ learnt_none round ring (x ∷ xs) known =
     ∙ learnt_none round ring xs known.1
 
 -- frames of which no layer is closed show the same under further keys
-both_true : (a b : Bool) → (a && b) ≡ true → (a ≡ true) × (b ≡ true)
+pub both_true : (a b : Bool) → (a && b) ≡ true → (a ≡ true) × (b ≡ true)
 both_true true b e = (refl, e)
 both_true false b e = cc
 
@@ -81,6 +85,7 @@ fresh_seen : (round : ℕ) (now : List RingKey) (first : ℕ) (old found : List 
     → MayStandFor first old seen → IsLearnt now (leads first old) seen
     → learnt round now (new_leads (leads first found) seen) ≡ learnt round now (leads first found)
 fresh_seen round now first old found Nothing same may known = refl
+fresh_seen round now first old found Unopened same may known = refl
 fresh_seen round now first old found (Lines text) same may known =
     sym (ap (λ f. learnt round now (leads first f)) (same may.1) ∙ learnt_none round now (leads first old) known)
 fresh_seen round now first old found (Sights kept) same may known = refl

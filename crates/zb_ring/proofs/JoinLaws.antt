@@ -13,7 +13,7 @@ use Rattle.zb_ring.specs.Pieces.{count_of, frames_from, frames_in, found_in, has
 use Rattle.zb_ring.specs.Rings.{leads, sights}
 use Rattle.zb_ring.specs.declared.block.Block.{Block}
 use Rattle.zb_ring.specs.declared.block.Seen.{Seen}
-use Rattle.zb_ring.specs.declared.block.Seen.TheVariants.{Nothing, Lines, Sights}
+use Rattle.zb_ring.specs.declared.block.Seen.TheVariants.{Nothing, Unopened, Lines, Sights}
 use Rattle.zb_ring.specs.declared.ring.Lead.{Lead}
 use Rattle.zb_ring.proofs.Lists.{all_append, all_front, all_back}
 use Rattle.zb_ring.proofs.PieceLists.{counts_append, drop_more, frames_count, leads_append, numbered_append, numbered_back, numbered_front, take_more}
@@ -47,12 +47,14 @@ frames_joined frames first n m some =
 lines_stand : (first : ℕ) (found : List Sight) (seen : Seen) → has_lines seen ≡ true → StandsFor first found seen
     → (lines_of seen ≡ sights_text first found) × (list_all is_settled found ≡ true)
 lines_stand first found Nothing e s = cc
+lines_stand first found Unopened e s = cc
 lines_stand first found (Lines text) e s = s
 lines_stand first found (Sights kept) e s = cc
 
 stand_lines : (first : ℕ) (found : List Sight) (seen : Seen) → has_lines seen ≡ true → lines_of seen ≡ sights_text first found
     → list_all is_settled found ≡ true → StandsFor first found seen
 stand_lines first found Nothing e is settled = cc
+stand_lines first found Unopened e is settled = cc
 stand_lines first found (Lines text) e is settled = (is, settled)
 stand_lines first found (Sights kept) e is settled = cc
 

@@ -9,7 +9,7 @@ use Rattle.zb_ring.specs.Pieces.{all_fresh, count_of, found_in, frames_from, new
 use Rattle.zb_ring.specs.Rings.{leads, sights}
 use Rattle.zb_ring.specs.declared.block.Block.{Block}
 use Rattle.zb_ring.specs.declared.block.Seen.{Seen}
-use Rattle.zb_ring.specs.declared.block.Seen.TheVariants.{Nothing, Lines, Sights}
+use Rattle.zb_ring.specs.declared.block.Seen.TheVariants.{Nothing, Unopened, Lines, Sights}
 use Rattle.zb_ring.specs.declared.piece.Piece.{Piece}
 use Rattle.zb_ring.specs.declared.ring.Lead.{Lead}
 use Rattle.zb_ring.proofs.PieceLists.{counts_append, next_shown, same_counts, same_numbers}
@@ -37,6 +37,7 @@ one_within n (b ∷ c ∷ more) first count one all = absurd one
 
 unseen_leads : (found : List Lead) (seen : Seen) → is_nothing seen ≡ true → new_leads found seen ≡ found
 unseen_leads found Nothing e = refl
+unseen_leads found Unopened e = cc
 unseen_leads found (Lines text) e = cc
 unseen_leads found (Sights kept) e = cc
 

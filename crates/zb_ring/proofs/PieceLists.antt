@@ -14,7 +14,7 @@ use Rattle.zb_ring.specs.Pieces.{all_blocks, all_frames, all_leads, all_fresh, c
 use Rattle.zb_ring.specs.Rings.{leads, leads_of, learnt, with_key}
 use Rattle.zb_ring.specs.declared.block.Block.{Block}
 use Rattle.zb_ring.specs.declared.block.Seen.{Seen}
-use Rattle.zb_ring.specs.declared.block.Seen.TheVariants.{Nothing, Lines, Sights}
+use Rattle.zb_ring.specs.declared.block.Seen.TheVariants.{Nothing, Unopened, Lines, Sights}
 use Rattle.zb_ring.specs.declared.piece.Piece.{Piece}
 use Rattle.zb_ring.specs.declared.ring.Lead.{Lead}
 use Rattle.zb_ring.specs.declared.ring.RingKey.{RingKey}
@@ -185,6 +185,7 @@ next_shown frames addrs keys (q ∷ old) (p ∷ new) all = (all.0.1, next_shown 
 
 unseen_may : (first : ℕ) (found : List Sight) (seen : Seen) → is_nothing seen ≡ true → MayStandFor first found seen
 unseen_may first found Nothing e = tt
+unseen_may first found Unopened e = cc
 unseen_may first found (Lines text) e = cc
 unseen_may first found (Sights kept) e = cc
 
@@ -194,6 +195,7 @@ all_unseen frames addrs keys (b ∷ blocks) all = (unseen_may b.first (found_in 
 
 stands_may : (first : ℕ) (found : List Sight) (seen : Seen) → StandsFor first found seen → MayStandFor first found seen
 stands_may first found Nothing s = tt
+stands_may first found Unopened s = s
 stands_may first found (Lines text) s = s
 stands_may first found (Sights kept) s = s
 

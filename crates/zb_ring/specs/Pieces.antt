@@ -6,13 +6,13 @@ use Rattle.zb_base.specs.declared.address.Eui.{Eui}
 use Rattle.zb_base.specs.declared.address.Short.{Short}
 use Rattle.zb_base.specs.declared.key.Key.{Key}
 use Rattle.zb_capture.specs.declared.capture.Capture.{Capture}
-use Rattle.zb_sight.specs.Lines.{sights_text}
-use Rattle.zb_sight.specs.Settling.{is_settled}
+use Rattle.zb_sight.specs.Lines.{sights_text, unopened_text}
+use Rattle.zb_sight.specs.Settling.{is_settled, is_unopened}
 use Rattle.zb_sight.specs.declared.sight.Sight.{Sight}
 use Rattle.zb_ring.specs.Rings.{leads, sights}
 use Rattle.zb_ring.specs.declared.block.Block.{Block}
 use Rattle.zb_ring.specs.declared.block.Seen.{Seen}
-use Rattle.zb_ring.specs.declared.block.Seen.TheVariants.{Nothing, Lines, Sights}
+use Rattle.zb_ring.specs.declared.block.Seen.TheVariants.{Nothing, Unopened, Lines, Sights}
 use Rattle.zb_ring.specs.declared.piece.Piece.{Piece}
 use Rattle.zb_ring.specs.declared.ring.Lead.{Lead}
 
@@ -44,16 +44,18 @@ pub record IsWithin (frames : ℕ) (block : Block) : Type 0 where
   pub first : 1 ≤ block.first
   pub last : block.first + block.count ≤ frames + 1
 
--- What is kept of frames, the first of which has the number `first`, where `found` is what they show: the lines of a report,
--- where no layer of any of them is closed, or else all of it.
+-- What is kept of frames, the first of which has the number `first`, where `found` is what they show: nothing, where no key opened the NWK
+-- layer of any of them; the lines of a report, where no layer of any of them is closed; or else all of it.
 abbrev pub StandsFor : ℕ → List Sight → Seen → Type 0
 StandsFor first found Nothing = ⊥
+StandsFor first found Unopened = list_all is_unopened found ≡ true
 StandsFor first found (Lines text) = (text.items ≡ sights_text first found) × (list_all is_settled found ≡ true)
 StandsFor first found (Sights kept) = kept.items ≡ found
 
 -- the same of frames that may not have been looked at yet
 abbrev pub MayStandFor : ℕ → List Sight → Seen → Type 0
 MayStandFor first found Nothing = Unit {0}
+MayStandFor first found Unopened = StandsFor first found Unopened
 MayStandFor first found (Lines text) = StandsFor first found (Lines text)
 MayStandFor first found (Sights kept) = StandsFor first found (Sights kept)
 
@@ -76,6 +78,7 @@ AllShown frames addrs keys blocks = AllByRecursion (Shown frames addrs keys) blo
 
 abbrev pub is_nothing : Seen → Bool
 is_nothing Nothing = true
+is_nothing Unopened = false
 is_nothing (Lines text) = false
 is_nothing (Sights kept) = false
 
@@ -85,6 +88,7 @@ IsUnseen block = is_nothing block.seen ≡ true
 -- the keys that a look at a block finds: those of frames of which the lines are kept were found before
 abbrev pub new_leads : List Lead → Seen → List Lead
 new_leads found Nothing = found
+new_leads found Unopened = found
 new_leads found (Lines text) = []
 new_leads found (Sights kept) = found
 
@@ -120,36 +124,31 @@ pub record IsCut (c : Capture) (pieces : List Piece) : Type 0 where
   pub numbers : Numbered 1 (all_blocks pieces)
   pub count : count_of (all_blocks pieces) ≡ length c.frames
 
--- the lines that a block keeps; those of pieces, one after the other
+-- the lines that are kept
 abbrev pub lines_of : Seen → List ℕ
 lines_of Nothing = []
+lines_of Unopened = []
 lines_of (Lines text) = text.items
 lines_of (Sights kept) = []
 
-abbrev pub block_lines : Block → List ℕ
-block_lines block = lines_of block.seen
-
-abbrev pub blocks_lines : List Block → List ℕ
-blocks_lines blocks = flat_map block_lines blocks
-
-abbrev pub pieces_lines : List Piece → List ℕ
-pieces_lines pieces = flat_map (λ (piece : Piece). blocks_lines piece.blocks.items) pieces
-
--- the lines of what is kept of frames, the first of which has the number `first`
-abbrev pub seen_text : ℕ → Seen → List ℕ
-seen_text first Nothing = []
-seen_text first (Lines text) = text.items
-seen_text first (Sights kept) = sights_text first kept.items
+-- the lines in a report of what is kept of so many frames, the first of which has the number `first`
+abbrev pub seen_text : ℕ → ℕ → Seen → List ℕ
+seen_text first count Nothing = []
+seen_text first count Unopened = unopened_text first count
+seen_text first count (Lines text) = text.items
+seen_text first count (Sights kept) = sights_text first kept.items
 
 -- the numbers of the frames are in their range
-abbrev pub HasRoom : ℕ → Seen → Type 0
-HasRoom first Nothing = Unit {0}
-HasRoom first (Lines text) = Unit {0}
-HasRoom first (Sights kept) = first + length kept.items < 2 ^ 32
+abbrev pub HasRoom : ℕ → ℕ → Seen → Type 0
+HasRoom first count Nothing = Unit {0}
+HasRoom first count Unopened = first + count < 2 ^ 32
+HasRoom first count (Lines text) = Unit {0}
+HasRoom first count (Sights kept) = first + length kept.items < 2 ^ 32
 
 -- whether lines are kept
 abbrev pub has_lines : Seen → Bool
 has_lines Nothing = false
+has_lines Unopened = false
 has_lines (Lines text) = true
 has_lines (Sights kept) = false
 

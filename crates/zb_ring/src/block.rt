@@ -1,8 +1,8 @@
 //! A few consecutive frames of a capture, and what they show.
-ghost use Rattle.std.specs.Prelude.{◌≡◌, ◌+◌, ◌<◌, ◌≤◌, ◌^◌, ◌++◌, [], length, take, vec_len, IfOk, OnOk};
+ghost use Rattle.std.specs.Prelude.{◌≡◌, ◌+◌, ◌<◌, ◌≤◌, ◌^◌, ◌++◌, [], length, take, vec_len, true, IfOk, OnOk};
 ghost use Rattle.std.specs.List.{list_all};
 ghost use Rattle.zb_sight.specs.Lines.{sights_text};
-ghost use Rattle.zb_sight.specs.Settling.{is_settled as settled};
+ghost use Rattle.zb_sight.specs.Settling.{is_settled as settled, is_unopened as unopened};
 ghost use Rattle.zb_sight.specs.Sights.{sight};
 ghost use Rattle.zb_ring.specs.Rings.{lead_of, leads_of, leads as leads_in, sights as sights_of};
 ghost use Rattle.zb_ring.specs.Pieces.{SameFrames, IsWithin, StandsFor, Sees, Shown, fresh, frames_in};
@@ -13,7 +13,8 @@ use std::mem;
 use zb_base::{Frame, Key, NoMemory};
 use zb_seal::Ciphers;
 use zb_sight::{
-    Addresses, Carried, Finding, Sight, carried_keys, is_settled, put_sights, show, show_more,
+    Addresses, Carried, Finding, Sight, carried_keys, is_settled, is_unopened, put_sights,
+    put_unopened, show, show_more,
 };
 
 /// What is kept of the frames of a block.
@@ -21,6 +22,8 @@ use zb_sight::{
 pub enum Seen {
     /// They weren't looked at yet.
     Nothing,
+    /// No key opened the NWK layer of any of them. So they show what they show under no keys, and nothing is kept.
+    Unopened,
     /// Their lines in a report: no layer of any of them is closed, so further keys show no more.
     Lines(Vec<u8>),
     /// All that they show, since a layer of some of them is closed.
@@ -63,6 +66,10 @@ pub(crate) fn look_at(
             let sights = show_all(alloc, addrs, keys, own)?;
             keep(alloc, block, sights, leads)?;
         }
+        Seen::Unopened => {
+            let sights = show_unopened(alloc, addrs, keys, known, own)?;
+            keep(alloc, block, sights, leads)?;
+        }
         Seen::Lines(lines) => block.seen = Seen::Lines(lines),
         Seen::Sights(sights) => {
             let sights = show_again(addrs, keys, known, own, sights);
@@ -97,6 +104,23 @@ fn show_all(
         seen.push(show(addrs, keys, frame))?;
     }
     Ok(seen)
+}
+
+/// What frames show under all keys, none of which is opened by the first `known`.
+fn show_unopened(
+    alloc: Global,
+    addrs: &Addresses<'_>,
+    keys: &[Ciphers],
+    known: u32,
+    frames: &[Frame],
+) -> Result<Vec<Sight>, NoMemory>
+    requires within { known ≤ length keys.now }
+    requires fits { length keys.now < 2 ^ 32 }
+    requires before { list_all unopened (sights_of addrs.now (take known keys.now) frames.now) ≡ true }
+    ensures { IfOk result (λ v. v.items ≡ sights_of addrs.now keys.now frames.now) }
+{
+    let before = show_all(alloc, addrs, &[], frames)?;
+    Ok(show_again(addrs, keys, known, frames, before))
 }
 
 /// What frames show under all keys, where it is known under the first `known`.
@@ -169,16 +193,24 @@ fn keep(
     Ok(())
 }
 
-/// The lines of frames of which no layer is closed, or else all that they show.
+/// Nothing, of frames that no key opened; the lines of frames of which no layer is closed; or else all that they show.
 fn settle(alloc: Global, first: u32, sights: Vec<Sight>) -> Result<Seen, AllocError>
     requires { first + vec_len sights < 2 ^ 32 }
     ensures { IfOk result (λ seen. StandsFor first sights.items seen) }
 {
-    if are_settled(sights.as_slice()) {
+    if are_unopened(sights.as_slice()) {
+        Ok(Seen::Unopened)
+    } else if are_settled(sights.as_slice()) {
         Ok(Seen::Lines(lines_of(alloc, first, sights.as_slice())?))
     } else {
         Ok(Seen::Sights(sights))
     }
+}
+
+fn are_unopened(sights: &[Sight]) -> bool
+    ensures { result ≡ list_all unopened sights.now }
+{
+    sights.iter().all(|sight| is_unopened(sight))
 }
 
 fn are_settled(sights: &[Sight]) -> bool
@@ -230,30 +262,46 @@ fn add_lead(found: &mut Vec<Lead>, frame: u32, key: Option<Key>) -> Result<(), A
 }
 
 impl Block {
-    ghost use Rattle.std.specs.Prelude.{◌≡◌, OnErr, OnOk};
-    ghost use Rattle.zb_ring.specs.Pieces.{HasRoom, SameFrames, block_lines, seen_text};
+    ghost use Rattle.std.specs.Prelude.{◌≡◌, ◌++◌, IfOk};
+    ghost use Rattle.zb_ring.specs.Pieces.{HasRoom, lines_of as kept_lines, seen_text};
 
-    /// Keeps no more than the lines of the frames. Where memory is wanting, all stays as it was.
-    pub fn print(&mut self, alloc: Global) -> Result<(), AllocError>
-        requires { HasRoom self.old.first self.old.seen }
-        ensures lines { OnOk result (block_lines self.new ≡ seen_text self.old.first self.old.seen) }
-        ensures same { SameFrames self.old self.new }
-        ensures kept { OnErr result (self.new ≡ self.old) }
+    /// A page with the lines of the frames behind it. Where it is empty, lines that are kept become the page.
+    pub fn print(self, page: Vec<u8>) -> Result<Vec<u8>, AllocError>
+        requires { HasRoom self.first self.count self.seen }
+        ensures { IfOk result (λ printed. printed.items ≡ page.items ++ seen_text self.first self.count self.seen) }
     {
-        if let Seen::Sights(sights) = &self.seen {
-            self.seen = Seen::Lines(lines_of(alloc, self.first, sights.as_slice())?);
+        let Block { first, count, seen } = self;
+        let mut page = page;
+        match seen {
+            Seen::Nothing => {}
+            Seen::Unopened => put_unopened(&mut page, first, count)?,
+            Seen::Lines(lines) => put_behind(&mut page, lines)?,
+            Seen::Sights(sights) => put_sights(&mut page, first, sights.as_slice())?,
         }
-        Ok(())
+        Ok(page)
     }
 
     /// The lines of the frames, where they are kept.
-    pub fn lines(&self) -> &[u8]
-        ensures { result.now ≡ block_lines self.now }
+    pub(crate) fn lines(&self) -> &[u8]
+        ensures { result.now ≡ kept_lines self.now.seen }
     {
         match &self.seen {
             Seen::Nothing => &[],
+            Seen::Unopened => &[],
             Seen::Lines(lines) => lines.as_slice(),
             Seen::Sights(_) => &[],
         }
     }
+}
+
+/// Puts lines behind a page, which they become where it is empty.
+fn put_behind(page: &mut Vec<u8>, lines: Vec<u8>) -> Result<(), AllocError>
+    ensures { OnOk result (page.new.items ≡ page.old.items ++ lines.items) }
+{
+    if page.is_empty() {
+        *page = lines;
+        return Ok(());
+    }
+    page.extend_from_slice(lines.as_slice())?;
+    Ok(())
 }

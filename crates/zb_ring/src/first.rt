@@ -79,6 +79,7 @@ fn has_lines(block: &Block) -> bool
 {
     match &block.seen {
         Seen::Nothing => false,
+        Seen::Unopened => false,
         Seen::Lines(_) => true,
         Seen::Sights(_) => false,
     }

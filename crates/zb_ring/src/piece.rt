@@ -134,6 +134,7 @@ fn unseen_frames(block: &Block) -> Option<(u32, u32)>
 {
     match &block.seen {
         Seen::Nothing => Some((block.first, block.count)),
+        Seen::Unopened => None,
         Seen::Lines(_) => None,
         Seen::Sights(_) => None,
     }

@@ -1,5 +1,5 @@
 -- The lines of a frame in a report (this project's profile): one for each layer.
-use Rattle.std.specs.Prelude.{ℕ, ◌+◌, List, [], ◌∷◌, ◌++◌, codes, decimal, Option, Some, None}
+use Rattle.std.specs.Prelude.{ℕ, zero, suc, ◌+◌, List, [], ◌∷◌, ◌++◌, codes, decimal, Option, Some, None}
 use Rattle.zb_base.specs.declared.label.Label.{Label}
 use Rattle.zb_base.specs.declared.label.Label.TheVariants as label
 use Rattle.zb_base.specs.declared.label.Layer.{Layer}
@@ -56,3 +56,11 @@ sight_text frame sight = layer_line frame (codes "nwk") sight.nwk ++ below_text 
 abbrev pub sights_text : ℕ → List Sight → List ℕ
 sights_text frame [] = []
 sights_text frame (sight ∷ more) = sight_text frame sight ++ sights_text (frame + 1) more
+
+-- those of so many frames that no key opened
+abbrev pub unopened_line : ℕ → List ℕ
+unopened_line frame = decimal frame ++ then (codes "nwk") ++ then (codes "no-key") ++ 10 ∷ []
+
+unfoldable pub unopened_text : ℕ → ℕ → List ℕ
+unopened_text frame zero = []
+unopened_text frame (suc more) = unopened_line frame ++ unopened_text (frame + 1) more

@@ -14,6 +14,6 @@ pub use addresses::Addresses;
 pub use carried::{Carried, carried_keys};
 pub use further::show_more;
 pub use layer::Finding;
-pub use lines::put_sights;
-pub use settled::is_settled;
+pub use lines::{put_sights, put_unopened};
+pub use settled::{is_settled, is_unopened};
 pub use sight::{Below, Sight, show};

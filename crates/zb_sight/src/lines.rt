@@ -1,7 +1,7 @@
 //! The lines of a frame in a report: one for each layer.
 ghost use Rattle.std.specs.Prelude.{◌≡◌, ◌+◌, ◌<◌, ◌^◌, ◌++◌, ◌∷◌, [], length, decimal, OnOk};
 ghost use Rattle.zb_text.specs.Words.{then};
-ghost use Rattle.zb_sight.specs.Lines.{label_word, label_text, opened_text, finding_text, layer_line, inner_text, below_text, sight_text, sights_text};
+ghost use Rattle.zb_sight.specs.Lines.{label_word, label_text, opened_text, finding_text, layer_line, inner_text, below_text, sight_text, sights_text, unopened_line, unopened_text};
 
 use crate::layer::Finding;
 use crate::sight::{Below, Sight};
@@ -21,6 +21,28 @@ pub fn put_sights(out: &mut Vec<u8>, first: u32, sights: &[Sight]) -> Result<(),
         put_sight(out, frame, sight)?;
         frame += 1;
     }
+    Ok(())
+}
+
+/// Prints the lines of so many frames that no key opened, the first of which has the number `first`.
+pub fn put_unopened(out: &mut Vec<u8>, first: u32, count: u32) -> Result<(), AllocError>
+    requires { first + count < 2 ^ 32 }
+    ensures { OnOk result (out.new.items ≡ out.old.items ++ unopened_text first count) }
+{
+    for frame in first..first + count {
+        put_unopened_line(out, frame)?;
+    }
+    Ok(())
+}
+
+#[tactic(auto, using(std::proofs::Common::append_assoc))]
+fn put_unopened_line(out: &mut Vec<u8>, frame: u32) -> Result<(), AllocError>
+    ensures { OnOk result (out.new.items ≡ out.old.items ++ unopened_line frame) }
+{
+    put_number(out, frame)?;
+    add_word(out, b"nwk")?;
+    add_word(out, b"no-key")?;
+    end_line(out)?;
     Ok(())
 }
 

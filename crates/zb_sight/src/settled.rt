@@ -1,6 +1,6 @@
-//! Whether further keys could show more of a frame.
+//! Whether further keys could show more of a frame, and whether anything of it is known yet.
 ghost use Rattle.std.specs.Prelude.{◌≡◌};
-ghost use Rattle.zb_sight.specs.Settling.{is_settled as settled, below_settled as below_is, inner_settled as inner_is};
+ghost use Rattle.zb_sight.specs.Settling.{is_settled as settled, is_unopened as unopened, below_settled as below_is, inner_settled as inner_is};
 
 use crate::layer::{Finding, is_closed};
 use crate::sight::{Below, Sight};
@@ -10,6 +10,13 @@ pub fn is_settled(sight: &Sight) -> bool
     ensures { result ≡ settled sight.now }
 {
     !is_closed(&sight.nwk) && below_settled(&sight.below)
+}
+
+/// Whether no key opened the NWK layer of a frame. Such a frame shows what it shows under no keys.
+pub fn is_unopened(sight: &Sight) -> bool
+    ensures { result ≡ unopened sight.now }
+{
+    is_closed(&sight.nwk) && sight.below.is_none()
 }
 
 fn below_settled(below: &Option<Below>) -> bool

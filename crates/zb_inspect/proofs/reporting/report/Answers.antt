@@ -3,7 +3,7 @@ use Rattle.std.specs.Io.KnownBytes.{Appends}
 use Rattle.zb_base.specs.Outside.{AppendsFront}
 use Rattle.arrayvec.specs.ArrayVec.{ArrayVec}
 use Rattle.std.proofs.lemmas.Result.{err_from_is_err_and}
-use Rattle.zb_ring.specs.Pieces.{pieces_lines}
+use Rattle.zb_inspect.specs.Texts.{pages_text}
 use Rattle.zb_ring.specs.Rings.{keys_of}
 use Rattle.zb_inspect.specs.Report.{report_of}
 use Rattle.zb_inspect.proofs.Printed.{is_report, room_in_pieces}
@@ -16,12 +16,12 @@ print_all-requires-after_bounds g c κs within =
     c.in_ok-opened.ensures.pieces c.in_ok-opened.ensures.shown
 
 -- the lines that are written are the report
-reported : (g : _) (c : After-write_all g) → pieces_lines c.as_slice-2.result.now ++ c.as_slice-3.result.now ≡ report_of c.args.capture.now
+reported : (g : _) (c : After-write_all g) → pages_text c.as_slice-2.result.now ++ c.as_slice-3.result.now ≡ report_of c.args.capture.now
 reported g c =
     is_report c.args.capture.now c.in_ok-opened.opened.ring c.in_ok-opened.opened.pieces.items (length c.as_slice.result.now)
-    (pieces_lines c.as_slice-2.result.now) c.as_slice-3.result.now
+    (pages_text c.as_slice-2.result.now) c.as_slice-3.result.now
     c.in_ok-opened.ensures.ring c.in_ok-opened.ensures.pieces c.in_ok-opened.ensures.shown (ap (length {A = ArrayVec ℕ}) c.as_slice.ensures)
-    (ap pieces_lines c.as_slice-2.ensures.value ∙ c.in_ok-pieces.ensures) (c.as_slice-3.ensures.value ∙ c.in_ok-tail.ensures)
+    (ap pages_text c.as_slice-2.ensures.value ∙ c.in_ok-pages.ensures) (c.as_slice-3.ensures.value ∙ c.in_ok-tail.ensures)
 
 pub returns-in_err-write_all-clause-ends : goal.returns-in_err-write_all-clause-ends
 returns-in_err-write_all-clause-ends g c =
