@@ -2,6 +2,7 @@
 ghost use Rattle.std.specs.Prelude.{◌≡◌, ◌≤◌, [], length, vec_len, IfOk};
 ghost use Rattle.zb_capture.specs.Grammar.{IsCapture};
 
+use crate::frames::Frames;
 use std::alloc::Global;
 use zb_base::{Eui, Frame, Key, List, NoMemory, Short};
 
@@ -14,7 +15,7 @@ pub struct Capture {
     /// The IEEE addresses of network addresses.
     pub addrs: List<(Short, Eui)>,
     /// The frames, in the order in which they were caught.
-    pub frames: List<Frame>,
+    pub frames: Frames,
 }
 
 impl Capture {
@@ -31,7 +32,7 @@ impl Capture {
         Ok(Capture {
             keys: List::from_vec(Vec::from_slice(alloc, keys)?),
             addrs: List::from_vec(Vec::new(alloc)),
-            frames: List::from_vec(frames),
+            frames: Frames::of(alloc, frames)?,
         })
     }
 }

@@ -1,13 +1,14 @@
 //! The capture that is being read: what the lines so far give.
-ghost use Rattle.std.specs.Prelude.{◌≡◌, ◌++◌, OnOk};
+ghost use Rattle.std.specs.Prelude.{◌≡◌};
 ghost use Rattle.zb_capture.specs.Grammar.{is_skipped};
 
 use crate::addresses::Addresses;
 use crate::capture::Capture;
 use crate::fault::CaptureCause;
 use crate::fields::{addr, code, frame, key};
+use crate::frames::Frames;
 use std::alloc::Global;
-use zb_base::{Eui, Frame, Key, List, NoMemory, OrMemory, Short};
+use zb_base::{Frame, Key, List, NoMemory, OrMemory};
 use zb_text::words::Words;
 
 /// The keys, addresses and frames of the lines so far.
@@ -19,10 +20,8 @@ pub(crate) struct Draft {
 }
 
 impl Draft {
-    ghost use Rattle.std.specs.Prelude.{◌≡◌, ◌++◌, ◌+◌, ◌∷◌, ◌&&◌, nat_le, length, Some, OnOk, IfOk};
-    ghost use Rattle.std.specs.Bool.{OnTrue};
+    ghost use Rattle.std.specs.Prelude.{◌≡◌, ◌∷◌, Some, OnOk, IfOk};
     ghost use Rattle.zb_capture.specs.Drafts.{capture_of, Steps};
-    ghost use Rattle.zb_capture.specs.Pieces.{both, AreApart, Fit};
     ghost use Rattle.zb_capture.specs.Grammar.{IsCapture, empty, key_in, code_in, addr_in, frame_in, with_key, with_code, with_addr, with_frame, with_words, with_line};
     ghost use Rattle.zb_text.specs.Words.{left};
 
@@ -47,19 +46,19 @@ impl Draft {
     }
 
     /// The capture of all lines.
-    pub fn into_capture(self) -> Capture
-        ensures { result ≡ capture_of self }
+    pub fn into_capture(self, alloc: Global) -> Result<Capture, NoMemory>
+        ensures { IfOk result (λ c. c ≡ capture_of self) }
     {
         let Draft {
             keys,
             addrs,
             frames,
         } = self;
-        Capture {
+        Ok(Capture {
             keys: List::from_vec(keys),
             addrs: addrs.into_list(),
-            frames: List::from_vec(frames),
-        }
+            frames: Frames::of(alloc, frames)?,
+        })
     }
 
     /// Takes one line.
@@ -162,49 +161,6 @@ impl Draft {
         self.frames.push(frame)?;
         Ok(())
     }
-
-    /// Adds all that another capture has, and answers whether both together are a capture: where they are none, the
-    /// draft is of no use.
-    pub fn add_all(&mut self, more: Capture) -> Result<bool, NoMemory>
-        requires { IsCapture (capture_of self.old) }
-        ensures fits { IfOk result (λ fits. OnTrue fits (Fit (capture_of self.old) more)) }
-        ensures joined { IfOk result (λ fits. OnTrue fits (capture_of self.new ≡ both (capture_of self.old) more)) }
-    {
-        let Capture {
-            keys,
-            addrs,
-            frames,
-        } = more;
-        if !self.has_room(keys.as_slice().len(), frames.as_slice().len())
-            || !self.add_addrs(addrs.into_vec())?
-        {
-            return Ok(false);
-        }
-        put_behind(&mut self.keys, keys.into_vec())?;
-        put_behind(&mut self.frames, frames.into_vec())?;
-        Ok(true)
-    }
-
-    /// Whether there is room for so many keys and frames more.
-    fn has_room(&self, keys: usize, frames: usize) -> bool
-        requires { IsCapture (capture_of self.now) }
-        ensures { result ≡ (nat_le (length (capture_of self.now).keys + keys) 256 && nat_le (length (capture_of self.now).frames + frames) 100000) }
-    {
-        keys <= 256 - self.keys.len() && frames <= 100_000 - self.frames.len()
-    }
-
-    /// Adds addresses, and answers whether the network address of each is new.
-    fn add_addrs(&mut self, addrs: Vec<(Short, Eui)>) -> Result<bool, NoMemory>
-        ensures apart { IfOk result (λ new. OnTrue new (AreApart (capture_of self.old).addrs addrs.items)) }
-        ensures added { IfOk result (λ new. OnTrue new (capture_of self.new ≡ record (capture_of self.old) { addrs = (capture_of self.old).addrs ++ addrs.items })) }
-    {
-        for addr in addrs {
-            if !self.addrs.add(addr)? {
-                return Ok(false);
-            }
-        }
-        Ok(true)
-    }
 }
 
 fn skips(line: &[u8]) -> bool
@@ -214,17 +170,4 @@ fn skips(line: &[u8]) -> bool
         [] => true,
         [first, ..] => *first == b'#',
     }
-}
-
-/// Puts a vector behind another, which it becomes where that is empty.
-fn put_behind<T: Drop>(all: &mut Vec<T>, more: Vec<T>) -> Result<(), NoMemory>
-    ensures { OnOk result (all.new.items ≡ all.old.items ++ more.items) }
-{
-    if all.is_empty() {
-        *all = more;
-        return Ok(());
-    }
-    let mut more = more;
-    all.append(&mut more)?;
-    Ok(())
 }

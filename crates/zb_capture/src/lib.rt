@@ -10,6 +10,8 @@ mod capture;
 mod draft;
 mod fault;
 mod fields;
+mod frames;
+mod joined;
 mod pieces;
 mod reading;
 #[cfg(test)]
@@ -17,5 +19,6 @@ mod tests;
 
 pub use capture::Capture;
 pub use fault::{CaptureCause, CaptureError};
+pub use frames::Frames;
 pub use pieces::read_in_pieces;
 pub use reading::read_capture;

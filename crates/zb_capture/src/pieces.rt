@@ -7,8 +7,8 @@ ghost use Rattle.zb_capture.specs.Grammar.{IsCapture, captured, empty};
 ghost use Rattle.zb_capture.specs.Pieces.{all_lines, Join};
 
 use crate::capture::Capture;
-use crate::draft::Draft;
 use crate::fault::CaptureError;
+use crate::joined::Joined;
 use crate::reading::read_capture;
 use std::alloc::Global;
 use std::thread::{Threads, map_vec};
@@ -110,12 +110,12 @@ fn join(
     ensures joins { IfOk result (λ found. IfSome found (λ c. Join empty read.items c)) }
     ensures valid { IfOk result (λ found. IfSome found (λ c. IsCapture c)) }
 {
-    let mut all = Draft::new(alloc);
+    let mut all = Joined::new(alloc);
     for piece in read {
         let Ok(capture) = piece else {
             return Ok(None);
         };
-        if !all.add_all(capture)? {
+        if !all.add(capture)? {
             return Ok(None);
         }
     }

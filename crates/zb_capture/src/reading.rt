@@ -28,7 +28,8 @@ pub fn read_capture(alloc: Global, bytes: &[u8]) -> Result<Capture, OrMemory<Cap
         number += 1;
         rest = more;
     }
-    Ok(draft.into_capture())
+    let capture = draft.into_capture(alloc)?;
+    Ok(capture)
 }
 
 /// A fault of a line, with its number.

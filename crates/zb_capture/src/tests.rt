@@ -121,8 +121,20 @@ fn captures_at_their_limits(rt: HostRuntime) -> Result<(), Fail> {
     Ok(())
 }
 
+/// What was read, with the frames of all runs in one list.
 fn shown(alloc: Global, read: Result<Capture, OrMemory<CaptureError>>) -> Result<String, Fail> {
-    Ok(format!(in alloc; "{read:?}")?)
+    match read {
+        Ok(capture) => {
+            let mut frames = Vec::new(alloc);
+            for run in capture.frames.runs() {
+                frames.extend_from_slice(run.as_slice())?;
+            }
+            let keys = capture.keys;
+            let addrs = capture.addrs;
+            Ok(format!(in alloc; "{keys:?} {addrs:?} {frames:?}")?)
+        }
+        Err(fault) => Ok(format!(in alloc; "{fault:?}")?),
+    }
 }
 
 /// Whether a text of at most 65,536 bytes is read by each number of jobs as by one, and its pieces give a capture where

@@ -32,7 +32,7 @@ pub fn report<T: Threads + Sync, G: Gate, W: Sink>(
     ensures later { W.faults out.old ≤ W.faults out.new }
 {
     let opened = open_all(rt, alloc, capture, jobs, gate)?;
-    let frames = capture.frames.as_slice().len() as u32;
+    let frames = capture.frames.len() as u32;
     let tail = print_tail(alloc, frames, &opened.ring)?;
     let pages = print_all(rt, alloc, gate, opened.pieces)?;
     write_all(pages.as_slice(), tail.as_slice(), out)?;

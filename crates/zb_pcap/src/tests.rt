@@ -117,9 +117,9 @@ fn both_orders_give_the_same_frame(rt: HostRuntime) -> Result<(), Fail> {
             found
                 .capture
                 .frames
-                .as_slice()
+                .runs()
                 .iter()
-                .all(|frame| frame.as_slice() == &PACKET[9..])
+                .all(|run| run.iter().all(|frame| frame.as_slice() == &PACKET[9..]))
         );
         assert_eq!(rt;
             found.counts,

@@ -7,6 +7,7 @@ pub mod BlockLaws
 pub mod JoinLaws
 pub mod PieceLaws
 pub mod RoundLaws
+mod RunLaws
 pub mod Growth
 pub mod Bound
 pub mod KnownKeys

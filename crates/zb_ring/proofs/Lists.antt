@@ -18,6 +18,17 @@ half_mapped f g xs ys i x y within is new so_far =
     ap (λ z. slice_set ys i z) new ∙ ap (λ zs. slice_set zs i (f x)) so_far ∙ set_next f g xs i x within is
     ∙ ap (λ j. map f (take j xs) ++ map g (drop j xs)) (sym (add-one i))
 
+half_at : {A B : Type 0} (f g : A → B) (xs : List A) (i : ℕ) (d : B) (x : A) → i < length xs
+    → get_or (map f (take i xs) ++ map g (drop i xs)) i d ≡ g (get_or xs i x)
+half_at f g [] i d x within = absurd (omega arith)
+half_at f g (y ∷ xs) zero d x within = refl
+half_at f g (y ∷ xs) (suc i) d x within = half_at f g xs i d x (omega arith)
+
+-- the first item that isn't mapped by f yet
+pub not_yet_mapped : {A B : Type 0} (f g : A → B) (xs : List A) (ys : List B) (i : ℕ) (d : B) (x : A) → i < length xs → x ≡ get_or xs i x
+    → ys ≡ map f (take i xs) ++ map g (drop i xs) → get_or ys i d ≡ g x
+not_yet_mapped f g xs ys i d x within is so_far = ap (λ zs. get_or zs i d) so_far ∙ half_at f g xs i d x within ∙ ap g (sym is)
+
 -- A list of which the first items were replaced, each by one that is related to it.
 abbrev pub Half : {A : Type 0} → (A → A → Type 0) → ℕ → List A → List A → Type 0
 Half R zero old now = now ≡ old

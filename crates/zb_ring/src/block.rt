@@ -1,16 +1,17 @@
 //! A few consecutive frames of a capture, and what they show.
-ghost use Rattle.std.specs.Prelude.{◌≡◌, ◌+◌, ◌<◌, ◌≤◌, ◌^◌, ◌++◌, [], length, take, vec_len, true, IfOk, OnOk};
+ghost use Rattle.std.specs.Prelude.{◌≡◌, ◌+◌, ◌<◌, ◌≤◌, ◌^◌, ◌++◌, [], length, take, drop, vec_len, true, IfOk, OnOk};
 ghost use Rattle.std.specs.List.{list_all};
 ghost use Rattle.zb_sight.specs.Lines.{sights_text};
 ghost use Rattle.zb_sight.specs.Settling.{is_settled as settled, is_unopened as unopened};
 ghost use Rattle.zb_sight.specs.Sights.{sight};
 ghost use Rattle.zb_ring.specs.Rings.{lead_of, leads_of, leads as leads_in, sights as sights_of};
-ghost use Rattle.zb_ring.specs.Pieces.{SameFrames, IsWithin, StandsFor, Sees, Shown, fresh, frames_in};
+ghost use Rattle.zb_ring.specs.Pieces.{SameFrames, IsWithin, StandsFor, Sees, Shown, fresh};
 
 use crate::ring::Lead;
 use std::alloc::{AllocError, Global};
 use std::mem;
 use zb_base::{Frame, Key, NoMemory};
+use zb_capture::Frames;
 use zb_seal::Ciphers;
 use zb_sight::{
     Addresses, Carried, Finding, Sight, carried_keys, is_settled, is_unopened, put_sights,
@@ -44,7 +45,7 @@ pub struct Block {
 /// and adds the keys that are found. Frames of which the lines are kept show no more, and their keys were found before.
 pub(crate) fn look_at(
     alloc: Global,
-    frames: &[Frame],
+    frames: &Frames,
     addrs: &Addresses<'_>,
     keys: &[Ciphers],
     known: u32,
@@ -60,102 +61,126 @@ pub(crate) fn look_at(
     ensures shown { OnOk result (Shown frames.now addrs.now keys.now block.new) }
     ensures leads { OnOk result (leads.new.items ≡ leads.old.items ++ fresh frames.now addrs.now keys.now block.old) }
 {
-    let own = own_frames(frames, block);
+    let from = block.first as usize - 1;
+    let count = block.count as usize;
     match mem::replace(&mut block.seen, Seen::Nothing) {
         Seen::Nothing => {
-            let sights = show_all(alloc, addrs, keys, own)?;
+            let sights = show_all(alloc, frames, addrs, keys, from, count)?;
             keep(alloc, block, sights, leads)?;
         }
         Seen::Unopened => {
-            let sights = show_unopened(alloc, addrs, keys, known, own)?;
+            let sights = show_unopened(alloc, frames, addrs, keys, known, from, count)?;
             keep(alloc, block, sights, leads)?;
         }
         Seen::Lines(lines) => block.seen = Seen::Lines(lines),
         Seen::Sights(sights) => {
-            let sights = show_again(addrs, keys, known, own, sights);
+            let sights = show_again(frames, addrs, keys, known, from, sights);
             keep(alloc, block, sights, leads)?;
         }
     }
     Ok(())
 }
 
-/// The frames of a block, among those of a capture.
-fn own_frames<'a>(frames: &'a [Frame], block: &Block) -> &'a [Frame]
-    requires { IsWithin (length frames.now) block.now }
-    ensures frames { result.now ≡ frames_in frames.now block.now }
-    ensures count { length result.now ≡ block.now.count }
-{
-    let from = block.first as usize - 1;
-    &frames[from..from + block.count as usize]
-}
-
-/// What frames show.
+/// What so many frames show, from a place on, counted from 0.
 fn show_all(
     alloc: Global,
+    frames: &Frames,
     addrs: &Addresses<'_>,
     keys: &[Ciphers],
-    frames: &[Frame],
+    from: usize,
+    count: usize,
 ) -> Result<Vec<Sight>, NoMemory>
-    requires { length keys.now < 2 ^ 32 }
-    ensures { IfOk result (λ v. v.items ≡ sights_of addrs.now keys.now frames.now) }
+    requires keys { length keys.now < 2 ^ 32 }
+    requires frames { length frames.now ≤ 100000 }
+    requires within { from + count ≤ length frames.now }
+    ensures { IfOk result (λ v. v.items ≡ sights_of addrs.now keys.now (take count (drop from frames.now))) }
 {
-    let mut seen = Vec::with_capacity(alloc, frames.len())?;
-    for frame in frames {
-        seen.push(show(addrs, keys, frame))?;
+    let mut seen = Vec::with_capacity(alloc, count)?;
+    while seen.len() < count {
+        let done = seen.len();
+        let run = frames.from(from + done);
+        show_run(addrs, keys, &run[..run.len().min(count - done)], &mut seen)?;
     }
     Ok(seen)
 }
 
-/// What frames show under all keys, none of which is opened by the first `known`.
-fn show_unopened(
-    alloc: Global,
+/// Adds what the frames of a run show.
+fn show_run(
     addrs: &Addresses<'_>,
     keys: &[Ciphers],
-    known: u32,
     frames: &[Frame],
-) -> Result<Vec<Sight>, NoMemory>
-    requires within { known ≤ length keys.now }
-    requires fits { length keys.now < 2 ^ 32 }
-    requires before { list_all unopened (sights_of addrs.now (take known keys.now) frames.now) ≡ true }
-    ensures { IfOk result (λ v. v.items ≡ sights_of addrs.now keys.now frames.now) }
+    seen: &mut Vec<Sight>,
+) -> Result<(), NoMemory>
+    requires { length keys.now < 2 ^ 32 }
+    ensures { OnOk result (seen.new.items ≡ seen.old.items ++ sights_of addrs.now keys.now frames.now) }
 {
-    let before = show_all(alloc, addrs, &[], frames)?;
-    Ok(show_again(addrs, keys, known, frames, before))
+    for frame in frames {
+        seen.push(show(addrs, keys, frame))?;
+    }
+    Ok(())
 }
 
-/// What frames show under all keys, where it is known under the first `known`.
-fn show_again(
+/// What so many frames show under all keys, from a place on, counted from 0, none of which is opened by the first `known`.
+fn show_unopened(
+    alloc: Global,
+    frames: &Frames,
     addrs: &Addresses<'_>,
     keys: &[Ciphers],
     known: u32,
-    frames: &[Frame],
+    from: usize,
+    count: usize,
+) -> Result<Vec<Sight>, NoMemory>
+    requires known { known ≤ length keys.now }
+    requires keys { length keys.now < 2 ^ 32 }
+    requires frames { length frames.now ≤ 100000 }
+    requires within { from + count ≤ length frames.now }
+    requires before { list_all unopened (sights_of addrs.now (take known keys.now) (take count (drop from frames.now))) ≡ true }
+    ensures { IfOk result (λ v. v.items ≡ sights_of addrs.now keys.now (take count (drop from frames.now))) }
+{
+    let before = show_all(alloc, frames, addrs, &[], from, count)?;
+    Ok(show_again(frames, addrs, keys, known, from, before))
+}
+
+/// What frames show under all keys, from a place on, counted from 0, where it is known under the first `known`.
+fn show_again(
+    frames: &Frames,
+    addrs: &Addresses<'_>,
+    keys: &[Ciphers],
+    known: u32,
+    from: usize,
     seen: Vec<Sight>,
 ) -> Vec<Sight>
-    requires within { known ≤ length keys.now }
-    requires fits { length keys.now < 2 ^ 32 }
-    requires before { seen.items ≡ sights_of addrs.now (take known keys.now) frames.now }
-    ensures { result.items ≡ sights_of addrs.now keys.now frames.now }
+    requires known { known ≤ length keys.now }
+    requires keys { length keys.now < 2 ^ 32 }
+    requires frames { length frames.now ≤ 100000 }
+    requires within { from + vec_len seen ≤ length frames.now }
+    requires before { seen.items ≡ sights_of addrs.now (take known keys.now) (take (vec_len seen) (drop from frames.now)) }
+    ensures { result.items ≡ sights_of addrs.now keys.now (take (vec_len seen) (drop from frames.now)) }
 {
     let mut seen = seen;
-    refresh_all(addrs, keys, known, frames, seen.as_mut_slice());
+    refresh_all(frames, addrs, keys, known, from, seen.as_mut_slice());
     seen
 }
 
-/// Looks again at frames that were looked at under the first `known` keys.
+/// Looks again at frames from a place on, counted from 0, that were looked at under the first `known` keys.
 fn refresh_all(
+    frames: &Frames,
     addrs: &Addresses<'_>,
     keys: &[Ciphers],
     known: u32,
-    frames: &[Frame],
+    from: usize,
     seen: &mut [Sight],
 )
-    requires within { known ≤ length keys.now }
-    requires fits { length keys.now < 2 ^ 32 }
-    requires before { seen.old ≡ sights_of addrs.now (take known keys.now) frames.now }
-    ensures { seen.new ≡ sights_of addrs.now keys.now frames.now }
+    requires known { known ≤ length keys.now }
+    requires keys { length keys.now < 2 ^ 32 }
+    requires frames { length frames.now ≤ 100000 }
+    requires within { from + length seen.old ≤ length frames.now }
+    requires before { seen.old ≡ sights_of addrs.now (take known keys.now) (take (length seen.old) (drop from frames.now)) }
+    ensures { seen.new ≡ sights_of addrs.now keys.now (take (length seen.old) (drop from frames.now)) }
 {
-    for i in 0..frames.len() {
-        refresh(addrs, keys, known, &frames[i], &mut seen[i]);
+    for i in 0..seen.len() {
+        let run = frames.from(from + i);
+        refresh(addrs, keys, known, &run[0], &mut seen[i]);
     }
 }
 

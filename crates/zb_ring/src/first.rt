@@ -6,7 +6,8 @@ ghost use Rattle.zb_ring.specs.Pieces.{AllShown, AreJoined, IsAdded, Numbered, c
 use crate::block::{Block, Seen, look_at};
 use crate::ring::Lead;
 use std::alloc::{AllocError, Global};
-use zb_base::{Frame, NoMemory};
+use zb_base::NoMemory;
+use zb_capture::Frames;
 use zb_seal::Ciphers;
 use zb_sight::Addresses;
 
@@ -17,7 +18,7 @@ const FRAMES_TOGETHER: u32 = 8;
 /// that are found.
 pub(crate) fn look_first(
     alloc: Global,
-    frames: &[Frame],
+    frames: &Frames,
     addrs: &Addresses<'_>,
     keys: &[Ciphers],
     first: u32,

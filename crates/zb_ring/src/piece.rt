@@ -8,7 +8,8 @@ use crate::block::{Block, Seen, look_at};
 use crate::first::look_first;
 use crate::ring::Lead;
 use std::alloc::Global;
-use zb_base::{Frame, NoMemory};
+use zb_base::NoMemory;
+use zb_capture::Frames;
 use zb_seal::Ciphers;
 use zb_sight::Addresses;
 
@@ -25,7 +26,7 @@ pub struct Piece {
 /// Looks at a piece of the frames of a capture under all keys, where it may have been looked at under the first `known`.
 pub(crate) fn look(
     alloc: Global,
-    frames: &[Frame],
+    frames: &Frames,
     addrs: &Addresses<'_>,
     keys: &[Ciphers],
     known: u32,
@@ -53,7 +54,7 @@ pub(crate) fn look(
 /// The piece of so many frames, the first of which has the number `first`, looked at for the first time.
 fn look_new(
     alloc: Global,
-    frames: &[Frame],
+    frames: &Frames,
     addrs: &Addresses<'_>,
     keys: &[Ciphers],
     number: u32,
@@ -82,7 +83,7 @@ fn look_new(
 /// A piece whose blocks are looked at in their order.
 fn look_again(
     alloc: Global,
-    frames: &[Frame],
+    frames: &Frames,
     addrs: &Addresses<'_>,
     keys: &[Ciphers],
     known: u32,
@@ -142,7 +143,7 @@ fn unseen_frames(block: &Block) -> Option<(u32, u32)>
 
 fn look_at_all(
     alloc: Global,
-    frames: &[Frame],
+    frames: &Frames,
     addrs: &Addresses<'_>,
     keys: &[Ciphers],
     known: u32,

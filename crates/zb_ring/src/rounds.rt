@@ -11,8 +11,8 @@ use crate::piece::{Piece, look};
 use crate::ring::{KeyRing, Ring, given_ring, learn};
 use std::alloc::Global;
 use std::thread::{Threads, map_vec};
-use zb_base::{Frame, NoMemory};
-use zb_capture::Capture;
+use zb_base::NoMemory;
+use zb_capture::{Capture, Frames};
 use zb_seal::Ciphers;
 use zb_sight::Addresses;
 
@@ -44,7 +44,7 @@ pub fn open_all<T: Threads + Sync, G: Gate>(
     ensures pieces { IfOk result (λ o. IsCut capture.now o.pieces.items) }
     ensures shown { IfOk result (λ o. AllShown capture.now.frames capture.now.addrs (keys_of o.ring.keys) (all_blocks o.pieces.items)) }
 {
-    let frames = capture.frames.as_slice();
+    let frames = &capture.frames;
     let addrs = Addresses::new(alloc, capture.addrs.as_slice())?;
     let mut ring = given_ring(alloc, capture.keys.as_slice())?;
     let mut pieces = cut(alloc, frames.len() as u32, jobs)?;
@@ -82,7 +82,7 @@ fn look_at_all<T: Threads + Sync, G: Gate>(
     rt: &T,
     alloc: Global,
     gate: &G,
-    frames: &[Frame],
+    frames: &Frames,
     addrs: &Addresses<'_>,
     keys: &[Ciphers],
     known: u32,

@@ -16,12 +16,12 @@ print_all-requires-after_bounds g c κs within =
     c.in_ok-opened.ensures.pieces c.in_ok-opened.ensures.shown
 
 -- the lines that are written are the report
-reported : (g : _) (c : After-write_all g) → pages_text c.as_slice-2.result.now ++ c.as_slice-3.result.now ≡ report_of c.args.capture.now
+reported : (g : _) (c : After-write_all g) → pages_text c.as_slice.result.now ++ c.as_slice-2.result.now ≡ report_of c.args.capture.now
 reported g c =
-    is_report c.args.capture.now c.in_ok-opened.opened.ring c.in_ok-opened.opened.pieces.items (length c.as_slice.result.now)
-    (pages_text c.as_slice-2.result.now) c.as_slice-3.result.now
-    c.in_ok-opened.ensures.ring c.in_ok-opened.ensures.pieces c.in_ok-opened.ensures.shown (ap (length {A = ArrayVec ℕ}) c.as_slice.ensures)
-    (ap pages_text c.as_slice-2.ensures.value ∙ c.in_ok-pages.ensures) (c.as_slice-3.ensures.value ∙ c.in_ok-tail.ensures)
+    is_report c.args.capture.now c.in_ok-opened.opened.ring c.in_ok-opened.opened.pieces.items c.len-frames.result
+    (pages_text c.as_slice.result.now) c.as_slice-2.result.now
+    c.in_ok-opened.ensures.ring c.in_ok-opened.ensures.pieces c.in_ok-opened.ensures.shown c.len-frames.ensures
+    (ap pages_text c.as_slice.ensures.value ∙ c.in_ok-pages.ensures) (c.as_slice-2.ensures.value ∙ c.in_ok-tail.ensures)
 
 pub returns-in_err-write_all-clause-ends : goal.returns-in_err-write_all-clause-ends
 returns-in_err-write_all-clause-ends g c =

@@ -1,6 +1,12 @@
-use Rattle.std.proofs.Common.{◌≡◌, ◌++◌, drop}
+use Rattle.std.proofs.Common.{◌≡◌, ◌-◌, ◌≤◌, take, drop, vec_len}
 use Rattle.zb_ring.specs.Rings.{sights}
 use Rattle.zb_ring.proofs.block.show_all.Given as goal
 
-abbrev pub invariant-loop-frame : goal.invariant-loop-frame
-invariant-loop-frame l = l.seen.items ++ sights l.addrs l.keys (drop l.frame-index l.frames) ≡ sights l.addrs l.keys l.frames
+abbrev pub invariant-loop-seen : goal.invariant-loop-seen
+invariant-loop-seen l = record {
+  seen : l.seen.items ≡ sights l.addrs l.keys (take (vec_len l.seen) (drop l.from l.frames));
+  within : vec_len l.seen ≤ l.count;
+}
+
+abbrev pub decreases-loop-seen : goal.decreases-loop-seen
+decreases-loop-seen l = l.count - vec_len l.seen

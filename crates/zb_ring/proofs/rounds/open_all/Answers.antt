@@ -1,4 +1,4 @@
-use Rattle.std.proofs.Common.{◌≡◌, ◌≢◌, ◌∙◌, ℕ, ◌+◌, ◌<◌, [], length, ap, sym, arith}
+use Rattle.std.proofs.Common.{◌≡◌, ◌≢◌, ◌∙◌, ℕ, ◌+◌, ◌<◌, [], length, refl, ap, sym, arith}
 use Rattle.zb_ring.specs.Pieces.{all_blocks, all_leads}
 use Rattle.zb_ring.specs.Rings.{given_from, learnt, ring_after}
 use Rattle.zb_ring.proofs.Bound.{ring_few, ring_is}
@@ -12,7 +12,7 @@ pub rounds-init : goal.rounds-init
 unfolding ring_after
 rounds-init g c = record {
   ring = c.in_ok-ring.ensures ∙ ap (given_from []) c.as_slice-2.ensures;
-  pieces = record { numbers = c.in_ok-pieces.ensures.numbers; count = c.in_ok-pieces.ensures.count ∙ ap (length {A = _}) c.as_slice-frames.ensures };
+  pieces = record { numbers = c.in_ok-pieces.ensures.numbers; count = c.in_ok-pieces.ensures.count ∙ c.len.ensures };
   known = omega arith;
   seen = all_unseen c.args.capture.now.frames c.args.capture.now.addrs [] (all_blocks c.in_ok-pieces.pieces.items) c.in_ok-pieces.ensures.unseen;
   learnt = all_unlearnt c.in_ok-ring.ring c.args.capture.now.frames c.args.capture.now.addrs [] (all_blocks c.in_ok-pieces.pieces.items) c.in_ok-pieces.ensures.unseen;
@@ -23,18 +23,18 @@ rounds-init g c = record {
 
 pub look_at_all-requires-clause-within : goal.look_at_all-requires-clause-within
 look_at_all-requires-clause-within g c κs within =
-    inside c.args.capture.now c.rounds.pieces.items c.as_slice-frames.result.now c.as_slice-frames.ensures c.rounds.invariant.pieces
+    inside c.args.capture.now c.rounds.pieces.items c.args.capture.now.frames refl c.rounds.invariant.pieces
 
 pub look_at_all-requires-clause-before : goal.look_at_all-requires-clause-before
 look_at_all-requires-clause-before g c κs within =
-    ready c.args.capture.now c.rounds.known c.rounds.ring c.rounds.pieces.items c.as_slice-frames.result.now c.in_ok-addrs.addrs c.ciphers.result.now
-    c.as_slice-frames.ensures (c.in_ok-addrs.ensures ∙ c.as_slice.ensures) c.ciphers.ensures c.rounds.invariant.seen
+    ready c.args.capture.now c.rounds.known c.rounds.ring c.rounds.pieces.items c.args.capture.now.frames c.in_ok-addrs.addrs c.ciphers.result.now
+    refl (c.in_ok-addrs.ensures ∙ c.as_slice.ensures) c.ciphers.ensures c.rounds.invariant.seen
 
 -- the round that was done
 done : (g : _) (c : In_ok-ring-2 g) → Round c.args.capture.now c.rounds.rounds c.rounds.ring c.in_ok-ring-2.ring c.in_ok-pieces-2.pieces.items
 done g c =
     one_round c.args.capture.now c.rounds.rounds c.rounds.known c.rounds.ring c.in_ok-ring-2.ring c.rounds.pieces.items c.in_ok-pieces-2.pieces.items
-    c.as_slice-frames.result.now c.in_ok-addrs.addrs c.ciphers.result.now c.rounds.invariant.pieces c.in_ok-pieces-2.ensures c.as_slice-frames.ensures
+    c.args.capture.now.frames c.in_ok-addrs.addrs c.ciphers.result.now c.rounds.invariant.pieces c.in_ok-pieces-2.ensures refl
     (c.in_ok-addrs.ensures ∙ c.as_slice.ensures) c.ciphers.ensures c.rounds.invariant.known c.rounds.invariant.seen c.rounds.invariant.learnt
     c.rounds.invariant.ring
     (c.in_ok-ring-2.ensures ∙ ap (λ ps. learnt (c.rounds.rounds + 1) c.rounds.ring (all_leads ps)) c.as_slice-in-rounds.ensures.value)
@@ -43,14 +43,14 @@ pub returns-then-len-count-clause-rounds : goal.returns-then-len-count-clause-ro
 returns-then-len-count-clause-rounds g c =
     let d = (goal.at.returns-then-len-count-clause-rounds g c).In_ok-ring-2 in
     last_round c.args.capture.now c.rounds.rounds c.rounds.ring c.in_ok-ring-2.ring c.into_keys.result c.in_ok-pieces-2.pieces.items (done g d)
-    c.rounds.invariant.first (sym c.len.ensures ∙ c.if-len-count.true ∙ c.len-count.ensures) c.into_keys.ensures
+    c.rounds.invariant.first (sym c.len-in-rounds.ensures ∙ c.if-len-count.true ∙ c.len-count.ensures) c.into_keys.ensures
 
 pub returns-then-len-count-clause-ring : goal.returns-then-len-count-clause-ring
 returns-then-len-count-clause-ring g c =
     let d = (goal.at.returns-then-len-count-clause-ring g c).In_ok-ring-2 in
     ring_is c.args.capture.now (record { keys = c.into_keys.result; rounds = c.rounds.rounds + 1 })
     (last_round c.args.capture.now c.rounds.rounds c.rounds.ring c.in_ok-ring-2.ring c.into_keys.result c.in_ok-pieces-2.pieces.items (done g d)
-    c.rounds.invariant.first (sym c.len.ensures ∙ c.if-len-count.true ∙ c.len-count.ensures) c.into_keys.ensures)
+    c.rounds.invariant.first (sym c.len-in-rounds.ensures ∙ c.if-len-count.true ∙ c.len-count.ensures) c.into_keys.ensures)
 
 pub returns-then-len-count-clause-pieces : goal.returns-then-len-count-clause-pieces
 returns-then-len-count-clause-pieces g c =
@@ -60,13 +60,13 @@ pub returns-then-len-count-clause-shown : goal.returns-then-len-count-clause-sho
 returns-then-len-count-clause-shown g c =
     let d = (goal.at.returns-then-len-count-clause-shown g c).In_ok-ring-2 in
     last_shown c.args.capture.now c.rounds.rounds c.rounds.ring c.in_ok-ring-2.ring c.into_keys.result c.in_ok-pieces-2.pieces.items (done g d)
-    (sym c.len.ensures ∙ c.if-len-count.true ∙ c.len-count.ensures) c.into_keys.ensures
+    (sym c.len-in-rounds.ensures ∙ c.if-len-count.true ∙ c.len-count.ensures) c.into_keys.ensures
 
 pub rounds-smaller : goal.rounds-smaller
 rounds-smaller g c =
     let d = (goal.at.rounds-smaller g c).In_ok-ring-2 in
     let grew : length c.in_ok-ring-2.ring ≢ length c.rounds.ring =
-    λ e. c.if-len-count.false (c.len.ensures ∙ e ∙ sym c.len-count.ensures) in
+    λ e. c.if-len-count.false (c.len-in-rounds.ensures ∙ e ∙ sym c.len-count.ensures) in
     let more = another_length c.args.capture.now c.rounds.rounds c.rounds.ring c.in_ok-ring-2.ring c.in_ok-pieces-2.pieces.items (done g d) grew in
     omega (arith, more, c.rounds.invariant.few)
 
@@ -75,7 +75,7 @@ rounds-preserved g c =
     let d = (goal.at.rounds-preserved g c).In_ok-ring-2 in
     let round = done g d in
     let grew : length c.in_ok-ring-2.ring ≢ length c.rounds.ring =
-    λ e. c.if-len-count.false (c.len.ensures ∙ e ∙ sym c.len-count.ensures) in
+    λ e. c.if-len-count.false (c.len-in-rounds.ensures ∙ e ∙ sym c.len-count.ensures) in
     let pieces = c.in_ok-pieces-2.pieces.items in
     let more = another_length c.args.capture.now c.rounds.rounds c.rounds.ring c.in_ok-ring-2.ring pieces round grew in
     record {
