@@ -87,10 +87,7 @@ fn print_piece(alloc: Global, piece: Piece) -> Result<Vec<u8>, NoMemory>
 }
 
 /// The pages, where none lacked memory.
-fn gather(
-    alloc: Global,
-    printed: Vec<Result<Vec<u8>, NoMemory>>,
-) -> Result<Vec<Vec<u8>>, NoMemory>
+fn gather(alloc: Global, printed: Vec<Result<Vec<u8>, NoMemory>>) -> Result<Vec<Vec<u8>>, NoMemory>
     ensures { IfOk result (λ v. printed.items ≡ map (λ page. Ok page) v.items) }
 {
     let mut pages = Vec::with_capacity(alloc, printed.len())?;

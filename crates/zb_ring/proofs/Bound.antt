@@ -1,6 +1,6 @@
 -- A ring has no more keys than are given and than its frames carry, which is at most three each.
-use Rattle.std.proofs.Common.{◌≡◌, ◌≢◌, ℕ, zero, suc, ◌+◌, ◌-◌, ◌*◌, ◌<◌, ◌≤◌, ◌==◌, List, [], ◌∷◌, ◌++◌, Option, Some, None, length, take, map, refl, ap, sym, ◌∙◌, subst, arith, length-append, add-one, Bool, true, false, cond, ◌||◌, bytes_eq, if◌then◌else◌}
-use Rattle.std.specs.List.{AllByRecursion, list_any}
+use Rattle.std.proofs.Common.{◌≡◌, ◌≢◌, ℕ, zero, suc, ◌+◌, ◌-◌, ◌*◌, ◌<◌, ◌≤◌, ◌==◌, List, [], ◌∷◌, ◌++◌, Option, Some, None, length, take, refl, ap, sym, ◌∙◌, subst, arith, length-append, Bool, true, false, ◌||◌, bytes_eq, if◌then◌else◌}
+use Rattle.std.specs.List.{AllByRecursion}
 use Rattle.std.proofs.lemmas.List.{length-map}
 use Rattle.std.proofs.lemmas.Bool.Decides.{nat_tests}
 use Rattle.std.proofs.lemmas.Slice.Eq.{bytes_eq-Decides}
@@ -15,7 +15,7 @@ use Rattle.zb_sight.specs.Carrying.{keys_carried}
 use Rattle.zb_sight.specs.Sights.{sight}
 use Rattle.zb_sight.specs.declared.carried.Carried.{Carried}
 use Rattle.zb_sight.specs.declared.sight.Sight.{Sight}
-use Rattle.zb_ring.specs.Rings.{is_key, has_key, with_key, given_from, keys_of, lead_of, leads_of, leads, sights, learnt, after_round, ring_after, ring_from, ring_of, IsRing}
+use Rattle.zb_ring.specs.Rings.{is_key, has_key, with_key, given_from, keys_of, lead_of, leads_of, leads, sights, learnt, ring_after, ring_from, ring_of, IsRing}
 use Rattle.zb_ring.specs.declared.ring.Lead.{Lead}
 use Rattle.zb_ring.specs.declared.ring.Ring.{Ring}
 use Rattle.zb_ring.specs.declared.ring.RingKey.{RingKey}

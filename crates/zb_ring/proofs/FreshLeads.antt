@@ -11,7 +11,7 @@ use Rattle.zb_sight.specs.Sights.{sight}
 use Rattle.zb_sight.specs.declared.sight.Sight.{Sight}
 use Rattle.zb_sight.proofs.SettledSights.{settled_same}
 use Rattle.zb_ring.specs.Pieces.{all_frames, all_fresh, frames_in, fresh, found_in, new_leads, Numbered, MayStandFor, AllSee, IsUnseen, IsWithin, is_nothing}
-use Rattle.zb_ring.specs.Rings.{has_key, with_key, leads, sights, learnt}
+use Rattle.zb_ring.specs.Rings.{has_key, leads, sights, learnt}
 use Rattle.zb_ring.specs.declared.block.Block.{Block}
 use Rattle.zb_ring.specs.declared.block.Seen.{Seen}
 use Rattle.zb_ring.specs.declared.block.Seen.TheVariants.{Nothing, Unopened, Lines, Sights}

@@ -1,5 +1,5 @@
 -- A piece that is looked at, for the first time or again.
-use Rattle.std.proofs.Common.{◌≡◌, ℕ, ◌+◌, ◌<◌, ◌≤◌, List, [], ◌∷◌, ◌++◌, length, ap, sym, ◌∙◌, subst, arith, append-nil, refl, true}
+use Rattle.std.proofs.Common.{◌≡◌, ℕ, ◌+◌, ◌<◌, ◌≤◌, List, [], ◌∷◌, ◌++◌, ap, sym, ◌∙◌, subst, arith, append-nil, refl, true}
 use Rattle.std.specs.List.{AllByRecursion, AllZip}
 use Rattle.arrayvec.specs.ArrayVec.{ArrayVec}
 use Rattle.zb_base.specs.declared.address.Eui.{Eui}

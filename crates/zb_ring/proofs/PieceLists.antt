@@ -1,6 +1,6 @@
 -- Pieces and blocks, one after the other.
-use Rattle.std.proofs.Common.{◌≡◌, ℕ, zero, suc, ◌+◌, ◌-◌, ◌*◌, ◌<◌, ◌≤◌, List, [], ◌∷◌, ◌++◌, length, get_or, take, drop, drop-cons, add-one, Option, Some, refl, ap, sym, ◌∙◌, subst, arith, append_assoc, append-nil, add-zero, length-take, length-drop, Bool, true}
-use Rattle.std.specs.List.{AllByRecursion, AllZip, flat_map}
+use Rattle.std.proofs.Common.{◌≡◌, ℕ, zero, suc, ◌+◌, ◌-◌, ◌<◌, ◌≤◌, List, [], ◌∷◌, ◌++◌, length, get_or, take, drop, drop-cons, add-one, Some, refl, ap, sym, ◌∙◌, subst, arith, append_assoc, append-nil, add-zero, length-take, length-drop, true}
+use Rattle.std.specs.List.{AllByRecursion, AllZip}
 use Rattle.std.proofs.lemmas.Grind.{flat_map-append}
 use Rattle.std.proofs.Math.Seq.{take-length}
 use Rattle.arrayvec.specs.ArrayVec.{ArrayVec}
@@ -10,7 +10,7 @@ use Rattle.zb_base.specs.declared.key.Key.{Key}
 use Rattle.zb_capture.specs.declared.capture.Capture.{Capture}
 use Rattle.zb_sight.specs.Carrying.{keys_carried}
 use Rattle.zb_sight.specs.declared.sight.Sight.{Sight}
-use Rattle.zb_ring.specs.Pieces.{all_blocks, all_frames, all_leads, all_fresh, count_of, frames_in, fresh, found_in, IsCut, IsWithin, Numbered, StandsFor, MayStandFor, Sees, AllSee, Shown, AllShown, IsUnseen, is_nothing, IsNext, IsNextPiece}
+use Rattle.zb_ring.specs.Pieces.{all_blocks, all_frames, all_leads, all_fresh, count_of, frames_in, fresh, found_in, IsCut, IsWithin, Numbered, StandsFor, MayStandFor, AllSee, Shown, AllShown, IsUnseen, is_nothing, IsNext, IsNextPiece}
 use Rattle.zb_ring.specs.Rings.{leads, leads_of, learnt, with_key}
 use Rattle.zb_ring.specs.declared.block.Block.{Block}
 use Rattle.zb_ring.specs.declared.block.Seen.{Seen}

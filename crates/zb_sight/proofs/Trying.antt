@@ -6,7 +6,6 @@ use Rattle.zb_seal.specs.Keys.{sealing_key}
 use Rattle.zb_seal.specs.Opening.{content_of, term_of}
 use Rattle.zb_seal.specs.declared.envelope.Envelope.{Envelope}
 use Rattle.zb_sight.specs.Layers.{unsealed, opened_by}
-use Rattle.zb_sight.specs.declared.layer.Finding.{Finding}
 use Rattle.zb_sight.specs.declared.layer.Finding.TheVariants.{Opened}
 
 -- the key opens the layer

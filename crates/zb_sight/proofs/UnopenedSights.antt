@@ -1,5 +1,5 @@
 -- A frame that no key opened shows the same under no keys, and its line says no more than that.
-use Rattle.std.proofs.Common.{◌≡◌, ℕ, suc, ◌+◌, ◌-◌, ◌<◌, ◌≤◌, ◌++◌, append-nil, append_assoc, ◌&&◌, not, is_some, List, [], ◌∷◌, Option, Some, None, codes, length, refl, ap, sym, ◌∙◌, subst, arith, Bool, true, false}
+use Rattle.std.proofs.Common.{◌≡◌, ℕ, suc, ◌+◌, ◌-◌, ◌<◌, ◌≤◌, ◌++◌, append-nil, append_assoc, ◌&&◌, not, is_some, List, [], ◌∷◌, Option, Some, None, length, refl, ap, sym, ◌∙◌, arith, Bool, true, false}
 use Rattle.std.specs.List.{list_all}
 use Rattle.zb_base.specs.declared.address.Eui.{Eui}
 use Rattle.zb_base.specs.declared.address.Short.{Short}
@@ -11,7 +11,7 @@ use Rattle.zb_seal.specs.declared.envelope.Envelope.{Envelope}
 use Rattle.zb_sight.specs.Layers.{unsealed, opened_by, tried, is_closed, looked, found_nwk}
 use Rattle.zb_sight.specs.Lines.{layer_line, sight_text, sights_text, unopened_line, unopened_text}
 use Rattle.zb_sight.specs.Settling.{is_unopened}
-use Rattle.zb_sight.specs.Sights.{sight_of, sight}
+use Rattle.zb_sight.specs.Sights.{sight}
 use Rattle.zb_sight.specs.declared.layer.Finding.{Finding}
 use Rattle.zb_sight.specs.declared.layer.Finding.TheVariants.{Malformed, NotSecured, NoSource, Closed, Opened}
 use Rattle.zb_sight.specs.declared.sight.Below.{Below}

@@ -1,5 +1,5 @@
 -- The keys that opened contents carry.
-use Rattle.std.specs.Prelude.{ℕ, ◌%◌, ◌==◌, ◌&&◌, Bool, true, false, not, is_some, List, [], ◌∷◌, if◌then◌else◌, Option, Some, None, Result, Ok, Err}
+use Rattle.std.specs.Prelude.{ℕ, ◌%◌, ◌==◌, ◌&&◌, Bool, false, not, is_some, List, [], ◌∷◌, if◌then◌else◌, Option, Some, None, Result, Ok, Err}
 use Rattle.zb_aps.specs.Reading as reading
 use Rattle.zb_aps.specs.Shape.{kind}
 use Rattle.zb_aps.specs.declared.fault.ApsError.{ApsError}

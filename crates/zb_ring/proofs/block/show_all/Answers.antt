@@ -18,8 +18,17 @@ loop-seen-preserved c =
     let done = c.len-done.result in
     let upto : ℕ → List Sight = λ k. map f (take k (drop c.args.from c.args.frames.now)) in
     let count : vec_len new ≡ done + n =
-    omega (arith, new.ok.0, old.ok.0, few, c.len-done.ensures, ap (length {A = Sight}) added, length-append old.items (map f (take n run)), length-map (take n run) f,
-      length-take n run) in
+    omega (
+      arith,
+      new.ok.0,
+      old.ok.0,
+      few,
+      c.len-done.ensures,
+      ap (length {A = Sight}) added,
+      length-append old.items (map f (take n run)),
+      length-map (take n run) f,
+      length-take n run,
+    ) in
     record {
       seen = more_mapped f c.args.frames.now run old.items new.items c.args.from done n few c.from-run.ensures.part
           (c.loop-seen.invariant.seen ∙ ap upto (sym c.len-done.ensures)) added ∙ ap upto (sym count);

@@ -1,4 +1,4 @@
-use Rattle.std.proofs.Common.{◌≡◌, ◌∙◌, ℕ, length, take, drop, vec_len, ap, sym}
+use Rattle.std.proofs.Common.{◌≡◌, ◌∙◌, length, take, drop, vec_len, ap, sym}
 use Rattle.std.proofs.lemmas.List.{length-map}
 use Rattle.zb_sight.specs.declared.sight.Sight.{Sight}
 use Rattle.zb_ring.specs.Rings.{sights}

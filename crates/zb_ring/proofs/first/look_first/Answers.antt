@@ -1,4 +1,4 @@
-use Rattle.std.proofs.Common.{◌+◌, arith}
+use Rattle.std.proofs.Common.{arith}
 use Rattle.zb_ring.proofs.JoinLaws.{looked_next, looked_none}
 use Rattle.zb_ring.proofs.PieceLaws.{room_more}
 use Rattle.zb_ring.proofs.first.look_first.Goals as goal

@@ -1,4 +1,4 @@
-use Rattle.zb_ring.proofs.PieceLaws.{first_piece, next_piece, one_first, one_within}
+use Rattle.zb_ring.proofs.PieceLaws.{next_piece}
 use Rattle.zb_ring.proofs.piece.look.Goals as goal
 
 pub returns-in_ok-next-in-None : goal.returns-in_ok-next-in-None

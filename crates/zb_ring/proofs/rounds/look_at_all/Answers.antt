@@ -1,4 +1,4 @@
-use Rattle.std.proofs.Common.{◌≡◌, List, get_or, sym, ◌∙◌, subst, map, Ok, IfOk}
+use Rattle.std.proofs.Common.{get_or, sym, ◌∙◌, subst, IfOk}
 use Rattle.zb_ring.specs.Pieces.{IsNextPiece}
 use Rattle.zb_ring.specs.declared.piece.Piece.{Piece}
 use Rattle.zb_ring.proofs.Lists.{oks_zip, if_ok}

@@ -1,4 +1,4 @@
-use Rattle.std.proofs.Common.{◌≡◌, ◌≢◌, ◌∙◌, ℕ, ◌+◌, ◌<◌, [], length, refl, ap, sym, arith}
+use Rattle.std.proofs.Common.{◌≢◌, ◌∙◌, ◌+◌, [], length, refl, ap, sym, arith}
 use Rattle.zb_ring.specs.Pieces.{all_blocks, all_leads}
 use Rattle.zb_ring.specs.Rings.{given_from, learnt, ring_after}
 use Rattle.zb_ring.proofs.Bound.{ring_few, ring_is}

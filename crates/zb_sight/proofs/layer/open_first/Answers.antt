@@ -1,5 +1,5 @@
 -- The key that is tried is the first of those that are left.
-use Rattle.std.proofs.Common.{◌≡◌, ◌+◌, drop, arith, ap, sym, ◌∙◌}
+use Rattle.std.proofs.Common.{◌+◌, drop, arith, ap, sym, ◌∙◌}
 use Rattle.zb_base.specs.declared.key.Key.{Key}
 use Rattle.zb_seal.specs.Opening.{content_of, term_of}
 use Rattle.zb_seal.specs.declared.envelope.Envelope.{Envelope}

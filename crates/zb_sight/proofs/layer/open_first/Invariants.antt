@@ -1,4 +1,4 @@
-use Rattle.std.proofs.Common.{◌≡◌, ◌+◌, ◌^◌, ◌<◌, length, drop}
+use Rattle.std.proofs.Common.{◌≡◌, ◌+◌, drop}
 use Rattle.zb_sight.specs.Layers.{opened_by}
 use Rattle.zb_sight.proofs.layer.open_first.Given as goal
 
