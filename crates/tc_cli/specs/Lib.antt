@@ -5,3 +5,4 @@ pub mod Commands
 pub mod Statuses
 pub mod Outcomes
 pub mod Words
+pub mod Inputs

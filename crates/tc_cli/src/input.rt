@@ -1,7 +1,8 @@
 //! Reading the whole input.
 ghost use Rattle.std.specs.Prelude.{◌≡◌, ◌<◌, ◌≤◌, IfOk, OnOk, OnErr, Err, IfSome, length, vec_len};
-ghost use Rattle.std.specs.Io.KnownBytes.{Consumes, IsAtEnd};
+ghost use Rattle.std.specs.Io.KnownBytes.{IsAtEnd};
 ghost use Rattle.zb_base.specs.Outside.{Rose};
+ghost use Rattle.tc_cli.specs.Inputs.{IsReadOn};
 ghost use Rattle.tc_cli.specs.declared.input.InputFault.TheVariants.{NoMemory as lacks};
 
 use std::alloc::{AllocError, Global};
@@ -29,6 +30,27 @@ impl From<AllocError> for InputFault {
     }
 }
 
+/// Reads on behind bytes that came before, to the end of the input or until there are so many.
+pub(crate) fn read_on<R: Source>(
+    input: &mut R,
+    bytes: &mut Vec<u8>,
+    most: usize,
+) -> Result<(), InputFault>
+    requires { vec_len bytes.old ≤ most }
+    ensures { IsReadOn result (R.rest input.old) (R.rest input.new) bytes.old.items bytes.new.items most (R.faults input.old) (R.faults input.new) }
+{
+    let mut buffer = [0; 16_384];
+    while bytes.len() < most {
+        let room = (most - bytes.len()).min(16_384);
+        match input.read(&mut buffer[..room]) {
+            Ok(0) => return Ok(()),
+            Ok(count) => bytes.extend_from_slice(&buffer[..count])?,
+            Err(_) => return Err(InputFault::Read),
+        }
+    }
+    Ok(())
+}
+
 /// Reads the input to its end, or one byte past the longest.
 pub(crate) fn read_input<R: Source>(alloc: Global, input: &mut R) -> Result<Vec<u8>, InputFault>
     ensures whole { IfOk result (λ bytes. IfSome (R.rest input.old) (λ rest. bytes.items ≡ rest)) }
@@ -39,14 +61,9 @@ pub(crate) fn read_input<R: Source>(alloc: Global, input: &mut R) -> Result<Vec<
     ensures too_long { result ≡ Err InputFault.TooLong → IfSome (R.rest input.old) (λ rest. 16777216 < length rest) }
 {
     let mut bytes = Vec::new(alloc);
-    let mut buffer = [0; 16_384];
-    while bytes.len() <= LONGEST as usize {
-        let room = (16_777_217 - bytes.len()).min(16_384);
-        match input.read(&mut buffer[..room]) {
-            Ok(0) => return Ok(bytes),
-            Ok(count) => bytes.extend_from_slice(&buffer[..count])?,
-            Err(_) => return Err(InputFault::Read),
-        }
+    read_on(input, &mut bytes, LONGEST as usize + 1)?;
+    if bytes.len() > LONGEST as usize {
+        return Err(InputFault::TooLong);
     }
-    Err(InputFault::TooLong)
+    Ok(bytes)
 }

@@ -8,12 +8,13 @@ ghost use Rattle.tc_cli.specs.Answers.{wanted, Writes};
 ghost use Rattle.tc_cli.specs.Commands.{Inspecting};
 ghost use Rattle.tc_cli.specs.Outcomes.{Ends};
 
-use crate::input::{InputFault, LONGEST, read_input};
+use crate::ahead::{CaptureFault, read_capture_on};
+use crate::input::{InputFault, LONGEST};
 use crate::status::{Cause, Status};
 use std::alloc::Global;
 use std::thread::Threads;
-use zb_base::{OrMemory, Sink, Source};
-use zb_capture::{Capture, read_in_pieces};
+use zb_base::{Sink, Source};
+use zb_capture::Capture;
 use zb_inspect::{InspectFault, report};
 use zb_ring::OpenGate;
 
@@ -30,19 +31,15 @@ pub(crate) fn inspect_input<T: Threads + Sync, R: Source, W: Sink>(
     ensures end { result ≡ Status.Ok → IsAtEnd (R.rest input.new) }
     ensures read_fault { result ≡ Status.ReadFault → Rose (R.faults input.old) (R.faults input.new) }
 {
-    let bytes = match read_input(alloc, input) {
-        Ok(bytes) => bytes,
-        Err(InputFault::Read) => return Status::ReadFault,
-        Err(InputFault::TooLong) => return Status::TooLong { limit: LONGEST },
-        Err(InputFault::NoMemory) => return Status::NoMemory,
-    };
-    match read_in_pieces(rt, alloc, jobs, bytes.as_slice()) {
+    match read_capture_on(rt, alloc, jobs, input) {
         Ok(capture) => report_on(rt, alloc, &capture, jobs, output),
-        Err(OrMemory::Fault(fault)) => Status::Refused {
+        Err(CaptureFault::Input(InputFault::Read)) => Status::ReadFault,
+        Err(CaptureFault::Input(InputFault::TooLong)) => Status::TooLong { limit: LONGEST },
+        Err(CaptureFault::Input(InputFault::NoMemory)) => Status::NoMemory,
+        Err(CaptureFault::Text(fault)) => Status::Refused {
             line: fault.line,
             cause: Cause::from(fault.cause),
         },
-        Err(OrMemory::NoMemory) => Status::NoMemory,
     }
 }
 

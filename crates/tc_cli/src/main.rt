@@ -1,6 +1,7 @@
 //! `tc`: a proved Zigbee trust centre. The program runs one command on its standard input and output.
 #![tactic(auto)]
 
+mod ahead;
 mod command;
 mod input;
 mod inspect;

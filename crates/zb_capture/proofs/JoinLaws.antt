@@ -239,3 +239,26 @@ pub found_in_pieces : (bytes : List ℕ) (ps : List Piece) (rs : List (Result Ca
 found_in_pieces bytes ps rs (Ok (Some e)) whole read join = captured_in_pieces bytes e ps rs whole read join
 found_in_pieces bytes ps rs (Ok None) whole read join = tt
 found_in_pieces bytes ps rs (Err fault) whole read join = tt
+
+-- two pieces, of which the first was read before the second was there
+pub read_two : (text rest : List ℕ) (c front back : Capture) → captured text ≡ Ok front → captured rest ≡ Ok back → lines (text ++ rest) ≡ lines text ++ lines rest
+    → Fit empty front → Fit (both empty front) back → c ≡ both (both empty front) back → captured (text ++ rest) ≡ Ok c
+unfolding captured
+read_two text rest c front back is also cut fit next whole =
+    let first = carried 1 1 empty empty front (lines text) (lines rest) is fit in
+    let n = 1 + length (lines text) in
+    let second = carried n 1 (both empty front) empty back (lines rest) [] also next in
+    ap (with_lines 1 empty) cut ∙ ap (λ x. with_lines 1 x (lines text ++ lines rest)) (sym (behind_nothing empty)) ∙ first.0
+    ∙ ap (λ x. with_lines n x (lines rest)) (sym (behind_nothing (both empty front))) ∙ ap (with_lines n (both (both empty front) empty)) (sym (append-nil (lines rest)))
+    ∙ second.0 ∙ ap (λ x. Ok x) (sym whole)
+
+pub read_joined : (text rest : List ℕ) (c front back start one two : Capture) (a b : Bool) → captured text ≡ Ok front → captured rest ≡ Ok back
+    → lines (text ++ rest) ≡ lines text ++ lines rest → start ≡ empty → a ≡ true → OnTrue a (Fit start front) → OnTrue a (one ≡ both start front)
+    → b ≡ true → OnTrue b (Fit one back) → OnTrue b (two ≡ both one back) → c ≡ two → captured (text ++ rest) ≡ Ok c
+read_joined text rest c front back start one two true true is also cut none e fit one_is f next two_is whole =
+    let P : Capture → Type 0 = λ x. Fit x front in
+    let Q : Capture → Type 0 = λ x. Fit x back in
+    let one_both : one ≡ both empty front = one_is ∙ ap (λ x. both x front) none in
+    read_two text rest c front back is also cut (subst P none fit) (subst Q one_both next) (whole ∙ two_is ∙ ap (λ x. both x back) one_both)
+read_joined text rest c front back start one two false b is also cut none e fit one_is f next two_is whole = absurd (cc e)
+read_joined text rest c front back start one two true false is also cut none e fit one_is f next two_is whole = absurd (cc f)

@@ -1,10 +1,10 @@
 -- Where a text may be cut, and lists that are related place by place.
-use Rattle.std.proofs.Common.{◌≡◌, ℕ, suc, zero, ◌+◌, ◌-◌, ◌<◌, ◌≤◌, ◌==◌, List, [], ◌∷◌, ◌++◌, length, get_or, take, drop, refl, ap, sym, ◌∙◌, arith, append_assoc, append-nil, Bool, true, false, cond, None, Some, map, position, length-drop}
+use Rattle.std.proofs.Common.{◌≡◌, ℕ, suc, zero, ◌+◌, ◌-◌, ◌<◌, ◌≤◌, ◌==◌, List, [], ◌∷◌, ◌++◌, length, get_or, take, drop, refl, ap, sym, ◌∙◌, arith, append_assoc, append-nil, Bool, true, false, cond, None, Some, map, position, length-append, length-drop}
 use Rattle.std.specs.List.{AllZip, AllByRecursion, onto_first}
 use Rattle.std.specs.Str.Lines.{lines, lines_of_parts, strip_carriage_return}
 use Rattle.std.proofs.Math.Seq.{take-length}
 use Rattle.std.proofs.lemmas.List.Quantifiers.{position-Some}
-use Rattle.std.proofs.lemmas.List.{get_or-drop}
+use Rattle.std.proofs.lemmas.List.{get_or-drop, get_or_append_left, take-append-le, drop-append-le}
 use Rattle.std.proofs.lemmas.Bool.Decides.{nat_tests}
 use Rattle.zb_text.specs.Words.{parts, nothing}
 use Rattle.zb_text.proofs.Cuts.{parts_are_some}
@@ -86,3 +86,11 @@ zip_from_index R [] (y ∷ ys) same each = absurd (omega (arith, same))
 zip_from_index R (x ∷ xs) [] same each = absurd (omega (arith, same))
 zip_from_index R (x ∷ xs) (y ∷ ys) same each =
     (each 0 x y (omega arith), zip_from_index R xs ys (omega (arith, same)) (λ i d e within. each (suc i) d e (omega (arith, within))))
+
+-- a text that goes on behind its last line feed
+pub lines_before : (n : ℕ) (text more : List ℕ) → n < length text → get_or text n 0 ≡ 10
+    → lines (text ++ more) ≡ lines (take (suc n) text) ++ lines (drop (suc n) text ++ more)
+lines_before n text more within is =
+    lines_cut n (text ++ more) (omega (arith, within, length-append text more)) (get_or_append_left text more 0 n within ∙ is)
+    ∙ ap (λ zs. lines zs ++ lines (drop (suc n) (text ++ more))) (take-append-le (suc n) text more within)
+    ∙ ap (λ zs. lines (take (suc n) text) ++ lines zs) (drop-append-le (suc n) text more within)

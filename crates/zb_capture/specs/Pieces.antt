@@ -8,7 +8,7 @@ use Rattle.zb_base.specs.declared.fault.OrMemory.{OrMemory}
 use Rattle.zb_capture.specs.declared.capture.Capture.{Capture}
 use Rattle.zb_capture.specs.declared.fault.CaptureError.{CaptureError}
 use Rattle.zb_capture.specs.declared.pieces.Piece.{Piece}
-use Rattle.zb_capture.specs.Grammar.{has_short, IsCapture}
+use Rattle.zb_capture.specs.Grammar.{captured, has_short, IsCapture}
 
 -- the lines of all pieces, one piece after the other
 abbrev pub all_lines : List Piece → List (List ℕ)
@@ -32,3 +32,7 @@ abbrev pub Join : Capture → List (Result Capture (OrMemory CaptureError)) → 
 Join c [] e = c ≡ e
 Join c (Ok d ∷ more) e = Fit c d × Join (both c d) more e
 Join c (Err fault ∷ more) e = ⊥
+
+-- what the text of `front` and then `rest` is, where they are cut between two lines
+abbrev pub IsReadBehind : Capture → List ℕ → Capture → Type 0
+IsReadBehind front rest c = (text : List ℕ) → captured text ≡ Ok front → lines (text ++ rest) ≡ lines text ++ lines rest → captured (text ++ rest) ≡ Ok c

@@ -6,6 +6,7 @@
 #![tactic(auto)]
 
 mod addresses;
+mod behind;
 mod capture;
 mod draft;
 mod fault;
@@ -17,6 +18,7 @@ mod reading;
 #[cfg(test)]
 mod tests;
 
+pub use behind::{read_behind, whole_lines};
 pub use capture::Capture;
 pub use fault::{CaptureCause, CaptureError};
 pub use frames::Frames;
