@@ -1,9 +1,8 @@
 -- An input of which the first bytes were taken before the others.
-use Rattle.std.proofs.Common.{◌≡◌, ℕ, ◌+◌, ◌-◌, ◌<◌, ◌≤◌, List, [], ◌++◌, length, take, drop, refl, ap, sym, ◌∙◌, subst, arith, append_assoc, append-nil, length-append, length-take, length-drop, take-append-drop, Option, Some, None, Result, Ok, Err, OnOk, IfOk, IfErr, IfSome}
+use Rattle.std.proofs.Common.{◌≡◌, ℕ, ◌+◌, ◌<◌, ◌≤◌, List, [], ◌++◌, length, take, drop, ap, sym, ◌∙◌, subst, arith, append_assoc, append-nil, length-append, length-drop, take-append-drop, Option, Some, None, Result, Ok, Err, OnOk, IfOk, IfErr, IfSome}
 use Rattle.std.specs.Option.{option_map}
 use Rattle.std.specs.Io.KnownBytes.{Consumes, IsAtEnd}
 use Rattle.std.specs.Str.Lines.{lines}
-use Rattle.zb_base.specs.Outside.{Rose}
 use Rattle.zb_capture.specs.Grammar.{captured}
 use Rattle.zb_capture.specs.Pieces.{IsReadBehind}
 use Rattle.zb_capture.specs.declared.capture.Capture.{Capture}

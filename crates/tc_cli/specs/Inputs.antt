@@ -1,10 +1,8 @@
 -- What is read of an input.
-use Rattle.std.specs.Prelude.{◌≡◌, ℕ, ◌<◌, ◌≤◌, ◌++◌, List, length, Option, Result, Ok, Err, OnOk, IfSome}
+use Rattle.std.specs.Prelude.{◌≡◌, ℕ, ◌<◌, ◌≤◌, ◌++◌, List, length, Option, Result, Err, OnOk, IfSome}
 use Rattle.std.specs.Io.KnownBytes.{Consumes, IsAtEnd}
 use Rattle.zb_base.specs.Outside.{Rose}
 use Rattle.zb_capture.specs.Grammar.{captured}
-use Rattle.zb_capture.specs.declared.capture.Capture.{Capture}
-use Rattle.zb_capture.specs.declared.fault.CaptureError.{CaptureError}
 use Rattle.tc_cli.specs.declared.input.InputFault.{InputFault}
 use Rattle.tc_cli.specs.declared.input.InputFault.TheVariants as input
 use Rattle.tc_cli.specs.declared.ahead.CaptureFault.{CaptureFault}

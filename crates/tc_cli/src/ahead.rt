@@ -171,12 +171,7 @@ fn read_both<T: Threads + Sync, R: Source>(
 }
 
 /// The capture that a text is, where it is one.
-fn capture_in<T: Threads + Sync>(
-    rt: &T,
-    alloc: Global,
-    jobs: u32,
-    text: &[u8],
-) -> Option<Capture>
+fn capture_in<T: Threads + Sync>(rt: &T, alloc: Global, jobs: u32, text: &[u8]) -> Option<Capture>
     requires jobs { 1 ≤ jobs }
     requires text { length text.now ≤ 16777216 }
     ensures { IfSome result (λ c. captured text.now ≡ Ok c) }

@@ -331,6 +331,75 @@ fn an_input_of_line_feeds_is_too_long_past_the_longest(rt: HostRuntime) -> Resul
     Ok(())
 }
 
+/// A frame behind its key, more bytes than come in before the first lines are read, and the frame again.
+fn long_capture<H: AllocGlobal>(rt: &H, byte: u8, last: &[u8]) -> Result<Vec<u8>, Fail> {
+    let mut text = Vec::from_slice(
+        rt.alloc(),
+        b"key 000102030405060708090A0B0C0D0E0F
+frame 08022B1A00001E00280000000001000000004B12000063DD603D8198631D3B765B34BA85
+#",
+    )?;
+    text.resize(5_000_000, byte)?;
+    text.extend_from_slice(
+        b"
+frame 08022B1A00001E00280000000001000000004B12000063DD603D8198631D3B765B34BA85
+",
+    )?;
+    text.extend_from_slice(last)?;
+    Ok(text)
+}
+
+#[test]
+fn a_long_capture_is_read_alike_by_each_number_of_jobs(rt: HostRuntime) -> Result<(), Fail> {
+    let report = b"1 nwk key 1 00124B0000000001 0 00010000040101000102
+1 aps not-secured
+2 nwk key 1 00124B0000000001 0 00010000040101000102
+2 aps not-secured
+key 1 000102030405060708090A0B0C0D0E0F given
+end 2 1 1
+";
+    // a line of many bytes, and many lines
+    for byte in [b'.', b'\n'] {
+        let text = long_capture(&rt, byte, b"")?;
+        for jobs in ["1", "2", "64"] {
+            let ran = over(&rt, &["inspect", jobs], text.as_slice(), &[], &[])?;
+            assert!(rt; ran.status == Status::Ok && ran.sink.taken() == report.as_slice());
+        }
+    }
+    Ok(())
+}
+
+#[test]
+fn a_long_capture_is_refused_alike_by_each_number_of_jobs(rt: HostRuntime) -> Result<(), Fail> {
+    // what fills it, its last line, a call of the source that fails, and how it ends
+    let captures: [(u8, &[u8], &[u32], &str); 5] = [
+        (b'.', b"boom", &[], "refused 5 syntax"),
+        (b'\n', b"code 00\nboom", &[], "refused 4999888 bad-code"),
+        (b'.', b"", &[1], "read fault"),
+        (b'.', b"", &[300], "read fault"),
+        (b'\n', b"boom", &[307], "read fault"),
+    ];
+    for (byte, last, fails, ended) in captures {
+        let text = long_capture(&rt, byte, last)?;
+        for jobs in ["1", "2", "64"] {
+            let ran = over(&rt, &["inspect", jobs], text.as_slice(), fails, &[])?;
+            assert!(rt; ran.status.text().as_str() == ended && ran.sink.taken().is_empty());
+        }
+    }
+    Ok(())
+}
+
+#[test]
+fn a_capture_is_too_long_past_the_longest(rt: HostRuntime) -> Result<(), Fail> {
+    let mut input = vec![in rt.alloc(); 10u8; 16_777_217]?;
+    let long = over(&rt, &["inspect", "2"], input.as_slice(), &[], &[])?;
+    assert_eq!(rt; long.status, Status::TooLong { limit: 16_777_216 });
+    let _ = input.pop();
+    let short = over(&rt, &["inspect", "2"], input.as_slice(), &[], &[])?;
+    assert_eq!(rt; short.sink.taken(), b"end 0 0 1\n".as_slice());
+    Ok(())
+}
+
 const CODE: &str = "83FED3407A939723A5C639B26916D505C3B5";
 
 #[test]
