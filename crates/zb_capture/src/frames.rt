@@ -6,8 +6,8 @@ use std::alloc::Global;
 use std::marker::Model;
 use zb_base::{Frame, NoMemory};
 
-/// The frames of a capture, in the order in which they were caught. They stay in the runs in which they were read, one
-/// for each job, so none is copied where runs are put behind each other. A contract sees them as one list.
+/// The frames of a capture, in the order in which they were caught. They stay in the runs in which they were read, at
+/// most two for each job, so none is copied where runs are put behind each other. A contract sees them as one list.
 #[derive(Debug, Drop)]
 pub struct Frames {
     runs: Vec<Vec<Frame>>,
