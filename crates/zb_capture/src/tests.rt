@@ -2,7 +2,9 @@
 //! are read in pieces.
 
 use crate::pieces::read_pieces;
-use crate::{Capture, CaptureCause, CaptureError, read_capture, read_in_pieces};
+use crate::{
+    Capture, CaptureCause, CaptureError, read_behind, read_capture, read_in_pieces, whole_lines,
+};
 use std::alloc::Global;
 use std::test::Fail;
 use std::thread::Threads;
@@ -125,16 +127,23 @@ fn captures_at_their_limits(rt: HostRuntime) -> Result<(), Fail> {
 fn shown(alloc: Global, read: Result<Capture, OrMemory<CaptureError>>) -> Result<String, Fail> {
     match read {
         Ok(capture) => {
-            let mut frames = Vec::new(alloc);
-            for run in capture.frames.runs() {
-                frames.extend_from_slice(run.as_slice())?;
-            }
+            let frames = frames_of(alloc, &capture)?;
             let keys = capture.keys;
             let addrs = capture.addrs;
             Ok(format!(in alloc; "{keys:?} {addrs:?} {frames:?}")?)
         }
         Err(fault) => Ok(format!(in alloc; "{fault:?}")?),
     }
+}
+
+fn frames_of(alloc: Global, capture: &Capture) -> Result<Vec<Vec<u8>>, Fail> {
+    let mut frames = Vec::new(alloc);
+    for run in capture.frames.runs() {
+        for frame in run {
+            frames.push(Vec::from_slice(alloc, frame.as_slice())?)?;
+        }
+    }
+    Ok(frames)
 }
 
 /// Whether a text of at most 65,536 bytes is read by each number of jobs as by one, and its pieces give a capture where
@@ -153,6 +162,24 @@ fn reads_alike<H: AllocGlobal + Threads + Sync>(
         alike = alike && read == expected && joined == joins;
     }
     Ok(alike)
+}
+
+/// Whether a text of at most 65,536 bytes of which the front is read first gives the capture that it is, where it should.
+fn reads_behind<H: AllocGlobal + Threads + Sync>(
+    rt: &H,
+    text: &[u8],
+    joins: bool,
+) -> Result<bool, Fail> {
+    let text = &text[..text.len().min(65_536)];
+    let (front, rest) = text.split_at(whole_lines(&text[..text.len() / 2]));
+    let Ok(first) = read_capture(rt.alloc(), front) else {
+        return Ok(!joins);
+    };
+    let Some(capture) = read_behind(rt, rt.alloc(), 2, first, rest)? else {
+        return Ok(!joins);
+    };
+    let expected = shown(rt.alloc(), read_capture(rt.alloc(), text))?;
+    Ok(joins && shown(rt.alloc(), Ok(capture))? == expected)
 }
 
 #[test]
@@ -185,6 +212,7 @@ fn pieces_read_as_the_whole(rt: HostRuntime) -> Result<(), Fail> {
     for (front, piece, count, joins) in inputs {
         let text = repeated(rt.alloc(), front, piece, count)?;
         assert!(rt; reads_alike(&rt, text.as_slice(), joins)?);
+        assert!(rt; reads_behind(&rt, text.as_slice(), joins)?);
     }
     Ok(())
 }
