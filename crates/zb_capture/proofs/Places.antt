@@ -1,6 +1,6 @@
 -- Where a text may be cut, and lists that are related place by place.
-use Rattle.std.proofs.Common.{◌≡◌, ℕ, suc, zero, ◌+◌, ◌-◌, ◌<◌, ◌≤◌, ◌==◌, List, [], ◌∷◌, ◌++◌, length, get_or, take, drop, refl, ap, sym, ◌∙◌, arith, append_assoc, append-nil, Bool, true, false, cond, None, Some, map, position, length-append, length-drop}
-use Rattle.std.specs.List.{AllZip, AllByRecursion, onto_first}
+use Rattle.std.proofs.Common.{◌≡◌, ℕ, suc, zero, ◌+◌, ◌-◌, ◌<◌, ◌≤◌, ◌==◌, List, [], ◌∷◌, ◌++◌, length, get_or, take, drop, refl, ap, sym, ◌∙◌, arith, append_assoc, append-nil, Bool, true, false, ◌||◌, cond, None, Some, map, position, length-append, length-drop}
+use Rattle.std.specs.List.{AllZip, AllByRecursion, list_any, onto_first}
 use Rattle.std.specs.Str.Lines.{lines, lines_of_parts, strip_carriage_return}
 use Rattle.std.proofs.Math.Seq.{take-length}
 use Rattle.std.proofs.lemmas.List.Quantifiers.{position-Some}
@@ -94,3 +94,17 @@ lines_before n text more within is =
     lines_cut n (text ++ more) (omega (arith, within, length-append text more)) (get_or_append_left text more 0 n within ∙ is)
     ∙ ap (λ zs. lines zs ++ lines (drop (suc n) (text ++ more))) (take-append-le (suc n) text more within)
     ∙ ap (λ zs. lines (take (suc n) text) ++ lines zs) (drop-append-le (suc n) text more within)
+
+-- a byte that stands at no place from one on
+not_any : (b c : Bool) → (b ≡ true → ⊥) → c ≡ false → (b || c) ≡ false
+not_any true c h e = absurd (h refl)
+not_any false c h e = e
+
+none_in : (test : ℕ → Bool) (xs : List ℕ) → ((k : ℕ) → k < length xs → test (get_or xs k 0) ≡ true → ⊥) → list_any test xs ≡ false
+none_in test [] h = refl
+none_in test (x ∷ xs) h = not_any (test x) (list_any test xs) (h 0 (omega arith)) (none_in test xs (λ k within. h (suc k) (omega (arith, within))))
+
+pub none_behind : (n : ℕ) (xs : List ℕ) → ((k : ℕ) → n ≤ k → k < length xs → (get_or xs k 0 == 10) ≡ true → ⊥) → list_any (λ byte. byte == 10) (drop n xs) ≡ false
+none_behind n xs h =
+    none_in (λ byte. byte == 10) (drop n xs)
+    (λ k within is. h (n + k) (omega arith) (omega (arith, within, length-drop n xs)) (ap (λ byte. byte == 10) (sym (get_or-drop n xs k 0)) ∙ is))

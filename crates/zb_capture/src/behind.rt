@@ -1,5 +1,6 @@
 //! A capture of which the first lines are read while the rest is still coming in.
-ghost use Rattle.std.specs.Prelude.{◌≡◌, ◌≤◌, ◌<◌, ◌^◌, ◌-◌, ◌++◌, ℕ, List, length, take, drop, IfOk, IfSome};
+ghost use Rattle.std.specs.Prelude.{◌≡◌, ◌≤◌, ◌<◌, ◌^◌, ◌-◌, ◌++◌, ◌==◌, ℕ, List, length, take, drop, false, IfOk, IfSome};
+ghost use Rattle.std.specs.List.{list_any};
 ghost use Rattle.std.specs.Str.Lines.{lines};
 ghost use Rattle.zb_capture.specs.Grammar.{IsCapture};
 ghost use Rattle.zb_capture.specs.Pieces.{IsReadBehind};
@@ -14,6 +15,7 @@ use zb_base::NoMemory;
 /// How many bytes the whole lines of a text have: what stands behind them may go on.
 pub fn whole_lines(text: &[u8]) -> usize
     ensures within { result ≤ length text.now }
+    ensures all { list_any (λ byte. byte == 10) (drop result text.now) ≡ false }
     ensures lines { (more : List ℕ) → lines (text.now ++ more) ≡ lines (take result text.now) ++ lines (drop result text.now ++ more) }
 {
     match memchr::memrchr(b'\n', text) {
