@@ -66,7 +66,7 @@ pub(crate) fn read_capture_on<T: Threads + Sync, R: Source>(
         let bytes = read_input(alloc, input)?;
         return read_text(rt, alloc, jobs, bytes.as_slice());
     }
-    let mut front = Vec::new(alloc);
+    let mut front = Vec::with_capacity(alloc, FRONT)?;
     match read_on(input, &mut front, FRONT) {
         Ok(()) => {}
         Err(fault) => return Err(CaptureFault::Input(fault)),
@@ -115,6 +115,7 @@ fn read_ahead<T: Threads + Sync, R: Source>(
     let mut front = front;
     let mut rest = front.split_off(whole_lines(front.as_slice()))?;
     let most = LONGEST as usize + 1 - front.len();
+    rest.reserve(most - rest.len())?;
     let (first, ended) = read_both(
         rt,
         alloc,

@@ -13,8 +13,8 @@ returns-in-Some-2-clause-exact g c =
     let most = 16777217 - c.len.result in
     let seen = c.as_slice.ensures.value in
     let is = come c.read_both-first.result.1 c.in-Ok.field-0 (g.R.Source.rest c.args.input.now) (g.R.Source.rest c.read_both-first.new.input) front
-    c.in_ok-rest.rest.items rest.items n most (g.R.Source.faults c.args.input.now) (g.R.Source.faults c.read_both-first.new.input) c.in-Ok.is
-    c.read_both-first.ensures.on c.in_ok-rest.ensures.tail in
+    c.reserve.new.self.items rest.items n most (g.R.Source.faults c.args.input.now) (g.R.Source.faults c.read_both-first.new.input) c.in-Ok.is
+    c.read_both-first.ensures.on (c.in_ok-reserve.ensures.items ∙ c.in_ok-rest.ensures.tail) in
     let kept_is = c.in_ok-rest.ensures.items in
     let few : length rest.items < most = omega (arith, c.read_both-first.ensures.on.short, c.if-len-most.false, c.len-2.ensures, rest.ok.0) in
     let count : length kept.items ≡ c.len.result = omega (arith, c.len.ensures, kept.ok.0) in
@@ -36,8 +36,8 @@ returns-clause-exact g c =
     let most = 16777217 - c.len.result in
     let seen = c.as_slice.ensures.value in
     let is = come c.read_both-first.result.1 c.in-Ok.field-0 (g.R.Source.rest c.args.input.now) (g.R.Source.rest c.read_both-first.new.input) front
-    c.in_ok-rest.rest.items rest.items n most (g.R.Source.faults c.args.input.now) (g.R.Source.faults c.read_both-first.new.input) c.in-Ok.is
-    c.read_both-first.ensures.on c.in_ok-rest.ensures.tail in
+    c.reserve.new.self.items rest.items n most (g.R.Source.faults c.args.input.now) (g.R.Source.faults c.read_both-first.new.input) c.in-Ok.is
+    c.read_both-first.ensures.on (c.in_ok-reserve.ensures.items ∙ c.in_ok-rest.ensures.tail) in
     let kept_is = c.in_ok-rest.ensures.items in
     let few : length rest.items < most = omega (arith, c.read_both-first.ensures.on.short, c.if-len-most.false, c.len-2.ensures, rest.ok.0) in
     let count : length kept.items ≡ c.len.result = omega (arith, c.len.ensures, kept.ok.0) in
@@ -57,8 +57,8 @@ returns-clause-fault g c =
     let most = 16777217 - c.len.result in
     let seen = c.as_slice.ensures.value in
     let is = come c.read_both-first.result.1 c.in-Ok.field-0 (g.R.Source.rest c.args.input.now) (g.R.Source.rest c.read_both-first.new.input) front
-    c.in_ok-rest.rest.items rest.items n most (g.R.Source.faults c.args.input.now) (g.R.Source.faults c.read_both-first.new.input) c.in-Ok.is
-    c.read_both-first.ensures.on c.in_ok-rest.ensures.tail in
+    c.reserve.new.self.items rest.items n most (g.R.Source.faults c.args.input.now) (g.R.Source.faults c.read_both-first.new.input) c.in-Ok.is
+    c.read_both-first.ensures.on (c.in_ok-reserve.ensures.items ∙ c.in_ok-rest.ensures.tail) in
     let kept_is = c.in_ok-rest.ensures.items in
     let few : length rest.items < most = omega (arith, c.read_both-first.ensures.on.short, c.if-len-most.false, c.len-2.ensures, rest.ok.0) in
     let count : length kept.items ≡ c.len.result = omega (arith, c.len.ensures, kept.ok.0) in
