@@ -11,7 +11,8 @@ use zb_capture::Frames;
 use zb_seal::Ciphers;
 use zb_sight::Addresses;
 
-/// So many frames are looked at together: where a layer of one of them is closed, all that they show is kept.
+/// So many frames are looked at together: where some were opened and a layer of one of them is closed, all that they show
+/// is kept.
 const FRAMES_TOGETHER: u32 = 8;
 
 /// Looks at so many frames of a capture under all keys, the first of which has the number `first`, and adds the keys
