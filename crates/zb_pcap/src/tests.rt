@@ -113,13 +113,9 @@ fn counted(alloc: Global, file: &[u8]) -> Option<Result<Counts, PcapError>> {
 fn both_orders_give_the_same_frame(rt: HostRuntime) -> Result<(), Fail> {
     for file in FILES {
         let found = extract(rt.alloc(), &file, &[]).ok().ok_or("no capture")?;
+        let runs = found.capture.frames.runs();
         assert!(rt;
-            found
-                .capture
-                .frames
-                .runs()
-                .iter()
-                .all(|run| run.iter().all(|frame| frame.as_slice() == &PACKET[9..]))
+            runs.iter().all(|run| run.iter().all(|frame| frame.as_slice() == &PACKET[9..]))
         );
         assert_eq!(rt;
             found.counts,
