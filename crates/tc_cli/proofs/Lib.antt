@@ -2,4 +2,4 @@ pub mod Completeness
 pub mod DigitLemmas
 pub mod PlayedRuns
 pub mod Fronts
-mod AheadLaws
+mod PartLaws

@@ -1,12 +1,18 @@
 -- What is read of an input.
-use Rattle.std.specs.Prelude.{◌≡◌, ℕ, ◌<◌, ◌≤◌, ◌++◌, List, length, Option, Result, Err, OnOk, IfSome}
+use Rattle.std.specs.Prelude.{◌≡◌, ℕ, ◌+◌, ◌-◌, ◌<◌, ◌≤◌, ◌++◌, min, Bool, true, false, List, length, Option, Result, Ok, Err, OnOk, IfSome}
 use Rattle.std.specs.Io.KnownBytes.{Consumes, IsAtEnd}
+use Rattle.std.specs.Str.Lines.{lines}
 use Rattle.zb_base.specs.Outside.{Rose}
+use Rattle.zb_base.specs.declared.fault.OrMemory.{OrMemory}
+use Rattle.zb_base.specs.declared.fault.OrMemory.TheVariants as error
 use Rattle.zb_capture.specs.Grammar.{captured}
+use Rattle.zb_capture.specs.Readings.{Reading, with_more}
+use Rattle.zb_capture.specs.declared.fault.CaptureError.{CaptureError}
+use Rattle.tc_cli.specs.declared.incoming.Incoming.{Incoming}
 use Rattle.tc_cli.specs.declared.input.InputFault.{InputFault}
 use Rattle.tc_cli.specs.declared.input.InputFault.TheVariants as input
-use Rattle.tc_cli.specs.declared.ahead.CaptureFault.{CaptureFault}
-use Rattle.tc_cli.specs.declared.ahead.CaptureFault.TheVariants as fault
+use Rattle.tc_cli.specs.declared.capture.CaptureFault.{CaptureFault}
+use Rattle.tc_cli.specs.declared.capture.CaptureFault.TheVariants as fault
 
 -- what a source gave stands behind the bytes before
 abbrev pub Grows : Option (List ℕ) → Option (List ℕ) → List ℕ → List ℕ → Type 0
@@ -21,12 +27,37 @@ pub record IsReadOn (result : Result (Unit {0}) InputFault) (old new : Option (L
   pub read : result ≡ Err input.Read → Rose faults faults_after
   pub within : result ≡ Err input.TooLong → ⊥
 
--- why a text is no capture
-abbrev pub IsTextFault : CaptureFault → List ℕ → Type 0
-IsTextFault (fault.Input input.Read) text = ⊥
-IsTextFault (fault.Input input.TooLong) text = ⊥
-IsTextFault (fault.Input input.NoMemory) text = Unit {0}
-IsTextFault (fault.Text e) text = captured text ≡ Err e
+-- the source gave so much that it is longer than an input may be, where `count` bytes came before
+abbrev pub IsPastAll : Option (List ℕ) → Option (List ℕ) → ℕ → Type 0
+IsPastAll old new count = (taken : List ℕ) × Consumes old new taken × (16777216 < count + length taken)
+
+-- Bytes came behind others, and `true` is answered where there are as many as were asked for.
+pub record IsFilled (result : Result Bool InputFault) (old new : Option (List ℕ)) (before after : Incoming) (size faults faults_after : ℕ) : Type 0 where
+  pub grown : OnOk result (Grows old new before.part.items after.part.items)
+  pub count : OnOk result (after.count + length before.part.items ≡ before.count + length after.part.items)
+  pub within : OnOk result (after.count ≤ 16777216)
+  pub full : result ≡ Ok true → after.count ≡ before.count + min size (16777217 - before.count)
+  pub end : result ≡ Ok false → IsAtEnd new
+  pub later : faults ≤ faults_after
+  pub read : result ≡ Err input.Read → Rose faults faults_after
+  pub too_long : result ≡ Err input.TooLong → IsPastAll old new before.count
+
+-- Lines of what came were read: whatever comes behind that gives the same behind what is left.
+abbrev pub AreLinesRead : Result (Unit {0}) (OrMemory CaptureError) → Reading → Reading → List ℕ → List ℕ → Type 0
+AreLinesRead (Ok done) old new before after = (more : List ℕ) → with_more old (lines (before ++ more)) ≡ with_more new (lines (after ++ more))
+AreLinesRead (Err (error.Fault fault)) old new before after = (more : List ℕ) → with_more old (lines (before ++ more)) ≡ Err fault
+AreLinesRead (Err error.NoMemory) old new before after = Unit {0}
+
+-- all that the source had came, and is no longer than an input may be
+abbrev pub IsAll : Option (List ℕ) → Option (List ℕ) → ℕ → Type 0
+IsAll old new count = (taken : List ℕ) × Consumes old new taken × IsAtEnd new × (count + length taken ≤ 16777216)
+
+-- what is answered of an input of which lines have a fault, where `count` bytes came before
+abbrev pub IsJudged : CaptureFault → OrMemory CaptureError → Option (List ℕ) → Option (List ℕ) → ℕ → ℕ → ℕ → Type 0
+IsJudged (fault.Input input.Read) bad old new count faults later = Rose faults later
+IsJudged (fault.Input input.TooLong) bad old new count faults later = IsPastAll old new count
+IsJudged (fault.Input input.NoMemory) bad old new count faults later = Unit {0}
+IsJudged (fault.Text e) bad old new count faults later = (bad ≡ error.Fault e) × IsAll old new count
 
 -- why an input is no capture
 abbrev pub IsWhyNot : CaptureFault → Option (List ℕ) → ℕ → ℕ → Type 0
@@ -34,3 +65,7 @@ IsWhyNot (fault.Input input.Read) rest faults later = Rose faults later
 IsWhyNot (fault.Input input.TooLong) rest faults later = IfSome rest (λ text. 16777216 < length text)
 IsWhyNot (fault.Input input.NoMemory) rest faults later = Unit {0}
 IsWhyNot (fault.Text e) rest faults later = IfSome rest (λ text. (length text ≤ 16777216) × (captured text ≡ Err e))
+
+abbrev pub fault_of : OrMemory CaptureError → CaptureFault
+fault_of (error.Fault e) = fault.Text e
+fault_of error.NoMemory = fault.Input input.NoMemory

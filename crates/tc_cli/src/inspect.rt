@@ -8,7 +8,7 @@ ghost use Rattle.tc_cli.specs.Answers.{wanted, Writes};
 ghost use Rattle.tc_cli.specs.Commands.{Inspecting};
 ghost use Rattle.tc_cli.specs.Outcomes.{Ends};
 
-use crate::ahead::{CaptureFault, read_capture_on};
+use crate::capture::{CaptureFault, read_capture_on};
 use crate::input::{InputFault, LONGEST};
 use crate::status::{Cause, Status};
 use std::alloc::Global;

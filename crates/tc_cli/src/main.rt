@@ -1,8 +1,9 @@
 //! `tc`: a proved Zigbee trust centre. The program runs one command on its standard input and output.
 #![tactic(auto)]
 
-mod ahead;
+mod capture;
 mod command;
+mod incoming;
 mod input;
 mod inspect;
 mod install;

@@ -1,31 +1,20 @@
--- The lines of two pieces give what those of each give, one behind the other.
-use Rattle.std.proofs.Common.{◌≡◌, ℕ, suc, ◌+◌, ◌<◌, ◌≤◌, List, [], ◌∷◌, ◌++◌, length, refl, ap, sym, ◌∙◌, subst, arith, length-append, append_assoc, append-nil, Bool, true, false, ◌||◌, nat_lt, bytes_eq, codes, if◌then◌else◌, Option, Some, None, Result, Ok, Err, IfOk, IfSome}
-use Rattle.std.specs.Bool.{OnTrue}
-use Rattle.std.specs.List.{AllZip, list_any}
-use Rattle.std.specs.Str.Lines.{lines}
+-- Lines give behind others what they give by themselves, where that fits.
+use Rattle.std.proofs.Common.{◌≡◌, ℕ, ◌+◌, ◌<◌, ◌≤◌, List, [], ◌∷◌, ◌++◌, length, refl, ap, sym, ◌∙◌, subst, arith, length-append, append_assoc, append-nil, Bool, true, false, not, ◌&&◌, ◌||◌, nat_lt, bytes_eq, codes, if◌then◌else◌, Option, Some, None, Result, Ok, Err}
+use Rattle.std.specs.List.{list_all, list_any}
 use Rattle.std.proofs.lemmas.Bool.Decides.{nat_tests}
 use Rattle.std.proofs.lemmas.List.Folds.{list_any-append}
 use Rattle.arrayvec.specs.ArrayVec.{ArrayVec}
 use Rattle.zb_base.specs.declared.address.Eui.{Eui}
 use Rattle.zb_base.specs.declared.address.Short.{Short}
-use Rattle.zb_base.specs.declared.fault.NoMemory.{NoMemory}
-use Rattle.zb_base.specs.declared.fault.OrMemory.{OrMemory}
 use Rattle.zb_base.specs.declared.key.Key.{Key}
 use Rattle.zb_text.specs.Words.{words}
-use Rattle.zb_capture.specs.Drafts.{Answers}
-use Rattle.zb_capture.specs.Grammar.{IsCapture, empty, has_short, is_skipped, key_in, code_in, addr_in, frame_in, with_key, with_code, with_addr, with_frame, with_words, with_line, with_lines, at_line, captured}
-use Rattle.zb_capture.specs.Pieces.{all_lines, both, AreApart, Fit, Join}
+use Rattle.zb_capture.specs.Grammar.{empty, has_short, is_skipped, key_in, code_in, addr_in, frame_in, with_key, with_code, with_addr, with_frame, with_words, with_line, with_lines, at_line}
+use Rattle.zb_capture.specs.Pieces.{both, is_new, Fit}
+use Rattle.zb_capture.specs.Readings.{Reading, Lead, no_lines}
+use Rattle.zb_capture.proofs.LineLaws.{ok_is, no_ok, count_on, no_more}
 use Rattle.zb_capture.specs.declared.capture.Capture.{Capture}
 use Rattle.zb_capture.specs.declared.fault.CaptureCause.{CaptureCause}
 use Rattle.zb_capture.specs.declared.fault.CaptureCause.TheVariants.{Syntax, BadCode, TooMany, AddressTaken}
-use Rattle.zb_capture.specs.declared.fault.CaptureError.{CaptureError}
-use Rattle.zb_capture.specs.declared.pieces.Piece.{Piece}
-
-ok_is : {A E : Type 0} (x y : A) (r : Result A E) → r ≡ Ok x → r ≡ Ok y → x ≡ y
-ok_is x y r one other = cc (one, other)
-
-no_ok : {A E : Type 0} (P : Type 0) (fault : E) (y : A) (r : Result A E) → r ≡ Err fault → r ≡ Ok y → P
-no_ok P fault y r one other = absurd (cc (one, other))
 
 under : (n most : ℕ) → n < most → nat_lt n most ≡ true
 under n most less = grind (arith, nat_tests)
@@ -95,10 +84,23 @@ frame_behind c d e None ok fit = no_ok _ Syntax e _ refl ok
 frame_behind c d e (Some frame) ok fit = frame_test c d e frame (nat_lt (length d.frames) 100000) ok fit
 
 -- an address more
-apart_split : (addrs more : List (Short × Eui)) (addr : Short × Eui) → AreApart addrs (more ++ addr ∷ [])
-    → AreApart addrs more × (list_any (has_short addr.0) addrs ≡ false)
-apart_split addrs [] addr all = (tt, all.0)
-apart_split addrs (x ∷ more) addr all = let rest = apart_split addrs more addr all.1 in ((all.0, rest.0), rest.1)
+and_both : (a b : Bool) → (a && b) ≡ true → (a ≡ true) × (b ≡ true)
+and_both true b both = (refl, both)
+and_both false b both = absurd (cc both)
+
+both_and : (a b : Bool) → a ≡ true → b ≡ true → (a && b) ≡ true
+both_and a b one other = rw (one, other) refl
+
+old_is_not_new : (b : Bool) → not b ≡ true → b ≡ false
+old_is_not_new true new = absurd (cc new)
+old_is_not_new false new = refl
+
+apart_split : (addrs more : List (Short × Eui)) (addr : Short × Eui) → list_all (is_new addrs) (more ++ addr ∷ []) ≡ true
+    → (list_all (is_new addrs) more ≡ true) × (list_any (has_short addr.0) addrs ≡ false)
+apart_split addrs [] addr all = (refl, old_is_not_new (list_any (has_short addr.0) addrs) (and_both (is_new addrs addr) true all).0)
+apart_split addrs (x ∷ more) addr all =
+    let here = and_both (is_new addrs x) (list_all (is_new addrs) (more ++ addr ∷ [])) all in
+    let rest = apart_split addrs more addr here.1 in (both_and (is_new addrs x) (list_all (is_new addrs) more) here.0 rest.0, rest.1)
 
 neither : (a b : Bool) → a ≡ false → b ≡ false → (a || b) ≡ false
 neither a b e f = rw (e, f) refl
@@ -165,12 +167,6 @@ line_behind c d e line ok fit = skip_behind c d e (words (Some line)) (is_skippe
 abbrev Carried : ℕ → Capture → Capture → Capture → List (List ℕ) → List (List ℕ) → Type 0
 Carried n c d e piece rest = (with_lines n (both c d) (piece ++ rest) ≡ with_lines (n + length piece) (both c e) rest) × Fit c d
 
-count_on : (n more : ℕ) → n + 1 + more ≡ n + suc more
-count_on n more = omega arith
-
-no_more : (n : ℕ) → n ≡ n + 0
-no_more n = omega arith
-
 carried_on : (n m : ℕ) (c d e : Capture) (line : List ℕ) (piece rest : List (List ℕ)) (r : Result Capture CaptureCause) → with_line d line ≡ r
     → at_line m r (λ next. with_lines (m + 1) next piece) ≡ Ok e
     → ((next : Capture) → with_lines (m + 1) next piece ≡ Ok e → Carried (n + 1) c next e piece rest)
@@ -197,68 +193,14 @@ carried n m c d e (line ∷ piece) rest ok fit =
 behind_nothing : (c : Capture) → both c empty ≡ c
 behind_nothing c = rw (append-nil c.keys, append-nil c.addrs, append-nil c.frames) refl
 
-abbrev pub WasRead : Piece → Result Capture (OrMemory CaptureError) → Type 0
-WasRead piece r = Answers r (captured piece.text.now)
-
-pieces_joined : (n : ℕ) (c e : Capture) (ps : List Piece) (rs : List (Result Capture (OrMemory CaptureError))) → AllZip WasRead ps rs → Join c rs e
-    → with_lines n c (all_lines ps) ≡ Ok e
-unfolding captured
-pieces_joined n c e [] [] read join = ap (λ x. Ok x) join
-pieces_joined n c e [] (r ∷ rs) read join = absurd read
-pieces_joined n c e (p ∷ ps) [] read join = absurd read
-pieces_joined n c e (p ∷ ps) (Err fault ∷ rs) read join = absurd join
-pieces_joined n c e (p ∷ ps) (Ok d ∷ rs) read join =
-    let first = carried n 1 c empty d (lines p.text.now) (all_lines ps) read.0 join.0 in
-    ap (λ x. with_lines n x (lines p.text.now ++ all_lines ps)) (sym (behind_nothing c))
-    ∙ first.0
-    ∙ pieces_joined (n + length (lines p.text.now)) (both c d) e ps rs read.1 join.1
-
-pub captured_in_pieces : (bytes : List ℕ) (e : Capture) (ps : List Piece) (rs : List (Result Capture (OrMemory CaptureError)))
-    → all_lines ps ≡ lines bytes → AllZip WasRead ps rs → Join empty rs e → captured bytes ≡ Ok e
-unfolding captured
-captured_in_pieces bytes e ps rs whole read join = ap (with_lines 1 empty) (sym whole) ∙ pieces_joined 1 empty e ps rs read join
-
--- one piece more
-pub join_more : (c e d : Capture) (rs : List (Result Capture (OrMemory CaptureError))) → Join c rs e → Fit e d → Join c (rs ++ Ok d ∷ []) (both e d)
-join_more c e d [] join fit =
-    let P : Capture → Type 0 = λ x. Fit x d × (both x d ≡ both e d) in subst P (sym join) (fit, refl)
-join_more c e d (Ok first ∷ rs) join fit = (join.0, join_more (both c first) e d rs join.1 fit)
-join_more c e d (Err fault ∷ rs) join fit = absurd join
-
-pub join_next : (e d new : Capture) (rs : List (Result Capture (OrMemory CaptureError))) (r : Result Capture (OrMemory CaptureError)) (fits : Bool)
-    → Join empty rs e → r ≡ Ok d → OnTrue fits (Fit e d) → OnTrue fits (new ≡ both e d) → fits ≡ true → Join empty (rs ++ r ∷ []) new × IsCapture new
-join_next e d new rs r true join is fit both_is fitting =
-    let P : Capture → Type 0 = λ x. Join empty (rs ++ r ∷ []) x × IsCapture x in
-    let Q : Result Capture (OrMemory CaptureError) → Type 0 = λ x. Join empty (rs ++ x ∷ []) (both e d) in
-    subst P (sym both_is) (subst Q (sym is) (join_more empty e d rs join fit), fit.limits)
-join_next e d new rs r false join is fit both_is fitting = absurd (cc fitting)
-
-pub found_in_pieces : (bytes : List ℕ) (ps : List Piece) (rs : List (Result Capture (OrMemory CaptureError))) (r : Result (Option Capture) NoMemory)
-    → all_lines ps ≡ lines bytes → AllZip WasRead ps rs → IfOk r (λ found. IfSome found (λ c. Join empty rs c))
-    → IfOk r (λ found. IfSome found (λ c. captured bytes ≡ Ok c))
-found_in_pieces bytes ps rs (Ok (Some e)) whole read join = captured_in_pieces bytes e ps rs whole read join
-found_in_pieces bytes ps rs (Ok None) whole read join = tt
-found_in_pieces bytes ps rs (Err fault) whole read join = tt
-
--- two pieces, of which the first was read before the second was there
-pub read_two : (text rest : List ℕ) (c front back : Capture) → captured text ≡ Ok front → captured rest ≡ Ok back → lines (text ++ rest) ≡ lines text ++ lines rest
-    → Fit empty front → Fit (both empty front) back → c ≡ both (both empty front) back → captured (text ++ rest) ≡ Ok c
-unfolding captured
-read_two text rest c front back is also cut fit next whole =
-    let first = carried 1 1 empty empty front (lines text) (lines rest) is fit in
-    let n = 1 + length (lines text) in
-    let second = carried n 1 (both empty front) empty back (lines rest) [] also next in
-    ap (with_lines 1 empty) cut ∙ ap (λ x. with_lines 1 x (lines text ++ lines rest)) (sym (behind_nothing empty)) ∙ first.0
-    ∙ ap (λ x. with_lines n x (lines rest)) (sym (behind_nothing (both empty front))) ∙ ap (with_lines n (both (both empty front) empty)) (sym (append-nil (lines rest)))
-    ∙ second.0 ∙ ap (λ x. Ok x) (sym whole)
-
-pub read_joined : (text rest : List ℕ) (c front back start one two : Capture) (a b : Bool) → captured text ≡ Ok front → captured rest ≡ Ok back
-    → lines (text ++ rest) ≡ lines text ++ lines rest → start ≡ empty → a ≡ true → OnTrue a (Fit start front) → OnTrue a (one ≡ both start front)
-    → b ≡ true → OnTrue b (Fit one back) → OnTrue b (two ≡ both one back) → c ≡ two → captured (text ++ rest) ≡ Ok c
-read_joined text rest c front back start one two true true is also cut none e fit one_is f next two_is whole =
-    let P : Capture → Type 0 = λ x. Fit x front in
-    let Q : Capture → Type 0 = λ x. Fit x back in
-    let one_both : one ≡ both empty front = one_is ∙ ap (λ x. both x front) none in
-    read_two text rest c front back is also cut (subst P none fit) (subst Q one_both next) (whole ∙ two_is ∙ ap (λ x. both x back) one_both)
-read_joined text rest c front back start one two false b is also cut none e fit one_is f next two_is whole = absurd (cc e)
-read_joined text rest c front back start one two true false is also cut none e fit one_is f next two_is whole = absurd (cc f)
+-- a piece that was read from nothing, behind other lines
+pub lead_behind : (r new more : Reading) (piece : List (List ℕ)) → Lead no_lines piece more → Fit r.capture more.capture
+    → new.lines ≡ r.lines + more.lines → new.capture ≡ both r.capture more.capture → Lead r piece new
+lead_behind r new more piece lead fit count is =
+    let on = carried (r.lines + 1) 1 r.capture empty more.capture piece [] lead.gives fit in
+    record {
+      gives = ap (λ x. with_lines (r.lines + 1) x piece) (sym (behind_nothing r.capture))
+          ∙ ap (with_lines (r.lines + 1) (both r.capture empty)) (sym (append-nil piece))
+          ∙ on.0 ∙ ap (λ x. Ok x) (sym is);
+      count = omega (arith, count, lead.count);
+    }

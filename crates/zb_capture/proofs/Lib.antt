@@ -1,3 +1,5 @@
 mod JoinLaws
+pub mod LineLaws
 mod Places
+mod ReadLaws
 mod RunLaws

@@ -1,15 +1,16 @@
 -- Where a text may be cut, and lists that are related place by place.
 use Rattle.std.proofs.Common.{◌≡◌, ℕ, suc, zero, ◌+◌, ◌-◌, ◌<◌, ◌≤◌, ◌==◌, List, [], ◌∷◌, ◌++◌, length, get_or, take, drop, refl, ap, sym, ◌∙◌, arith, append_assoc, append-nil, Bool, true, false, ◌||◌, cond, None, Some, map, position, length-append, length-drop}
-use Rattle.std.specs.List.{AllZip, AllByRecursion, list_any, onto_first}
+use Rattle.std.specs.List.{AllZip, AllByRecursion, flat_map, list_any, onto_first}
 use Rattle.std.specs.Str.Lines.{lines, lines_of_parts, strip_carriage_return}
 use Rattle.std.proofs.Math.Seq.{take-length}
 use Rattle.std.proofs.lemmas.List.Quantifiers.{position-Some}
 use Rattle.std.proofs.lemmas.List.{get_or-drop, get_or_append_left, take-append-le, drop-append-le}
 use Rattle.std.proofs.lemmas.Bool.Decides.{nat_tests}
+use Rattle.zb_capture.specs.Pieces.{all_found, all_texts, IsFound}
+use Rattle.zb_capture.specs.declared.pieces.Found.{Found}
+use Rattle.zb_capture.specs.declared.pieces.Piece.{Piece}
 use Rattle.zb_text.specs.Words.{parts, nothing}
 use Rattle.zb_text.proofs.Cuts.{parts_are_some}
-use Rattle.zb_capture.specs.Pieces.{all_lines}
-use Rattle.zb_capture.specs.declared.pieces.Piece.{Piece}
 
 -- parts of which the last begins behind the byte
 parts_on : (b : Bool) (x : ℕ) (ps qs : List (List ℕ)) → nothing ps ≡ None
@@ -68,15 +69,19 @@ lines_found least at text some is =
     lines_cut (n + at) text within (sym (get_or-drop n text at 0) ∙ byte)
     ∙ ap (λ k. lines (take k text) ++ lines (drop k text)) place
 
--- one piece more
-pub lines_more : (ps : List Piece) (p : Piece) → all_lines (ps ++ p ∷ []) ≡ all_lines ps ++ lines p.text.now
-lines_more [] p = append-nil (lines p.text.now)
-lines_more (q ∷ ps) p =
-    ap (λ zs. lines q.text.now ++ zs) (lines_more ps p) ∙ sym (append_assoc (lines q.text.now) (all_lines ps) (lines p.text.now))
+-- one part more
+parts_more : {A : Type 0} (f : List ℕ → List A) (parts : List (List ℕ)) (part : List ℕ) → flat_map f (parts ++ part ∷ []) ≡ flat_map f parts ++ f part
+parts_more f [] part = append-nil (f part)
+parts_more f (p ∷ parts) part = ap (λ zs. f p ++ zs) (parts_more f parts part) ∙ sym (append_assoc (f p) (flat_map f parts) (f part))
 
-pub all_more : {A : Type 0} (P : A → Type 0) (xs : List A) (x : A) → AllByRecursion P xs → P x → AllByRecursion P (xs ++ x ∷ [])
-all_more P [] x all here = (here, tt)
-all_more P (y ∷ xs) x all here = (all.0, all_more P xs x all.1 here)
+pub cut_more : (text rest part more : List ℕ) (parts : List (List ℕ)) → flat_map (λ part. part) parts ++ rest ≡ text → flat_map lines parts ++ lines rest ≡ lines text
+    → part ++ more ≡ rest → lines part ++ lines more ≡ lines rest
+    → (flat_map (λ part. part) (parts ++ part ∷ []) ++ more ≡ text) × (flat_map lines (parts ++ part ∷ []) ++ lines more ≡ lines text)
+cut_more text rest part more parts whole all is also = (
+  ap (λ zs. zs ++ more) (parts_more (λ x. x) parts part) ∙ append_assoc (flat_map (λ x. x) parts) part more ∙ ap (λ zs. flat_map (λ x. x) parts ++ zs) is ∙ whole,
+  ap (λ zs. zs ++ lines more) (parts_more lines parts part) ∙ append_assoc (flat_map lines parts) (lines part) (lines more)
+      ∙ ap (λ zs. flat_map lines parts ++ zs) also ∙ all,
+)
 
 -- a relation that holds place by place
 pub zip_from_index : {A B : Type 0} (R : A → B → Type 0) (xs : List A) (ys : List B) → length xs ≡ length ys
@@ -86,6 +91,23 @@ zip_from_index R [] (y ∷ ys) same each = absurd (omega (arith, same))
 zip_from_index R (x ∷ xs) [] same each = absurd (omega (arith, same))
 zip_from_index R (x ∷ xs) (y ∷ ys) same each =
     (each 0 x y (omega arith), zip_from_index R xs ys (omega (arith, same)) (λ i d e within. each (suc i) d e (omega (arith, within))))
+
+-- pieces that were read
+pub piece_within : (ps : List Piece) (i : ℕ) (d : Piece) → i < length ps → length (get_or ps i d).text.now ≤ length (flat_map (λ part. part) (all_texts ps))
+piece_within [] i d within = absurd (omega (arith, within))
+piece_within (p ∷ ps) zero d within = omega (arith, length-append p.text.now (flat_map (λ part. part) (all_texts ps)))
+piece_within (p ∷ ps) (suc i) d within =
+    omega (arith, piece_within ps i d (omega (arith, within)), length-append p.text.now (flat_map (λ part. part) (all_texts ps)))
+
+abbrev pub WasRead : Piece → Found → Type 0
+WasRead piece found = (found.text.now ≡ piece.text.now) × IsFound found
+
+pub all_read : (ps : List Piece) (fs : List Found) → AllZip WasRead ps fs → (all_found fs ≡ all_texts ps) × AllByRecursion IsFound fs
+all_read [] [] read = (refl, tt)
+all_read [] (f ∷ fs) read = absurd read
+all_read (p ∷ ps) [] read = absurd read
+all_read (p ∷ ps) (f ∷ fs) read =
+    let rest = all_read ps fs read.1 in (rw (read.0.0, rest.0) refl, (read.0.1, rest.1))
 
 -- a text that goes on behind its last line feed
 pub lines_before : (n : ℕ) (text more : List ℕ) → n < length text → get_or text n 0 ≡ 10

@@ -1,38 +1,50 @@
 -- Captures that are read in pieces.
-use Rattle.std.specs.Prelude.{◌≡◌, ℕ, ◌++◌, List, [], ◌∷◌, false, Result, Ok, Err}
-use Rattle.std.specs.List.{AllByRecursion, flat_map, list_any}
+use Rattle.std.specs.Prelude.{◌≡◌, ℕ, ◌++◌, ◌≤◌, List, length, Bool, true, not, map, Result, Ok, Err}
+use Rattle.std.specs.List.{flat_map, list_all, list_any}
 use Rattle.std.specs.Str.Lines.{lines}
 use Rattle.zb_base.specs.declared.address.Eui.{Eui}
 use Rattle.zb_base.specs.declared.address.Short.{Short}
 use Rattle.zb_base.specs.declared.fault.OrMemory.{OrMemory}
 use Rattle.zb_capture.specs.declared.capture.Capture.{Capture}
 use Rattle.zb_capture.specs.declared.fault.CaptureError.{CaptureError}
+use Rattle.zb_capture.specs.declared.pieces.Found.{Found}
 use Rattle.zb_capture.specs.declared.pieces.Piece.{Piece}
-use Rattle.zb_capture.specs.Grammar.{captured, has_short, IsCapture}
+use Rattle.zb_capture.specs.Grammar.{has_short, IsCapture}
+use Rattle.zb_capture.specs.Readings.{Reading, Lead, no_lines}
 
--- the lines of all pieces, one piece after the other
-abbrev pub all_lines : List Piece → List (List ℕ)
-all_lines pieces = flat_map (λ (piece : Piece). lines piece.text.now) pieces
+-- the texts of pieces
+abbrev pub all_texts : List Piece → List (List ℕ)
+all_texts pieces = map (λ (piece : Piece). piece.text.now) pieces
+
+abbrev pub all_found : List Found → List (List ℕ)
+all_found found = map (λ (piece : Found). piece.text.now) found
+
+-- texts that are one text, cut between lines
+pub record AreCut (text : List ℕ) (parts : List (List ℕ)) : Type 0 where
+  pub whole : flat_map (λ part. part) parts ≡ text
+  pub lines : flat_map lines parts ≡ lines text
+
+-- what a piece gives that is read from nothing
+pub record IsAlone (text : List ℕ) (reading : Reading) : Type 0 where
+  pub lead : Lead no_lines (lines text) reading
+  pub count : reading.lines ≤ length text
+
+abbrev pub IsReadAlone : Result Reading (OrMemory CaptureError) → List ℕ → Type 0
+IsReadAlone (Ok reading) text = IsAlone text reading
+IsReadAlone (Err fault) text = Unit {0}
+
+abbrev pub IsFound : Found → Type 0
+IsFound found = IsReadAlone found.read found.text.now
 
 -- two captures, the second one behind the first
 abbrev pub both : Capture → Capture → Capture
 both c d = record { keys = c.keys ++ d.keys; addrs = c.addrs ++ d.addrs; frames = c.frames ++ d.frames }
 
--- no network address of the second list is one of the first
-abbrev pub AreApart : List (Short × Eui) → List (Short × Eui) → Type 0
-AreApart addrs more = AllByRecursion (λ (addr : Short × Eui). list_any (has_short addr.0) addrs ≡ false) more
+-- no address of a list has the network address of this one
+abbrev pub is_new : List (Short × Eui) → Short × Eui → Bool
+is_new addrs addr = not (list_any (has_short addr.0) addrs)
 
 -- both together keep the limits, and have no network address in common
 pub record Fit (c d : Capture) : Type 0 where
   pub limits : IsCapture (both c d)
-  pub apart : AreApart c.addrs d.addrs
-
--- what was read in pieces, one behind the other and all of them behind `c`, is `e`
-abbrev pub Join : Capture → List (Result Capture (OrMemory CaptureError)) → Capture → Type 0
-Join c [] e = c ≡ e
-Join c (Ok d ∷ more) e = Fit c d × Join (both c d) more e
-Join c (Err fault ∷ more) e = ⊥
-
--- what the text of `front` and then `rest` is, where they are cut between two lines
-abbrev pub IsReadBehind : Capture → List ℕ → Capture → Type 0
-IsReadBehind front rest c = (text : List ℕ) → captured text ≡ Ok front → lines (text ++ rest) ≡ lines text ++ lines rest → captured (text ++ rest) ≡ Ok c
+  pub apart : list_all (is_new c.addrs) d.addrs ≡ true

@@ -29,9 +29,10 @@ impl Model for Addresses {
 }
 
 impl Addresses {
-    ghost use Rattle.std.specs.Prelude.{◌≡◌, ◌++◌, [], ◌∷◌, if◌then◌else◌, IfOk, not};
-    ghost use Rattle.std.specs.List.{list_any};
+    ghost use Rattle.std.specs.Prelude.{◌≡◌, ◌++◌, [], ◌∷◌, if◌then◌else◌, IfOk, OnOk, not};
+    ghost use Rattle.std.specs.List.{list_all, list_any};
     ghost use Rattle.zb_capture.specs.Grammar.{has_short};
+    ghost use Rattle.zb_capture.specs.Pieces.{is_new};
 
     /// No addresses.
     pub fn new(alloc: Global) -> Addresses
@@ -54,6 +55,39 @@ impl Addresses {
             self.pairs.push(addr)?;
         }
         Ok(new)
+    }
+
+    /// Whether no network address of others is one of these.
+    pub fn are_apart(&self, others: &Addresses) -> bool
+        ensures { result ≡ list_all (is_new self.now) others.now }
+    {
+        others.pairs.iter().all(|addr| self.is_new(addr))
+    }
+
+    fn is_new(&self, addr: &(Short, Eui)) -> bool
+        ensures { result ≡ is_new self.now addr.now }
+    {
+        !self.shorts.contains(&addr.0)
+    }
+
+    /// Adds others behind these.
+    pub fn add_all(&mut self, others: Addresses) -> Result<(), NoMemory>
+        ensures { OnOk result (self.new ≡ self.old ++ others) }
+    {
+        for addr in others.pairs {
+            self.put(addr)?;
+        }
+        Ok(())
+    }
+
+    /// Adds an address, whether or not its network address is new.
+    fn put(&mut self, addr: (Short, Eui)) -> Result<(), NoMemory>
+        ensures { OnOk result (self.new ≡ self.old ++ addr ∷ []) }
+    {
+        self.pairs.reserve(1)?;
+        self.shorts.insert(addr.0)?;
+        self.pairs.push(addr)?;
+        Ok(())
     }
 
     /// The list of the addresses.

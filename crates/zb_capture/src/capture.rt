@@ -29,10 +29,12 @@ impl Capture {
         ensures value { IfOk result (λ c. c ≡ record { keys = keys.now; addrs = []; frames = frames.items }) }
         ensures valid { IfOk result (λ c. IsCapture c) }
     {
+        let mut all = Frames::new(alloc);
+        all.add_run(frames)?;
         Ok(Capture {
             keys: List::from_vec(Vec::from_slice(alloc, keys)?),
             addrs: List::from_vec(Vec::new(alloc)),
-            frames: Frames::of(alloc, frames)?,
+            frames: all,
         })
     }
 }

@@ -6,8 +6,8 @@ use std::alloc::Global;
 use std::marker::Model;
 use zb_base::{Frame, NoMemory};
 
-/// The frames of a capture, in the order in which they were caught. They stay in the runs in which they were read, at
-/// most two for each job, so none is copied where runs are put behind each other. A contract sees them as one list.
+/// The frames of a capture, in the order in which they were caught. They stay in the runs in which they were read, so none
+/// is copied where runs are put behind each other. A contract sees them as one list.
 #[derive(Debug, Drop)]
 pub struct Frames {
     runs: Vec<Vec<Frame>>,
@@ -28,7 +28,7 @@ impl Model for Frames {
 }
 
 impl Frames {
-    ghost use Rattle.std.specs.Prelude.{◌≡◌, ◌+◌, ◌<◌, ◌≤◌, ◌++◌, [], length, take, drop, IfOk, OnOk};
+    ghost use Rattle.std.specs.Prelude.{◌≡◌, ◌+◌, ◌<◌, ◌≤◌, ◌++◌, [], length, vec_len, take, drop, OnOk};
     ghost use Rattle.zb_capture.specs.Runs.{all_runs};
 
     /// No frames.
@@ -39,16 +39,6 @@ impl Frames {
             runs: Vec::new(alloc),
             count: 0,
         }
-    }
-
-    /// The frames of one run.
-    pub fn of(alloc: Global, run: Vec<Frame>) -> Result<Frames, NoMemory>
-        ensures { IfOk result (λ f. f ≡ run.items) }
-    {
-        let count = run.len();
-        let mut runs = Vec::with_capacity(alloc, 1)?;
-        runs.push(run)?;
-        Ok(Frames { runs, count })
     }
 
     /// How many frames there are.
@@ -72,6 +62,19 @@ impl Frames {
         ensures part { result.now ≡ take (length result.now) (drop place self.now) }
     {
         run_from(self.runs.as_slice(), place)
+    }
+
+    /// Puts a further run behind these.
+    pub fn add_run(&mut self, run: Vec<Frame>) -> Result<(), NoMemory>
+        requires { length self.old + vec_len run ≤ 100000 }
+        ensures { OnOk result (self.new ≡ self.old ++ run.items) }
+    {
+        let count = run.len();
+        if count > 0 {
+            self.runs.push(run)?;
+            self.count += count;
+        }
+        Ok(())
     }
 
     /// Puts further frames behind these.

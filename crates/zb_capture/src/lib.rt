@@ -6,21 +6,20 @@
 #![tactic(auto)]
 
 mod addresses;
-mod behind;
 mod capture;
 mod draft;
 mod fault;
 mod fields;
 mod frames;
-mod joined;
 mod pieces;
+mod reader;
 mod reading;
 #[cfg(test)]
 mod tests;
 
-pub use behind::{read_behind, whole_lines};
 pub use capture::Capture;
 pub use fault::{CaptureCause, CaptureError};
 pub use frames::Frames;
-pub use pieces::read_in_pieces;
-pub use reading::read_capture;
+pub use pieces::whole_lines;
+pub use reader::CaptureReader;
+pub use reading::{read_capture, read_in_pieces};

@@ -1,87 +1,91 @@
-//! A capture that is read in pieces, side by side.
-ghost use Rattle.std.specs.Prelude.{◌≡◌, ◌≤◌, ◌<◌, ◌^◌, ◌-◌, ◌++◌, ◌==◌, ℕ, length, take, drop, position, IfOk, IfSome, Ok};
-ghost use Rattle.std.specs.List.{AllByRecursion, AllZip};
+//! Consecutive lines of a capture that are read side by side.
+ghost use Rattle.std.specs.Prelude.{◌≡◌, ◌≤◌, ◌<◌, ◌^◌, ◌-◌, ◌++◌, ◌==◌, ℕ, List, length, take, drop, position, false, IfOk};
+ghost use Rattle.std.specs.List.{AllByRecursion, list_any};
 ghost use Rattle.std.specs.Str.Lines.{lines};
-ghost use Rattle.zb_capture.specs.Drafts.{Answers};
-ghost use Rattle.zb_capture.specs.Grammar.{IsCapture, captured, empty};
-ghost use Rattle.zb_capture.specs.Pieces.{all_lines, Join};
+ghost use Rattle.zb_capture.specs.Pieces.{all_found, all_texts, AreCut, IsFound};
 
-use crate::capture::Capture;
 use crate::fault::CaptureError;
-use crate::joined::Joined;
-use crate::reading::read_capture;
+use crate::reader::CaptureReader;
 use std::alloc::Global;
 use std::thread::{Threads, map_vec};
 use zb_base::{NoMemory, OrMemory};
 
-/// Consecutive lines of a capture.
+/// Consecutive lines of a text.
 #[derive(Drop)]
 pub(crate) struct Piece<'a> {
     pub text: &'a [u8],
 }
 
-/// Reads a capture as `read_capture` does, by so many jobs, each over consecutive lines.
-pub fn read_in_pieces<T: Threads + Sync>(
-    rt: &T,
-    alloc: Global,
-    jobs: u32,
-    bytes: &[u8],
-) -> Result<Capture, OrMemory<CaptureError>>
-    requires text { length bytes.now < 2 ^ 32 - 1 }
-    requires jobs { 1 ≤ jobs }
-    ensures exact { Answers result (captured bytes.now) }
-    ensures valid { IfOk result (λ c. IsCapture c) }
-{
-    if jobs > 1 {
-        if let Some(capture) = read_pieces(rt, alloc, jobs, bytes)? {
-            return Ok(capture);
-        }
-    }
-    // One job finds the first bad line.
-    read_capture(alloc, bytes)
+/// What the lines of a piece give by themselves.
+#[derive(Drop)]
+pub(crate) struct Found<'a> {
+    pub text: &'a [u8],
+    pub read: Result<CaptureReader, OrMemory<CaptureError>>,
 }
 
-/// The capture, or None where the pieces give none.
-pub(crate) fn read_pieces<T: Threads + Sync>(
+/// Reads each piece of a text by itself, in at most as many pieces as there are jobs.
+pub(crate) fn read_pieces<'a, T: Threads + Sync>(
     rt: &T,
     alloc: Global,
     jobs: u32,
-    bytes: &[u8],
-) -> Result<Option<Capture>, NoMemory>
-    requires text { length bytes.now < 2 ^ 32 - 1 }
+    text: &'a [u8],
+) -> Result<Vec<Found<'a>>, NoMemory>
+    requires text { length text.now < 2 ^ 32 - 1 }
     requires jobs { 1 ≤ jobs }
-    ensures exact { IfOk result (λ found. IfSome found (λ c. captured bytes.now ≡ Ok c)) }
-    ensures valid { IfOk result (λ found. IfSome found (λ c. IsCapture c)) }
+    ensures cut { IfOk result (λ v. AreCut text.now (all_found v.items)) }
+    ensures found { IfOk result (λ v. AllByRecursion IsFound v.items) }
 {
-    let pieces = cut(alloc, bytes, jobs)?;
-    let read = map_vec(
+    let pieces = cut(alloc, text, jobs)?;
+    let found = map_vec(
         rt,
         pieces,
-        &|piece: Piece<'_>| -> Result<Capture, OrMemory<CaptureError>>
+        &|piece: Piece<'_>| -> Found<'_>
             requires { length piece.text.now < 2 ^ 32 - 1 }
-            ensures { Answers result (captured piece.entry.text.now) }
-        { read_capture(alloc, piece.text) },
+            ensures text { result.text.now ≡ piece.entry.text.now }
+            ensures found { IsFound result }
+        { read_piece(alloc, piece) },
     )?;
-    join(alloc, read)
+    Ok(found)
+}
+
+fn read_piece<'a>(alloc: Global, piece: Piece<'a>) -> Found<'a>
+    requires { length piece.text.now < 2 ^ 32 - 1 }
+    ensures text { result.text.now ≡ piece.entry.text.now }
+    ensures found { IsFound result }
+{
+    let text = piece.text;
+    let read = CaptureReader::alone(alloc, text);
+    Found { text, read }
 }
 
 /// Cuts a text into consecutive pieces behind line feeds, at most as many as there are jobs. Each but the last has at
 /// least as many bytes as there are for a job.
-fn cut<'a>(alloc: Global, bytes: &'a [u8], jobs: u32) -> Result<Vec<Piece<'a>>, NoMemory>
-    requires text { length bytes.now < 2 ^ 32 - 1 }
+fn cut<'a>(alloc: Global, text: &'a [u8], jobs: u32) -> Result<Vec<Piece<'a>>, NoMemory>
+    requires text { length text.now < 2 ^ 32 - 1 }
     requires jobs { 1 ≤ jobs }
-    ensures lines { IfOk result (λ v. all_lines v.items ≡ lines bytes.now) }
-    ensures short { IfOk result (λ v. AllByRecursion (λ p. length p.text.now < 2 ^ 32 - 1) v.items) }
+    ensures { IfOk result (λ v. AreCut text.now (all_texts v.items)) }
 {
-    let size = bytes.len() / jobs as usize + 1;
+    let size = text.len() / jobs as usize + 1;
     let mut pieces = Vec::new(alloc);
-    let mut rest = bytes;
+    let mut rest = text;
     while !rest.is_empty() {
         let (text, more) = rest.split_at(lines_end(rest, size.min(rest.len())));
         pieces.push(Piece { text })?;
         rest = more;
     }
     Ok(pieces)
+}
+
+/// How many bytes the whole lines of a text have: what stands behind them may go on.
+pub fn whole_lines(text: &[u8]) -> usize
+    ensures within { result ≤ length text.now }
+    ensures all { list_any (λ byte. byte == 10) (drop result text.now) ≡ false }
+    ensures lines { (more : List ℕ) → lines (text.now ++ more) ≡ lines (take result text.now) ++ lines (drop result text.now ++ more) }
+{
+    match memchr::memrchr(b'\n', text) {
+        Some(at) => at + 1,
+        None => 0,
+    }
 }
 
 /// The first place, from `least` on, at which a line ends.
@@ -100,24 +104,4 @@ fn line_feed(text: &[u8]) -> Option<usize>
     ensures { result ≡ position (λ byte. byte == 10) text.now }
 {
     text.iter().position(|byte| *byte == b'\n')
-}
-
-/// Joins what was read in pieces. None where a piece is none, or where they don't fit together.
-fn join(
-    alloc: Global,
-    read: Vec<Result<Capture, OrMemory<CaptureError>>>,
-) -> Result<Option<Capture>, NoMemory>
-    ensures joins { IfOk result (λ found. IfSome found (λ c. Join empty read.items c)) }
-    ensures valid { IfOk result (λ found. IfSome found (λ c. IsCapture c)) }
-{
-    let mut all = Joined::new(alloc);
-    for piece in read {
-        let Ok(capture) = piece else {
-            return Ok(None);
-        };
-        if !all.add(capture)? {
-            return Ok(None);
-        }
-    }
-    Ok(Some(all.into_capture()))
 }

@@ -1,14 +1,14 @@
 //! A whole capture.
-ghost use Rattle.std.specs.Prelude.{◌≡◌, ◌<◌, ◌^◌, ◌-◌, length, IfOk};
-ghost use Rattle.zb_capture.specs.Drafts.{Answers, numbered};
+ghost use Rattle.std.specs.Prelude.{◌≡◌, ◌≤◌, ◌<◌, ◌^◌, ◌-◌, length, IfOk};
+ghost use Rattle.zb_capture.specs.Drafts.{Answers};
 ghost use Rattle.zb_capture.specs.Grammar.{IsCapture, captured};
 
 use crate::capture::Capture;
-use crate::draft::Draft;
-use crate::fault::{CaptureCause, CaptureError};
+use crate::fault::CaptureError;
+use crate::reader::CaptureReader;
 use std::alloc::Global;
+use std::thread::Threads;
 use zb_base::OrMemory;
-use zb_text::lines::next_line;
 
 /// Reads a capture. The fault is that of the first bad line, with its first cause.
 #[tactic(auto, unfolding(crate::specs::Grammar::captured))]
@@ -17,27 +17,27 @@ pub fn read_capture(alloc: Global, bytes: &[u8]) -> Result<Capture, OrMemory<Cap
     ensures exact { Answers result (captured bytes.now) }
     ensures valid { IfOk result (λ c. IsCapture c) }
 {
-    // The line of a frame has at least 9 bytes.
-    let mut draft = Draft::with_room(alloc, (bytes.len() / 9).min(100_000))?;
-    let mut number: u32 = 1;
-    let mut rest = bytes;
-    while let Some((line, more)) = next_line(rest) {
-        if let Err(fault) = draft.take_line(line) {
-            return Err(at_line(number, fault));
-        }
-        number += 1;
-        rest = more;
-    }
-    let capture = draft.into_capture(alloc)?;
+    let mut reader = CaptureReader::new(alloc);
+    reader.read_lines(bytes)?;
+    let capture = reader.into_capture()?;
     Ok(capture)
 }
 
-/// A fault of a line, with its number.
-fn at_line(line: u32, fault: OrMemory<CaptureCause>) -> OrMemory<CaptureError>
-    ensures { result ≡ numbered line fault }
+/// Reads a capture as `read_capture` does, by so many jobs, each over consecutive lines.
+#[tactic(auto, unfolding(crate::specs::Grammar::captured))]
+pub fn read_in_pieces<T: Threads + Sync>(
+    rt: &T,
+    alloc: Global,
+    jobs: u32,
+    bytes: &[u8],
+) -> Result<Capture, OrMemory<CaptureError>>
+    requires text { length bytes.now < 2 ^ 32 - 1 }
+    requires jobs { 1 ≤ jobs }
+    ensures exact { Answers result (captured bytes.now) }
+    ensures valid { IfOk result (λ c. IsCapture c) }
 {
-    match fault {
-        OrMemory::Fault(cause) => OrMemory::Fault(CaptureError { line, cause }),
-        OrMemory::NoMemory => OrMemory::NoMemory,
-    }
+    let mut reader = CaptureReader::new(alloc);
+    reader.read(rt, alloc, jobs, bytes)?;
+    let capture = reader.into_capture()?;
+    Ok(capture)
 }

@@ -1,9 +1,9 @@
 //! Bad captures, each with its first bad line and the first cause of that, captures at their limits, and captures that
-//! are read in pieces.
+//! are read in pieces and in parts.
+ghost use Rattle.std.specs.Prelude.{◌≤◌, length};
 
-use crate::pieces::read_pieces;
 use crate::{
-    Capture, CaptureCause, CaptureError, read_behind, read_capture, read_in_pieces, whole_lines,
+    Capture, CaptureCause, CaptureError, CaptureReader, read_capture, read_in_pieces, whole_lines,
 };
 use std::alloc::Global;
 use std::test::Fail;
@@ -146,73 +146,88 @@ fn frames_of(alloc: Global, capture: &Capture) -> Result<Vec<Vec<u8>>, Fail> {
     Ok(frames)
 }
 
-/// Whether a text of at most 65,536 bytes is read by each number of jobs as by one, and its pieces give a capture where
-/// they should.
-fn reads_alike<H: AllocGlobal + Threads + Sync>(
-    rt: &H,
-    text: &[u8],
-    joins: bool,
-) -> Result<bool, Fail> {
+/// Whether a text of at most 65,536 bytes is read by each number of jobs as by one, as a whole and in parts.
+fn reads_alike<H: AllocGlobal + Threads + Sync>(rt: &H, text: &[u8]) -> Result<bool, Fail> {
     let text = &text[..text.len().min(65_536)];
     let expected = shown(rt.alloc(), read_capture(rt.alloc(), text))?;
     let mut alike = true;
     for jobs in [1, 2, 3, 64] {
-        let read = shown(rt.alloc(), read_in_pieces(rt, rt.alloc(), jobs, text))?;
-        let joined = read_pieces(rt, rt.alloc(), jobs, text)?.is_some();
-        alike = alike && read == expected && joined == joins;
+        let whole = shown(rt.alloc(), read_in_pieces(rt, rt.alloc(), jobs, text))?;
+        let parts = shown(rt.alloc(), read_in_parts(rt, jobs, text))?;
+        alike = alike && whole == expected && parts == expected;
     }
     Ok(alike)
 }
 
-/// Whether a text of at most 65,536 bytes of which the front is read first gives the capture that it is, where it should.
-fn reads_behind<H: AllocGlobal + Threads + Sync>(
+/// Reads a text in two parts, of which the first has the whole lines of its first half.
+fn read_in_parts<H: AllocGlobal + Threads + Sync>(
     rt: &H,
+    jobs: u32,
     text: &[u8],
-    joins: bool,
-) -> Result<bool, Fail> {
-    let text = &text[..text.len().min(65_536)];
-    let (front, rest) = text.split_at(whole_lines(&text[..text.len() / 2]));
-    let Ok(first) = read_capture(rt.alloc(), front) else {
-        return Ok(!joins);
-    };
-    let Some(capture) = read_behind(rt, rt.alloc(), 2, first, rest)? else {
-        return Ok(!joins);
-    };
-    let expected = shown(rt.alloc(), read_capture(rt.alloc(), text))?;
-    Ok(joins && shown(rt.alloc(), Ok(capture))? == expected)
+) -> Result<Capture, OrMemory<CaptureError>>
+    requires { (1 ≤ jobs) × (length text.now ≤ 65536) }
+{
+    let (first, rest) = text.split_at(whole_lines(&text[..text.len() / 2]));
+    let mut reader = CaptureReader::new(rt.alloc());
+    reader.read(rt, rt.alloc(), jobs, first)?;
+    reader.read(rt, rt.alloc(), jobs, rest)?;
+    let capture = reader.into_capture()?;
+    Ok(capture)
 }
 
 #[test]
 fn pieces_read_as_the_whole(rt: HostRuntime) -> Result<(), Fail> {
-    // a front, what stands behind it and how often, and whether that is a capture
-    let inputs: [(&[u8], &[u8], u32, bool); 12] = [
+    // a front, and what stands behind it and how often
+    let inputs: [(&[u8], &[u8], u32); 12] = [
         (
             b"# of a network\r\nkey 000102030405060708090A0B0C0D0E0F\r\n\naddr 1A2B 00124B0000000001\nframe 08\nframe 0802\r\ncode 83FED3407A939723A5C639B26916D505C3B5\naddr 1A2C 00124B0000000002\nframe 080203",
             b"",
             0,
-            true,
         ),
-        (b"", b"", 0, true),
-        (b"", b"\n", 5, true),
-        (b"frame 08", b"", 0, true),
-        (b"boom\n", b"frame 08\n", 9, false),
-        (b"frame 08\nframe\nframe 0802\n", b"", 0, false),
-        (b"frame 08\nframe 0802\nframe 0", b"", 0, false),
-        (b"frame 08\n", b"boom\ncode 00\n", 9, false),
+        (b"", b"", 0),
+        (b"", b"\n", 5),
+        (b"frame 08", b"", 0),
+        (b"boom\n", b"frame 08\n", 9),
+        (b"frame 08\nframe\nframe 0802\n", b"", 0),
+        (b"frame 08\nframe 0802\nframe 0", b"", 0),
+        (b"frame 08\n", b"boom\ncode 00\n", 9),
         (
             b"addr 1A2B 00124B0000000001\nframe 08\n",
             b"addr 1A2B 00124B0000000002\n",
             1,
-            false,
         ),
-        (b"", b"key 000102030405060708090A0B0C0D0E0F\n", 256, true),
-        (b"", b"key 000102030405060708090A0B0C0D0E0F\n", 257, false),
-        (b"frame 0802\n", b"frame 08\n", 999, true),
+        (b"", b"key 000102030405060708090A0B0C0D0E0F\n", 256),
+        (b"", b"key 000102030405060708090A0B0C0D0E0F\n", 257),
+        (b"frame 0802\n", b"frame 08\n", 999),
     ];
-    for (front, piece, count, joins) in inputs {
+    for (front, piece, count) in inputs {
         let text = repeated(rt.alloc(), front, piece, count)?;
-        assert!(rt; reads_alike(&rt, text.as_slice(), joins)?);
-        assert!(rt; reads_behind(&rt, text.as_slice(), joins)?);
+        assert!(rt; reads_alike(&rt, text.as_slice())?);
     }
+    Ok(())
+}
+
+/// How many runs of frames a text of at most 65,536 bytes gives that is read by so many jobs.
+fn runs_of<H: AllocGlobal + Threads + Sync>(rt: &H, jobs: u32, text: &[u8]) -> Result<usize, Fail>
+    requires { 1 ≤ jobs }
+{
+    let text = &text[..text.len().min(65_536)];
+    match read_in_pieces(rt, rt.alloc(), jobs, text) {
+        Ok(capture) => Ok(capture.frames.runs().len()),
+        Err(_) => Ok(0),
+    }
+}
+
+#[test]
+fn each_job_reads_a_run(rt: HostRuntime) -> Result<(), Fail> {
+    let text = repeated(
+        rt.alloc(),
+        b"addr 1A2B 00124B0000000001\n",
+        b"frame 08\n",
+        1_000,
+    )?;
+    assert_eq!(rt; runs_of(&rt, 1, text.as_slice())?, 1);
+    assert_eq!(rt; runs_of(&rt, 2, text.as_slice())?, 2);
+    assert_eq!(rt; runs_of(&rt, 7, text.as_slice())?, 7);
     Ok(())
 }

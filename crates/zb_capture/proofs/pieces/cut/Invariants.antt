@@ -1,15 +1,14 @@
-use Rattle.std.proofs.Common.{◌≡◌, ◌-◌, ◌^◌, ◌≤◌, ◌<◌, ◌++◌, length}
-use Rattle.std.specs.List.{AllByRecursion}
+use Rattle.std.proofs.Common.{◌≡◌, ◌≤◌, ◌++◌, length}
+use Rattle.std.specs.List.{flat_map}
 use Rattle.std.specs.Str.Lines.{lines}
-use Rattle.zb_capture.specs.Pieces.{all_lines}
-use Rattle.zb_capture.specs.declared.pieces.Piece.{Piece}
+use Rattle.zb_capture.specs.Pieces.{all_texts}
 use Rattle.zb_capture.proofs.pieces.cut.Given as goal
 
 abbrev pub invariant-loop-rest : goal.invariant-loop-rest
 invariant-loop-rest l = record {
-  lines : all_lines l.pieces.items ++ lines l.rest ≡ lines l.bytes;
-  short : AllByRecursion (λ (p : Piece). length p.text.now < 2 ^ 32 - 1) l.pieces.items;
-  rest : length l.rest ≤ length l.bytes;
+  whole : flat_map (λ part. part) (all_texts l.pieces.items) ++ l.rest ≡ l.fn.text;
+  lines : flat_map lines (all_texts l.pieces.items) ++ lines l.rest ≡ lines l.fn.text;
+  rest : length l.rest ≤ length l.fn.text;
   size : 1 ≤ l.size;
 }
 

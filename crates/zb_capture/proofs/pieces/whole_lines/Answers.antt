@@ -2,7 +2,7 @@ use Rattle.std.proofs.Common.{◌≡◌, ◌+◌, ◌++◌, ◌∙◌, take, dro
 use Rattle.std.specs.Str.Lines.{lines}
 use Rattle.std.proofs.lemmas.Bool.Decides.{nat_tests}
 use Rattle.zb_capture.proofs.Places.{lines_before, none_behind}
-use Rattle.zb_capture.proofs.behind.whole_lines.Goals as goal
+use Rattle.zb_capture.proofs.pieces.whole_lines.Goals as goal
 
 pub returns-in-Some-clause-lines : goal.returns-in-Some-clause-lines
 returns-in-Some-clause-lines c more =

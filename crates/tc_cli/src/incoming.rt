@@ -1,0 +1,92 @@
+//! The bytes of an input as they come in, and the lines in them.
+ghost use Rattle.std.specs.Prelude.{◌≡◌};
+
+use crate::capture::CaptureFault;
+use crate::input::{InputFault, LONGEST, read_on};
+use std::alloc::Global;
+use std::thread::Threads;
+use zb_base::{OrMemory, Source};
+use zb_capture::{CaptureError, CaptureReader, whole_lines};
+
+/// The bytes that came of an input.
+#[derive(Drop)]
+pub(crate) struct Incoming {
+    /// How many there are.
+    pub count: usize,
+    /// Those at the end of which the lines are still to be read.
+    pub part: Vec<u8>,
+}
+
+impl Incoming {
+    ghost use Rattle.std.specs.Prelude.{◌≡◌, ◌+◌, ◌≤◌, [], length, OnOk};
+    ghost use Rattle.tc_cli.specs.Inputs.{AreLinesRead, IsFilled, IsJudged};
+
+    /// Nothing came yet.
+    pub fn new(alloc: Global) -> Incoming
+        ensures { (result.count ≡ 0) × (result.part.items ≡ []) }
+    {
+        Incoming {
+            count: 0,
+            part: Vec::new(alloc),
+        }
+    }
+
+    /// Reads on until so many bytes more have come, and answers whether they have: if not, the input is at its end.
+    pub fn fill<R: Source>(&mut self, input: &mut R, size: usize) -> Result<bool, InputFault>
+        requires count { self.old.count ≤ 16777216 }
+        requires size { 1 ≤ size }
+        ensures { IsFilled result (R.rest input.old) (R.rest input.new) self.old self.new size (R.faults input.old) (R.faults input.new) }
+    {
+        let before = self.part.len();
+        let most = before + size.min(LONGEST as usize + 1 - self.count);
+        read_on(input, &mut self.part, most)?;
+        let after = self.part.len();
+        self.count += after - before;
+        if self.count > LONGEST as usize {
+            return Err(InputFault::TooLong);
+        }
+        Ok(after == most)
+    }
+
+    /// Reads the whole lines of what came, by so many jobs. What stands behind them stays, since it may go on.
+    pub fn read_whole_lines<T: Threads + Sync>(
+        &mut self,
+        rt: &T,
+        alloc: Global,
+        jobs: u32,
+        reader: &mut CaptureReader,
+    ) -> Result<(), OrMemory<CaptureError>>
+        requires jobs { 1 ≤ jobs }
+        requires room { reader.old.lines + length self.old.part.items ≤ 16777216 }
+        ensures count { self.new.count ≡ self.old.count }
+        ensures lines { AreLinesRead result reader.old reader.new self.old.part.items self.new.part.items }
+        ensures room { OnOk result (reader.new.lines + length self.new.part.items ≤ reader.old.lines + length self.old.part.items) }
+    {
+        let end = whole_lines(self.part.as_slice());
+        let (whole, more) = self.part.as_slice().split_at(end);
+        reader.read(rt, alloc, jobs, whole)?;
+        let more = Vec::from_slice(alloc, more)?;
+        self.part.clear();
+        self.part.extend_from_slice(more.as_slice())?;
+        Ok(())
+    }
+
+    /// Why the input is no capture, of which lines have a fault: nothing is said of them before the input is at its end.
+    pub fn refuse<R: Source>(
+        &mut self,
+        input: &mut R,
+        fault: OrMemory<CaptureError>,
+    ) -> CaptureFault
+        requires { self.old.count ≤ 16777216 }
+        ensures { IsJudged result fault (R.rest input.old) (R.rest input.new) self.old.count (R.faults input.old) (R.faults input.new) }
+    {
+        let OrMemory::Fault(fault) = fault else {
+            return CaptureFault::Input(InputFault::NoMemory);
+        };
+        self.part.clear();
+        match self.fill(input, LONGEST as usize + 1) {
+            Ok(_) => CaptureFault::Text(fault),
+            Err(fault) => CaptureFault::Input(fault),
+        }
+    }
+}

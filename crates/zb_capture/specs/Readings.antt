@@ -1,0 +1,31 @@
+-- Captures of which the text comes in parts.
+use Rattle.std.specs.Prelude.{◌≡◌, ℕ, ◌+◌, List, length, Result, Ok, Err}
+use Rattle.std.specs.Str.Lines.{lines}
+use Rattle.zb_base.specs.declared.fault.OrMemory.{OrMemory}
+use Rattle.zb_base.specs.declared.fault.OrMemory.TheVariants as error
+use Rattle.zb_capture.specs.declared.capture.Capture.{Capture}
+use Rattle.zb_capture.specs.declared.fault.CaptureError.{CaptureError}
+use Rattle.zb_capture.specs.Grammar.{empty, with_lines}
+
+-- how many lines were read, and what they give
+pub record Reading : Type 0 where
+  pub lines : ℕ
+  pub capture : Capture
+
+abbrev pub no_lines : Reading
+no_lines = record { lines = 0; capture = empty }
+
+-- what further lines give behind those that were read
+abbrev pub with_more : Reading → List (List ℕ) → Result Capture CaptureError
+with_more r more = with_lines (r.lines + 1) r.capture more
+
+-- further lines lead from one reading to another
+pub record Lead (old : Reading) (more : List (List ℕ)) (new : Reading) : Type 0 where
+  pub gives : with_more old more ≡ Ok new.capture
+  pub count : new.lines ≡ old.lines + length more
+
+-- A text was read behind the lines before it, or has a fault; it says nothing where memory is wanting.
+abbrev pub AreRead : Result (Unit {0}) (OrMemory CaptureError) → Reading → Reading → List ℕ → Type 0
+AreRead (Ok done) old new text = Lead old (lines text) new
+AreRead (Err (error.Fault fault)) old new text = with_more old (lines text) ≡ Err fault
+AreRead (Err error.NoMemory) old new text = Unit {0}

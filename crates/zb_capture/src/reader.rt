@@ -1,0 +1,161 @@
+//! Reading a capture of which the text comes in parts.
+ghost use Rattle.std.specs.Prelude.{◌≡◌, ◌+◌, ◌<◌, ◌≤◌, ◌^◌, ◌-◌, length, IfOk, OnOk};
+ghost use Rattle.zb_capture.specs.Drafts.{numbered};
+
+use crate::capture::Capture;
+use crate::draft::Draft;
+use crate::fault::{CaptureCause, CaptureError};
+use crate::pieces::{Found, read_pieces};
+use std::alloc::Global;
+use std::marker::Model;
+use std::mem;
+use std::thread::Threads;
+use zb_base::{NoMemory, OrMemory};
+use zb_text::lines::next_line;
+
+/// A capture that is being read, part after part of its text. A contract sees it as what the lines so far give, and how
+/// many they are.
+#[derive(Drop)]
+pub struct CaptureReader {
+    lines: u32,
+    draft: Draft,
+}
+
+impl Model for CaptureReader {
+    ghost use Rattle.zb_capture.specs.Drafts.{capture_of};
+    ghost use Rattle.zb_capture.specs.Grammar.{IsCapture};
+    ghost use Rattle.zb_capture.specs.Readings.{Reading};
+
+    ghost Value = { Reading };
+
+    ghost view = { λ r. record { lines = r.lines; capture = capture_of r.draft } };
+
+    ghost invariant = { λ r. IsCapture (capture_of r.draft) };
+}
+
+impl CaptureReader {
+    ghost use Rattle.std.specs.Prelude.{◌≡◌, ◌+◌, ◌<◌, ◌≤◌, ◌^◌, ◌-◌, length, IfOk, OnOk};
+    ghost use Rattle.zb_capture.specs.Grammar.{IsCapture};
+    ghost use Rattle.zb_capture.specs.Pieces.{IsAlone, IsFound, IsReadAlone};
+    ghost use Rattle.zb_capture.specs.Readings.{AreRead, no_lines};
+
+    /// A reader of no lines.
+    pub fn new(alloc: Global) -> CaptureReader
+        ensures { result ≡ no_lines }
+    {
+        CaptureReader {
+            lines: 0,
+            draft: Draft::new(alloc),
+        }
+    }
+
+    /// What the lines of a text give by themselves.
+    pub(crate) fn alone(alloc: Global, text: &[u8]) -> Result<CaptureReader, OrMemory<CaptureError>>
+        requires { length text.now < 2 ^ 32 - 1 }
+        ensures { IsReadAlone result text.now }
+    {
+        // The line of a frame has 9 bytes or more.
+        let mut reader = CaptureReader {
+            lines: 0,
+            draft: Draft::with_room(alloc, (text.len() / 9 + 1).min(100_000))?,
+        };
+        reader.read_lines(text)?;
+        Ok(reader)
+    }
+
+    /// Reads the lines of a text by so many jobs, behind those before. The fault is that of the first bad line, with its
+    /// first cause; the reader is of no use then.
+    pub fn read<T: Threads + Sync>(
+        &mut self,
+        rt: &T,
+        alloc: Global,
+        jobs: u32,
+        text: &[u8],
+    ) -> Result<(), OrMemory<CaptureError>>
+        requires jobs { 1 ≤ jobs }
+        requires room { self.old.lines + length text.now < 2 ^ 32 - 1 }
+        ensures exact { AreRead result self.old self.new text.now }
+        ensures count { OnOk result (self.new.lines ≤ self.old.lines + length text.now) }
+    {
+        if jobs == 1 {
+            self.read_lines(text)?;
+            return Ok(());
+        }
+        for piece in read_pieces(rt, alloc, jobs, text)? {
+            self.take_piece(alloc, piece)?;
+        }
+        Ok(())
+    }
+
+    /// Reads the lines of a text, behind those before.
+    pub(crate) fn read_lines(&mut self, text: &[u8]) -> Result<(), OrMemory<CaptureError>>
+        requires room { self.old.lines + length text.now < 2 ^ 32 - 1 }
+        ensures exact { AreRead result self.old self.new text.now }
+        ensures count { OnOk result (self.new.lines ≤ self.old.lines + length text.now) }
+    {
+        let mut rest = text;
+        while let Some((line, more)) = next_line(rest) {
+            self.lines += 1;
+            if let Err(fault) = self.draft.take_line(line) {
+                return Err(at_line(self.lines, fault));
+            }
+            rest = more;
+        }
+        Ok(())
+    }
+
+    /// Takes the lines of a piece, behind those before.
+    fn take_piece(&mut self, alloc: Global, piece: Found<'_>) -> Result<(), OrMemory<CaptureError>>
+        requires room { self.old.lines + length piece.text.now < 2 ^ 32 - 1 }
+        requires found { IsFound piece }
+        ensures exact { AreRead result self.old self.new piece.entry.text.now }
+        ensures count { OnOk result (self.new.lines ≤ self.old.lines + length piece.entry.text.now) }
+    {
+        let Found { text, read } = piece;
+        match read {
+            Ok(more) => self.take_lines(alloc, text, more),
+            Err(_) => self.read_lines(text),
+        }
+    }
+
+    /// Takes the lines of a text, of which `more` is what they give by themselves. Where that doesn't fit behind the lines
+    /// before, they are read one by one.
+    fn take_lines(
+        &mut self,
+        alloc: Global,
+        text: &[u8],
+        more: CaptureReader,
+    ) -> Result<(), OrMemory<CaptureError>>
+        requires room { self.old.lines + length text.now < 2 ^ 32 - 1 }
+        requires alone { IsAlone text.now more }
+        ensures exact { AreRead result self.old self.new text.now }
+        ensures count { OnOk result (self.new.lines ≤ self.old.lines + length text.now) }
+    {
+        if !self.draft.fits(&more.draft) {
+            self.read_lines(text)?;
+            return Ok(());
+        }
+        self.lines += more.lines;
+        let draft = mem::replace(&mut self.draft, Draft::new(alloc));
+        self.draft = draft.with(more.draft)?;
+        Ok(())
+    }
+
+    /// The capture of all lines.
+    pub fn into_capture(self) -> Result<Capture, NoMemory>
+        ensures exact { IfOk result (λ c. c ≡ self.capture) }
+        ensures valid { IfOk result (λ c. IsCapture c) }
+    {
+        self.draft.into_capture()
+    }
+}
+
+/// A fault of a line, with its number.
+fn at_line(line: u32, fault: OrMemory<CaptureCause>) -> OrMemory<CaptureError>
+    ensures { result ≡ numbered line fault }
+{
+    match fault {
+        OrMemory::Fault(cause) => OrMemory::Fault(CaptureError { line, cause }),
+        OrMemory::NoMemory => OrMemory::NoMemory,
+    }
+}
