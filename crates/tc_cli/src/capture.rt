@@ -85,6 +85,5 @@ pub(crate) fn read_capture_on<T: Threads + Sync, R: Source>(
         }
     }
     reader.read(rt, alloc, jobs, incoming.part.as_slice())?;
-    let capture = reader.into_capture()?;
-    Ok(capture)
+    Ok(reader.into_capture())
 }

@@ -1,5 +1,5 @@
 -- What the reader has so far, and what it answers.
-use Rattle.std.specs.Prelude.{◌≡◌, ℕ, ◌++◌, Result, Ok, Err}
+use Rattle.std.specs.Prelude.{◌≡◌, ℕ, Result, Ok, Err}
 use Rattle.zb_base.specs.declared.fault.OrMemory.{OrMemory}
 use Rattle.zb_base.specs.declared.fault.OrMemory.TheVariants as error
 use Rattle.zb_capture.specs.declared.capture.Capture.{Capture}
@@ -8,7 +8,7 @@ use Rattle.zb_capture.specs.declared.fault.CaptureCause.{CaptureCause}
 use Rattle.zb_capture.specs.declared.fault.CaptureError.{CaptureError}
 
 abbrev pub capture_of : Draft → Capture
-capture_of draft = record { keys = draft.keys.items; addrs = draft.addrs; frames = draft.frames ++ draft.run.items }
+capture_of draft = record { keys = draft.keys.items; addrs = draft.addrs; frames = draft.frames }
 
 -- A step led to `new`, or to its fault, where `next` is what it has to lead to; it says nothing where memory is wanting.
 abbrev pub Steps : Result (Unit {0}) (OrMemory CaptureCause) → Capture → Result Capture CaptureCause → Type 0

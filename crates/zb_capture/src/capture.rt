@@ -1,10 +1,10 @@
 //! A capture.
-ghost use Rattle.std.specs.Prelude.{◌≡◌, ◌≤◌, [], length, vec_len, IfOk};
+ghost use Rattle.std.specs.Prelude.{◌≡◌, ◌≤◌, [], length, IfOk};
 ghost use Rattle.zb_capture.specs.Grammar.{IsCapture};
 
 use crate::frames::Frames;
 use std::alloc::Global;
-use zb_base::{Eui, Frame, Key, List, NoMemory, Short};
+use zb_base::{Eui, Key, List, NoMemory, Short};
 
 /// What is known of a network, and the frames that were caught in it. It has at most 256 keys and 100,000 frames: this
 /// is `IsCapture` of `specs/Grammar.antt`.
@@ -19,22 +19,20 @@ pub struct Capture {
 }
 
 impl Capture {
-    ghost use Rattle.std.specs.Prelude.{◌≡◌, ◌≤◌, [], length, vec_len, IfOk};
+    ghost use Rattle.std.specs.Prelude.{◌≡◌, ◌≤◌, [], length, IfOk};
     ghost use Rattle.zb_capture.specs.Grammar.{IsCapture};
 
     /// The capture of some frames under some keys, which knows no addresses.
-    pub fn of(alloc: Global, keys: &[Key], frames: Vec<Frame>) -> Result<Capture, NoMemory>
+    pub fn of(alloc: Global, keys: &[Key], frames: Frames) -> Result<Capture, NoMemory>
         requires keys { length keys.now ≤ 256 }
-        requires frames { vec_len frames ≤ 100000 }
-        ensures value { IfOk result (λ c. c ≡ record { keys = keys.now; addrs = []; frames = frames.items }) }
+        requires frames { length frames ≤ 100000 }
+        ensures value { IfOk result (λ c. c ≡ record { keys = keys.now; addrs = []; frames = frames }) }
         ensures valid { IfOk result (λ c. IsCapture c) }
     {
-        let mut all = Frames::new(alloc);
-        all.add_run(frames)?;
         Ok(Capture {
             keys: List::from_vec(Vec::from_slice(alloc, keys)?),
             addrs: List::from_vec(Vec::new(alloc)),
-            frames: all,
+            frames,
         })
     }
 }

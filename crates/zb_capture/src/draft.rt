@@ -8,8 +8,7 @@ use crate::fault::CaptureCause;
 use crate::fields::{addr, code, frame, key};
 use crate::frames::Frames;
 use std::alloc::Global;
-use std::mem;
-use zb_base::{Frame, Key, List, NoMemory, OrMemory};
+use zb_base::{Key, List, NoMemory, OrMemory};
 use zb_text::words::Words;
 
 /// The keys, addresses and frames of the lines so far.
@@ -17,14 +16,11 @@ use zb_text::words::Words;
 pub(crate) struct Draft {
     pub keys: Vec<Key>,
     pub addrs: Addresses,
-    /// The frames up to those of the last run.
     pub frames: Frames,
-    /// The last run of frames, to which lines add.
-    pub run: Vec<Frame>,
 }
 
 impl Draft {
-    ghost use Rattle.std.specs.Prelude.{◌≡◌, ◌∷◌, length, nat_lt, Some, OnOk, IfOk};
+    ghost use Rattle.std.specs.Prelude.{◌≡◌, ◌∷◌, Some, IfOk};
     ghost use Rattle.std.specs.Bool.{OnTrue};
     ghost use Rattle.zb_capture.specs.Drafts.{capture_of, Steps};
     ghost use Rattle.zb_capture.specs.Grammar.{IsCapture, empty, key_in, code_in, addr_in, frame_in, with_key, with_code, with_addr, with_frame, with_words, with_line};
@@ -39,41 +35,40 @@ impl Draft {
             keys: Vec::new(alloc),
             addrs: Addresses::new(alloc),
             frames: Frames::new(alloc),
-            run: Vec::new(alloc),
         }
     }
 
-    /// A draft of no lines, with room for so many frames.
-    pub fn with_room(alloc: Global, frames: usize) -> Result<Draft, NoMemory>
+    /// A draft of no lines, with room for the frames in a text of so many bytes.
+    pub fn with_room(alloc: Global, text: usize) -> Result<Draft, NoMemory>
         ensures { IfOk result (λ draft. capture_of draft ≡ empty) }
     {
-        let mut draft = Draft::new(alloc);
-        draft.run.reserve(frames)?;
-        Ok(draft)
+        Ok(Draft {
+            keys: Vec::new(alloc),
+            addrs: Addresses::new(alloc),
+            frames: Frames::with_room(alloc, text)?,
+        })
     }
 
     /// The capture of all lines.
-    pub fn into_capture(self) -> Result<Capture, NoMemory>
-        requires { IsCapture (capture_of self) }
-        ensures { IfOk result (λ c. c ≡ capture_of self) }
+    pub fn into_capture(self) -> Capture
+        ensures { result ≡ capture_of self }
     {
         let Draft {
             keys,
             addrs,
-            mut frames,
-            run,
+            frames,
         } = self;
-        frames.add_run(run)?;
-        Ok(Capture {
+        Capture {
             keys: List::from_vec(keys),
             addrs: addrs.into_list(),
             frames,
-        })
+        }
     }
 
     /// Whether what other lines give fits behind this.
     pub fn fits(&self, more: &Draft) -> bool
-        requires { IsCapture (capture_of self.now) }
+        requires own { IsCapture (capture_of self.now) }
+        requires other { IsCapture (capture_of more.now) }
         ensures { OnTrue result (Fit (capture_of self.now) (capture_of more.now)) }
     {
         self.has_room_for(more) && self.addrs.are_apart(&more.addrs)
@@ -81,27 +76,11 @@ impl Draft {
 
     /// Whether both together keep the limits of a capture.
     fn has_room_for(&self, more: &Draft) -> bool
-        requires { IsCapture (capture_of self.now) }
+        requires own { IsCapture (capture_of self.now) }
+        requires other { IsCapture (capture_of more.now) }
         ensures { OnTrue result (IsCapture (both (capture_of self.now) (capture_of more.now))) }
     {
-        more.keys.len() <= 256 - self.keys.len()
-            && more.frames.len() <= 100_000 - self.frame_count()
-            && more.run.len() <= 100_000 - self.frame_count() - more.frames.len()
-    }
-
-    /// Whether there is room for a frame more.
-    fn has_room(&self) -> bool
-        ensures { result ≡ nat_lt (length (capture_of self.now).frames) 100000 }
-    {
-        self.frames.len() < 100_000 && self.run.len() < 100_000 - self.frames.len()
-    }
-
-    /// How many frames there are.
-    fn frame_count(&self) -> usize
-        requires { IsCapture (capture_of self.now) }
-        ensures { result ≡ length (capture_of self.now).frames }
-    {
-        self.frames.len() + self.run.len()
+        more.keys.len() <= 256 - self.keys.len() && more.frames.len() <= 100_000 - self.frames.len()
     }
 
     /// This, and behind it what other lines give.
@@ -114,12 +93,9 @@ impl Draft {
             mut keys,
             addrs,
             frames,
-            run,
         } = more;
         all.keys.append(&mut keys)?;
         all.addrs.add_all(addrs)?;
-        let before = mem::replace(&mut all.run, run);
-        all.frames.add_run(before)?;
         all.frames.append(frames)?;
         Ok(all)
     }
@@ -127,8 +103,9 @@ impl Draft {
     /// Takes one line.
     #[tactic(auto, unfolding(crate::specs::Grammar::with_line))]
     pub fn take_line(&mut self, line: &[u8]) -> Result<(), OrMemory<CaptureCause>>
+        requires { IsCapture (capture_of self.old) }
         ensures exact { Steps result (capture_of self.new) (with_line (capture_of self.old) line.now) }
-        ensures valid { IsCapture (capture_of self.old) → IsCapture (capture_of self.new) }
+        ensures valid { IsCapture (capture_of self.new) }
     {
         if skips(line) {
             return Ok(());
@@ -145,8 +122,9 @@ impl Draft {
         kind: &[u8],
         words: &mut Words<'_>,
     ) -> Result<(), OrMemory<CaptureCause>>
+        requires { IsCapture (capture_of self.old) }
         ensures exact { Steps result (capture_of self.new) (with_words (capture_of self.old) (kind.now ∷ left words.old)) }
-        ensures valid { IsCapture (capture_of self.old) → IsCapture (capture_of self.new) }
+        ensures valid { IsCapture (capture_of self.new) }
     {
         if kind == b"frame".as_slice() {
             self.take_frame(words)
@@ -162,8 +140,9 @@ impl Draft {
     }
 
     fn take_key(&mut self, words: &mut Words<'_>) -> Result<(), OrMemory<CaptureCause>>
+        requires { IsCapture (capture_of self.old) }
         ensures exact { Steps result (capture_of self.new) (with_key (capture_of self.old) (key_in (left words.old))) }
-        ensures valid { IsCapture (capture_of self.old) → IsCapture (capture_of self.new) }
+        ensures valid { IsCapture (capture_of self.new) }
     {
         let Some(key) = key(words) else {
             return Err(OrMemory::Fault(CaptureCause::Syntax));
@@ -172,8 +151,9 @@ impl Draft {
     }
 
     fn take_code(&mut self, words: &mut Words<'_>) -> Result<(), OrMemory<CaptureCause>>
+        requires { IsCapture (capture_of self.old) }
         ensures exact { Steps result (capture_of self.new) (with_code (capture_of self.old) (code_in (left words.old))) }
-        ensures valid { IsCapture (capture_of self.old) → IsCapture (capture_of self.new) }
+        ensures valid { IsCapture (capture_of self.new) }
     {
         let Some(judged) = code(words) else {
             return Err(OrMemory::Fault(CaptureCause::Syntax));
@@ -186,8 +166,9 @@ impl Draft {
 
     /// Adds a given key, of at most 256.
     fn add_key(&mut self, key: Key) -> Result<(), OrMemory<CaptureCause>>
+        requires { IsCapture (capture_of self.old) }
         ensures exact { Steps result (capture_of self.new) (with_key (capture_of self.old) (Some key)) }
-        ensures valid { IsCapture (capture_of self.old) → IsCapture (capture_of self.new) }
+        ensures valid { IsCapture (capture_of self.new) }
     {
         if self.keys.len() >= 256 {
             return Err(OrMemory::Fault(CaptureCause::TooMany));
@@ -198,8 +179,9 @@ impl Draft {
 
     /// Adds an address that no line before has.
     fn take_addr(&mut self, words: &mut Words<'_>) -> Result<(), OrMemory<CaptureCause>>
+        requires { IsCapture (capture_of self.old) }
         ensures exact { Steps result (capture_of self.new) (with_addr (capture_of self.old) (addr_in (left words.old))) }
-        ensures valid { IsCapture (capture_of self.old) → IsCapture (capture_of self.new) }
+        ensures valid { IsCapture (capture_of self.new) }
     {
         let Some(addr) = addr(words) else {
             return Err(OrMemory::Fault(CaptureCause::Syntax));
@@ -212,16 +194,17 @@ impl Draft {
 
     /// Adds a frame, of at most 100,000.
     fn take_frame(&mut self, words: &mut Words<'_>) -> Result<(), OrMemory<CaptureCause>>
+        requires { IsCapture (capture_of self.old) }
         ensures exact { Steps result (capture_of self.new) (with_frame (capture_of self.old) (frame_in (left words.old))) }
-        ensures valid { IsCapture (capture_of self.old) → IsCapture (capture_of self.new) }
+        ensures valid { IsCapture (capture_of self.new) }
     {
         let Some(frame) = frame(words) else {
             return Err(OrMemory::Fault(CaptureCause::Syntax));
         };
-        if !self.has_room() {
+        if self.frames.len() >= 100_000 {
             return Err(OrMemory::Fault(CaptureCause::TooMany));
         }
-        self.run.push(frame)?;
+        self.frames.push(&frame)?;
         Ok(())
     }
 }

@@ -1,35 +1,38 @@
 //! The frames of a capture.
-ghost use Rattle.std.specs.Prelude.{◌≡◌, ◌<◌, length, take, drop};
+ghost use Rattle.std.specs.Prelude.{◌≡◌, ◌<◌, ◌++◌, length, take, drop};
 ghost use Rattle.zb_capture.specs.Runs.{all_runs};
 
+use crate::run::{FrameRun, Run};
 use std::alloc::Global;
 use std::marker::Model;
+use std::mem;
 use zb_base::{Frame, NoMemory};
 
 /// The frames of a capture, in the order in which they were caught. They stay in the runs in which they were read, so none
 /// is copied where runs are put behind each other. A contract sees them as one list.
 #[derive(Debug, Drop)]
 pub struct Frames {
-    runs: Vec<Vec<Frame>>,
-    /// How many there are in all runs.
+    runs: Vec<Run>,
+    /// The last run, to which frames are added.
+    last: Run,
+    /// How many frames there are in all runs but the last.
     count: usize,
 }
 
 impl Model for Frames {
-    ghost use Rattle.std.specs.Prelude.{◌≡◌, ℕ, List, length};
+    ghost use Rattle.std.specs.Prelude.{◌≡◌, ◌++◌, ℕ, List, length};
     ghost use Rattle.arrayvec.specs.ArrayVec.{ArrayVec};
     ghost use Rattle.zb_capture.specs.Runs.{all_runs};
 
     ghost Value = { List (ArrayVec ℕ) };
 
-    ghost view = { λ f. all_runs f.runs.items };
+    ghost view = { λ f. all_runs f.runs.items ++ f.last };
 
     ghost invariant = { λ f. f.count ≡ length (all_runs f.runs.items) };
 }
 
 impl Frames {
-    ghost use Rattle.std.specs.Prelude.{◌≡◌, ◌+◌, ◌<◌, ◌≤◌, ◌++◌, [], length, vec_len, take, drop, OnOk};
-    ghost use Rattle.zb_capture.specs.Runs.{all_runs};
+    ghost use Rattle.std.specs.Prelude.{◌≡◌, ◌+◌, ◌<◌, ◌≤◌, ◌++◌, [], ◌∷◌, length, take, drop, IfOk, OnOk, OnErr};
 
     /// No frames.
     pub fn new(alloc: Global) -> Frames
@@ -37,43 +40,47 @@ impl Frames {
     {
         Frames {
             runs: Vec::new(alloc),
+            last: Run::new(alloc),
             count: 0,
         }
     }
 
-    /// How many frames there are.
-    pub fn len(&self) -> usize
-        ensures { result ≡ length self.now }
+    /// No frames, with room for those of a text of so many bytes.
+    pub(crate) fn with_room(alloc: Global, text: usize) -> Result<Frames, NoMemory>
+        ensures { IfOk result (λ f. f ≡ []) }
     {
-        self.count
+        // The line of a frame has two digits for each byte, and 7 characters beside them.
+        Ok(Frames {
+            runs: Vec::new(alloc),
+            last: Run::with_room(alloc, text / 2, (text / 9 + 1).min(100_000))?,
+            count: 0,
+        })
     }
 
-    /// The runs, one behind the other.
-    pub fn runs(&self) -> &[Vec<Frame>]
-        ensures { all_runs result.now ≡ self.now }
+    /// How many frames there are.
+    pub fn len(&self) -> usize
+        requires { length self.now ≤ 100000 }
+        ensures { result ≡ length self.now }
     {
-        self.runs.as_slice()
+        self.count + self.last.len()
     }
 
     /// The frames from a place on, counted from 0, to the end of the run in which that place is.
-    pub fn from(&self, place: usize) -> &[Frame]
+    pub fn from(&self, place: usize) -> FrameRun<'_>
         requires { place < length self.now }
-        ensures some { 0 < length result.now }
-        ensures part { result.now ≡ take (length result.now) (drop place self.now) }
+        ensures some { 0 < length result }
+        ensures part { result ≡ take (length result) (drop place self.now) }
     {
-        run_from(self.runs.as_slice(), place)
+        run_from(self.runs.as_slice(), &self.last, place)
     }
 
-    /// Puts a further run behind these.
-    pub fn add_run(&mut self, run: Vec<Frame>) -> Result<(), NoMemory>
-        requires { length self.old + vec_len run ≤ 100000 }
-        ensures { OnOk result (self.new ≡ self.old ++ run.items) }
+    /// Puts a frame behind these.
+    pub fn push(&mut self, frame: &Frame) -> Result<(), NoMemory>
+        requires { length self.old < 100000 }
+        ensures added { OnOk result (self.new ≡ self.old ++ frame.now ∷ []) }
+        ensures kept { OnErr result (self.new ≡ self.old) }
     {
-        let count = run.len();
-        if count > 0 {
-            self.runs.push(run)?;
-            self.count += count;
-        }
+        self.last.push(frame)?;
         Ok(())
     }
 
@@ -82,25 +89,33 @@ impl Frames {
         requires { length self.old + length more ≤ 100000 }
         ensures { OnOk result (self.new ≡ self.old ++ more) }
     {
-        let Frames { mut runs, count } = more;
+        let Frames {
+            mut runs,
+            last,
+            count,
+        } = more;
+        let before = mem::replace(&mut self.last, last);
+        let ended = before.len();
+        self.runs.push(before)?;
+        self.count += ended;
         self.runs.append(&mut runs)?;
         self.count += count;
         Ok(())
     }
 }
 
-/// The frames of runs from a place on, to the end of the run in which that place is.
-fn run_from(runs: &[Vec<Frame>], place: usize) -> &[Frame]
-    requires { place < length (all_runs runs.now) }
-    ensures some { 0 < length result.now }
-    ensures part { result.now ≡ take (length result.now) (drop place (all_runs runs.now)) }
+/// The frames of runs, and of a last one behind them, from a place on to the end of the run in which that place is.
+fn run_from<'a>(runs: &'a [Run], last: &'a Run, place: usize) -> FrameRun<'a>
+    requires { place < length (all_runs runs.now ++ last.now) }
+    ensures some { 0 < length result }
+    ensures part { result ≡ take (length result) (drop place (all_runs runs.now ++ last.now)) }
 {
     let mut left = place;
     for run in runs {
         if left < run.len() {
-            return &run.as_slice()[left..];
+            return run.from(left);
         }
         left -= run.len();
     }
-    &[]
+    last.from(left)
 }

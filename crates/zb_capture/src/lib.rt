@@ -14,6 +14,7 @@ mod frames;
 mod pieces;
 mod reader;
 mod reading;
+mod run;
 #[cfg(test)]
 mod tests;
 
@@ -23,3 +24,4 @@ pub use frames::Frames;
 pub use pieces::whole_lines;
 pub use reader::CaptureReader;
 pub use reading::{read_capture, read_in_pieces};
+pub use run::FrameRun;

@@ -10,7 +10,7 @@ use std::alloc::Global;
 use std::marker::Model;
 use std::mem;
 use std::thread::Threads;
-use zb_base::{NoMemory, OrMemory};
+use zb_base::OrMemory;
 use zb_text::lines::next_line;
 
 /// A capture that is being read, part after part of its text. A contract sees it as what the lines so far give, and how
@@ -54,10 +54,9 @@ impl CaptureReader {
         requires { length text.now < 2 ^ 32 - 1 }
         ensures { IsReadAlone result text.now }
     {
-        // The line of a frame has 9 bytes or more.
         let mut reader = CaptureReader {
             lines: 0,
-            draft: Draft::with_room(alloc, (text.len() / 9 + 1).min(100_000))?,
+            draft: Draft::with_room(alloc, text.len())?,
         };
         reader.read_lines(text)?;
         Ok(reader)
@@ -142,9 +141,9 @@ impl CaptureReader {
     }
 
     /// The capture of all lines.
-    pub fn into_capture(self) -> Result<Capture, NoMemory>
-        ensures exact { IfOk result (λ c. c ≡ self.capture) }
-        ensures valid { IfOk result (λ c. IsCapture c) }
+    pub fn into_capture(self) -> Capture
+        ensures exact { result ≡ self.capture }
+        ensures valid { IsCapture result }
     {
         self.draft.into_capture()
     }

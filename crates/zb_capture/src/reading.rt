@@ -19,8 +19,7 @@ pub fn read_capture(alloc: Global, bytes: &[u8]) -> Result<Capture, OrMemory<Cap
 {
     let mut reader = CaptureReader::new(alloc);
     reader.read_lines(bytes)?;
-    let capture = reader.into_capture()?;
-    Ok(capture)
+    Ok(reader.into_capture())
 }
 
 /// Reads a capture as `read_capture` does, by so many jobs, each over consecutive lines.
@@ -38,6 +37,5 @@ pub fn read_in_pieces<T: Threads + Sync>(
 {
     let mut reader = CaptureReader::new(alloc);
     reader.read(rt, alloc, jobs, bytes)?;
-    let capture = reader.into_capture()?;
-    Ok(capture)
+    Ok(reader.into_capture())
 }

@@ -138,10 +138,9 @@ fn shown(alloc: Global, read: Result<Capture, OrMemory<CaptureError>>) -> Result
 
 fn frames_of(alloc: Global, capture: &Capture) -> Result<Vec<Vec<u8>>, Fail> {
     let mut frames = Vec::new(alloc);
-    for run in capture.frames.runs() {
-        for frame in run {
-            frames.push(Vec::from_slice(alloc, frame.as_slice())?)?;
-        }
+    for place in 0..capture.frames.len() {
+        let frame = capture.frames.from(place).at(0);
+        frames.push(Vec::from_slice(alloc, frame.as_slice())?)?;
     }
     Ok(frames)
 }
@@ -171,8 +170,7 @@ fn read_in_parts<H: AllocGlobal + Threads + Sync>(
     let mut reader = CaptureReader::new(rt.alloc());
     reader.read(rt, rt.alloc(), jobs, first)?;
     reader.read(rt, rt.alloc(), jobs, rest)?;
-    let capture = reader.into_capture()?;
-    Ok(capture)
+    Ok(reader.into_capture())
 }
 
 #[test]
@@ -204,30 +202,5 @@ fn pieces_read_as_the_whole(rt: HostRuntime) -> Result<(), Fail> {
         let text = repeated(rt.alloc(), front, piece, count)?;
         assert!(rt; reads_alike(&rt, text.as_slice())?);
     }
-    Ok(())
-}
-
-/// How many runs of frames a text of at most 65,536 bytes gives that is read by so many jobs.
-fn runs_of<H: AllocGlobal + Threads + Sync>(rt: &H, jobs: u32, text: &[u8]) -> Result<usize, Fail>
-    requires { 1 ≤ jobs }
-{
-    let text = &text[..text.len().min(65_536)];
-    match read_in_pieces(rt, rt.alloc(), jobs, text) {
-        Ok(capture) => Ok(capture.frames.runs().len()),
-        Err(_) => Ok(0),
-    }
-}
-
-#[test]
-fn each_job_reads_a_run(rt: HostRuntime) -> Result<(), Fail> {
-    let text = repeated(
-        rt.alloc(),
-        b"addr 1A2B 00124B0000000001\n",
-        b"frame 08\n",
-        1_000,
-    )?;
-    assert_eq!(rt; runs_of(&rt, 1, text.as_slice())?, 1);
-    assert_eq!(rt; runs_of(&rt, 2, text.as_slice())?, 2);
-    assert_eq!(rt; runs_of(&rt, 7, text.as_slice())?, 7);
     Ok(())
 }

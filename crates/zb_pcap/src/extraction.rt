@@ -10,7 +10,7 @@ use crate::mac::{Mac, classify};
 use crate::packets::{Packet, read_packets};
 use std::alloc::Global;
 use zb_base::{Frame, Key, NoMemory, OrMemory};
-use zb_capture::Capture;
+use zb_capture::{Capture, Frames};
 use zb_cursor::frame_from;
 
 /// How many packets a file has, how many of them have a wrong check sequence, and how many are neither these nor plain
@@ -59,7 +59,7 @@ fn sort(
     ensures valid { IfOk result (λ e. IsCapture e.capture) }
 {
     let mut sorted = Sorted {
-        frames: Vec::new(alloc),
+        frames: Frames::new(alloc),
         bad_check: 0,
         other: 0,
     };
@@ -78,26 +78,26 @@ fn sort(
 /// The frames so far, and the counts of the other packets.
 #[derive(Drop)]
 struct Sorted {
-    frames: Vec<Frame>,
+    frames: Frames,
     bad_check: u32,
     other: u32,
 }
 
 impl Sorted {
-    ghost use Rattle.std.specs.Prelude.{◌≡◌, ◌+◌, ◌≤◌, ◌++◌, vec_len, OnOk};
+    ghost use Rattle.std.specs.Prelude.{◌≡◌, ◌+◌, ◌≤◌, ◌++◌, ◌<◌, length, OnOk};
     ghost use Rattle.zb_pcap.specs.Extracts.{record_in, verdict, frames_of, bad_of, other_of};
 
     /// Takes a packet.
     fn take(&mut self, check: bool, packet: &Packet<'_>) -> Result<(), NoMemory>
-        requires room { self.old.bad_check + self.old.other + vec_len self.old.frames ≤ 100000 }
-        ensures frames { OnOk result (self.new.frames.items ≡ self.old.frames.items ++ frames_of packet.now.bytes.now (verdict check (record_in packet.now))) }
+        requires room { self.old.bad_check + self.old.other + length self.old.frames < 100000 }
+        ensures frames { OnOk result (self.new.frames ≡ self.old.frames ++ frames_of packet.now.bytes.now (verdict check (record_in packet.now))) }
         ensures bad_check { OnOk result (self.new.bad_check ≡ self.old.bad_check + bad_of (verdict check (record_in packet.now))) }
         ensures other { OnOk result (self.new.other ≡ self.old.other + other_of (verdict check (record_in packet.now))) }
-        ensures one { OnOk result (self.new.bad_check + self.new.other + vec_len self.new.frames ≡ self.old.bad_check + self.old.other + vec_len self.old.frames + 1) }
+        ensures one { OnOk result (self.new.bad_check + self.new.other + length self.new.frames ≡ self.old.bad_check + self.old.other + length self.old.frames + 1) }
     {
         match judge(check, packet) {
             Mac::Payload { at, len } => {
-                self.frames.push(frame_at(packet.bytes, at, len))?;
+                self.frames.push(&frame_at(packet.bytes, at, len))?;
             }
             Mac::BadCheck => self.bad_check += 1,
             Mac::Other => self.other += 1,

@@ -1,5 +1,5 @@
 -- What stands in a list from a place on, run by run.
-use Rattle.std.proofs.Common.{◌≡◌, ℕ, ◌+◌, ◌<◌, ◌≤◌, List, ◌++◌, length, get_or, take, drop, map, ap, sym, ◌∙◌, arith, length-take, length-drop}
+use Rattle.std.proofs.Common.{◌≡◌, ℕ, zero, suc, ◌+◌, ◌<◌, ◌≤◌, List, [], ◌∷◌, ◌++◌, length, get_or, take, drop, map, refl, ap, sym, ◌∙◌, arith, length-take, length-drop}
 use Rattle.std.proofs.lemmas.List.{get_or-take, get_or-drop, map-append, take-take}
 use Rattle.zb_ring.proofs.PieceLists.{drop_more, take_more}
 
@@ -23,3 +23,10 @@ more_mapped f xs run ys new from done n within part so_far is =
 
 pub part_count : {A : Type 0} (xs : List A) (from count : ℕ) → from + count ≤ length xs → length (take count (drop from xs)) ≡ count
 part_count xs from count room = omega (arith, length-take count (drop from xs), length-drop from xs, room)
+
+-- one item more
+pub one_mapped : {A B : Type 0} (f : A → B) (xs : List A) (i : ℕ) (d : A) → i < length xs
+    → map f (take (suc i) xs) ≡ map f (take i xs) ++ f (get_or xs i d) ∷ []
+one_mapped f [] i d within = absurd (omega (arith, within))
+one_mapped f (x ∷ xs) zero d within = refl
+one_mapped f (x ∷ xs) (suc i) d within = ap (λ zs. f x ∷ zs) (one_mapped f xs i d (omega (arith, within)))

@@ -1,5 +1,6 @@
 //! A few consecutive frames of a capture, and what they show.
-ghost use Rattle.std.specs.Prelude.{◌≡◌, ◌+◌, ◌<◌, ◌≤◌, ◌^◌, ◌++◌, [], length, take, drop, vec_len, true, IfOk, OnOk};
+ghost use Rattle.std.specs.Prelude.{◌≡◌, ℕ, ◌+◌, ◌<◌, ◌≤◌, ◌^◌, ◌++◌, [], length, get_or, take, drop, vec_len, true, IfOk, OnOk};
+ghost use Rattle.arrayvec.specs.ArrayVec.{ArrayVec};
 ghost use Rattle.std.specs.List.{list_all};
 ghost use Rattle.zb_sight.specs.Lines.{sights_text};
 ghost use Rattle.zb_sight.specs.Settling.{is_settled as settled, is_unopened as unopened};
@@ -11,7 +12,7 @@ use crate::ring::Lead;
 use std::alloc::{AllocError, Global};
 use std::mem;
 use zb_base::{Frame, Key, NoMemory};
-use zb_capture::Frames;
+use zb_capture::{FrameRun, Frames};
 use zb_seal::Ciphers;
 use zb_sight::{
     Addresses, Carried, Finding, Sight, carried_keys, is_settled, is_unopened, put_sights,
@@ -99,25 +100,36 @@ fn show_all(
     while seen.len() < count {
         let done = seen.len();
         let run = frames.from(from + done);
-        show_run(addrs, keys, &run[..run.len().min(count - done)], &mut seen)?;
+        show_run(addrs, keys, &run, run.len().min(count - done), &mut seen)?;
     }
     Ok(seen)
 }
 
-/// Adds what the frames of a run show.
+/// Adds what the first frames of a run show.
 fn show_run(
     addrs: &Addresses<'_>,
     keys: &[Ciphers],
-    frames: &[Frame],
+    run: &FrameRun<'_>,
+    count: usize,
     seen: &mut Vec<Sight>,
 ) -> Result<(), NoMemory>
-    requires { length keys.now < 2 ^ 32 }
-    ensures { OnOk result (seen.new.items ≡ seen.old.items ++ sights_of addrs.now keys.now frames.now) }
+    requires keys { length keys.now < 2 ^ 32 }
+    requires within { count ≤ length run.now }
+    ensures { OnOk result (seen.new.items ≡ seen.old.items ++ sights_of addrs.now keys.now (take count run.now)) }
 {
-    for frame in frames {
-        seen.push(show(addrs, keys, frame))?;
+    for i in 0..count {
+        seen.push(show_at(addrs, keys, run, i))?;
     }
     Ok(())
+}
+
+/// What the frame at a place of a run shows.
+fn show_at(addrs: &Addresses<'_>, keys: &[Ciphers], run: &FrameRun<'_>, place: usize) -> Sight
+    requires keys { length keys.now < 2 ^ 32 }
+    requires within { place < length run.now }
+    ensures { (other : ArrayVec ℕ) → result ≡ sight addrs.now keys.now (get_or run.now place other).items }
+{
+    show(addrs, keys, &run.at(place))
 }
 
 /// What so many frames show under all keys, from a place on, counted from 0, none of which is opened by the first `known`.
@@ -179,8 +191,8 @@ fn refresh_all(
     ensures { seen.new ≡ sights_of addrs.now keys.now (take (length seen.old) (drop from frames.now)) }
 {
     for i in 0..seen.len() {
-        let run = frames.from(from + i);
-        refresh(addrs, keys, known, &run[0], &mut seen[i]);
+        let frame = frames.from(from + i).at(0);
+        refresh(addrs, keys, known, &frame, &mut seen[i]);
     }
 }
 

@@ -9,7 +9,7 @@ use Rattle.zb_ring.proofs.block.show_all.Goals as goal
 pub loop-seen-preserved : goal.loop-seen-preserved
 loop-seen-preserved c =
     let f : ArrayVec ℕ → Sight = λ frame. sight c.args.addrs.now c.args.keys.now frame.items in
-    let run = c.from-run.result.now in
+    let run = c.from-run.result in
     let old = c.loop-seen.seen in
     let new = c.show_run.new.seen in
     let n = c.min.result in
