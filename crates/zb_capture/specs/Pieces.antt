@@ -1,16 +1,14 @@
 -- Captures that are read in pieces.
-use Rattle.std.specs.Prelude.{◌≡◌, ℕ, ◌++◌, ◌≤◌, List, length, Bool, true, not, map, Result, Ok, Err}
+use Rattle.std.specs.Prelude.{◌≡◌, ℕ, ◌++◌, ◌≤◌, List, length, Bool, true, not, map}
 use Rattle.std.specs.List.{flat_map, list_all, list_any}
 use Rattle.std.specs.Str.Lines.{lines}
 use Rattle.zb_base.specs.declared.address.Eui.{Eui}
 use Rattle.zb_base.specs.declared.address.Short.{Short}
-use Rattle.zb_base.specs.declared.fault.OrMemory.{OrMemory}
 use Rattle.zb_capture.specs.declared.capture.Capture.{Capture}
-use Rattle.zb_capture.specs.declared.fault.CaptureError.{CaptureError}
 use Rattle.zb_capture.specs.declared.pieces.Found.{Found}
 use Rattle.zb_capture.specs.declared.pieces.Piece.{Piece}
 use Rattle.zb_capture.specs.Grammar.{has_short, IsCapture}
-use Rattle.zb_capture.specs.Readings.{Reading, Lead, no_lines}
+use Rattle.zb_capture.specs.Readings.{IsReadAlone}
 
 -- the texts of pieces
 abbrev pub all_texts : List Piece → List (List ℕ)
@@ -24,15 +22,7 @@ pub record AreCut (text : List ℕ) (parts : List (List ℕ)) : Type 0 where
   pub whole : flat_map (λ part. part) parts ≡ text
   pub lines : flat_map lines parts ≡ lines text
 
--- what a piece gives that is read from nothing
-pub record IsAlone (text : List ℕ) (reading : Reading) : Type 0 where
-  pub lead : Lead no_lines (lines text) reading
-  pub count : reading.lines ≤ length text
-
-abbrev pub IsReadAlone : Result Reading (OrMemory CaptureError) → List ℕ → Type 0
-IsReadAlone (Ok reading) text = IsAlone text reading
-IsReadAlone (Err fault) text = Unit {0}
-
+-- what a piece gives by itself
 abbrev pub IsFound : Found → Type 0
 IsFound found = IsReadAlone found.read found.text.now
 

@@ -1,5 +1,5 @@
 -- Captures of which the text comes in parts.
-use Rattle.std.specs.Prelude.{◌≡◌, ℕ, ◌+◌, List, length, Result, Ok, Err}
+use Rattle.std.specs.Prelude.{◌≡◌, ℕ, ◌+◌, ◌≤◌, List, length, Result, Ok, Err}
 use Rattle.std.specs.Str.Lines.{lines}
 use Rattle.zb_base.specs.declared.fault.OrMemory.{OrMemory}
 use Rattle.zb_base.specs.declared.fault.OrMemory.TheVariants as error
@@ -29,3 +29,14 @@ abbrev pub AreRead : Result (Unit {0}) (OrMemory CaptureError) → Reading → R
 AreRead (Ok done) old new text = Lead old (lines text) new
 AreRead (Err (error.Fault fault)) old new text = with_more old (lines text) ≡ Err fault
 AreRead (Err error.NoMemory) old new text = Unit {0}
+
+-- what the lines of a text give by themselves
+pub record IsAlone (text : List ℕ) (reading : Reading) : Type 0 where
+  pub lead : Lead no_lines (lines text) reading
+  pub count : reading.lines ≤ length text
+
+-- A text was read by itself, or has a fault; it says nothing where memory is wanting.
+abbrev pub IsReadAlone : Result Reading (OrMemory CaptureError) → List ℕ → Type 0
+IsReadAlone (Ok reading) text = IsAlone text reading
+IsReadAlone (Err (error.Fault fault)) text = with_more no_lines (lines text) ≡ Err fault
+IsReadAlone (Err error.NoMemory) text = Unit {0}

@@ -36,8 +36,7 @@ impl Model for CaptureReader {
 impl CaptureReader {
     ghost use Rattle.std.specs.Prelude.{◌≡◌, ◌+◌, ◌<◌, ◌≤◌, ◌^◌, ◌-◌, length, IfOk, OnOk};
     ghost use Rattle.zb_capture.specs.Grammar.{IsCapture};
-    ghost use Rattle.zb_capture.specs.Pieces.{IsAlone, IsFound, IsReadAlone};
-    ghost use Rattle.zb_capture.specs.Readings.{AreRead, no_lines};
+    ghost use Rattle.zb_capture.specs.Readings.{AreRead, IsAlone, IsReadAlone, no_lines};
 
     /// A reader of no lines.
     pub fn new(alloc: Global) -> CaptureReader
@@ -50,7 +49,7 @@ impl CaptureReader {
     }
 
     /// What the lines of a text give by themselves.
-    pub(crate) fn alone(alloc: Global, text: &[u8]) -> Result<CaptureReader, OrMemory<CaptureError>>
+    pub fn alone(alloc: Global, text: &[u8]) -> Result<CaptureReader, OrMemory<CaptureError>>
         requires { length text.now < 2 ^ 32 - 1 }
         ensures { IsReadAlone result text.now }
     {
@@ -81,13 +80,14 @@ impl CaptureReader {
             return Ok(());
         }
         for piece in read_pieces(rt, alloc, jobs, text)? {
-            self.take_piece(alloc, piece)?;
+            let Found { text, read } = piece;
+            self.add(alloc, text, read)?;
         }
         Ok(())
     }
 
     /// Reads the lines of a text, behind those before.
-    pub(crate) fn read_lines(&mut self, text: &[u8]) -> Result<(), OrMemory<CaptureError>>
+    pub fn read_lines(&mut self, text: &[u8]) -> Result<(), OrMemory<CaptureError>>
         requires room { self.old.lines + length text.now < 2 ^ 32 - 1 }
         ensures exact { AreRead result self.old self.new text.now }
         ensures count { OnOk result (self.new.lines ≤ self.old.lines + length text.now) }
@@ -103,15 +103,20 @@ impl CaptureReader {
         Ok(())
     }
 
-    /// Takes the lines of a piece, behind those before.
-    fn take_piece(&mut self, alloc: Global, piece: Found<'_>) -> Result<(), OrMemory<CaptureError>>
-        requires room { self.old.lines + length piece.text.now < 2 ^ 32 - 1 }
-        requires found { IsFound piece }
-        ensures exact { AreRead result self.old self.new piece.entry.text.now }
-        ensures count { OnOk result (self.new.lines ≤ self.old.lines + length piece.entry.text.now) }
+    /// Takes the lines of a text, behind those before, where `alone` is what they give by themselves. Where they give no
+    /// capture then, or one that doesn't fit behind the lines before, they are read one by one.
+    pub fn add(
+        &mut self,
+        alloc: Global,
+        text: &[u8],
+        alone: Result<CaptureReader, OrMemory<CaptureError>>,
+    ) -> Result<(), OrMemory<CaptureError>>
+        requires room { self.old.lines + length text.now < 2 ^ 32 - 1 }
+        requires alone { IsReadAlone alone text.now }
+        ensures exact { AreRead result self.old self.new text.now }
+        ensures count { OnOk result (self.new.lines ≤ self.old.lines + length text.now) }
     {
-        let Found { text, read } = piece;
-        match read {
+        match alone {
             Ok(more) => self.take_lines(alloc, text, more),
             Err(_) => self.read_lines(text),
         }

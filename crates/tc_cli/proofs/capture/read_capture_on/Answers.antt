@@ -33,8 +33,8 @@ returns-in_err-fill-clause-fault g c =
     let P : CaptureFault → Type 0 = λ f. IsWhyNot f old (g.R.Source.faults c.args.input.now) (g.R.Source.faults c.fill.new.input) in
     if_err c.from_residual.result (fault.Input c.in_err-fill.field-0.0) P c.from_residual.ensures.1
     (why_input c.in_err-fill.field-0.0 old (g.R.Source.rest c.parts.input) (g.R.Source.rest c.fill.new.input) c.parts.reader c.parts.incoming.part.items
-      c.parts.incoming.count (g.R.Source.faults c.args.input.now) (g.R.Source.faults c.parts.input) (g.R.Source.faults c.fill.new.input)
-      c.parts.invariant.coming c.parts.invariant.later (λ is. c.in_err-fill.ensures.read (ap (λ x. Err x) is)) (λ is. c.in_err-fill.ensures.too_long (ap (λ x. Err x) is)))
+    c.parts.incoming.count (g.R.Source.faults c.args.input.now) (g.R.Source.faults c.parts.input) (g.R.Source.faults c.fill.new.input)
+    c.parts.invariant.coming c.parts.invariant.later (λ is. c.in_err-fill.ensures.read (ap (λ x. Err x) is)) (λ is. c.in_err-fill.ensures.too_long (ap (λ x. Err x) is)))
 
 pub returns-in-Err-clause-fault : goal.returns-in-Err-clause-fault
 returns-in-Err-clause-fault g c =
@@ -57,8 +57,8 @@ returns-in_err-read-clause-fault g c =
     let P : CaptureFault → Type 0 = λ f. IsWhyNot f old (g.R.Source.faults c.args.input.now) (g.R.Source.faults c.fill.new.input) in
     if_err c.from_residual-in_err-read.result (fault_of c.in_err-read.field-0.0) P c.from_residual-in_err-read.ensures.1
     (last_fault c.in_err-read.field-0.0 old new c.parts.reader c.read.new.self c.fill.new.self.part.items c.as_slice.result.now c.fill.new.self.count
-      (g.R.Source.faults c.args.input.now) (g.R.Source.faults c.fill.new.input) came (c.in_ok-fill.ensures.end (ap (λ b. Ok b) c.if-branch.false))
-      c.in_ok-fill.ensures.within c.as_slice.ensures.value c.in_err-read.ensures.exact)
+    (g.R.Source.faults c.args.input.now) (g.R.Source.faults c.fill.new.input) came (c.in_ok-fill.ensures.end (ap (λ b. Ok b) c.if-branch.false))
+    c.in_ok-fill.ensures.within c.as_slice.ensures.value c.in_err-read.ensures.exact)
 
 pub returns-clause-exact : goal.returns-clause-exact
 returns-clause-exact g c =
@@ -66,6 +66,6 @@ returns-clause-exact g c =
     let new = g.R.Source.rest c.fill.new.input in
     let came = more_came old (g.R.Source.rest c.parts.input) new c.parts.reader c.parts.incoming.part.items c.fill.new.self.part.items
     c.parts.incoming.count c.fill.new.self.count c.parts.invariant.coming c.in_ok-fill.ensures.grown c.in_ok-fill.ensures.count in
-    all_read old new c.parts.reader c.read.new.self c.fill.new.self.part.items c.as_slice.result.now c.fill.new.self.count c.in_ok-capture.capture came
+    all_read old new c.parts.reader c.read.new.self c.fill.new.self.part.items c.as_slice.result.now c.fill.new.self.count c.into_capture.result came
     (c.in_ok-fill.ensures.end (ap (λ b. Ok b) c.if-branch.false)) c.in_ok-fill.ensures.within c.as_slice.ensures.value c.in_ok-read.ensures.exact
-    c.in_ok-capture.ensures.exact
+    c.into_capture.ensures.exact

@@ -20,5 +20,5 @@ returns-clause-lines g c =
     part_read c.args.reader.now c.read.new.self part (take n part) (drop n part) c.split_at.result.0.now c.extend_from_slice.new.self.items
     c.in_ok-read.ensures.exact (c.split_at.ensures.front ∙ ap (take n) c.as_slice-2.ensures.value)
     (c.in_ok-extend_from_slice.ensures.items ∙ ap (λ zs. zs ++ c.as_slice-3.result.now) c.clear.ensures.items ∙ c.as_slice-3.ensures.value
-      ∙ c.in_ok-more.ensures.items ∙ c.split_at.ensures.back ∙ ap (drop n) c.as_slice-2.ensures.value)
+    ∙ c.in_ok-more.ensures.items ∙ c.split_at.ensures.back ∙ ap (drop n) c.as_slice-2.ensures.value)
     (subst C c.as_slice.ensures.value c.whole_lines-end.ensures.lines)
