@@ -7,7 +7,7 @@ use Rattle.zb_base.specs.Outside.{Rose}
 use Rattle.zb_base.specs.declared.fault.OrMemory.{OrMemory}
 use Rattle.zb_base.specs.declared.fault.OrMemory.TheVariants as error
 use Rattle.zb_capture.specs.Grammar.{captured}
-use Rattle.zb_capture.specs.Readings.{Reading, Lead, AreRead, no_lines, with_more}
+use Rattle.zb_capture.specs.Readings.{Reading, Lead, AreRead, IsReadAlone, no_lines, with_more}
 use Rattle.zb_capture.specs.declared.capture.Capture.{Capture}
 use Rattle.zb_capture.proofs.LineLaws.{lead_then, bad_then}
 use Rattle.zb_capture.specs.declared.fault.CaptureError.{CaptureError}
@@ -178,3 +178,27 @@ part_not_read (Err x) e old next after part first rest whole is bad one cut =
 pub if_err : (r : Result Capture CaptureFault) (f : CaptureFault) (P : CaptureFault → Type 0) → IsErrAnd r (λ x. x ≡ f) → P f → IfErr r P
 if_err (Ok c) f P is p = tt
 if_err (Err x) f P is p = subst P (sym is) p
+
+-- the first lines were read, and all the others came meanwhile
+pub rest_came : (old mid new : Option (List ℕ)) (reading next : Reading) (part first rest after : List ℕ) (count later : ℕ) → IsComing old mid reading part count
+    → Lead reading (lines first) next → next.lines ≤ reading.lines + length first → part ≡ first ++ rest
+    → ((more : List ℕ) → lines (part ++ more) ≡ lines first ++ lines (rest ++ more)) → Grows mid new rest after
+    → later + length rest ≡ count + length after → IsComing old new next after later
+rest_came old mid new reading next part first rest after count later is lead few whole cut grown sum =
+    let len : length part ≡ length first + length rest = ap (length {A = ℕ}) whole ∙ length-append first rest in
+    more_came old mid new next rest after count later
+    (lines_came old mid reading next part rest count is (part_read reading next part first rest first rest lead refl refl cut) (omega (arith, few, len)))
+    grown sum
+
+-- the first lines have a fault, and all the others came meanwhile
+pub first_fault : (e : OrMemory CaptureError) (old mid new : Option (List ℕ)) (reading : Reading) (part first rest after : List ℕ) (count later faults faults_after : ℕ)
+    → IsComing old mid reading part count → IsReadAlone (Err e) first → reading ≡ no_lines
+    → ((more : List ℕ) → lines (part ++ more) ≡ lines first ++ lines (rest ++ more)) → Grows mid new rest after → IsAtEnd new
+    → later + length rest ≡ count + length after → later ≤ 16777216 → IsWhyNot (fault_of e) old faults faults_after
+first_fault (error.Fault e) old mid new reading part first rest after count later faults faults_after is bad none cut grown end sum within =
+    let B : Reading → Type 0 = λ r. with_more r (lines first) ≡ Err e in
+    let len : length after ≡ length rest + length grown.0 = ap (length {A = ℕ}) grown.2 ∙ length-append rest grown.0 in
+    bad_text old mid new reading part count e is
+    (λ more. ap (with_more reading) (cut more) ∙ bad_then reading (lines first) (lines (rest ++ more)) e (subst B (sym none) bad))
+    (grown.0, grown.1, end, omega (arith, len, sum, within))
+first_fault error.NoMemory old mid new reading part first rest after count later faults faults_after is bad none cut grown end sum within = tt

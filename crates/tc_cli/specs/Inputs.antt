@@ -1,12 +1,12 @@
 -- What is read of an input.
-use Rattle.std.specs.Prelude.{◌≡◌, ℕ, ◌+◌, ◌-◌, ◌<◌, ◌≤◌, ◌++◌, min, Bool, true, false, List, length, Option, Result, Ok, Err, OnOk, IfSome}
+use Rattle.std.specs.Prelude.{◌≡◌, ℕ, ◌+◌, ◌-◌, ◌<◌, ◌≤◌, ◌++◌, min, Bool, true, false, List, length, Option, Result, Ok, Err, IfOk, OnOk, IfSome}
 use Rattle.std.specs.Io.KnownBytes.{Consumes, IsAtEnd}
 use Rattle.std.specs.Str.Lines.{lines}
 use Rattle.zb_base.specs.Outside.{Rose}
 use Rattle.zb_base.specs.declared.fault.OrMemory.{OrMemory}
 use Rattle.zb_base.specs.declared.fault.OrMemory.TheVariants as error
 use Rattle.zb_capture.specs.Grammar.{captured}
-use Rattle.zb_capture.specs.Readings.{Reading, with_more}
+use Rattle.zb_capture.specs.Readings.{Reading, IsReadAlone, with_more}
 use Rattle.zb_capture.specs.declared.fault.CaptureError.{CaptureError}
 use Rattle.tc_cli.specs.declared.incoming.Incoming.{Incoming}
 use Rattle.tc_cli.specs.declared.input.InputFault.{InputFault}
@@ -38,6 +38,17 @@ pub record IsFilled (result : Result Bool InputFault) (old new : Option (List �
   pub within : OnOk result (after.count ≤ 16777216)
   pub full : result ≡ Ok true → after.count ≡ before.count + min size (16777217 - before.count)
   pub end : result ≡ Ok false → IsAtEnd new
+  pub later : faults ≤ faults_after
+  pub read : result ≡ Err input.Read → Rose faults faults_after
+  pub too_long : result ≡ Err input.TooLong → IsPastAll old new before.count
+
+-- All that an input still had came behind other bytes, and the lines of all these were read by themselves.
+pub record IsTaken (result : Result (Result Reading (OrMemory CaptureError)) InputFault) (old new : Option (List ℕ)) (before after : Incoming) (faults faults_after : ℕ) : Type 0 where
+  pub grown : OnOk result (Grows old new before.part.items after.part.items)
+  pub count : OnOk result (after.count + length before.part.items ≡ before.count + length after.part.items)
+  pub within : OnOk result (after.count ≤ 16777216)
+  pub end : OnOk result (IsAtEnd new)
+  pub alone : IfOk result (λ alone. IsReadAlone alone after.part.items)
   pub later : faults ≤ faults_after
   pub read : result ≡ Err input.Read → Rose faults faults_after
   pub too_long : result ≡ Err input.TooLong → IsPastAll old new before.count

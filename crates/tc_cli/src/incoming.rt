@@ -4,8 +4,7 @@ ghost use Rattle.std.specs.Prelude.{◌≡◌};
 use crate::capture::CaptureFault;
 use crate::input::{InputFault, LONGEST, read_on};
 use std::alloc::Global;
-use std::thread::Threads;
-use zb_base::{OrMemory, Source};
+use zb_base::{NoMemory, OrMemory, Source};
 use zb_capture::{CaptureError, CaptureReader, whole_lines};
 
 /// The bytes that came of an input.
@@ -18,8 +17,9 @@ pub(crate) struct Incoming {
 }
 
 impl Incoming {
-    ghost use Rattle.std.specs.Prelude.{◌≡◌, ◌+◌, ◌≤◌, [], length, OnOk};
-    ghost use Rattle.tc_cli.specs.Inputs.{AreLinesRead, IsFilled, IsJudged};
+    ghost use Rattle.std.specs.Prelude.{◌≡◌, ℕ, ◌+◌, ◌≤◌, ◌++◌, List, [], length, IfOk, OnOk};
+    ghost use Rattle.std.specs.Str.Lines.{lines};
+    ghost use Rattle.tc_cli.specs.Inputs.{AreLinesRead, IsFilled, IsJudged, IsTaken};
 
     /// Nothing came yet.
     pub fn new(alloc: Global) -> Incoming
@@ -48,15 +48,12 @@ impl Incoming {
         Ok(after == most)
     }
 
-    /// Reads the whole lines of what came, by so many jobs. What stands behind them stays, since it may go on.
-    pub fn read_whole_lines<T: Threads + Sync>(
+    /// Reads the whole lines of what came. What stands behind them stays, since it may go on.
+    pub fn read_whole_lines(
         &mut self,
-        rt: &T,
         alloc: Global,
-        jobs: u32,
         reader: &mut CaptureReader,
     ) -> Result<(), OrMemory<CaptureError>>
-        requires jobs { 1 ≤ jobs }
         requires room { reader.old.lines + length self.old.part.items ≤ 16777216 }
         ensures count { self.new.count ≡ self.old.count }
         ensures lines { AreLinesRead result reader.old reader.new self.old.part.items self.new.part.items }
@@ -64,11 +61,40 @@ impl Incoming {
     {
         let end = whole_lines(self.part.as_slice());
         let (whole, more) = self.part.as_slice().split_at(end);
-        reader.read(rt, alloc, jobs, whole)?;
+        reader.read_lines(whole)?;
         let more = Vec::from_slice(alloc, more)?;
         self.part.clear();
         self.part.extend_from_slice(more.as_slice())?;
         Ok(())
+    }
+
+    /// Splits off what stands behind the whole lines, with room for all that may still come.
+    pub fn split(&mut self) -> Result<Incoming, NoMemory>
+        requires { self.old.count ≤ 16777216 }
+        ensures count { IfOk result (λ rest. rest.count ≡ self.old.count) }
+        ensures parts { IfOk result (λ rest. self.old.part.items ≡ self.new.part.items ++ rest.part.items) }
+        ensures lines { IfOk result (λ rest. (more : List ℕ) → lines (self.old.part.items ++ more) ≡ lines self.new.part.items ++ lines (rest.part.items ++ more)) }
+    {
+        let end = whole_lines(self.part.as_slice());
+        let mut part = self.part.split_off(end)?;
+        part.reserve(LONGEST as usize + 1 - self.count)?;
+        Ok(Incoming {
+            count: self.count,
+            part,
+        })
+    }
+
+    /// Takes in all that the input still has, and reads the lines of what came by themselves.
+    pub fn take_all<R: Source>(
+        &mut self,
+        alloc: Global,
+        input: &mut R,
+    ) -> Result<Result<CaptureReader, OrMemory<CaptureError>>, InputFault>
+        requires { (self.old.count ≤ 16777216) × (length self.old.part.items ≤ self.old.count) }
+        ensures { IsTaken result (R.rest input.old) (R.rest input.new) self.old self.new (R.faults input.old) (R.faults input.new) }
+    {
+        self.fill(input, LONGEST as usize + 1)?;
+        Ok(CaptureReader::alone(alloc, self.part.as_slice()))
     }
 
     /// Why the input is no capture, of which lines have a fault: nothing is said of them before the input is at its end.

@@ -1,6 +1,7 @@
 //! Bad captures, each with its first bad line and the first cause of that, captures at their limits, and captures that
 //! are read in pieces and in parts.
-ghost use Rattle.std.specs.Prelude.{◌≤◌, length};
+ghost use Rattle.std.specs.Prelude.{◌≤◌, length, IfOk};
+ghost use Rattle.zb_capture.specs.Grammar.{IsCapture};
 
 use crate::{
     Capture, CaptureCause, CaptureError, CaptureReader, read_capture, read_in_pieces, whole_lines,
@@ -124,7 +125,9 @@ fn captures_at_their_limits(rt: HostRuntime) -> Result<(), Fail> {
 }
 
 /// What was read, with the frames of all runs in one list.
-fn shown(alloc: Global, read: Result<Capture, OrMemory<CaptureError>>) -> Result<String, Fail> {
+fn shown(alloc: Global, read: Result<Capture, OrMemory<CaptureError>>) -> Result<String, Fail>
+    requires { IfOk read (λ c. IsCapture c) }
+{
     match read {
         Ok(capture) => {
             let frames = frames_of(alloc, &capture)?;
@@ -136,7 +139,9 @@ fn shown(alloc: Global, read: Result<Capture, OrMemory<CaptureError>>) -> Result
     }
 }
 
-fn frames_of(alloc: Global, capture: &Capture) -> Result<Vec<Vec<u8>>, Fail> {
+fn frames_of(alloc: Global, capture: &Capture) -> Result<Vec<Vec<u8>>, Fail>
+    requires { IsCapture capture.now }
+{
     let mut frames = Vec::new(alloc);
     for place in 0..capture.frames.len() {
         let frame = capture.frames.from(place).at(0);
@@ -165,6 +170,7 @@ fn read_in_parts<H: AllocGlobal + Threads + Sync>(
     text: &[u8],
 ) -> Result<Capture, OrMemory<CaptureError>>
     requires { (1 ≤ jobs) × (length text.now ≤ 65536) }
+    ensures { IfOk result (λ c. IsCapture c) }
 {
     let (first, rest) = text.split_at(whole_lines(&text[..text.len() / 2]));
     let mut reader = CaptureReader::new(rt.alloc());

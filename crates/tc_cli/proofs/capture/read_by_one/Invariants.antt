@@ -1,6 +1,6 @@
 use Rattle.std.proofs.Common.{◌-◌, ◌≤◌}
 use Rattle.tc_cli.proofs.PartLaws.{IsComing}
-use Rattle.tc_cli.proofs.capture.read_capture_on.Given as goal
+use Rattle.tc_cli.proofs.capture.read_by_one.Given as goal
 
 abbrev pub invariant-parts : goal.invariant-parts
 invariant-parts g l = record {

@@ -3,7 +3,7 @@ use Rattle.tc_cli.specs.Inputs.{IsWhyNot, fault_of}
 use Rattle.tc_cli.specs.declared.capture.CaptureFault.{CaptureFault}
 use Rattle.tc_cli.specs.declared.capture.CaptureFault.TheVariants as fault
 use Rattle.tc_cli.proofs.PartLaws.{IsComing, nothing_came, more_came, lines_came, all_read, last_fault, why_input, judged, if_err}
-use Rattle.tc_cli.proofs.capture.read_capture_on.Goals as goal
+use Rattle.tc_cli.proofs.capture.read_by_one.Goals as goal
 
 pub parts-init : goal.parts-init
 parts-init g c = record {
@@ -48,17 +48,17 @@ returns-in-Err-clause-fault g c =
     (g.R.Source.faults c.fill.new.input) (g.R.Source.faults c.refuse.new.input) (subst P (sym c.in-Err.ensures.count) came)
     (omega (arith, c.parts.invariant.later, c.in_ok-fill.ensures.later)) c.in-Err.ensures.lines c.refuse.ensures
 
-pub returns-in_err-read-clause-fault : goal.returns-in_err-read-clause-fault
-returns-in_err-read-clause-fault g c =
+pub returns-in_err-read_lines-clause-fault : goal.returns-in_err-read_lines-clause-fault
+returns-in_err-read_lines-clause-fault g c =
     let old = g.R.Source.rest c.args.input.now in
     let new = g.R.Source.rest c.fill.new.input in
     let came = more_came old (g.R.Source.rest c.parts.input) new c.parts.reader c.parts.incoming.part.items c.fill.new.self.part.items
     c.parts.incoming.count c.fill.new.self.count c.parts.invariant.coming c.in_ok-fill.ensures.grown c.in_ok-fill.ensures.count in
     let P : CaptureFault → Type 0 = λ f. IsWhyNot f old (g.R.Source.faults c.args.input.now) (g.R.Source.faults c.fill.new.input) in
-    if_err c.from_residual-in_err-read.result (fault_of c.in_err-read.field-0.0) P c.from_residual-in_err-read.ensures.1
-    (last_fault c.in_err-read.field-0.0 old new c.parts.reader c.read.new.self c.fill.new.self.part.items c.as_slice.result.now c.fill.new.self.count
+    if_err c.from_residual-in_err-read_lines.result (fault_of c.in_err-read_lines.field-0.0) P c.from_residual-in_err-read_lines.ensures.1
+    (last_fault c.in_err-read_lines.field-0.0 old new c.parts.reader c.read_lines.new.self c.fill.new.self.part.items c.as_slice.result.now c.fill.new.self.count
     (g.R.Source.faults c.args.input.now) (g.R.Source.faults c.fill.new.input) came (c.in_ok-fill.ensures.end (ap (λ b. Ok b) c.if-branch.false))
-    c.in_ok-fill.ensures.within c.as_slice.ensures.value c.in_err-read.ensures.exact)
+    c.in_ok-fill.ensures.within c.as_slice.ensures.value c.in_err-read_lines.ensures.exact)
 
 pub returns-clause-exact : goal.returns-clause-exact
 returns-clause-exact g c =
@@ -66,6 +66,6 @@ returns-clause-exact g c =
     let new = g.R.Source.rest c.fill.new.input in
     let came = more_came old (g.R.Source.rest c.parts.input) new c.parts.reader c.parts.incoming.part.items c.fill.new.self.part.items
     c.parts.incoming.count c.fill.new.self.count c.parts.invariant.coming c.in_ok-fill.ensures.grown c.in_ok-fill.ensures.count in
-    all_read old new c.parts.reader c.read.new.self c.fill.new.self.part.items c.as_slice.result.now c.fill.new.self.count c.into_capture.result came
-    (c.in_ok-fill.ensures.end (ap (λ b. Ok b) c.if-branch.false)) c.in_ok-fill.ensures.within c.as_slice.ensures.value c.in_ok-read.ensures.exact
+    all_read old new c.parts.reader c.read_lines.new.self c.fill.new.self.part.items c.as_slice.result.now c.fill.new.self.count c.into_capture.result came
+    (c.in_ok-fill.ensures.end (ap (λ b. Ok b) c.if-branch.false)) c.in_ok-fill.ensures.within c.as_slice.ensures.value c.in_ok-read_lines.ensures.exact
     c.into_capture.ensures.exact
