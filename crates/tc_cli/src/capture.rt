@@ -18,7 +18,7 @@ use zb_capture::{Capture, CaptureError, CaptureReader};
 const PART: usize = 1_048_576;
 
 /// How many bytes come in before several jobs begin.
-const FRONT: usize = 6_291_456;
+const FRONT: usize = 7_340_032;
 
 /// Why the input gives no capture.
 #[derive(Clone, Copy, Debug, PartialEq, Eq)]

@@ -331,7 +331,7 @@ fn an_input_of_line_feeds_is_too_long_past_the_longest(rt: HostRuntime) -> Resul
     Ok(())
 }
 
-/// A frame behind its key, more bytes than come in before the first lines are read, and the frame again.
+/// A frame behind its key, more bytes than come in before several jobs begin, and the frame again.
 fn long_capture<H: AllocGlobal>(rt: &H, byte: u8, last: &[u8]) -> Result<Vec<u8>, Fail> {
     let mut text = Vec::from_slice(
         rt.alloc(),
@@ -339,7 +339,7 @@ fn long_capture<H: AllocGlobal>(rt: &H, byte: u8, last: &[u8]) -> Result<Vec<u8>
 frame 08022B1A00001E00280000000001000000004B12000063DD603D8198631D3B765B34BA85
 #",
     )?;
-    text.resize(5_000_000, byte)?;
+    text.resize(9_000_000, byte)?;
     text.extend_from_slice(
         b"
 frame 08022B1A00001E00280000000001000000004B12000063DD603D8198631D3B765B34BA85
@@ -374,10 +374,10 @@ fn a_long_capture_is_refused_alike_by_each_number_of_jobs(rt: HostRuntime) -> Re
     // what fills it, its last line, a call of the source that fails, and how it ends
     let captures: [(u8, &[u8], &[u32], &str); 5] = [
         (b'.', b"boom", &[], "refused 5 syntax"),
-        (b'\n', b"code 00\nboom", &[], "refused 4999888 bad-code"),
+        (b'\n', b"code 00\nboom", &[], "refused 8999888 bad-code"),
         (b'.', b"", &[1], "read fault"),
         (b'.', b"", &[300], "read fault"),
-        (b'\n', b"boom", &[307], "read fault"),
+        (b'\n', b"boom", &[551], "read fault"),
     ];
     for (byte, last, fails, ended) in captures {
         let text = long_capture(&rt, byte, last)?;
