@@ -109,14 +109,25 @@ fn counted(alloc: Global, file: &[u8]) -> Option<Result<Counts, PcapError>> {
     }
 }
 
+/// Whether each frame of a file has these bytes, and there is one.
+fn gives_frames(alloc: Global, file: &[u8], bytes: &[u8]) -> bool {
+    let Ok(found) = extract(alloc, file, &[]) else {
+        return false;
+    };
+    let frames = &found.capture.frames;
+    for place in 0..frames.len() {
+        if frames.from(place).at(0).as_slice() != bytes {
+            return false;
+        }
+    }
+    frames.len() > 0
+}
+
 #[test]
 fn both_orders_give_the_same_frame(rt: HostRuntime) -> Result<(), Fail> {
     for file in FILES {
         let found = extract(rt.alloc(), &file, &[]).ok().ok_or("no capture")?;
-        let runs = found.capture.frames.runs();
-        assert!(rt;
-            runs.iter().all(|run| run.iter().all(|frame| frame.as_slice() == &PACKET[9..]))
-        );
+        assert!(rt; gives_frames(rt.alloc(), &file, &PACKET[9..]));
         assert_eq!(rt;
             found.counts,
             Counts {
