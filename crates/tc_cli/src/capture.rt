@@ -13,6 +13,7 @@ use std::alloc::{AllocError, Global};
 use std::thread::{Threads, join_mut};
 use zb_base::{NoMemory, OrMemory, Source};
 use zb_capture::{Capture, CaptureError, CaptureReader};
+use zb_ring::IdleThread;
 
 /// How many bytes one job takes in before it reads their lines.
 const PART: usize = 1_048_576;
@@ -162,7 +163,9 @@ fn read_both<T: Threads + Sync, R: Source>(
         requires { (rest.now.count ≤ 16777216) × (length rest.now.part.items ≤ rest.now.count) }
         ensures { IsTaken taken.exit (R.rest input.entry.now) (R.rest input.exit.now) rest.entry.now rest.exit.now (R.faults input.entry.now) (R.faults input.exit.now) }
     { taken = rest.take_all(alloc, input) };
+    let idle = IdleThread::start(rt);
     join_mut(rt, &mut reads_front, &mut takes_rest);
+    idle.end(rt);
     (first, taken)
 }
 

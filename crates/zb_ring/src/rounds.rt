@@ -7,6 +7,7 @@ ghost use Rattle.zb_capture.specs.Grammar.{IsCapture};
 
 use crate::cut::cut;
 use crate::gate::Gate;
+use crate::idle::IdleThread;
 use crate::piece::{Piece, look};
 use crate::ring::{KeyRing, Ring, given_ring, learn};
 use std::alloc::Global;
@@ -95,6 +96,7 @@ fn look_at_all<T: Threads + Sync, G: Gate>(
     requires before { AllByRecursion (λ p. AllSee frames.now addrs.now (take known keys.now) p.blocks.items) pieces.items }
     ensures { IfOk result (λ v. AllZip (IsNextPiece frames.now addrs.now keys.now) pieces.items v.items) }
 {
+    let idle = IdleThread::start(rt);
     let looked = map_vec(
         rt,
         pieces,
@@ -106,6 +108,7 @@ fn look_at_all<T: Threads + Sync, G: Gate>(
             look(alloc, frames, addrs, keys, known, piece)
         },
     )?;
+    idle.end(rt);
     gather(alloc, looked)
 }
 
