@@ -1,5 +1,5 @@
 -- Pieces and blocks, one after the other.
-use Rattle.std.proofs.Common.{◌≡◌, ℕ, zero, suc, ◌+◌, ◌-◌, ◌<◌, ◌≤◌, List, [], ◌∷◌, ◌++◌, length, get_or, take, drop, drop-cons, add-one, Some, refl, ap, sym, ◌∙◌, subst, arith, append_assoc, append-nil, add-zero, length-take, length-drop, true}
+use Rattle.std.proofs.Common.{◌≡◌, ℕ, zero, suc, ◌+◌, ◌-◌, ◌<◌, ◌≤◌, min, List, [], ◌∷◌, ◌++◌, length, get_or, take, drop, drop-cons, add-one, Some, refl, ap, sym, ◌∙◌, subst, arith, append_assoc, append-nil, add-zero, length-take, length-drop, true}
 use Rattle.std.specs.List.{AllByRecursion, AllZip}
 use Rattle.std.proofs.lemmas.Grind.{flat_map-append}
 use Rattle.std.proofs.Math.Seq.{take-length}
@@ -10,7 +10,7 @@ use Rattle.zb_base.specs.declared.key.Key.{Key}
 use Rattle.zb_capture.specs.declared.capture.Capture.{Capture}
 use Rattle.zb_sight.specs.Carrying.{keys_carried}
 use Rattle.zb_sight.specs.declared.sight.Sight.{Sight}
-use Rattle.zb_ring.specs.Pieces.{all_blocks, all_frames, all_leads, all_fresh, count_of, frames_in, fresh, found_in, IsCut, IsWithin, Numbered, StandsFor, MayStandFor, AllSee, Shown, AllShown, IsUnseen, is_nothing, IsNext, IsNextPiece}
+use Rattle.zb_ring.specs.Pieces.{AreSized, all_blocks, all_frames, all_leads, all_fresh, count_of, frames_in, fresh, found_in, IsCut, IsWithin, Numbered, StandsFor, MayStandFor, AllSee, Shown, AllShown, IsUnseen, is_nothing, IsNext, IsNextPiece}
 use Rattle.zb_ring.specs.Rings.{leads, leads_of, learnt, with_key}
 use Rattle.zb_ring.specs.declared.block.Block.{Block}
 use Rattle.zb_ring.specs.declared.block.Seen.{Seen}
@@ -137,6 +137,18 @@ pieces_counts frames addrs keys (q ∷ old) (p ∷ new) all =
       all.0.count,
       pieces_counts frames addrs keys old new all.1,
     )
+
+pub pieces_sized : (frames : List (ArrayVec ℕ)) (addrs : List (Short × Eui)) (keys : List Key) (size number left : ℕ) (old new : List Piece)
+    → AllZip (IsNextPiece frames addrs keys) old new → AreSized size number left old → AreSized size number left new
+pieces_sized frames addrs keys size number left [] [] all sized = sized
+pieces_sized frames addrs keys size number left [] (p ∷ new) all sized = absurd all
+pieces_sized frames addrs keys size number left (q ∷ old) [] all sized = absurd all
+pieces_sized frames addrs keys size number left (q ∷ old) (p ∷ new) all sized = (
+  all.0.number ∙ sized.0,
+  sized.1,
+  all.0.count ∙ sized.2,
+  pieces_sized frames addrs keys size (number + 1) (left - min size left) old new all.1 sized.3,
+)
 
 pub pieces_shown : (frames : List (ArrayVec ℕ)) (addrs : List (Short × Eui)) (keys : List Key) (old new : List Piece)
     → AllZip (IsNextPiece frames addrs keys) old new → AllShown frames addrs keys (all_blocks new)

@@ -1,5 +1,5 @@
 -- Frames that are cut into consecutive pieces of work, and these into blocks.
-use Rattle.std.specs.Prelude.{◌≡◌, ℕ, ◌+◌, ◌-◌, ◌<◌, ◌≤◌, ◌^◌, List, [], ◌∷◌, ◌++◌, length, take, drop, Bool, true, false}
+use Rattle.std.specs.Prelude.{◌≡◌, ℕ, ◌+◌, ◌-◌, ◌<◌, ◌≤◌, ◌^◌, min, List, [], ◌∷◌, ◌++◌, length, take, drop, Bool, true, false}
 use Rattle.std.specs.List.{AllByRecursion, flat_map, list_all}
 use Rattle.arrayvec.specs.ArrayVec.{ArrayVec}
 use Rattle.zb_base.specs.declared.address.Eui.{Eui}
@@ -38,6 +38,13 @@ Numbered frame (block ∷ more) = (block.first ≡ frame) × Numbered (frame + b
 abbrev pub count_of : List Block → ℕ
 count_of [] = 0
 count_of (block ∷ more) = block.count + count_of more
+
+-- Pieces, numbered from `number` on, that have the frames that are left: each has `size` of them, and the last what is left by then. Where
+-- no frame is left there is no piece.
+abbrev pub AreSized : ℕ → ℕ → ℕ → List Piece → Type 0
+AreSized size number left [] = left ≡ 0
+AreSized size number left (piece ∷ more) =
+    (piece.number ≡ number) × (0 < left) × (count_of piece.blocks.items ≡ min size left) × AreSized size (number + 1) (left - min size left) more
 
 -- so many frames hold the block
 pub record IsWithin (frames : ℕ) (block : Block) : Type 0 where

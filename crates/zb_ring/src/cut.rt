@@ -1,7 +1,8 @@
 //! Cutting the frames of a capture into pieces.
-ghost use Rattle.std.specs.Prelude.{◌≡◌, ◌+◌, ◌≤◌, IfOk};
+ghost use Rattle.std.specs.Prelude.{◌≡◌, ◌+◌, ◌≤◌, length, IfOk};
 ghost use Rattle.std.specs.List.{AllByRecursion};
-ghost use Rattle.zb_ring.specs.Pieces.{all_blocks, count_of, IsUnseen, Numbered};
+ghost use Rattle.std.specs.Int.{div_ceil};
+ghost use Rattle.zb_ring.specs.Pieces.{AreSized, all_blocks, count_of, IsUnseen, Numbered};
 
 use crate::block::{Block, Seen};
 use crate::piece::Piece;
@@ -16,6 +17,8 @@ pub(crate) fn cut(alloc: Global, frames: u32, jobs: u32) -> Result<Vec<Piece>, N
     ensures numbers { IfOk result (λ v. Numbered 1 (all_blocks v.items)) }
     ensures count { IfOk result (λ v. count_of (all_blocks v.items) ≡ frames) }
     ensures unseen { IfOk result (λ v. AllByRecursion IsUnseen (all_blocks v.items)) }
+    ensures sized { IfOk result (λ v. AreSized (div_ceil frames jobs) 0 frames v.items) }
+    ensures few { IfOk result (λ v. length v.items ≤ jobs) }
 {
     let size = frames.div_ceil(jobs);
     let mut pieces = Vec::new(alloc);
@@ -32,6 +35,7 @@ pub(crate) fn cut(alloc: Global, frames: u32, jobs: u32) -> Result<Vec<Piece>, N
 
 /// A piece whose frames were not looked at yet: one block.
 fn unseen(alloc: Global, number: u32, first: u32, count: u32) -> Result<Piece, NoMemory>
+    ensures number { IfOk result (λ p. p.number ≡ number) }
     ensures numbers { IfOk result (λ p. Numbered first p.blocks.items) }
     ensures count { IfOk result (λ p. count_of p.blocks.items ≡ count) }
     ensures unseen { IfOk result (λ p. AllByRecursion IsUnseen p.blocks.items) }

@@ -1,7 +1,8 @@
 //! Round after round.
 ghost use Rattle.std.specs.Prelude.{◌≡◌, ◌+◌, ◌≤◌, ◌<◌, ◌^◌, length, take, map, IfOk, Ok};
+ghost use Rattle.std.specs.Int.{div_ceil};
 ghost use Rattle.std.specs.List.{AllByRecursion, AllZip};
-ghost use Rattle.zb_ring.specs.Pieces.{all_blocks, all_leads, AllSee, AllShown, IsCut, IsNextPiece, IsWithin};
+ghost use Rattle.zb_ring.specs.Pieces.{AreSized, all_blocks, all_leads, AllSee, AllShown, IsCut, IsNextPiece, IsWithin};
 ghost use Rattle.zb_ring.specs.Rings.{keys_of, learnt, ring_of, IsRing};
 ghost use Rattle.zb_capture.specs.Grammar.{IsCapture};
 
@@ -43,6 +44,8 @@ pub fn open_all<T: Threads + Sync, G: Gate>(
     // At most all that may be given, and three for each frame.
     ensures few { IfOk result (λ o. length o.ring.keys ≤ 300256) }
     ensures pieces { IfOk result (λ o. IsCut capture.now o.pieces.items) }
+    ensures sized { IfOk result (λ o. AreSized (div_ceil (length capture.now.frames) jobs) 0 (length capture.now.frames) o.pieces.items) }
+    ensures few_pieces { IfOk result (λ o. length o.pieces.items ≤ jobs) }
     ensures shown { IfOk result (λ o. AllShown capture.now.frames capture.now.addrs (keys_of o.ring.keys) (all_blocks o.pieces.items)) }
 {
     let frames = &capture.frames;

@@ -1,4 +1,4 @@
-use Rattle.std.proofs.Common.{◌≡◌, ◌∙◌, ◌++◌, ◌∷◌, [], ℕ, List, take, map, ap, sym, arith, add-one, append_assoc}
+use Rattle.std.proofs.Common.{◌∙◌, ◌++◌, ◌∷◌, [], ℕ, take, map, ap, sym, arith, add-one, append_assoc}
 use Rattle.arrayvec.specs.ArrayVec.{ArrayVec}
 use Rattle.zb_sight.specs.Sights.{sight}
 use Rattle.zb_sight.specs.declared.sight.Sight.{Sight}

@@ -1,6 +1,6 @@
-use Rattle.std.proofs.Common.{◌+◌, arith}
-use Rattle.zb_ring.specs.Pieces.{all_blocks}
-use Rattle.zb_ring.proofs.CutLaws.{cut_off, piece_items, some_size}
+use Rattle.std.proofs.Common.{ℕ, ◌+◌, ◌-◌, ◌∙◌, subst, arith}
+use Rattle.zb_ring.specs.Pieces.{all_blocks, AreSized}
+use Rattle.zb_ring.proofs.CutLaws.{cut_off, few_pieces, piece_items, some_size, sized_end, sized_more}
 use Rattle.zb_ring.proofs.cut.cut.Goals as goal
 
 pub loop-done-preserved : goal.loop-done-preserved
@@ -15,5 +15,22 @@ loop-done-preserved c =
           (record { numbers = c.in_ok-unseen.ensures.numbers; count = c.in_ok-unseen.ensures.count; unseen = c.in_ok-unseen.ensures.unseen });
       within = omega (arith, before.within, c.min-count.ensures, c.loop-done-test.true);
       number = omega (arith, before.number, size, c.min-count.ensures, c.loop-done-test.true);
+      sized = sized_more c.div_ceil-size.result c.args.frames c.loop-done.number (c.args.frames - c.loop-done.done) (c.args.frames - (c.loop-done.done + c.min-count.result))
+          old c.push.new.self.items p before.sized c.in_ok-push.ensures.items c.in_ok-unseen.ensures.number (omega (arith, c.loop-done-test.true))
+          (c.in_ok-unseen.ensures.count ∙ c.min-count.ensures) (omega (arith, c.min-count.ensures));
       size = before.size;
     }
+
+pub returns-clause-sized : goal.returns-clause-sized
+returns-clause-sized c =
+    let P : ℕ → Type 0 = λ size. AreSized size 0 c.args.frames c.loop-done.pieces.items in
+    subst P c.div_ceil-size.ensures
+    (sized_end c.div_ceil-size.result c.args.frames c.loop-done.number (c.args.frames - c.loop-done.done) c.loop-done.pieces.items
+    c.loop-done.invariant.sized (omega (arith, c.loop-done-test.false)))
+
+pub returns-clause-few : goal.returns-clause-few
+returns-clause-few c =
+    few_pieces c.div_ceil-size.result 0 c.args.frames c.args.jobs c.loop-done.pieces.items
+    (sized_end c.div_ceil-size.result c.args.frames c.loop-done.number (c.args.frames - c.loop-done.done) c.loop-done.pieces.items
+    c.loop-done.invariant.sized (omega (arith, c.loop-done-test.false)))
+    c.loop-done.invariant.size

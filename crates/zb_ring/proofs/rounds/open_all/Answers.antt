@@ -1,9 +1,11 @@
 use Rattle.std.proofs.Common.{◌≢◌, ◌∙◌, ◌+◌, [], length, refl, ap, sym, arith}
-use Rattle.zb_ring.specs.Pieces.{all_blocks, all_leads}
+use Rattle.std.specs.Int.{div_ceil}
+use Rattle.zb_ring.specs.Pieces.{AreSized, all_blocks, all_leads}
 use Rattle.zb_ring.specs.Rings.{given_from, learnt, ring_after}
 use Rattle.zb_ring.proofs.Bound.{ring_few, ring_is}
 use Rattle.zb_ring.proofs.FreshLeads.{all_unlearnt}
-use Rattle.zb_ring.proofs.PieceLists.{all_unseen}
+use Rattle.zb_ring.proofs.CutLaws.{no_more_than_jobs, sized_as}
+use Rattle.zb_ring.proofs.PieceLists.{all_unseen, pieces_sized}
 use Rattle.zb_ring.proofs.RoundLaws.{Round, one_round, last_round, last_shown, another_first, another_seen, another_learnt, another_length, inside, ready}
 use Rattle.zb_ring.proofs.rounds.open_all.Goals as goal
 use Rattle.zb_ring.proofs.rounds.open_all.Goals.{In_ok-ring-2}
@@ -13,6 +15,7 @@ unfolding ring_after
 rounds-init g c = record {
   ring = c.in_ok-ring.ensures ∙ ap (given_from []) c.as_slice-2.ensures;
   pieces = record { numbers = c.in_ok-pieces.ensures.numbers; count = c.in_ok-pieces.ensures.count ∙ c.len.ensures };
+  sized = sized_as (length c.args.capture.now.frames) c.args.jobs c.len.result c.in_ok-pieces.pieces.items c.len.ensures c.in_ok-pieces.ensures.sized;
   known = omega arith;
   seen = all_unseen c.args.capture.now.frames c.args.capture.now.addrs [] (all_blocks c.in_ok-pieces.pieces.items) c.in_ok-pieces.ensures.unseen;
   learnt = all_unlearnt c.in_ok-ring.ring c.args.capture.now.frames c.args.capture.now.addrs [] (all_blocks c.in_ok-pieces.pieces.items) c.in_ok-pieces.ensures.unseen;
@@ -39,6 +42,12 @@ done g c =
     c.rounds.invariant.ring
     (c.in_ok-ring-2.ensures ∙ ap (λ ps. learnt (c.rounds.rounds + 1) c.rounds.ring (all_leads ps)) c.as_slice-in-rounds.ensures.value)
 
+still_sized : (g : _) (c : In_ok-ring-2 g)
+    → AreSized (div_ceil (length c.args.capture.now.frames) c.args.jobs) 0 (length c.args.capture.now.frames) c.in_ok-pieces-2.pieces.items
+still_sized g c =
+    pieces_sized c.args.capture.now.frames c.in_ok-addrs.addrs c.ciphers.result.now (div_ceil (length c.args.capture.now.frames) c.args.jobs) 0
+    (length c.args.capture.now.frames) c.rounds.pieces.items c.in_ok-pieces-2.pieces.items c.in_ok-pieces-2.ensures c.rounds.invariant.sized
+
 pub returns-then-len-count-clause-rounds : goal.returns-then-len-count-clause-rounds
 returns-then-len-count-clause-rounds g c =
     let d = (goal.at.returns-then-len-count-clause-rounds g c).In_ok-ring-2 in
@@ -55,6 +64,14 @@ returns-then-len-count-clause-ring g c =
 pub returns-then-len-count-clause-pieces : goal.returns-then-len-count-clause-pieces
 returns-then-len-count-clause-pieces g c =
     let d = (goal.at.returns-then-len-count-clause-pieces g c).In_ok-ring-2 in (done g d).cut
+
+pub returns-then-len-count-clause-sized : goal.returns-then-len-count-clause-sized
+returns-then-len-count-clause-sized g c = let d = (goal.at.returns-then-len-count-clause-sized g c).In_ok-ring-2 in still_sized g d
+
+pub returns-then-len-count-clause-few_pieces : goal.returns-then-len-count-clause-few_pieces
+returns-then-len-count-clause-few_pieces g c =
+    let d = (goal.at.returns-then-len-count-clause-few_pieces g c).In_ok-ring-2 in
+    no_more_than_jobs (length c.args.capture.now.frames) c.args.jobs c.in_ok-pieces-2.pieces.items c.requires.jobs (still_sized g d)
 
 pub returns-then-len-count-clause-shown : goal.returns-then-len-count-clause-shown
 returns-then-len-count-clause-shown g c =
@@ -81,6 +98,7 @@ rounds-preserved g c =
     record {
       ring = round.after;
       pieces = round.cut;
+      sized = still_sized g d;
       known = omega (arith, more, c.len-count.ensures);
       seen = another_seen c.args.capture.now c.rounds.rounds c.len-count.result c.rounds.ring c.in_ok-ring-2.ring pieces round c.len-count.ensures;
       learnt = another_learnt c.args.capture.now c.rounds.rounds c.len-count.result c.rounds.ring c.in_ok-ring-2.ring pieces round c.len-count.ensures;
