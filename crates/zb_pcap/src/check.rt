@@ -3,7 +3,7 @@ ghost use Rattle.std.specs.Prelude.{◌≡◌, ℕ, ◌+◌, ◌<◌, List, ◌�
 ghost use Rattle.zb_install.specs.Crc.{added, bits_from, divided};
 ghost use Rattle.zb_pcap.specs.CheckSequence.{check_sequence};
 
-// One step of the division: the register takes in a bit of the message.
+/// One step of the division: the register takes in a bit of the message.
 fn after_bit(register: u16, bit: u16) -> u16
     requires { bit < 2 }
     ensures { (n : ℕ) (rest : List ℕ) → divided (n + 1) (added (bit ∷ rest) (bits_from 16 register))
@@ -17,7 +17,7 @@ fn after_bit(register: u16, bit: u16) -> u16
     }
 }
 
-// Eight steps, by the bits of a byte from the lowest on.
+/// Eight steps, by the bits of a byte from the lowest on.
 fn after_byte(register: u16, byte: u8) -> u16
     ensures { (n : ℕ) (rest : List ℕ) → divided (n + 8) (added (bits_from 8 byte ++ rest) (bits_from 16 register))
         ≡ divided n (added rest (bits_from 16 result)) }

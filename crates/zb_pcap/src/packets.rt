@@ -17,7 +17,6 @@ pub(crate) struct Packet<'a> {
 }
 
 /// Reads records, at most 100,000.
-
 pub(crate) fn read_packets<'a>(
     alloc: Global,
     order: Order,

@@ -3,7 +3,7 @@
 use crate::{Counts, Mac, PcapCause, PcapError, classify, extract, fcs};
 use std::alloc::Global;
 use std::test::Fail;
-use zb_base::OrMemory;
+use zb_base::{NoMemory, OrMemory};
 
 /// A file of one packet, little end first with times in microseconds, and one of the same packet, big end first with times in
 /// nanoseconds and bits above the link type.
@@ -222,6 +222,15 @@ fn other_files_have_their_counts(rt: HostRuntime) {
     }
 }
 
+/// A file with so many records of empty packets.
+fn with_records(alloc: Global, records: u32) -> Result<Vec<u8>, NoMemory> {
+    let mut file = Vec::from_slice(alloc, &FILES[0][..24])?;
+    for _number in 0..records {
+        file.extend_from_slice(&[0; 16])?;
+    }
+    Ok(file)
+}
+
 #[test]
 fn a_file_has_at_most_100_000_records(rt: HostRuntime) -> Result<(), Fail> {
     let files: [(u32, usize, Result<Counts, PcapError>); 4] = [
@@ -260,10 +269,7 @@ fn a_file_has_at_most_100_000_records(rt: HostRuntime) -> Result<(), Fail> {
         ),
     ];
     for (records, more, answer) in files {
-        let mut file = Vec::from_slice(rt.alloc(), &FILES[0][..24])?;
-        for _number in 0..records {
-            file.extend_from_slice(&[0; 16])?;
-        }
+        let mut file = with_records(rt.alloc(), records)?;
         file.extend_from_slice(&[0; 1][..more.min(1)])?;
         assert_eq!(rt; counted(rt.alloc(), file.as_slice()), Some(answer));
     }
