@@ -1,5 +1,5 @@
 -- A capture of which the text comes in parts.
-use Rattle.std.proofs.Common.{◌≡◌, ℕ, ◌+◌, ◌<◌, ◌≤◌, List, [], ◌++◌, length, refl, ap, sym, ◌∙◌, subst, arith, append_assoc, append-nil, length-append, Option, Some, None, Result, Ok, Err, IfErr, IfSome}
+use Rattle.std.proofs.Common.{◌≡◌, ℕ, ◌+◌, ◌<◌, ◌≤◌, List, [], ◌++◌, length, refl, ap, sym, ◌∙◌, subst, arith, append_assoc, append-nil, length-append, Option, Some, None, Result, Ok, Err, IfErr, IfSome, OnOk}
 use Rattle.std.specs.Io.KnownBytes.{Consumes, IsAtEnd}
 use Rattle.std.specs.Result.{IsErrAnd}
 use Rattle.std.specs.Str.Lines.{lines}
@@ -7,11 +7,12 @@ use Rattle.zb_base.specs.Outside.{Rose}
 use Rattle.zb_base.specs.declared.fault.OrMemory.{OrMemory}
 use Rattle.zb_base.specs.declared.fault.OrMemory.TheVariants as error
 use Rattle.zb_capture.specs.Grammar.{captured}
-use Rattle.zb_capture.specs.Readings.{Reading, Lead, AreRead, IsReadAlone, no_lines, with_more}
+use Rattle.zb_capture.specs.Readings.{Reading, Lead, AreRead, no_lines, with_more}
 use Rattle.zb_capture.specs.declared.capture.Capture.{Capture}
 use Rattle.zb_capture.proofs.LineLaws.{lead_then, bad_then}
 use Rattle.zb_capture.specs.declared.fault.CaptureError.{CaptureError}
-use Rattle.tc_cli.specs.Inputs.{AreLinesRead, Grows, IsAll, IsJudged, IsPastAll, IsWhyNot, fault_of}
+use Rattle.tc_cli.specs.Inputs.{AreLines, AreLinesRead, Grows, IsAll, IsJudged, IsPastAll, IsRead, IsWhyNot, fault_of}
+use Rattle.tc_cli.specs.declared.incoming.Incoming.{Incoming}
 use Rattle.tc_cli.specs.declared.capture.CaptureFault.{CaptureFault}
 use Rattle.tc_cli.specs.declared.capture.CaptureFault.TheVariants as fault
 use Rattle.tc_cli.specs.declared.input.InputFault.{InputFault}
@@ -179,26 +180,80 @@ pub if_err : (r : Result Capture CaptureFault) (f : CaptureFault) (P : CaptureFa
 if_err (Ok c) f P is p = tt
 if_err (Err x) f P is p = subst P (sym is) p
 
--- the first lines were read, and all the others came meanwhile
-pub rest_came : (old mid new : Option (List ℕ)) (reading next : Reading) (part first rest after : List ℕ) (count later : ℕ) → IsComing old mid reading part count
-    → Lead reading (lines first) next → next.lines ≤ reading.lines + length first → part ≡ first ++ rest
-    → ((more : List ℕ) → lines (part ++ more) ≡ lines first ++ lines (rest ++ more)) → Grows mid new rest after
-    → later + length rest ≡ count + length after → IsComing old new next after later
-rest_came old mid new reading next part first rest after count later is lead few whole cut grown sum =
-    let len : length part ≡ length first + length rest = ap (length {A = ℕ}) whole ∙ length-append first rest in
-    more_came old mid new next rest after count later
-    (lines_came old mid reading next part rest count is (part_read reading next part first rest first rest lead refl refl cut) (omega (arith, few, len)))
-    grown sum
+grown_whole : (part first rest taken back left : List ℕ) → part ≡ first ++ rest → back ++ left ≡ rest ++ taken → first ++ (back ++ left) ≡ part ++ taken
+grown_whole part first rest taken back left whole came =
+    ap (λ zs. first ++ zs) came ∙ sym (append_assoc first rest taken) ∙ ap (λ zs. zs ++ taken) (sym whole)
 
--- the first lines have a fault, and all the others came meanwhile
-pub first_fault : (e : OrMemory CaptureError) (old mid new : Option (List ℕ)) (reading : Reading) (part first rest after : List ℕ) (count later faults faults_after : ℕ)
-    → IsComing old mid reading part count → IsReadAlone (Err e) first → reading ≡ no_lines
-    → ((more : List ℕ) → lines (part ++ more) ≡ lines first ++ lines (rest ++ more)) → Grows mid new rest after → IsAtEnd new
-    → later + length rest ≡ count + length after → later ≤ 16777216 → IsWhyNot (fault_of e) old faults faults_after
-first_fault (error.Fault e) old mid new reading part first rest after count later faults faults_after is bad none cut grown end sum within =
-    let B : Reading → Type 0 = λ r. with_more r (lines first) ≡ Err e in
-    let len : length after ≡ length rest + length grown.0 = ap (length {A = ℕ}) grown.2 ∙ length-append rest grown.0 in
-    bad_text old mid new reading part count e is
-    (λ more. ap (with_more reading) (cut more) ∙ bad_then reading (lines first) (lines (rest ++ more)) e (subst B (sym none) bad))
-    (grown.0, grown.1, end, omega (arith, len, sum, within))
-first_fault error.NoMemory old mid new reading part first rest after count later faults faults_after is bad none cut grown end sum within = tt
+-- a text behind another is cut behind its whole lines
+cut_twice : (part first rest taken back left : List ℕ) → part ≡ first ++ rest
+    → ((more : List ℕ) → lines (part ++ more) ≡ lines first ++ lines (rest ++ more)) → back ++ left ≡ rest ++ taken
+    → ((more : List ℕ) → lines ((back ++ left) ++ more) ≡ lines back ++ lines (left ++ more)) → (more : List ℕ)
+    → lines ((first ++ (back ++ left)) ++ more) ≡ (lines first ++ lines back) ++ lines (left ++ more)
+cut_twice part first rest taken back left whole cut came also more =
+    ap (λ zs. lines (zs ++ more)) (grown_whole part first rest taken back left whole came)
+    ∙ ap lines (append_assoc part taken more)
+    ∙ cut (taken ++ more)
+    ∙ ap (λ zs. lines first ++ lines zs) (sym (append_assoc rest taken more) ∙ ap (λ zs. zs ++ more) (sym came))
+    ∙ ap (λ zs. lines first ++ zs) (also more)
+    ∙ sym (append_assoc (lines first) (lines back) (lines (left ++ more)))
+
+lines_of_both : (read : Result (Unit {0}) (OrMemory CaptureError)) (reading next : Reading) (all left : List ℕ) (first back : List (List ℕ))
+    → ((more : List ℕ) → lines (all ++ more) ≡ (first ++ back) ++ lines (left ++ more)) → AreLines read reading next (first ++ back)
+    → AreLinesRead read reading next all left
+lines_of_both (Ok done) reading next all left first back cut is =
+    λ more. ap (with_more reading) (cut more) ∙ lead_then reading next (first ++ back) (lines (left ++ more)) is
+lines_of_both (Err (error.Fault fault)) reading next all left first back cut is =
+    λ more. ap (with_more reading) (cut more) ∙ bad_then reading (first ++ back) (lines (left ++ more)) fault is
+lines_of_both (Err error.NoMemory) reading next all left first back cut is = tt
+
+room_of_both : (read : Result (Unit {0}) (OrMemory CaptureError)) (n m k l a b : ℕ) → OnOk read (m ≤ n + a + b) → k ≡ l → OnOk read (m + k ≤ n + (a + (b + l)))
+room_of_both (Ok done) n m k l a b few is = omega (arith, few, is)
+room_of_both (Err e) n m k l a b few is = tt
+
+-- The whole lines of what came were read, and those of what came behind.
+pub round_read : (read : Result (Unit {0}) (OrMemory CaptureError)) (old new : Option (List ℕ)) (before after : Incoming) (reading next : Reading)
+    (first rest back left : List ℕ) → before.part.items ≡ first ++ rest
+    → ((more : List ℕ) → lines (before.part.items ++ more) ≡ lines first ++ lines (rest ++ more)) → Grows old new rest (back ++ left)
+    → ((more : List ℕ) → lines ((back ++ left) ++ more) ≡ lines back ++ lines (left ++ more)) → AreLines read reading next (lines first ++ lines back)
+    → OnOk read (next.lines ≤ reading.lines + length first + length back) → after.part.items ≡ left
+    → after.count + length rest ≡ before.count + length (back ++ left) → after.count ≤ 16777216 → IsRead read old new before after reading next
+round_read read old new before after reading next first rest back left whole cut grown also is few same sum within =
+    let all = first ++ (back ++ left) in
+    let P : List ℕ → Type 0 = λ zs. AreLinesRead read reading next all zs in
+    let lens : length all ≡ length first + (length back + length left) = length-append first (back ++ left) ∙ ap (λ n. length first + n) (length-append back left) in
+    let R : ℕ → Type 0 = λ n. OnOk read (next.lines + length after.part.items ≤ reading.lines + n) in
+    record {
+      all = all;
+      grown = (grown.0, grown.1, grown_whole before.part.items first rest grown.0 back left whole grown.2);
+      count = omega (arith, sum, length-append first (back ++ left), ap (length {A = ℕ}) whole, length-append first rest);
+      within = within;
+      lines = subst P (sym same) (lines_of_both read reading next all left (lines first) (lines back)
+          (cut_twice before.part.items first rest grown.0 back left whole cut grown.2 also) is);
+      room = subst R (sym lens) (room_of_both read reading.lines next.lines (length after.part.items) (length left) (length first) (length back) few
+          (ap (length {A = ℕ}) same));
+    }
+
+first_is_bad : (e : OrMemory CaptureError) (old next after : Reading) (front back : List ℕ) → AreRead (Err e) old next front
+    → AreLines (Err e) old after (lines front ++ lines back)
+first_is_bad (error.Fault fault) old next after front back bad = bad_then old (lines front) (lines back) fault bad
+first_is_bad error.NoMemory old next after front back bad = tt
+
+-- the first of two texts has a fault, or the second has
+pub first_bad : (r : Result (Unit {0}) (OrMemory CaptureError)) (e : OrMemory CaptureError) (old next after : Reading) (front back : List ℕ)
+    → IsErrAnd r (λ x. x ≡ e) → AreRead (Err e) old next front → AreLines r old after (lines front ++ lines back)
+first_bad (Ok done) e old next after front back is bad = absurd is
+first_bad (Err x) e old next after front back is bad =
+    let P : OrMemory CaptureError → Type 0 = λ y. AreLines (Err y) old after (lines front ++ lines back) in
+    subst P (sym is) (first_is_bad e old next after front back bad)
+
+second_is_bad : (e : OrMemory CaptureError) (old mid next after : Reading) (front back : List ℕ) → Lead old (lines front) mid
+    → AreRead (Err e) mid next back → AreLines (Err e) old after (lines front ++ lines back)
+second_is_bad (error.Fault fault) old mid next after front back lead bad = lead_then old mid (lines front) (lines back) lead ∙ bad
+second_is_bad error.NoMemory old mid next after front back lead bad = tt
+
+pub second_bad : (r : Result (Unit {0}) (OrMemory CaptureError)) (e : OrMemory CaptureError) (old mid next after : Reading) (front back : List ℕ)
+    → IsErrAnd r (λ x. x ≡ e) → Lead old (lines front) mid → AreRead (Err e) mid next back → AreLines r old after (lines front ++ lines back)
+second_bad (Ok done) e old mid next after front back is lead bad = absurd is
+second_bad (Err x) e old mid next after front back is lead bad =
+    let P : OrMemory CaptureError → Type 0 = λ y. AreLines (Err y) old after (lines front ++ lines back) in
+    subst P (sym is) (second_is_bad e old mid next after front back lead bad)

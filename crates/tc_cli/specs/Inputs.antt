@@ -6,9 +6,10 @@ use Rattle.zb_base.specs.Outside.{Rose}
 use Rattle.zb_base.specs.declared.fault.OrMemory.{OrMemory}
 use Rattle.zb_base.specs.declared.fault.OrMemory.TheVariants as error
 use Rattle.zb_capture.specs.Grammar.{captured}
-use Rattle.zb_capture.specs.Readings.{Reading, IsReadAlone, with_more}
+use Rattle.zb_capture.specs.Readings.{Reading, Lead, IsReadAlone, with_more}
 use Rattle.zb_capture.specs.declared.fault.CaptureError.{CaptureError}
 use Rattle.tc_cli.specs.declared.incoming.Incoming.{Incoming}
+use Rattle.tc_cli.specs.declared.incoming.Taken.{Taken}
 use Rattle.tc_cli.specs.declared.input.InputFault.{InputFault}
 use Rattle.tc_cli.specs.declared.input.InputFault.TheVariants as input
 use Rattle.tc_cli.specs.declared.capture.CaptureFault.{CaptureFault}
@@ -42,13 +43,13 @@ pub record IsFilled (result : Result Bool InputFault) (old new : Option (List �
   pub read : result ≡ Err input.Read → Rose faults faults_after
   pub too_long : result ≡ Err input.TooLong → IsPastAll old new before.count
 
--- All that an input still had came behind other bytes, and the lines of all these were read by themselves.
-pub record IsTaken (result : Result (Result Reading (OrMemory CaptureError)) InputFault) (old new : Option (List ℕ)) (before after : Incoming) (faults faults_after : ℕ) : Type 0 where
-  pub grown : OnOk result (Grows old new before.part.items after.part.items)
-  pub count : OnOk result (after.count + length before.part.items ≡ before.count + length after.part.items)
-  pub within : OnOk result (after.count ≤ 16777216)
-  pub end : OnOk result (IsAtEnd new)
-  pub alone : IfOk result (λ alone. IsReadAlone alone after.part.items)
+-- Bytes came behind others, what stands behind the whole lines of all these was split off, and these lines were read by themselves.
+pub record IsTaken (result : Result Taken InputFault) (old new : Option (List ℕ)) (before after : Incoming) (faults faults_after : ℕ) : Type 0 where
+  pub grown : IfOk result (λ taken. Grows old new before.part.items (after.part.items ++ taken.rest.part.items))
+  pub count : IfOk result (λ taken. taken.rest.count + length before.part.items ≡ before.count + length (after.part.items ++ taken.rest.part.items))
+  pub within : IfOk result (λ taken. taken.rest.count ≤ 16777216)
+  pub cut : IfOk result (λ taken. (more : List ℕ) → lines ((after.part.items ++ taken.rest.part.items) ++ more) ≡ lines after.part.items ++ lines (taken.rest.part.items ++ more))
+  pub alone : IfOk result (λ taken. IsReadAlone taken.alone after.part.items)
   pub later : faults ≤ faults_after
   pub read : result ≡ Err input.Read → Rose faults faults_after
   pub too_long : result ≡ Err input.TooLong → IsPastAll old new before.count
@@ -58,6 +59,28 @@ abbrev pub AreLinesRead : Result (Unit {0}) (OrMemory CaptureError) → Reading 
 AreLinesRead (Ok done) old new before after = (more : List ℕ) → with_more old (lines (before ++ more)) ≡ with_more new (lines (after ++ more))
 AreLinesRead (Err (error.Fault fault)) old new before after = (more : List ℕ) → with_more old (lines (before ++ more)) ≡ Err fault
 AreLinesRead (Err error.NoMemory) old new before after = Unit {0}
+
+-- Lines were read behind those before them, or have a fault; it says nothing where memory is wanting.
+abbrev pub AreLines : Result (Unit {0}) (OrMemory CaptureError) → Reading → Reading → List (List ℕ) → Type 0
+AreLines (Ok done) old new more = Lead old more new
+AreLines (Err (error.Fault fault)) old new more = with_more old more ≡ Err fault
+AreLines (Err error.NoMemory) old new more = Unit {0}
+
+-- Bytes came behind others, lines of all these were read, and what is left may go on.
+pub record IsRead (read : Result (Unit {0}) (OrMemory CaptureError)) (old new : Option (List ℕ)) (before after : Incoming) (reading next : Reading) : Type 0 where
+  pub all : List ℕ
+  pub grown : Grows old new before.part.items all
+  pub count : after.count + length before.part.items ≡ before.count + length all
+  pub within : after.count ≤ 16777216
+  pub lines : AreLinesRead read reading next all after.part.items
+  pub room : OnOk read (next.lines + length after.part.items ≤ reading.lines + length all)
+
+-- One round of reading, in which bytes came and lines were read.
+pub record IsRound (result : Result (Result (Unit {0}) (OrMemory CaptureError)) InputFault) (old new : Option (List ℕ)) (before after : Incoming) (reading next : Reading) (faults faults_after : ℕ) : Type 0 where
+  pub came : IfOk result (λ read. IsRead read old new before after reading next)
+  pub later : faults ≤ faults_after
+  pub read : result ≡ Err input.Read → Rose faults faults_after
+  pub too_long : result ≡ Err input.TooLong → IsPastAll old new before.count
 
 -- all that the source had came, and is no longer than an input may be
 abbrev pub IsAll : Option (List ℕ) → Option (List ℕ) → ℕ → Type 0

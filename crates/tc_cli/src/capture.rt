@@ -1,13 +1,14 @@
 //! Reading the capture that the input is, part after part, while it comes in.
-ghost use Rattle.std.specs.Prelude.{◌≡◌, ◌≤◌, length, IfOk, IfErr, IfSome, OnOk, Ok};
+ghost use Rattle.std.specs.Prelude.{◌≡◌, ◌≤◌, ◌+◌, ◌++◌, length, IfOk, IfErr, IfSome, OnOk, Ok};
+ghost use Rattle.std.specs.Str.Lines.{lines};
 ghost use Rattle.std.specs.Io.KnownBytes.{IsAtEnd};
 ghost use Rattle.zb_capture.specs.Grammar.{IsCapture, captured};
 ghost use Rattle.zb_capture.specs.Readings.{IsReadAlone};
-ghost use Rattle.tc_cli.specs.Inputs.{IsTaken, IsWhyNot};
+ghost use Rattle.tc_cli.specs.Inputs.{AreLines, IsRound, IsTaken, IsWhyNot};
 ghost use Rattle.tc_cli.specs.declared.capture.CaptureFault.TheVariants.{Input as of_input, Text as of_text};
 ghost use Rattle.tc_cli.specs.declared.input.InputFault.TheVariants.{NoMemory as lacks};
 
-use crate::incoming::Incoming;
+use crate::incoming::{Incoming, Taken};
 use crate::input::InputFault;
 use std::alloc::{AllocError, Global};
 use std::thread::{Threads, join_mut};
@@ -18,8 +19,11 @@ use zb_ring::IdleThread;
 /// How many bytes one job takes in before it reads their lines.
 const PART: usize = 1_048_576;
 
-/// How many bytes come in before several jobs begin.
-const FRONT: usize = 7_340_032;
+/// How many bytes come in for each job but one before several jobs begin a round.
+const FRONT: usize = 2_097_152;
+
+/// How many bytes one job takes in meanwhile. It reads their lines too, so they are fewer.
+const BACK: usize = 1_572_864;
 
 /// Why the input gives no capture.
 #[derive(Clone, Copy, Debug, PartialEq, Eq)]
@@ -106,8 +110,7 @@ fn read_by_one<R: Source>(alloc: Global, input: &mut R) -> Result<Capture, Captu
     Ok(reader.into_capture())
 }
 
-/// Reads the capture that the input is, by two jobs or more. While all but one of them read the lines of the first bytes,
-/// that one takes the other bytes in and reads their lines.
+/// Reads the capture that the input is, by two jobs or more, in rounds.
 fn read_by_several<T: Threads + Sync, R: Source>(
     rt: &T,
     alloc: Global,
@@ -120,21 +123,53 @@ fn read_by_several<T: Threads + Sync, R: Source>(
     ensures end { OnOk result (IsAtEnd (R.rest input.new)) }
     ensures fault { IfErr result (λ e. IsWhyNot e (R.rest input.old) (R.faults input.old) (R.faults input.new)) }
 {
+    let mut reader = CaptureReader::new(alloc);
     let mut front = Incoming::new(alloc);
-    if !front.fill(input, FRONT)? {
-        let mut reader = CaptureReader::new(alloc);
-        reader.read(rt, alloc, jobs, front.part.as_slice())?;
-        return Ok(reader.into_capture());
+    let mut back = Incoming::new(alloc);
+    'rounds: while front.fill(input, FRONT * (jobs as usize - 1))? {
+        match read_round(rt, alloc, jobs, input, &mut front, &mut back, &mut reader)? {
+            Ok(()) => {}
+            Err(fault) => return Err(front.refuse(input, fault)),
+        }
     }
-    let mut rest = front.split()?;
-    let (first, alone) = read_both(rt, alloc, jobs - 1, front.part.as_slice(), input, &mut rest);
-    let alone = alone?;
-    let mut reader = first?;
-    reader.add(alloc, rest.part.as_slice(), alone)?;
+    let idle = IdleThread::start(rt);
+    reader.read(rt, alloc, jobs, front.part.as_slice())?;
+    idle.end(rt);
     Ok(reader.into_capture())
 }
 
-/// Reads the lines of a text by so many jobs, and meanwhile takes in all that the input still has, and reads its lines by
+/// A round of two jobs or more: while all but one of them read the whole lines of what came, that one takes in what comes
+/// next and reads its whole lines. What stands behind these is left.
+fn read_round<T: Threads + Sync, R: Source>(
+    rt: &T,
+    alloc: Global,
+    jobs: u32,
+    input: &mut R,
+    front: &mut Incoming,
+    back: &mut Incoming,
+    reader: &mut CaptureReader,
+) -> Result<Result<(), OrMemory<CaptureError>>, InputFault>
+    requires jobs { 2 ≤ jobs }
+    requires count { front.old.count ≤ 16777216 }
+    requires room { reader.old.lines + length front.old.part.items ≤ front.old.count }
+    ensures { IsRound result (R.rest input.old) (R.rest input.new) front.old front.new reader.old reader.new (R.faults input.old) (R.faults input.new) }
+{
+    back.go_on_from(&front.split()?)?;
+    let (first, taken) = read_both(rt, alloc, jobs - 1, front.part.as_slice(), input, back);
+    let Taken { alone, rest } = taken?;
+    let read = add_both(
+        alloc,
+        reader,
+        front.part.as_slice(),
+        first,
+        back.part.as_slice(),
+        alone,
+    );
+    front.go_on_from(&rest)?;
+    Ok(read)
+}
+
+/// Reads the lines of a text by so many jobs, and meanwhile takes in what comes behind, and reads its whole lines by
 /// themselves.
 fn read_both<T: Threads + Sync, R: Source>(
     rt: &T,
@@ -142,16 +177,16 @@ fn read_both<T: Threads + Sync, R: Source>(
     jobs: u32,
     front: &[u8],
     input: &mut R,
-    rest: &mut Incoming,
+    back: &mut Incoming,
 ) -> (
     Result<CaptureReader, OrMemory<CaptureError>>,
-    Result<Result<CaptureReader, OrMemory<CaptureError>>, InputFault>,
+    Result<Taken, InputFault>,
 )
     requires jobs { 1 ≤ jobs }
     requires front { length front.now ≤ 16777216 }
-    requires rest { (rest.old.count ≤ 16777216) × (length rest.old.part.items ≤ rest.old.count) }
+    requires back { (back.old.count ≤ 16777216) × (length back.old.part.items ≤ back.old.count) }
     ensures first { IsReadAlone result.0 front.now }
-    ensures taken { IsTaken result.1 (R.rest input.old) (R.rest input.new) rest.old rest.new (R.faults input.old) (R.faults input.new) }
+    ensures taken { IsTaken result.1 (R.rest input.old) (R.rest input.new) back.old back.new (R.faults input.old) (R.faults input.new) }
 {
     let mut first = Err(OrMemory::NoMemory);
     let mut taken = Err(InputFault::NoMemory);
@@ -159,17 +194,17 @@ fn read_both<T: Threads + Sync, R: Source>(
         requires { (1 ≤ jobs) × (length front.now ≤ 16777216) }
         ensures { IsReadAlone first.exit front.entry.now }
     { first = read_first(rt, alloc, jobs, front) };
-    let mut takes_rest = ||
-        requires { (rest.now.count ≤ 16777216) × (length rest.now.part.items ≤ rest.now.count) }
-        ensures { IsTaken taken.exit (R.rest input.entry.now) (R.rest input.exit.now) rest.entry.now rest.exit.now (R.faults input.entry.now) (R.faults input.exit.now) }
-    { taken = rest.take_all(alloc, input) };
+    let mut takes_back = ||
+        requires { (back.now.count ≤ 16777216) × (length back.now.part.items ≤ back.now.count) }
+        ensures { IsTaken taken.exit (R.rest input.entry.now) (R.rest input.exit.now) back.entry.now back.exit.now (R.faults input.entry.now) (R.faults input.exit.now) }
+    { taken = back.take(alloc, input, BACK) };
     let idle = IdleThread::start(rt);
-    join_mut(rt, &mut reads_front, &mut takes_rest);
+    join_mut(rt, &mut reads_front, &mut takes_back);
     idle.end(rt);
     (first, taken)
 }
 
-/// What the lines of a text give.
+/// What the lines of a text give by themselves, read by so many jobs.
 fn read_first<T: Threads + Sync>(
     rt: &T,
     alloc: Global,
@@ -183,4 +218,24 @@ fn read_first<T: Threads + Sync>(
     let mut reader = CaptureReader::new(alloc);
     reader.read(rt, alloc, jobs, text)?;
     Ok(reader)
+}
+
+/// Takes the lines of two texts, behind those before, where it is known what each text gives by itself.
+fn add_both(
+    alloc: Global,
+    reader: &mut CaptureReader,
+    front: &[u8],
+    first: Result<CaptureReader, OrMemory<CaptureError>>,
+    back: &[u8],
+    second: Result<CaptureReader, OrMemory<CaptureError>>,
+) -> Result<(), OrMemory<CaptureError>>
+    requires room { reader.old.lines + length front.now + length back.now ≤ 16777216 }
+    requires first { IsReadAlone first front.now }
+    requires second { IsReadAlone second back.now }
+    ensures exact { AreLines result reader.old reader.new (lines front.now ++ lines back.now) }
+    ensures count { OnOk result (reader.new.lines ≤ reader.old.lines + length front.now + length back.now) }
+{
+    reader.add(alloc, front, first)?;
+    reader.add(alloc, back, second)?;
+    Ok(())
 }

@@ -3,8 +3,8 @@ ghost use Rattle.std.specs.Prelude.{◌≡◌};
 
 use crate::capture::CaptureFault;
 use crate::input::{InputFault, LONGEST, read_on};
-use std::alloc::Global;
-use zb_base::{NoMemory, OrMemory, Source};
+use std::alloc::{AllocError, Global};
+use zb_base::{OrMemory, Source};
 use zb_capture::{CaptureError, CaptureReader, whole_lines};
 
 /// The bytes that came of an input.
@@ -14,6 +14,15 @@ pub(crate) struct Incoming {
     pub count: usize,
     /// Those at the end of which the lines are still to be read.
     pub part: Vec<u8>,
+}
+
+/// What was taken in of an input.
+#[derive(Drop)]
+pub(crate) struct Taken {
+    /// What the whole lines give by themselves.
+    pub alone: Result<CaptureReader, OrMemory<CaptureError>>,
+    /// What stands behind them.
+    pub rest: Incoming,
 }
 
 impl Incoming {
@@ -68,33 +77,48 @@ impl Incoming {
         Ok(())
     }
 
-    /// Splits off what stands behind the whole lines, with room for all that may still come.
-    pub fn split(&mut self) -> Result<Incoming, NoMemory>
-        requires { self.old.count ≤ 16777216 }
+    /// Splits off what stands behind the whole lines, since it may go on.
+    pub fn split(&mut self) -> Result<Incoming, AllocError>
         ensures count { IfOk result (λ rest. rest.count ≡ self.old.count) }
         ensures parts { IfOk result (λ rest. self.old.part.items ≡ self.new.part.items ++ rest.part.items) }
         ensures lines { IfOk result (λ rest. (more : List ℕ) → lines (self.old.part.items ++ more) ≡ lines self.new.part.items ++ lines (rest.part.items ++ more)) }
     {
         let end = whole_lines(self.part.as_slice());
-        let mut part = self.part.split_off(end)?;
-        part.reserve(LONGEST as usize + 1 - self.count)?;
         Ok(Incoming {
             count: self.count,
-            part,
+            part: self.part.split_off(end)?,
         })
     }
 
-    /// Takes in all that the input still has, and reads the lines of what came by themselves.
-    pub fn take_all<R: Source>(
+    /// Takes what is left of others in place of what came here, so that the memory for it is used again.
+    pub fn go_on_from(&mut self, rest: &Incoming) -> Result<(), AllocError>
+        ensures count { OnOk result (self.new.count ≡ rest.now.count) }
+        ensures part { OnOk result (self.new.part.items ≡ rest.now.part.items) }
+    {
+        self.part.clear();
+        self.part.extend_from_slice(rest.part.as_slice())?;
+        self.count = rest.count;
+        Ok(())
+    }
+
+    /// Reads on as `fill` does, splits off what stands behind the whole lines, and reads these by themselves.
+    pub fn take<R: Source>(
         &mut self,
         alloc: Global,
         input: &mut R,
-    ) -> Result<Result<CaptureReader, OrMemory<CaptureError>>, InputFault>
-        requires { (self.old.count ≤ 16777216) × (length self.old.part.items ≤ self.old.count) }
+        size: usize,
+    ) -> Result<Taken, InputFault>
+        requires count { self.old.count ≤ 16777216 }
+        requires part { length self.old.part.items ≤ self.old.count }
+        requires size { 1 ≤ size }
         ensures { IsTaken result (R.rest input.old) (R.rest input.new) self.old self.new (R.faults input.old) (R.faults input.new) }
     {
-        self.fill(input, LONGEST as usize + 1)?;
-        Ok(CaptureReader::alone(alloc, self.part.as_slice()))
+        self.fill(input, size)?;
+        let rest = self.split()?;
+        Ok(Taken {
+            alone: CaptureReader::alone(alloc, self.part.as_slice()),
+            rest,
+        })
     }
 
     /// Why the input is no capture, of which lines have a fault: nothing is said of them before the input is at its end.
