@@ -331,6 +331,47 @@ fn an_input_of_line_feeds_is_too_long_past_the_longest(rt: HostRuntime) -> Resul
     Ok(())
 }
 
+/// A capture file without check sequences: a packet whose payload is the first of the frames above.
+const CAPTURE_FILE: [u8; 85] =
+    *b"\xD4\xC3\xB2\xA1\x02\x00\x04\x00\x00\x00\x00\x00\x00\x00\x00\x00\x00\x00\x00\x00\xE6\x00\x00\x00\x00\x00\x00\x00\x00\x00\x00\x00\x2D\x00\x00\x00\x2D\x00\x00\x00\x41\x88\x01\x62\x1A\x2B\x1A\x00\x00\x08\x02\x2B\x1A\x00\x00\x1E\x00\x28\x00\x00\x00\x00\x01\x00\x00\x00\x00\x4B\x12\x00\x00\x63\xDD\x60\x3D\x81\x98\x63\x1D\x3B\x76\x5B\x34\xBA\x85";
+
+const KEY: &str = "000102030405060708090A0B0C0D0E0F";
+
+#[test]
+fn the_frames_of_a_capture_file_are_opened(rt: HostRuntime) -> Result<(), Fail> {
+    // The same packet where the last two bytes of each are its check sequence.
+    let mut checked = CAPTURE_FILE;
+    checked[20] = 195;
+    let opened = b"1 nwk key 1 00124B0000000001 0 00010000040101000102
+1 aps not-secured
+key 1 000102030405060708090A0B0C0D0E0F given
+end 1 1 1
+packets 1 0 0
+";
+    let passed_over = b"key 1 000102030405060708090A0B0C0D0E0F given
+end 0 1 1
+packets 1 1 0
+";
+    for jobs in ["1", "4"] {
+        let ran = over(&rt, &["sniff", jobs, KEY], &CAPTURE_FILE, &[], &[])?;
+        let other = over(&rt, &["sniff", jobs, KEY], &checked, &[], &[])?;
+        assert!(rt;
+            ran.sink.taken() == opened.as_slice() && other.sink.taken() == passed_over.as_slice()
+        );
+    }
+    Ok(())
+}
+
+#[test]
+fn a_capture_file_is_refused_at_its_first_fault(rt: HostRuntime) -> Result<(), Fail> {
+    let short = over(&rt, &["sniff", "1", KEY], &CAPTURE_FILE[..23], &[], &[])?;
+    assert_eq!(rt; short.status.text().as_str(), "refused 0 magic");
+    let cut = over(&rt, &["sniff", "1", KEY], &CAPTURE_FILE[..84], &[], &[])?;
+    assert_eq!(rt; cut.status.text().as_str(), "refused 1 cut");
+    assert_eq!(rt; cut.sink.taken().len(), 0);
+    Ok(())
+}
+
 /// A frame behind its key, more bytes than come in before several jobs begin, and the frame again.
 fn long_capture<H: AllocGlobal>(rt: &H, byte: u8, last: &[u8]) -> Result<Vec<u8>, Fail> {
     let mut text = Vec::from_slice(

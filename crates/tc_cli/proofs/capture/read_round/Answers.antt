@@ -19,7 +19,7 @@ returns g c =
     let left = c.in_ok-alone.field-0.rest.part.items in
     let second = c.as_slice-3.result.now in
     let T : Result Taken InputFault → Type 0 = λ r. IsTaken r mid new c.go_on_from.new.self c.read_both-first.new.back (g.R.Source.faults c.args.input.now)
-        (g.R.Source.faults c.read_both-first.new.input) in
+    (g.R.Source.faults c.read_both-first.new.input) in
     let taken = subst T c.in_ok-alone.was c.read_both-first.ensures.taken in
     let G : List ℕ → Type 0 = λ zs. Grows mid new zs (back ++ left) in
     let F : List ℕ → Type 0 = λ zs. AreLines read reading next (lines zs ++ lines second) in
