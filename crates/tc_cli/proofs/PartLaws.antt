@@ -1,5 +1,5 @@
 -- A capture of which the text comes in parts.
-use Rattle.std.proofs.Common.{◌≡◌, ℕ, ◌+◌, ◌<◌, ◌≤◌, List, [], ◌++◌, length, refl, ap, sym, ◌∙◌, subst, arith, append_assoc, append-nil, length-append, Option, Some, None, Result, Ok, Err, IfErr, IfSome, OnOk}
+use Rattle.std.proofs.Common.{◌≡◌, ℕ, ◌+◌, ◌-◌, ◌<◌, ◌≤◌, List, [], ◌++◌, length, refl, ap, sym, ◌∙◌, subst, arith, append_assoc, append-nil, length-append, Option, Some, None, Result, Ok, Err, IfErr, IfSome, OnOk}
 use Rattle.std.specs.Io.KnownBytes.{Consumes, IsAtEnd}
 use Rattle.std.specs.Result.{IsErrAnd}
 use Rattle.std.specs.Str.Lines.{lines}
@@ -11,7 +11,7 @@ use Rattle.zb_capture.specs.Readings.{Reading, Lead, AreRead, no_lines, with_mor
 use Rattle.zb_capture.specs.declared.capture.Capture.{Capture}
 use Rattle.zb_capture.proofs.LineLaws.{lead_then, bad_then}
 use Rattle.zb_capture.specs.declared.fault.CaptureError.{CaptureError}
-use Rattle.tc_cli.specs.Inputs.{AreLines, AreLinesRead, Grows, IsAll, IsJudged, IsPastAll, IsRead, IsWhyNot, fault_of}
+use Rattle.tc_cli.specs.Inputs.{AreLines, AreLinesRead, Grows, IsAll, IsJudged, IsPastAll, IsRead, IsWhyNot, TakesAtMost, fault_of}
 use Rattle.tc_cli.specs.declared.incoming.Incoming.{Incoming}
 use Rattle.tc_cli.specs.declared.capture.CaptureFault.{CaptureFault}
 use Rattle.tc_cli.specs.declared.capture.CaptureFault.TheVariants as fault
@@ -29,6 +29,31 @@ taken_both (Some xs) (Some ys) (Some zs) first more one two =
 nothing_taken : (old : Option (List ℕ)) → Consumes old old []
 nothing_taken None = tt
 nothing_taken (Some xs) = refl
+
+-- no more than so many bytes were taken
+pub takes_none : (old : Option (List ℕ)) (most : ℕ) → TakesAtMost old old most
+takes_none old most = ([], nothing_taken old, omega arith)
+
+pub takes_less : (old new : Option (List ℕ)) (few most : ℕ) → TakesAtMost old new few → few ≤ most → TakesAtMost old new most
+takes_less old new few most takes less = (takes.0, takes.1, omega (arith, takes.2, less))
+
+pub takes_then : (old mid new : Option (List ℕ)) (first more most : ℕ) → TakesAtMost old mid first → TakesAtMost mid new more → first + more ≤ most
+    → TakesAtMost old new most
+takes_then old mid new first more most one two room =
+    (one.0 ++ two.0, taken_both old mid new one.0 two.0 one.1 two.1, omega (arith, length-append one.0 two.0, one.2, two.2, room))
+
+pub takes_grown : (old new : Option (List ℕ)) (before after : List ℕ) (most : ℕ) → Grows old new before after → length after ≤ most
+    → TakesAtMost old new (most - length before)
+takes_grown old new before after most grown within =
+    (grown.0, grown.1, omega (arith, ap (length {A = ℕ}) grown.2, length-append before grown.0, within))
+
+pub takes_more : (old mid new : Option (List ℕ)) (before now more : List ℕ) (most : ℕ) → Grows old mid before now → Consumes mid new more
+    → length now + length more ≤ most → TakesAtMost old new (most - length before)
+takes_more old mid new before now more most grown next within = (
+  grown.0 ++ more,
+  taken_both old mid new grown.0 more grown.1 next,
+  omega (arith, ap (length {A = ℕ}) grown.2, length-append before grown.0, length-append grown.0 more, within),
+)
 
 -- So many bytes came of an input. Its lines up to `part` were read, and what comes behind gives the rest.
 pub record IsComing (old now : Option (List ℕ)) (reading : Reading) (part : List ℕ) (all : ℕ) : Type 0 where
@@ -65,6 +90,16 @@ more_came old mid new reading part after count later is grown sum =
           ∙ ap (λ zs. with_more reading (lines zs)) (sym (append_assoc part more rest) ∙ ap (λ zs. zs ++ rest) (sym grown.2));
       room = omega (arith, is.room, sum, len);
     }
+
+-- no more was taken than may be
+pub takes_came : (old now : Option (List ℕ)) (reading : Reading) (part : List ℕ) (count : ℕ) → IsComing old now reading part count → count ≤ 16777216
+    → TakesAtMost old now 16777217
+takes_came old now reading part count is within = (is.taken, is.from, omega (arith, is.count, within))
+
+pub takes_on : (old mid new : Option (List ℕ)) (reading : Reading) (part : List ℕ) (count : ℕ) → IsComing old mid reading part count → count ≤ 16777216
+    → TakesAtMost mid new (16777217 - count) → TakesAtMost old new 16777217
+takes_on old mid new reading part count is within next =
+    takes_then old mid new count (16777217 - count) 16777217 (is.taken, is.from, omega (arith, is.count)) next (omega (arith, within))
 
 -- lines were read
 pub lines_came : (old now : Option (List ℕ)) (reading next : Reading) (part after : List ℕ) (count : ℕ) → IsComing old now reading part count

@@ -19,6 +19,10 @@ use Rattle.tc_cli.specs.declared.capture.CaptureFault.TheVariants as fault
 abbrev pub Grows : Option (List ℕ) → Option (List ℕ) → List ℕ → List ℕ → Type 0
 Grows old new before after = (taken : List ℕ) × Consumes old new taken × (after ≡ before ++ taken)
 
+-- at most so many bytes were taken from a source
+abbrev pub TakesAtMost : Option (List ℕ) → Option (List ℕ) → ℕ → Type 0
+TakesAtMost old new most = (taken : List ℕ) × Consumes old new taken × (length taken ≤ most)
+
 -- Bytes that were read on, and how that ended: at Ok there are as many as may be, or the source has no more.
 pub record IsReadOn (result : Result (Unit {0}) InputFault) (old new : Option (List ℕ)) (before after : List ℕ) (most faults faults_after : ℕ) : Type 0 where
   pub grown : OnOk result (Grows old new before after)
@@ -50,6 +54,7 @@ pub record IsTaken (result : Result Taken InputFault) (old new : Option (List �
   pub within : IfOk result (λ taken. taken.rest.count ≤ 16777216)
   pub cut : IfOk result (λ taken. (more : List ℕ) → lines ((after.part.items ++ taken.rest.part.items) ++ more) ≡ lines after.part.items ++ lines (taken.rest.part.items ++ more))
   pub alone : IfOk result (λ taken. IsReadAlone taken.alone after.part.items)
+  pub few : TakesAtMost old new (16777217 - before.count)
   pub later : faults ≤ faults_after
   pub read : result ≡ Err input.Read → Rose faults faults_after
   pub too_long : result ≡ Err input.TooLong → IsPastAll old new before.count
@@ -78,6 +83,7 @@ pub record IsRead (read : Result (Unit {0}) (OrMemory CaptureError)) (old new : 
 -- One round of reading, in which bytes came and lines were read.
 pub record IsRound (result : Result (Result (Unit {0}) (OrMemory CaptureError)) InputFault) (old new : Option (List ℕ)) (before after : Incoming) (reading next : Reading) (faults faults_after : ℕ) : Type 0 where
   pub came : IfOk result (λ read. IsRead read old new before after reading next)
+  pub few : TakesAtMost old new (16777217 - before.count)
   pub later : faults ≤ faults_after
   pub read : result ≡ Err input.Read → Rose faults faults_after
   pub too_long : result ≡ Err input.TooLong → IsPastAll old new before.count

@@ -4,7 +4,7 @@ ghost use Rattle.std.specs.Str.Lines.{lines};
 ghost use Rattle.std.specs.Io.KnownBytes.{IsAtEnd};
 ghost use Rattle.zb_capture.specs.Grammar.{IsCapture, captured};
 ghost use Rattle.zb_capture.specs.Readings.{IsReadAlone};
-ghost use Rattle.tc_cli.specs.Inputs.{AreLines, IsRound, IsTaken, IsWhyNot};
+ghost use Rattle.tc_cli.specs.Inputs.{AreLines, IsRound, IsTaken, IsWhyNot, TakesAtMost};
 ghost use Rattle.tc_cli.specs.declared.capture.CaptureFault.TheVariants.{Input as of_input, Text as of_text};
 ghost use Rattle.tc_cli.specs.declared.input.InputFault.TheVariants.{NoMemory as lacks};
 
@@ -82,6 +82,7 @@ pub(crate) fn read_capture_on<T: Threads + Sync, R: Source>(
     ensures exact { IfOk result (λ c. IfSome (R.rest input.old) (λ rest. (length rest ≤ 16777216) × (captured rest ≡ Ok c))) }
     ensures valid { IfOk result (λ c. IsCapture c) }
     ensures end { OnOk result (IsAtEnd (R.rest input.new)) }
+    ensures few { TakesAtMost (R.rest input.old) (R.rest input.new) 16777217 }
     ensures fault { IfErr result (λ e. IsWhyNot e (R.rest input.old) (R.faults input.old) (R.faults input.new)) }
 {
     if jobs == 1 {
@@ -96,6 +97,7 @@ fn read_by_one<R: Source>(alloc: Global, input: &mut R) -> Result<Capture, Captu
     ensures exact { IfOk result (λ c. IfSome (R.rest input.old) (λ rest. (length rest ≤ 16777216) × (captured rest ≡ Ok c))) }
     ensures valid { IfOk result (λ c. IsCapture c) }
     ensures end { OnOk result (IsAtEnd (R.rest input.new)) }
+    ensures few { TakesAtMost (R.rest input.old) (R.rest input.new) 16777217 }
     ensures fault { IfErr result (λ e. IsWhyNot e (R.rest input.old) (R.faults input.old) (R.faults input.new)) }
 {
     let mut reader = CaptureReader::new(alloc);
@@ -121,6 +123,7 @@ fn read_by_several<T: Threads + Sync, R: Source>(
     ensures exact { IfOk result (λ c. IfSome (R.rest input.old) (λ rest. (length rest ≤ 16777216) × (captured rest ≡ Ok c))) }
     ensures valid { IfOk result (λ c. IsCapture c) }
     ensures end { OnOk result (IsAtEnd (R.rest input.new)) }
+    ensures few { TakesAtMost (R.rest input.old) (R.rest input.new) 16777217 }
     ensures fault { IfErr result (λ e. IsWhyNot e (R.rest input.old) (R.faults input.old) (R.faults input.new)) }
 {
     let mut reader = CaptureReader::new(alloc);

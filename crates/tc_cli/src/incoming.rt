@@ -26,9 +26,9 @@ pub(crate) struct Taken {
 }
 
 impl Incoming {
-    ghost use Rattle.std.specs.Prelude.{◌≡◌, ℕ, ◌+◌, ◌≤◌, ◌++◌, List, [], length, IfOk, OnOk};
+    ghost use Rattle.std.specs.Prelude.{◌≡◌, ℕ, ◌+◌, ◌-◌, ◌≤◌, ◌++◌, List, [], length, IfOk, OnOk};
     ghost use Rattle.std.specs.Str.Lines.{lines};
-    ghost use Rattle.tc_cli.specs.Inputs.{AreLinesRead, IsFilled, IsJudged, IsTaken};
+    ghost use Rattle.tc_cli.specs.Inputs.{AreLinesRead, IsFilled, IsJudged, IsTaken, TakesAtMost};
 
     /// Nothing came yet.
     pub fn new(alloc: Global) -> Incoming
@@ -44,7 +44,8 @@ impl Incoming {
     pub fn fill<R: Source>(&mut self, input: &mut R, size: usize) -> Result<bool, InputFault>
         requires count { self.old.count ≤ 16777216 }
         requires size { 1 ≤ size }
-        ensures { IsFilled result (R.rest input.old) (R.rest input.new) self.old self.new size (R.faults input.old) (R.faults input.new) }
+        ensures filled { IsFilled result (R.rest input.old) (R.rest input.new) self.old self.new size (R.faults input.old) (R.faults input.new) }
+        ensures few { TakesAtMost (R.rest input.old) (R.rest input.new) (16777217 - self.old.count) }
     {
         let before = self.part.len();
         let most = before + size.min(LONGEST as usize + 1 - self.count);
@@ -128,7 +129,8 @@ impl Incoming {
         fault: OrMemory<CaptureError>,
     ) -> CaptureFault
         requires { self.old.count ≤ 16777216 }
-        ensures { IsJudged result fault (R.rest input.old) (R.rest input.new) self.old.count (R.faults input.old) (R.faults input.new) }
+        ensures judged { IsJudged result fault (R.rest input.old) (R.rest input.new) self.old.count (R.faults input.old) (R.faults input.new) }
+        ensures few { TakesAtMost (R.rest input.old) (R.rest input.new) (16777217 - self.old.count) }
     {
         let OrMemory::Fault(fault) = fault else {
             return CaptureFault::Input(InputFault::NoMemory);

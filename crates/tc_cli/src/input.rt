@@ -1,8 +1,8 @@
 //! Reading the whole input.
-ghost use Rattle.std.specs.Prelude.{◌≡◌, ◌<◌, ◌≤◌, IfOk, OnOk, OnErr, Err, IfSome, length, vec_len};
+ghost use Rattle.std.specs.Prelude.{◌≡◌, ◌-◌, ◌<◌, ◌≤◌, IfOk, OnOk, OnErr, Err, IfSome, length, vec_len};
 ghost use Rattle.std.specs.Io.KnownBytes.{IsAtEnd};
 ghost use Rattle.zb_base.specs.Outside.{Rose};
-ghost use Rattle.tc_cli.specs.Inputs.{IsReadOn};
+ghost use Rattle.tc_cli.specs.Inputs.{IsReadOn, TakesAtMost};
 ghost use Rattle.tc_cli.specs.declared.input.InputFault.TheVariants.{NoMemory as lacks};
 
 use std::alloc::{AllocError, Global};
@@ -37,7 +37,8 @@ pub(crate) fn read_on<R: Source>(
     most: usize,
 ) -> Result<(), InputFault>
     requires { vec_len bytes.old ≤ most }
-    ensures { IsReadOn result (R.rest input.old) (R.rest input.new) bytes.old.items bytes.new.items most (R.faults input.old) (R.faults input.new) }
+    ensures read { IsReadOn result (R.rest input.old) (R.rest input.new) bytes.old.items bytes.new.items most (R.faults input.old) (R.faults input.new) }
+    ensures few { TakesAtMost (R.rest input.old) (R.rest input.new) (most - length bytes.old.items) }
 {
     let mut buffer = [0; 16_384];
     while bytes.len() < most {
@@ -56,6 +57,7 @@ pub(crate) fn read_input<R: Source>(alloc: Global, input: &mut R) -> Result<Vec<
     ensures whole { IfOk result (λ bytes. IfSome (R.rest input.old) (λ rest. bytes.items ≡ rest)) }
     ensures end { OnOk result (IsAtEnd (R.rest input.new)) }
     ensures short { IfOk result (λ bytes. vec_len bytes ≤ 16777216) }
+    ensures few { TakesAtMost (R.rest input.old) (R.rest input.new) 16777217 }
     ensures later { R.faults input.old ≤ R.faults input.new }
     ensures read { result ≡ Err InputFault.Read → Rose (R.faults input.old) (R.faults input.new) }
     ensures too_long { result ≡ Err InputFault.TooLong → IfSome (R.rest input.old) (λ rest. 16777216 < length rest) }

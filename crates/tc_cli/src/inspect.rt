@@ -6,6 +6,7 @@ ghost use Rattle.zb_capture.specs.Grammar.{IsCapture};
 ghost use Rattle.zb_inspect.specs.Report.{report_of};
 ghost use Rattle.tc_cli.specs.Answers.{wanted, Writes};
 ghost use Rattle.tc_cli.specs.Commands.{Inspecting};
+ghost use Rattle.tc_cli.specs.Inputs.{TakesAtMost};
 ghost use Rattle.tc_cli.specs.Outcomes.{Ends};
 
 use crate::capture::{CaptureFault, read_capture_on};
@@ -29,6 +30,7 @@ pub(crate) fn inspect_input<T: Threads + Sync, R: Source, W: Sink>(
     requires { 1 ≤ jobs }
     ensures ends { Ends result (wanted (Inspecting jobs) (R.rest input.old)) (W.taken output.old) (W.taken output.new) (W.faults output.old) (W.faults output.new) }
     ensures end { result ≡ Status.Ok → IsAtEnd (R.rest input.new) }
+    ensures few { TakesAtMost (R.rest input.old) (R.rest input.new) 16777217 }
     ensures read_fault { result ≡ Status.ReadFault → Rose (R.faults input.old) (R.faults input.new) }
 {
     match read_capture_on(rt, alloc, jobs, input) {

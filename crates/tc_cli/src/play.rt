@@ -8,6 +8,7 @@ ghost use Rattle.zb_player.specs.Views.{plan_of, IsPlayable};
 ghost use Rattle.zb_player.specs.Wire.{wire};
 ghost use Rattle.tc_cli.specs.Answers.{wanted, Writes};
 ghost use Rattle.tc_cli.specs.Commands.{Playing};
+ghost use Rattle.tc_cli.specs.Inputs.{TakesAtMost};
 ghost use Rattle.tc_cli.specs.Outcomes.{Ends, Played};
 
 use crate::input::{InputFault, LONGEST, read_input};
@@ -21,6 +22,7 @@ use zb_reader::read;
 pub(crate) fn play_input<R: Source, W: Sink>(alloc: Global, input: &mut R, output: &mut W) -> Status
     ensures ends { Ends result (wanted Playing (R.rest input.old)) (W.taken output.old) (W.taken output.new) (W.faults output.old) (W.faults output.new) }
     ensures end { result ≡ Status.Ok → IsAtEnd (R.rest input.new) }
+    ensures few { TakesAtMost (R.rest input.old) (R.rest input.new) 16777217 }
     ensures played { result ≡ Status.Ok → IfSome (R.rest input.old) (λ bytes. Played bytes (W.taken output.old) (W.taken output.new)) }
     ensures read_fault { result ≡ Status.ReadFault → Rose (R.faults input.old) (R.faults input.new) }
 {

@@ -4,6 +4,7 @@ ghost use Rattle.std.specs.Io.KnownBytes.{IsAtEnd};
 ghost use Rattle.zb_base.specs.Outside.{Rose};
 ghost use Rattle.tc_cli.specs.Answers.{Answer, Refuses, Exceeds, longest, status_of, wanted};
 ghost use Rattle.tc_cli.specs.Commands.{Task, Playing, Making, task_of};
+ghost use Rattle.tc_cli.specs.Inputs.{TakesAtMost};
 ghost use Rattle.tc_cli.specs.Outcomes.{Ends, IsWritten, Made, Played, ReadsToEnd, WritesFront, WritesNothing};
 ghost use Rattle.tc_cli.specs.Words.{task, Fits};
 ghost use Rattle.tc_cli.specs.declared.status.Cause.{Cause};
@@ -34,6 +35,8 @@ pub(crate) fn run<T: Threads + Sync, R: Source, W: Sink>(
     ensures done { (job : Task) → task_of (map string_bytes words.now) ≡ Some job → result ≡ Status.Ok
         → IfSome (wanted job (R.rest input.old)) (λ answer. IsWritten answer (W.taken output.old) (W.taken output.new)) }
     ensures end { (job : Task) → task_of (map string_bytes words.now) ≡ Some job → result ≡ Status.Ok → ReadsToEnd job (R.rest input.new) }
+    // It takes no more of the input than one byte past the longest.
+    ensures few { TakesAtMost (R.rest input.old) (R.rest input.new) 16777217 }
     // What `play` wrote is a lawful run of the schedule that its input is.
     ensures played { task_of (map string_bytes words.now) ≡ Some Playing → result ≡ Status.Ok
         → IfSome (R.rest input.old) (λ bytes. Played bytes (W.taken output.old) (W.taken output.new)) }
@@ -73,6 +76,7 @@ fn carry_out<T: Threads + Sync, R: Source, W: Sink>(
     requires { Fits command }
     ensures ends { Ends result (wanted (task command.entry) (R.rest input.old)) (W.taken output.old) (W.taken output.new) (W.faults output.old) (W.faults output.new) }
     ensures end { result ≡ Status.Ok → ReadsToEnd (task command.entry) (R.rest input.new) }
+    ensures few { TakesAtMost (R.rest input.old) (R.rest input.new) 16777217 }
     ensures played { task command.entry ≡ Playing → result ≡ Status.Ok
         → IfSome (R.rest input.old) (λ bytes. Played bytes (W.taken output.old) (W.taken output.new)) }
     ensures made { (count : ℕ) → task command.entry ≡ Making count → result ≡ Status.Ok

@@ -8,6 +8,7 @@ ghost use Rattle.tc_cli.specs.Answers.{wanted, sniff_output, Writes};
 ghost use Rattle.tc_cli.specs.CountsLine.{counts_line};
 ghost use Rattle.tc_cli.specs.Commands.{Sniffing};
 ghost use Rattle.tc_cli.specs.KeyWords.{keys_in};
+ghost use Rattle.tc_cli.specs.Inputs.{TakesAtMost};
 ghost use Rattle.tc_cli.specs.Outcomes.{Ends};
 
 use crate::input::{InputFault, LONGEST, read_input};
@@ -35,6 +36,7 @@ pub(crate) fn sniff_input<T: Threads + Sync, R: Source, W: Sink>(
     requires words { length words.now ≤ 256 }
     ensures ends { Ends result (wanted (Sniffing jobs (keys_in (map string_bytes words.now))) (R.rest input.old)) (W.taken output.old) (W.taken output.new) (W.faults output.old) (W.faults output.new) }
     ensures end { result ≡ Status.Ok → IsAtEnd (R.rest input.new) }
+    ensures few { TakesAtMost (R.rest input.old) (R.rest input.new) 16777217 }
     ensures read_fault { result ≡ Status.ReadFault → Rose (R.faults input.old) (R.faults input.new) }
 {
     let bytes = match read_input(alloc, input) {

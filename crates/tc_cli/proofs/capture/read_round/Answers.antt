@@ -1,6 +1,6 @@
-use Rattle.std.proofs.Common.{◌≡◌, ◌≤◌, ◌+◌, ◌++◌, ℕ, List, Ok, Result, OnOk, length, ap, subst, arith}
+use Rattle.std.proofs.Common.{◌≤◌, ◌+◌, ◌-◌, ◌∙◌, ◌++◌, ℕ, List, Result, OnOk, length, ap, subst, arith}
 use Rattle.std.specs.Str.Lines.{lines}
-use Rattle.tc_cli.specs.Inputs.{AreLines, Grows, IsTaken}
+use Rattle.tc_cli.specs.Inputs.{AreLines, Grows, IsTaken, TakesAtMost}
 use Rattle.tc_cli.specs.declared.incoming.Taken.{Taken}
 use Rattle.tc_cli.specs.declared.input.InputFault.{InputFault}
 use Rattle.tc_cli.proofs.PartLaws.{round_read}
@@ -26,6 +26,7 @@ returns g c =
     let S : List ℕ → Type 0 = λ zs. AreLines read reading next (lines first ++ lines zs) in
     let N : List ℕ → Type 0 = λ zs. OnOk read (next.lines ≤ reading.lines + length zs + length second) in
     let M : List ℕ → Type 0 = λ zs. OnOk read (next.lines ≤ reading.lines + length first + length zs) in
+    let K : ℕ → Type 0 = λ n. TakesAtMost mid new (16777217 - n) in
     record {
       came = round_read read mid new c.args.front.now c.go_on_from-2.new.self reading next first rest back left c.in_ok-split.ensures.parts
           c.in_ok-split.ensures.lines (subst G c.in_ok-go_on_from.ensures.part taken.grown) taken.cut
@@ -34,6 +35,7 @@ returns g c =
           c.in_ok-go_on_from-2.ensures.part
           (omega (arith, c.in_ok-go_on_from-2.ensures.count, taken.count, c.in_ok-go_on_from.ensures.count, c.in_ok-split.ensures.count, ap (length {A = ℕ}) c.in_ok-go_on_from.ensures.part))
           (omega (arith, c.in_ok-go_on_from-2.ensures.count, taken.within));
+      few = subst K (c.in_ok-go_on_from.ensures.count ∙ c.in_ok-split.ensures.count) taken.few;
       later = taken.later;
       read = λ is. absurd (cc is);
       too_long = λ is. absurd (cc is);

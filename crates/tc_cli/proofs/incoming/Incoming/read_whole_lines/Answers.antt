@@ -1,4 +1,4 @@
-use Rattle.std.proofs.Common.{◌≡◌, ◌++◌, ◌∙◌, ℕ, List, take, drop, sym, ap, subst}
+use Rattle.std.proofs.Common.{◌≡◌, ◌++◌, ◌∙◌, ℕ, List, take, drop, ap, subst}
 use Rattle.std.specs.Str.Lines.{lines}
 use Rattle.tc_cli.proofs.PartLaws.{part_read, part_not_read}
 use Rattle.tc_cli.proofs.incoming.Incoming.read_whole_lines.Goals as goal
