@@ -1,5 +1,6 @@
 -- A settled frame shows the same under further keys.
 use Rattle.std.proofs.Common.{◌≡◌, ℕ, ◌≤◌, ◌&&◌, not, List, Option, Some, None, length, take, drop, refl, ap, sym, ◌∙◌, Bool, true, false}
+use Rattle.std.specs.Bool.{OnTrue}
 use Rattle.std.specs.Option.{option_map}
 use Rattle.arrayvec.specs.ArrayVec.{ArrayVec}
 use Rattle.zb_aps.specs.Reading as aps_reading
@@ -8,7 +9,7 @@ use Rattle.zb_base.specs.declared.address.Short.{Short}
 use Rattle.zb_base.specs.declared.key.Key.{Key}
 use Rattle.zb_nwk.specs.Reading as nwk_reading
 use Rattle.zb_sight.specs.Layers.{tried, is_closed, found_nwk, found_aps}
-use Rattle.zb_sight.specs.Settling.{inner_settled, below_settled, is_settled}
+use Rattle.zb_sight.specs.Settling.{inner_settled, below_settled, is_settled, ShowsNoMore}
 use Rattle.zb_sight.specs.Sights.{payload_in, given_in, tunnelled, below, sight_of, sight}
 use Rattle.zb_sight.specs.declared.layer.Finding.{Finding}
 use Rattle.zb_sight.specs.declared.layer.Finding.TheVariants.{Malformed, NotSecured, NoSource, Closed, Opened}
@@ -88,3 +89,8 @@ settled_same known addrs keys bytes within e =
     ap (λ n. sight_of addrs keys n r) nwk ∙ sight_parts addrs keys (found_nwk first bytes) r
     ∙ ap (whole (found_nwk first bytes)) (under_same known keys given (payload_in (found_nwk first bytes) r) within parts.1)
     ∙ sym old
+
+pub shows_no_more : (b : Bool) (seen : Sight) → (b ≡ true → is_settled seen ≡ true) → OnTrue b (ShowsNoMore seen)
+shows_no_more false seen settled = tt
+shows_no_more true seen settled =
+    λ known addrs keys bytes within is. settled_same known addrs keys bytes within (ap is_settled (sym is) ∙ settled refl) ∙ sym is

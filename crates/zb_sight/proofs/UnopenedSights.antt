@@ -1,5 +1,6 @@
 -- A frame that no key opened shows the same under no keys, and its line says no more than that.
 use Rattle.std.proofs.Common.{◌≡◌, ℕ, suc, ◌+◌, ◌-◌, ◌<◌, ◌≤◌, ◌++◌, append-nil, append_assoc, ◌&&◌, not, is_some, List, [], ◌∷◌, Option, Some, None, length, refl, ap, sym, ◌∙◌, arith, Bool, true, false}
+use Rattle.std.specs.Bool.{OnTrue}
 use Rattle.std.specs.List.{list_all}
 use Rattle.zb_base.specs.declared.address.Eui.{Eui}
 use Rattle.zb_base.specs.declared.address.Short.{Short}
@@ -10,7 +11,7 @@ use Rattle.zb_seal.specs.Opening.{seen_nwk, content_of}
 use Rattle.zb_seal.specs.declared.envelope.Envelope.{Envelope}
 use Rattle.zb_sight.specs.Layers.{unsealed, opened_by, tried, is_closed, looked, found_nwk}
 use Rattle.zb_sight.specs.Lines.{layer_line, sight_text, sights_text, unopened_line, unopened_text}
-use Rattle.zb_sight.specs.Settling.{is_unopened}
+use Rattle.zb_sight.specs.Settling.{is_unopened, ShowsNothing}
 use Rattle.zb_sight.specs.Sights.{sight}
 use Rattle.zb_sight.specs.declared.layer.Finding.{Finding}
 use Rattle.zb_sight.specs.declared.layer.Finding.TheVariants.{Malformed, NotSecured, NoSource, Closed, Opened}
@@ -103,3 +104,11 @@ unfolding unopened_text
 printed_all frame end before now past so_far =
     let none : end - frame ≡ 0 = omega (arith, past) in
     sym (append-nil now) ∙ ap (λ n. now ++ unopened_text frame n) (sym none) ∙ so_far
+
+pub shows_nothing : (b : Bool) (seen : Sight) → (b ≡ true → is_unopened seen ≡ true) → OnTrue b (ShowsNothing seen)
+shows_nothing false seen unopened = tt
+shows_nothing true seen unopened = λ addrs keys bytes is. sym (unopened_same addrs keys bytes (ap is_unopened (sym is) ∙ unopened refl)) ∙ sym is
+
+pub unopened_is : (seen : Sight) (closed none : Bool) → closed ≡ true → closed ≡ is_closed seen.nwk → is_some seen.below ≡ not none → none ≡ true
+    → is_unopened seen ≡ true
+unopened_is seen closed none one two three four = cc (one, two, three, four)

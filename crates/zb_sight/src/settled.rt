@@ -1,20 +1,23 @@
 //! Whether further keys could show more of a frame, and whether anything of it is known yet.
 ghost use Rattle.std.specs.Prelude.{◌≡◌};
-ghost use Rattle.zb_sight.specs.Settling.{is_settled as settled, is_unopened as unopened, below_settled as below_is, inner_settled as inner_is};
+ghost use Rattle.std.specs.Bool.{OnTrue};
+ghost use Rattle.zb_sight.specs.Settling.{is_settled as settled, is_unopened as unopened, below_settled as below_is, inner_settled as inner_is, ShowsNoMore, ShowsNothing};
 
 use crate::layer::{Finding, is_closed};
 use crate::sight::{Below, Sight};
 
 /// Whether no layer of a frame is closed. Such a frame shows the same under any further keys.
 pub fn is_settled(sight: &Sight) -> bool
-    ensures { result ≡ settled sight.now }
+    ensures value { result ≡ settled sight.now }
+    ensures lasting { OnTrue result (ShowsNoMore sight.now) }
 {
     !is_closed(&sight.nwk) && below_settled(&sight.below)
 }
 
 /// Whether no key opened the NWK layer of a frame. Such a frame shows what it shows under no keys.
 pub fn is_unopened(sight: &Sight) -> bool
-    ensures { result ≡ unopened sight.now }
+    ensures value { result ≡ unopened sight.now }
+    ensures nothing { OnTrue result (ShowsNothing sight.now) }
 {
     is_closed(&sight.nwk) && sight.below.is_none()
 }
