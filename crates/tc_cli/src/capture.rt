@@ -135,7 +135,7 @@ fn read_by_several<T: Threads + Sync, R: Source>(
             Err(fault) => return Err(front.refuse(input, fault)),
         }
     }
-    let idle = IdleThread::start(rt);
+    let idle = IdleThread::start(rt, jobs as usize);
     reader.read(rt, alloc, jobs, front.part.as_slice())?;
     idle.end(rt);
     Ok(reader.into_capture())
@@ -201,7 +201,7 @@ fn read_both<T: Threads + Sync, R: Source>(
         requires { (back.now.count ≤ 16777216) × (length back.now.part.items ≤ back.now.count) }
         ensures { IsTaken taken.exit (R.rest input.entry.now) (R.rest input.exit.now) back.entry.now back.exit.now (R.faults input.entry.now) (R.faults input.exit.now) }
     { taken = back.take(alloc, input, BACK) };
-    let idle = IdleThread::start(rt);
+    let idle = IdleThread::start(rt, jobs as usize + 1);
     join_mut(rt, &mut reads_front, &mut takes_back);
     idle.end(rt);
     (first, taken)

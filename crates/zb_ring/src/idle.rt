@@ -13,11 +13,14 @@ pub struct IdleThread {
 }
 
 impl IdleThread {
-    /// Starts it; where no thread can be made there is none.
-    pub fn start<T: Threads>(rt: &T) -> IdleThread {
-        IdleThread {
-            handle: spawn(rt, || {}).ok(),
-        }
+    /// Starts it before so many jobs. Where one works alone, or no thread can be made, there is none.
+    pub fn start<T: Threads>(rt: &T, jobs: usize) -> IdleThread {
+        let handle = if jobs < 2 {
+            None
+        } else {
+            spawn(rt, || {}).ok()
+        };
+        IdleThread { handle }
     }
 
     /// Waits until it has ended.

@@ -99,7 +99,7 @@ fn look_at_all<T: Threads + Sync, G: Gate>(
     requires before { AllByRecursion (λ p. AllSee frames.now addrs.now (take known keys.now) p.blocks.items) pieces.items }
     ensures { IfOk result (λ v. AllZip (IsNextPiece frames.now addrs.now keys.now) pieces.items v.items) }
 {
-    let idle = IdleThread::start(rt);
+    let idle = IdleThread::start(rt, pieces.len());
     let looked = map_vec(
         rt,
         pieces,
