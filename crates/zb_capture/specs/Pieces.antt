@@ -1,5 +1,5 @@
 -- Captures that are read in pieces.
-use Rattle.std.specs.Prelude.{◌≡◌, ℕ, ◌++◌, ◌≤◌, List, length, Bool, true, not, map}
+use Rattle.std.specs.Prelude.{◌≡◌, ℕ, ◌++◌, List, Bool, true, not, map}
 use Rattle.std.specs.List.{flat_map, list_all, list_any}
 use Rattle.std.specs.Str.Lines.{lines}
 use Rattle.zb_base.specs.declared.address.Eui.{Eui}

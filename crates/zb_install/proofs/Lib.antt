@@ -1,3 +1,3 @@
-pub mod Division
+pub mod Ending
 pub mod Codes
 pub mod Digits

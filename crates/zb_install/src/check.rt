@@ -1,41 +1,12 @@
-//! The CRC of an install code, bit by bit.
+//! The CRC of an install code.
+ghost use Rattle.std.specs.Prelude.{◌≡◌};
+ghost use Rattle.zb_install.specs.Crc.{crc};
 
-ghost use Rattle.std.specs.Prelude.{◌≡◌, ℕ, ◌+◌, ◌<◌, List, ◌∷◌, ◌++◌, length};
-ghost use Rattle.zb_install.specs.Crc.{added, bits_from, crc, divided};
-
-// One step of the division: the register takes in a bit of the message.
-fn after_bit(register: u16, bit: u16) -> u16
-    requires { bit < 2 }
-    ensures { (n : ℕ) (rest : List ℕ) → divided (n + 1) (added (bit ∷ rest) (bits_from 16 register))
-        ≡ divided n (added rest (bits_from 16 result)) }
-{
-    let half = register >> 1;
-    if (register ^ bit) % 2 == 1 {
-        half ^ 0x8408
-    } else {
-        half
-    }
-}
-
-// Eight steps, by the bits of a byte from the lowest on.
-fn after_byte(register: u16, byte: u8) -> u16
-    ensures { (n : ℕ) (rest : List ℕ) → divided (n + 8) (added (bits_from 8 byte ++ rest) (bits_from 16 register))
-        ≡ divided n (added rest (bits_from 16 result)) }
-{
-    let mut after = register;
-    for i in 0..8u32 {
-        after = after_bit(after, ((byte >> i) % 2) as u16);
-    }
-    after
-}
+use zb_crc::divide;
 
 /// The CRC of the bytes of a code.
 pub fn crc(bytes: &[u8]) -> u16
     ensures { result ≡ crc bytes.now }
 {
-    let mut register = 0xffff;
-    for byte in bytes {
-        register = after_byte(register, *byte);
-    }
-    register ^ 0xffff
+    divide(0xffff, bytes) ^ 0xffff
 }

@@ -1,9 +1,8 @@
 -- A MAC header has three bytes at least.
-use Rattle.std.proofs.Common.{◌≡◌, ℕ, ◌<◌, ◌≤◌, ◌&&◌, List, length, Bool, true, false, refl, ap, ◌∙◌, arith, if◌then◌else◌, ◌-◌}
+use Rattle.std.proofs.Common.{◌≡◌, ℕ, ◌<◌, ◌≤◌, ◌&&◌, List, length, Bool, true, false, refl, ap, arith, if◌then◌else◌, ◌-◌}
 use Rattle.std.specs.Prelude.{nat_lt}
 use Rattle.std.proofs.lemmas.Bool.Decides.{nat_tests}
 use Rattle.zb_pcap.specs.Mac.{number16, is_plain_data, header_size, payload_of}
-use Rattle.zb_pcap.specs.declared.mac.Mac.{Mac}
 use Rattle.zb_pcap.specs.declared.mac.Mac.TheVariants.{Payload, Other}
 
 three_least : (control : ℕ) → 3 ≤ header_size control

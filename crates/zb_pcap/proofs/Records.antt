@@ -1,6 +1,6 @@
 -- Records, one after the other.
-use Rattle.std.proofs.Common.{◌≡◌, ℕ, zero, suc, ◌+◌, ◌-◌, ◌<◌, ◌≤◌, List, [], ◌∷◌, ◌++◌, length, map, drop, Option, Some, None, Result, Ok, Err, refl, ap, sym, ◌∙◌, subst, arith, append_assoc, append-nil, length-append, add-one}
-use Rattle.std.proofs.lemmas.List.{map-append, length-map}
+use Rattle.std.proofs.Common.{◌≡◌, ℕ, zero, suc, ◌+◌, ◌-◌, ◌<◌, ◌≤◌, List, [], ◌∷◌, ◌++◌, length, map, drop, Some, None, Result, Ok, Err, refl, ap, sym, ◌∙◌, subst, arith, append_assoc, append-nil, length-append}
+use Rattle.std.proofs.lemmas.List.{map-append}
 use Rattle.zb_pcap.specs.Extracts.{record_in, extract_of, extract_packets, extract_form, extracted, Answers}
 use Rattle.zb_pcap.specs.Files.{Record, header_of, record_of, records, behind, beyond, with_record, fault_at}
 use Rattle.zb_pcap.specs.declared.fault.PcapCause.TheVariants.{Cut, TooMany}

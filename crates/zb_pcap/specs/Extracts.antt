@@ -1,14 +1,12 @@
 -- The frames of a capture file.
 use denote.Ref.{Bor}
-use Rattle.std.specs.Prelude.{◌≡◌, ℕ, ◌+◌, Bool, Option, Some, None, if◌then◌else◌, List, [], ◌∷◌, ◌++◌, length, take, drop, map, Result, Ok, Err}
+use Rattle.std.specs.Prelude.{◌≡◌, ℕ, ◌+◌, Bool, Option, Some, None, if◌then◌else◌, List, [], ◌∷◌, ◌++◌, length, take, drop, Result, Ok, Err}
 use Rattle.arrayvec.specs.ArrayVec.{ArrayVec}
 use Rattle.zb_base.specs.declared.key.Key.{Key}
 use Rattle.zb_base.specs.declared.fault.OrMemory.{OrMemory}
 use Rattle.zb_base.specs.declared.fault.OrMemory.TheVariants as error
-use Rattle.zb_capture.specs.declared.capture.Capture.{Capture}
 use Rattle.zb_pcap.specs.Files.{Record, header_of, records, fault_at}
 use Rattle.zb_pcap.specs.Mac.{mac_of}
-use Rattle.zb_pcap.specs.declared.extraction.Counts.{Counts}
 use Rattle.zb_pcap.specs.declared.extraction.Extraction.{Extraction}
 use Rattle.zb_pcap.specs.declared.fault.PcapCause.{PcapCause}
 use Rattle.zb_pcap.specs.declared.fault.PcapError.{PcapError}

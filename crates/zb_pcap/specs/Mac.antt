@@ -1,5 +1,5 @@
 -- What a MAC frame of IEEE 802.15.4 holds (5.2 of the edition of 2011), by cases on its control bits.
-use Rattle.std.specs.Prelude.{ℕ, ◌+◌, ◌-◌, ◌*◌, ◌/◌, ◌%◌, ◌==◌, ◌&&◌, ◌≤◌, not, nat_lt, nat_le, Bool, if◌then◌else◌, List, length, take, drop, slice_index}
+use Rattle.std.specs.Prelude.{ℕ, ◌+◌, ◌-◌, ◌*◌, ◌/◌, ◌%◌, ◌==◌, ◌&&◌, ◌≤◌, not, nat_lt, nat_le, Bool, if◌then◌else◌, List, length, take, slice_index}
 use Rattle.zb_pcap.specs.CheckSequence.{check_sequence}
 use Rattle.zb_pcap.specs.declared.mac.Mac.{Mac}
 use Rattle.zb_pcap.specs.declared.mac.Mac.TheVariants.{Payload, BadCheck, Other}

@@ -6,8 +6,9 @@ use Rattle.zb_aps.specs.Reading as aps_reading
 use Rattle.zb_base.specs.declared.address.Eui.{Eui}
 use Rattle.zb_base.specs.declared.address.Short.{Short}
 use Rattle.zb_base.specs.declared.key.Key.{Key}
+use Rattle.zb_carry.specs.Carrying.{carried}
 use Rattle.zb_nwk.specs.Reading as nwk_reading
-use Rattle.zb_sight.specs.Carrying.{carried, carries, key_below, keys_of_layers, keys_carried}
+use Rattle.zb_sight.specs.Carrying.{carries, key_below, keys_of_layers, keys_carried}
 use Rattle.zb_sight.specs.Layers.{tried, found_nwk, found_aps}
 use Rattle.zb_sight.specs.Sights.{payload_in, given_in, tunnelled, below, sight_of, sight}
 use Rattle.zb_sight.specs.declared.carried.Carried.{Carried}

@@ -7,7 +7,8 @@ use Rattle.zb_aes.specs.Block.{enciphered, last_round, mix_column, next_key, rou
 use Rattle.zb_aes.specs.Bytes.{xored}
 use Rattle.zb_aes.specs.Field.{substitute, times}
 use Rattle.zb_install.specs.Code.{code_of}
-use Rattle.zb_install.specs.Crc.{added, crc, divided, message_bits}
+use Rattle.zb_crc.specs.Division.{added, divided, message_bits, remainder}
+use Rattle.zb_install.specs.Crc.{crc}
 use Rattle.zb_mmo.specs.Hash.{blocks_of, hash}
 use Rattle.zb_model.specs.Rules.{centre_of}
 use Rattle.zb_model.proofs.Rows.ApplicationKeys as application_keys
@@ -27,7 +28,7 @@ join_under_centre_text =
     ++ (codes "deliver 1 d\ntimer d\ndeliver 2 c\ndeliver 3 d\ntimer d\ndeliver 4 c\ndeliver 5 d\n")))
 
 join_under_centre_is_its_world : option_map world_of (result_ok (schedule_of join_under_centre_text)) ≡ Some join_under_centre.world
-unfolding world_of act_for centre_of code_of crc added divided message_bits decode_pairs hash blocks_of xored enciphered last_round round_key next_key state_after round mix_column substitute times
+unfolding world_of act_for centre_of code_of crc remainder added divided message_bits decode_pairs hash blocks_of xored enciphered last_round round_key next_key state_after round mix_column substitute times
 join_under_centre_is_its_world = refl
 
 -- Two devices get a key of their own and use it.
@@ -43,7 +44,7 @@ application_keys_text =
     ++ (codes "deliver 11 c\ndeliver 12 d\nshare e d\ndeliver 13 e\ntell d e 55\ndeliver 14 e\n")))))))
 
 application_keys_is_its_world : option_map world_of (result_ok (schedule_of application_keys_text)) ≡ Some application_keys.world
-unfolding world_of act_for centre_of code_of crc added divided message_bits decode_pairs hash blocks_of xored enciphered last_round round_key next_key state_after round mix_column substitute times
+unfolding world_of act_for centre_of code_of crc remainder added divided message_bits decode_pairs hash blocks_of xored enciphered last_round round_key next_key state_after round mix_column substitute times
 application_keys_is_its_world = refl
 
 -- The centre stops as it confirms a key that a device got through a router.
@@ -57,7 +58,7 @@ confirmation_stopped_text =
     ++ (codes "stop c 3 -\ndeliver 9 c\nboot c\ntimer d\ndeliver 10 c\ntimer d\ndeliver 11 c\n")))))
 
 confirmation_stopped_is_its_world : option_map world_of (result_ok (schedule_of confirmation_stopped_text)) ≡ Some confirmation_stopped.world
-unfolding world_of act_for centre_of code_of crc added divided message_bits decode_pairs hash blocks_of xored enciphered last_round round_key next_key state_after round mix_column substitute times
+unfolding world_of act_for centre_of code_of crc remainder added divided message_bits decode_pairs hash blocks_of xored enciphered last_round round_key next_key state_after round mix_column substitute times
 confirmation_stopped_is_its_world = refl
 
 -- A device is removed, and the network key is changed twice.
@@ -76,7 +77,7 @@ removal_and_rollover_text =
     ++ (codes "deliver 13 d\ndeliver 14 d\ndeliver 15 d\n"))))))))))
 
 removal_and_rollover_is_its_world : option_map world_of (result_ok (schedule_of removal_and_rollover_text)) ≡ Some removal_and_rollover.world
-unfolding world_of act_for centre_of code_of crc added divided message_bits decode_pairs hash blocks_of xored enciphered last_round round_key next_key state_after round mix_column substitute times
+unfolding world_of act_for centre_of code_of crc remainder added divided message_bits decode_pairs hash blocks_of xored enciphered last_round round_key next_key state_after round mix_column substitute times
 removal_and_rollover_is_its_world = refl
 
 -- A key comes in that nobody sealed, and the disk stops.
@@ -89,5 +90,5 @@ key_comes_in_unseen_text =
     ++ (codes "stop d 3 -\ndeliver 1 d\nremove d via c\nroll\n"))))
 
 key_comes_in_unseen_is_its_world : option_map world_of (result_ok (schedule_of key_comes_in_unseen_text)) ≡ Some key_comes_in_unseen.world
-unfolding world_of act_for centre_of code_of crc added divided message_bits decode_pairs hash blocks_of xored enciphered last_round round_key next_key state_after round mix_column substitute times
+unfolding world_of act_for centre_of code_of crc remainder added divided message_bits decode_pairs hash blocks_of xored enciphered last_round round_key next_key state_after round mix_column substitute times
 key_comes_in_unseen_is_its_world = refl

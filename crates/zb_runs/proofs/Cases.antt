@@ -9,7 +9,8 @@ use Rattle.zb_aes.specs.Field.{substitute, times}
 use Rattle.zb_base.specs.declared.label.Label.TheVariants as label
 use Rattle.zb_base.specs.declared.node.Role.TheVariants as role
 use Rattle.zb_install.specs.Code.{code_key, code_of}
-use Rattle.zb_install.specs.Crc.{added, crc, divided, message_bits}
+use Rattle.zb_crc.specs.Division.{added, divided, message_bits, remainder}
+use Rattle.zb_install.specs.Crc.{crc}
 use Rattle.zb_mmo.specs.Hash.{blocks_of, hash}
 use Rattle.zb_model.specs.Data.{Bytes, Duty, Station, ForTransport, ForLoad, SayTo, TellTo, DoKnock, DoRejoin, DoTimer, AskFor, HasChild, DoProvision, DoRemove, DoSwitch, DoAgain, DoShare}
 use Rattle.zb_model.specs.Play as model
@@ -139,7 +140,7 @@ abbrev plan : Plan
 plan = record { members = plan_members; draws = other ∷ third ∷ []; acts = plan_acts }
 
 text_reads_as_plan : result_ok (schedule_of text) ≡ Some plan
-unfolding code_of crc added divided message_bits decode_pairs hash blocks_of xored enciphered last_round round_key next_key state_after round mix_column substitute times
+unfolding code_of crc remainder added divided message_bits decode_pairs hash blocks_of xored enciphered last_round round_key next_key state_after round mix_column substitute times
 text_reads_as_plan = refl
 
 -- the world that it is

@@ -11,6 +11,7 @@ use Rattle.zb_aps.specs.declared.fault.ApsError.TheVariants.{TooLong, Short, Fra
 use Rattle.zb_aps.specs.declared.frame.ApsFrame.{ApsFrame}
 use Rattle.zb_aps.specs.declared.header.ApsHeader.{ApsHeader}
 use Rattle.zb_aps.specs.declared.header.Extended.{Extended}
+use Rattle.zb_carry.specs.Carrying.{is_command}
 use Rattle.zb_cursor.specs.Reading.{follow, byte_at, number_at, optional_at, insist, body_and_mic_at}
 use Rattle.zb_cursor.specs.Spelling.{bit}
 use Rattle.zb_laws.specs.Commanding.{IsClearControl}
@@ -21,7 +22,6 @@ use Rattle.zb_model.specs.Secrets.{is_command_header}
 use Rattle.zb_model.specs.Tools.{ApsSight}
 use Rattle.zb_seal.specs.Wire.{wire}
 use Rattle.zb_tools.specs.Real.{term_of}
-use Rattle.zb_watch.specs.Carrying.{is_command}
 use Rattle.zb_watch.specs.Readers.{auxiliary, aps_sight}
 
 abbrev pub IsNone : (A : Type 0) → Option A → Type 0

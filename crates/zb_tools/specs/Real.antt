@@ -9,6 +9,7 @@ use Rattle.zb_base.specs.declared.label.Label.{Label}
 use Rattle.zb_base.specs.declared.label.Label.TheVariants as label
 use Rattle.zb_base.specs.declared.label.Layer.{Layer}
 use Rattle.zb_base.specs.declared.label.Layer.TheVariants as layer
+use Rattle.zb_carry.specs.Carrying.{is_command}
 use Rattle.zb_cmd.specs.Reading.{command_of, leave_of}
 use Rattle.zb_cmd.specs.Spelling.{command}
 use Rattle.zb_cmd.specs.declared.command.Command.{Command}
@@ -29,7 +30,6 @@ use Rattle.zb_seal.specs.Terms.{sealing}
 use Rattle.zb_seal.specs.Wire.{wire}
 use Rattle.zb_seal.specs.declared.envelope.OpenError.{OpenError}
 use Rattle.zb_seal.specs.declared.term.Term.{Term}
-use Rattle.zb_watch.specs.Carrying.{is_command}
 use Rattle.zb_watch.specs.Readers.{aps_sight, order_sight}
 
 -- Terms

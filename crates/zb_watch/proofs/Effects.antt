@@ -10,9 +10,11 @@ use Rattle.zb_base.specs.declared.key.Key.{Key}
 use Rattle.zb_base.specs.declared.label.Layer.{Layer}
 use Rattle.zb_base.specs.declared.label.Layer.TheVariants as layer
 use Rattle.zb_base.specs.declared.node.Role.{Role}
+use Rattle.zb_carry.specs.Carrying as carrying
 use Rattle.zb_change.specs.Changes.{tier, trust}
 use Rattle.zb_change.specs.declared.state.Attribute.{Attribute}
 use Rattle.zb_change.specs.declared.state.Attribute.TheVariants as attribute
+use Rattle.zb_cmd.specs.Reading.{command_of}
 use Rattle.zb_model.specs.Data as model
 use Rattle.zb_model.specs.Data.{Bytes, Sealing, Station, nobody}
 use Rattle.zb_model.specs.Lines as log
@@ -25,13 +27,12 @@ use Rattle.zb_seal.specs.declared.term.Term.{Term}
 use Rattle.zb_trace.specs.Views.{logged, named}
 use Rattle.zb_trace.specs.declared.line.Line.{Line}
 use Rattle.zb_trace.specs.declared.line.Line.TheVariants as line
-use Rattle.zb_watch.specs.Carrying as carrying
 use Rattle.zb_watch.specs.Exposure.{IsSettled, was_removed}
 use Rattle.zb_watch.specs.Nodes.{address_of, is_first_centre, is_joiner, Declares}
 use Rattle.zb_watch.specs.Origins.{IsTraced, came}
 use Rattle.zb_watch.specs.Passing.{has_that, is_code}
 use Rattle.zb_watch.specs.Sets.{has, is_carried, is_key, is_node, node_has}
-use Rattle.zb_watch.specs.Standing.{FindKeys, Stands, carries, is_that}
+use Rattle.zb_watch.specs.Standing.{FindKeys, Stands, bytes_of, carries, is_that}
 use Rattle.zb_watch.specs.Terms.{has_term}
 use Rattle.zb_watch.specs.declared.exposure.Exposure.{Exposure}
 use Rattle.zb_watch.specs.declared.nodes.Nodes.{Nodes}
@@ -46,12 +47,21 @@ use Rattle.zb_watch.proofs.Truth.{turned_number}
 
 -- Which key a term carries
 
-carried_as : (tools : Tools) → FindKeys tools → (l : Layer) (s : Sealing) → carried_at (tier l) tools s ≡ carrying.carried_at l s.header s.content
-carried_as tools find layer.Nwk s = find.in_frame s.content
-carried_as tools find layer.Aps s = ap (λ (o : Option Bytes). if nat_eq (get_or s.header 0 0 % 4) 1 then o else None) (find.in_command s.content)
+headed : (header : Bytes) (key : Option Key) → (if nat_eq (get_or header 0 0 % 4) 1 then bytes_of key else None) ≡ bytes_of (if carrying.is_command_header header then key else None)
+headed [] key = refl
+headed (control ∷ more) key = chosen (nat_eq (control % 4) 1)
+  where
+    chosen : (b : Bool) → (if b then bytes_of key else None) ≡ bytes_of (if b then key else None)
+    chosen true = refl
+    chosen false = refl
 
-pub carried_is : (tools : Tools) → FindKeys tools → (t : Term) → carried tools (sealing t) ≡ carrying.carried_by t
-unfolding carried carrying.carried_by
+carried_as : (tools : Tools) → FindKeys tools → (l : Layer) (s : Sealing) → carried_at (tier l) tools s ≡ bytes_of (carrying.carried_at l s.header s.content)
+carried_as tools find layer.Nwk s = find.in_frame s.content
+carried_as tools find layer.Aps s =
+    ap (λ (o : Option Bytes). if nat_eq (get_or s.header 0 0 % 4) 1 then o else None) (find.in_command s.content) ∙ headed s.header (carrying.key_in (command_of s.content))
+
+pub carried_is : (tools : Tools) → FindKeys tools → (t : Term) → carried tools (sealing t) ≡ bytes_of (carrying.carried t)
+unfolding carried carrying.carried
 carried_is tools find t = carried_as tools find t.layer (sealing t)
 
 key_that : (key : Option Key) (k : Bytes) → is_key key k ≡ is_that (option_map (λ (key : Key). key.0) key) k
@@ -326,9 +336,9 @@ module _ (tools : Tools) (w : Watch) (h : List LogLine) (stands : Stands tools w
       } in
       advances tools w (record w { origins = origins }) h l stands (nodes_stay tools w h l stands refl) from (passing_stays tools w h l stands refl refl) (exposure_stays tools w h l stands refl (λ n. refl) refl refl)
 
-  module _ (find : FindKeys tools) (t : Term) (key : Option Key) (key_is : option_map (λ (key : Key). key.0) key ≡ carrying.carried_by t) where
+  module _ (find : FindKeys tools) (t : Term) (key : Option Key) (key_is : key ≡ carrying.carried t) where
     that_key : (k : Bytes) → is_key key k ≡ is_that (carried tools (sealing t)) k
-    that_key k = key_that key k ∙ ap (λ (o : Option Bytes). is_that o k) (key_is ∙ sym (carried_is tools find t))
+    that_key k = key_that key k ∙ ap (λ (o : Option Bytes). is_that o k) (ap bytes_of key_is ∙ sym (carried_is tools find t))
 
     test_key : (o : Option Bytes) (q : Option Key) → option_map (λ (key : Key). key.0) q ≡ o → has_that w.passing.network q ≡ holds_some (network_keys h) o
     test_key None None e = refl
@@ -405,7 +415,7 @@ module _ (tools : Tools) (w : Watch) (h : List LogLine) (stands : Stands tools w
         } in
         advances tools w (record w { origins = origins; passing = passing; exposure = exposure }) h l stands (nodes_stay tools w h l stands refl)
         (sealed_terms l origins refl (λ n. refl) (λ n. refl) refl terms codes bases carriers traced ideal)
-        (passing_hears tools w h l stands passing (sealing t) key refl refl that_key (test_key (carried tools (sealing t)) key (key_is ∙ sym (carried_is tools find t))) network forged passed) from
+        (passing_hears tools w h l stands passing (sealing t) key refl refl that_key (test_key (carried tools (sealing t)) key (ap bytes_of key_is ∙ sym (carried_is tools find t))) network forged passed) from
 
   -- A line that the watch passes over.
   pub quiet_follows : (l : Line)

@@ -10,6 +10,7 @@ use Rattle.zb_aps.specs.Reading.{frame_of}
 use Rattle.zb_aps.specs.declared.auxiliary.ApsAux.{ApsAux}
 use Rattle.zb_aps.specs.declared.fault.ApsError.{ApsError}
 use Rattle.zb_aps.specs.declared.frame.ApsFrame.{ApsFrame}
+use Rattle.zb_carry.specs.Carrying as carrying
 use Rattle.zb_cmd.specs.Reading.{command_of}
 use Rattle.zb_cmd.specs.declared.command.Command.{Command}
 use Rattle.zb_cmd.specs.declared.command.Command.TheVariants as command
@@ -26,9 +27,8 @@ use Rattle.zb_seal.specs.declared.term.Term.{Term}
 use Rattle.zb_watch.specs.Exposure.{IsSettled, was_removed}
 use Rattle.zb_watch.specs.Nodes.{Declares}
 use Rattle.zb_watch.specs.Sets.{has, is_carried, is_node, node_has}
-use Rattle.zb_watch.specs.Carrying.{command_key, frame_key, is_command}
 use Rattle.zb_watch.specs.Readers.{aps_sight, auxiliary, order_sight, with_readers}
-use Rattle.zb_watch.specs.Standing.{FindKeys, Stands}
+use Rattle.zb_watch.specs.Standing.{FindKeys, Stands, bytes_of}
 use Rattle.zb_watch.specs.Terms.{has_term}
 use Rattle.zb_watch.specs.declared.exposure.Exposure.{Exposure}
 use Rattle.zb_watch.specs.declared.holdings.Holdings.{Holdings}
@@ -78,7 +78,7 @@ module _ (tools : Tools) (nodes : Nodes) (origins : Origins) (passing : Passing)
 
 -- The model's tools find what this program's readers find, where they read as these do.
 
-command_found : (r : Result Command CmdError) → key_of_sight (order_sight r) ≡ command_key r
+command_found : (r : Result Command CmdError) → key_of_sight (order_sight r) ≡ bytes_of (carrying.key_in r)
 command_found (Ok (command.TransportNetwork key sequence destination source)) = refl
 command_found (Ok (command.TransportApplication key partner initiator)) = refl
 command_found (Ok (command.TransportLink key destination source)) = refl
@@ -97,13 +97,13 @@ command_found (Err (fault.Trailing count)) = refl
 
 unsealed_found : (tools : Tools) (f : ApsFrame) (aux : Option ApsAux) (b : Bool)
     → unsealed_key (with_readers tools) (record { is_command = b; auxiliary = option_map auxiliary aux; body = f.body.items }) (option_map auxiliary aux)
-    ≡ (if is_none aux && b then command_key (command_of f.body.items) else None)
+    ≡ bytes_of (if is_none aux && b then carrying.key_in (command_of f.body.items) else None)
 unsealed_found tools f None true = command_found (command_of f.body.items)
 unsealed_found tools f None false = refl
 unsealed_found tools f (Some aux) b = refl
 
-frame_found : (tools : Tools) (r : Result ApsFrame ApsError) → clear_key (with_readers tools) (aps_sight r) ≡ frame_key r
-frame_found tools (Ok f) = unsealed_found tools f f.aux (is_command f.header.control)
+frame_found : (tools : Tools) (r : Result ApsFrame ApsError) → clear_key (with_readers tools) (aps_sight r) ≡ bytes_of (carrying.clear_key r)
+frame_found tools (Ok f) = unsealed_found tools f f.aux (carrying.is_command f.header.control)
 frame_found tools (Err e) = refl
 
 pub readers_find : (tools : Tools) → FindKeys (with_readers tools)

@@ -4,7 +4,6 @@ pub mod Terms
 pub mod Origins
 pub mod Passing
 pub mod Nodes
-pub mod Carrying
 pub mod Closure
 pub mod Standing
 pub mod Readers

@@ -7,6 +7,7 @@ use Rattle.zb_aps.specs.declared.auxiliary.ApsAux.{ApsAux}
 use Rattle.zb_aps.specs.declared.fault.ApsError.{ApsError}
 use Rattle.zb_aps.specs.declared.frame.ApsFrame.{ApsFrame}
 use Rattle.zb_base.specs.declared.address.Eui.{Eui}
+use Rattle.zb_carry.specs.Carrying.{is_command}
 use Rattle.zb_cmd.specs.Reading.{command_of}
 use Rattle.zb_cmd.specs.declared.command.Command.{Command}
 use Rattle.zb_cmd.specs.declared.command.Command.TheVariants as command
@@ -14,7 +15,6 @@ use Rattle.zb_cmd.specs.declared.fault.CmdError.{CmdError}
 use Rattle.zb_cmd.specs.declared.fault.CmdError.TheVariants as fault
 use Rattle.zb_model.specs.Data as model
 use Rattle.zb_model.specs.Tools.{Tools, ApsSight, ApsAuxiliary, OrderSight, Known, Unknown, Broken}
-use Rattle.zb_watch.specs.Carrying.{is_command}
 
 abbrev pub order : Command → model.Order
 order (command.TransportNetwork key sequence destination source) = model.TransportNet key.0 sequence destination.0 source.0

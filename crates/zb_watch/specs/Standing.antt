@@ -1,26 +1,31 @@
 -- What a watch stands for: a list of transcript lines, by the readings of the model.
 use Rattle.std.specs.Prelude.{◌≡◌, ℕ, ◌&&◌, List, [], ◌∷◌, ◌++◌, Bool, true, false, bytes_eq, nat_eq, Option, Some, None, flat_map}
 use Rattle.std.specs.List.{list_any}
+use Rattle.std.specs.Option.{option_map}
 use Rattle.zb_model.specs.Data.{Bytes, Sealing, nobody}
 use Rattle.zb_model.specs.Lines.{LogLine}
 use Rattle.zb_model.specs.Readings.{stations_of}
 use Rattle.zb_model.specs.Secrets.{based_line, bases, came_by, carried, clear_key, codes_of, each_line, ever, exposed, forged_in, holds, ideal, key_of_sight, network_keys, outside, passes_on, removed_devices, same_term, terms_of}
 use Rattle.zb_model.specs.Tools.{Tools}
 use Rattle.zb_aps.specs.Reading.{frame_of}
+use Rattle.zb_base.specs.declared.key.Key.{Key}
+use Rattle.zb_carry.specs.Carrying as carrying
 use Rattle.zb_cmd.specs.Reading.{command_of}
 use Rattle.zb_seal.specs.Terms.{sealing}
 use Rattle.zb_seal.specs.declared.term.Term.{Term}
-use Rattle.zb_watch.specs.Carrying.{command_key, frame_key}
 use Rattle.zb_watch.specs.Exposure.{was_removed}
 use Rattle.zb_watch.specs.Nodes.{Declares}
 use Rattle.zb_watch.specs.Sets.{has, is_carried, node_has}
 use Rattle.zb_watch.specs.Terms.{has_term}
 use Rattle.zb_watch.specs.declared.watch.Watch.{Watch}
 
+abbrev pub bytes_of : Option Key → Option Bytes
+bytes_of key = option_map (λ (key : Key). key.0) key
+
 -- The model's tools find the keys in frames and commands that this program's readers find.
 pub record FindKeys (tools : Tools) : Type 0 where
-  pub in_command : (bytes : List ℕ) → key_of_sight (tools.read_order bytes) ≡ command_key (command_of bytes)
-  pub in_frame : (bytes : List ℕ) → clear_key tools (tools.read_aps bytes) ≡ frame_key (frame_of bytes)
+  pub in_command : (bytes : List ℕ) → key_of_sight (tools.read_order bytes) ≡ bytes_of (carrying.key_in (command_of bytes))
+  pub in_frame : (bytes : List ℕ) → clear_key tools (tools.read_aps bytes) ≡ bytes_of (carrying.clear_key (frame_of bytes))
 
 -- whether there is a key, and it is this one
 abbrev pub is_that : Option Bytes → Bytes → Bool

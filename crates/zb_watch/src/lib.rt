@@ -2,7 +2,6 @@
 //! outsiders forged only with what they may know. It keeps what these two words need, and no line.
 #![tactic(auto)]
 
-pub mod carrying;
 pub mod exposure;
 pub mod holdings;
 pub mod keys;
@@ -13,5 +12,4 @@ pub mod passing;
 pub mod terms;
 pub mod watch;
 
-pub use carrying::carried;
 pub use watch::Watch;

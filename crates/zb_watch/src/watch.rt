@@ -11,13 +11,13 @@ ghost use Rattle.zb_trace.specs.Views.{log_of, logged, named};
 ghost use Rattle.zb_watch.specs.Nodes.{IsOf};
 ghost use Rattle.zb_watch.specs.Standing.{FindKeys, Follows, Stands};
 
-use crate::carrying::carried;
 use crate::exposure::Exposure;
 use crate::nodes::Nodes;
 use crate::origins::Origins;
 use crate::passing::Passing;
 use std::alloc::Global;
 use zb_base::{Eui, Key, Name, NoMemory, Role};
+use zb_carry::carried;
 use zb_change::Attribute;
 use zb_seal::Term;
 use zb_trace::Line;

@@ -1,4 +1,4 @@
-use Rattle.std.proofs.Common.{◌≡◌, ◌∙◌, ℕ, List, ap, sym, subst, map, Err, Vec, Global}
+use Rattle.std.proofs.Common.{◌∙◌, ℕ, List, ap, sym, subst, map, Err, Vec, Global}
 use Rattle.std.proofs.lemmas.Result.{err_from_is_err_and}
 use Rattle.zb_pcap.specs.Extracts.{record_in, extract_of, Answers}
 use Rattle.zb_pcap.specs.Files.{records}

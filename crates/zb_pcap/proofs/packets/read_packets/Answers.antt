@@ -1,4 +1,4 @@
-use Rattle.std.proofs.Common.{◌≡◌, ◌+◌, ◌<◌, ◌≤◌, ℕ, length, map, rules, arith, ap, ◌∙◌, length-append, [], ◌∷◌, Vec, Global}
+use Rattle.std.proofs.Common.{◌≡◌, ◌<◌, ◌≤◌, length, map, rules, arith, ap, ◌∙◌, length-append, [], ◌∷◌, Vec, Global}
 use Rattle.zb_pcap.specs.Extracts.{record_in}
 use Rattle.zb_pcap.specs.Files.{records}
 use Rattle.zb_pcap.specs.declared.packets.Packet.{Packet}
