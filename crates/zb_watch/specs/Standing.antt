@@ -19,6 +19,7 @@ use Rattle.zb_watch.specs.Sets.{has, is_carried, node_has}
 use Rattle.zb_watch.specs.Terms.{has_term}
 use Rattle.zb_watch.specs.declared.watch.Watch.{Watch}
 
+-- the bytes of a key, as the model has keys
 abbrev pub bytes_of : Option Key → Option Bytes
 bytes_of key = option_map (λ (key : Key). key.0) key
 
