@@ -1,7 +1,6 @@
 -- The register is what the division has still to add.
 use Rattle.std.proofs.Common.{◌≡◌, ℕ, zero, suc, ◌+◌, ◌-◌, ◌*◌, ◌/◌, ◌%◌, ◌^◌, ◌==◌, ◌<◌, true, false, List, [], ◌∷◌, ◌++◌, ◌∙◌, if◌then◌else◌, refl, sym, ap, length, map, replicate, get_or, drop, bit_xor, arith, add-one, append_assoc, drop-cons, div-one, eq-eqb, ne_eqb, pow-suc}
 use Rattle.std.proofs.lemmas.List.{drop_all}
-use Rattle.std.proofs.lemmas.List.FromFn.{get_or-map-range_with_len}
 use Rattle.std.proofs.lemmas.Nat.{shr-shr, xor_comm, xor_mod, xor_shr}
 use Rattle.std.specs.Int.{bit_at}
 use Rattle.std.specs.Int.Bits.{xor_assoc, xor_zero_l, xor_zero_r}
@@ -43,7 +42,7 @@ bits-xor a b (suc n) k =
     rw (xor_shr a b k, xor_mod (a / 2 ^ k) (b / 2 ^ k) 1, bits-xor a b n (k + 1)) refl
 
 -- The bits from the second on are those of half the number.
-bits-half : (a n k : ℕ) → map (bit_at a) (range_with_len (k + 1) n) ≡ map (bit_at (a / 2)) (range_with_len k n)
+pub bits-half : (a n k : ℕ) → map (bit_at a) (range_with_len (k + 1) n) ≡ map (bit_at (a / 2)) (range_with_len k n)
 bits-half a zero k = refl
 bits-half a (suc n) k =
     let place : 1 + k ≡ k + 1 = omega arith in
@@ -90,35 +89,6 @@ even_step register bit n rest h g ne =
     step n register bit rest h
     ∙ ap (λ b. divided n (if b then added (added rest (bits_from 16 (register / 2))) divisor
     else added rest (bits_from 16 (register / 2)))) test
-
--- The bits of a byte one after the other.
-pub byte_more : (byte before now next i : ℕ) → i < 8
-    → ((n : ℕ) (rest : List ℕ) → divided (n + 8) (added (bits_from 8 byte ++ rest) (bits_from 16 before))
-    ≡ divided (n + (8 - i)) (added (drop i (bits_from 8 byte) ++ rest) (bits_from 16 now)))
-    → ((n : ℕ) (rest : List ℕ) → divided (n + 1) (added (bit_at byte i ∷ rest) (bits_from 16 now))
-    ≡ divided n (added rest (bits_from 16 next)))
-    → (n : ℕ) (rest : List ℕ) → divided (n + 8) (added (bits_from 8 byte ++ rest) (bits_from 16 before))
-    ≡ divided (n + (8 - (i + 1))) (added (drop (i + 1) (bits_from 8 byte) ++ rest) (bits_from 16 next))
-byte_more byte before now next i h p q n rest =
-    let bits : List ℕ = bits_from 8 byte in
-    let left : n + (8 - i) ≡ n + (8 - (i + 1)) + 1 = omega arith in
-    let here : get_or bits i 0 ≡ bit_at byte i = get_or-map-range_with_len (bit_at byte) 0 8 i i 0 h (omega arith) in
-    let parts : drop i bits ≡ bit_at byte i ∷ drop (i + 1) bits =
-    rw add-one (drop-cons bits i 0 h ∙ ap (λ b. b ∷ drop (suc i) bits) here) in
-    p n rest ∙ ap (λ m. divided m (added (drop i bits ++ rest) (bits_from 16 now))) left
-    ∙ ap (λ l. divided (n + (8 - (i + 1)) + 1) (added (l ++ rest) (bits_from 16 now))) parts
-    ∙ q (n + (8 - (i + 1))) (drop (i + 1) bits ++ rest)
-
-pub byte_end : (byte before now i : ℕ) → i ≡ 8
-    → ((n : ℕ) (rest : List ℕ) → divided (n + 8) (added (bits_from 8 byte ++ rest) (bits_from 16 before))
-    ≡ divided (n + (8 - i)) (added (drop i (bits_from 8 byte) ++ rest) (bits_from 16 now)))
-    → (n : ℕ) (rest : List ℕ) → divided (n + 8) (added (bits_from 8 byte ++ rest) (bits_from 16 before))
-    ≡ divided n (added rest (bits_from 16 now))
-byte_end byte before now i e p n rest =
-    let left : n + (8 - 8) ≡ n = omega arith in
-    p n rest
-    ∙ ap (λ j. divided (n + (8 - j)) (added (drop j (bits_from 8 byte) ++ rest) (bits_from 16 now))) e
-    ∙ ap (λ m. divided m (added rest (bits_from 16 now))) left
 
 -- The whole message, byte after byte: what is left to divide behind some of its bytes.
 abbrev pub left : List ℕ → ℕ → ℕ → List ℕ

@@ -1,31 +1,16 @@
-//! The division, bit by bit.
-ghost use Rattle.std.specs.Prelude.{◌≡◌, ℕ, ◌+◌, ◌<◌, List, ◌∷◌, ◌++◌};
+//! The division, byte by byte.
+ghost use Rattle.std.specs.Prelude.{◌≡◌, ℕ, ◌+◌, List, ◌++◌};
 ghost use Rattle.zb_crc.specs.Division.{added, bits_from, divided, number_of, remainder};
 
-/// One step of the division: the register takes in a bit of the message.
-fn after_bit(register: u16, bit: u16) -> u16
-    requires { bit < 2 }
-    ensures { (n : ℕ) (rest : List ℕ) → divided (n + 1) (added (bit ∷ rest) (bits_from 16 register))
-        ≡ divided n (added rest (bits_from 16 result)) }
-{
-    let half = register >> 1;
-    if (register ^ bit) % 2 == 1 {
-        half ^ 0x8408
-    } else {
-        half
-    }
-}
+use crate::remainders::REMAINDERS;
 
-/// Eight steps, by the bits of a byte from the lowest on.
+/// Eight steps of the division: the register takes in the bits of a byte, from the lowest on.
 fn after_byte(register: u16, byte: u8) -> u16
     ensures { (n : ℕ) (rest : List ℕ) → divided (n + 8) (added (bits_from 8 byte ++ rest) (bits_from 16 register))
         ≡ divided n (added rest (bits_from 16 result)) }
 {
-    let mut after = register;
-    for i in 0..8u32 {
-        after = after_bit(after, ((byte >> i) % 2) as u16);
-    }
-    after
+    let low = (register ^ byte as u16) % 256;
+    (register >> 8) ^ REMAINDERS[low as usize]
 }
 
 /// The remainder of the bytes of a message, as a number whose lowest bit is that of the highest power. The division begins

@@ -3,6 +3,7 @@
 #![tactic(auto)]
 
 mod dividing;
+mod remainders;
 #[cfg(test)]
 mod tests;
 
