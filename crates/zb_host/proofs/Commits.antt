@@ -9,7 +9,7 @@ use Rattle.zb_store.specs.declared.fault.StoreFault.TheVariants.{Disk, NoRecord,
 use Rattle.zb_store.specs.Layout.{Standing}
 use Rattle.zb_store.specs.Store.{Place, place_of, IsReady, IsHeld, IsWholeEither}
 use Rattle.zb_store.specs.Faults.{IsPutFault, IsAppendFault}
-use Rattle.zb_change.specs.declared.change.Change.{Change}
+use Rattle.zb_node_types.specs.declared.change.Change.{Change}
 use Rattle.zb_host.specs.declared.fault.HostFault.{HostFault}
 use Rattle.zb_host.specs.declared.fault.HostFault.TheVariants.{Disk as disk_of, NoMemory as no_memory, NoRecord as no_record, BadRecord as bad_record, Worn as worn_out}
 use Rattle.arrayvec.specs.declared.array_vec.ArrayVec.{ArrayVec}

@@ -4,7 +4,7 @@ use Rattle.std.specs.List.{concat}
 use Rattle.zb_disk.specs.View.{View}
 use Rattle.zb_store.specs.Layout.{Standing, IsWhole, stands}
 use Rattle.zb_store.specs.Store.{AllWhole, WasThere}
-use Rattle.zb_change.specs.declared.change.Change.{Change}
+use Rattle.zb_node_types.specs.declared.change.Change.{Change}
 use Rattle.zb_host.specs.declared.fault.HostFault.{HostFault}
 use Rattle.zb_host.specs.declared.fault.HostFault.TheVariants.{Disk, NoMemory, NoRecord, BadRecord, Worn}
 use Rattle.zb_host.specs.Plans.{Restored, gives, bad}

@@ -1,7 +1,7 @@
 -- What the calls of a host promise to the next call, and to whoever comes after a crash.
 use Rattle.std.specs.Prelude.{ℕ, ◌≡◌, ◌≢◌, ◌==◌, List, [], get_or, Some, None, Result, IfOk, IfErr, OnErr, IsTrue}
 use Rattle.arrayvec.specs.declared.array_vec.ArrayVec.{ArrayVec}
-use Rattle.zb_change.specs.declared.change.Change.{Change}
+use Rattle.zb_node_types.specs.declared.change.Change.{Change}
 use Rattle.zb_disk.specs.View.{Telling, View, LeavesOnly}
 use Rattle.zb_store.specs.Layout.{Standing, stands}
 use Rattle.zb_store.specs.Store.{place_of, AllWhole, WasThere}

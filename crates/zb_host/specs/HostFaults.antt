@@ -8,7 +8,7 @@ use Rattle.zb_store.specs.Store.{Place}
 use Rattle.zb_host.specs.declared.fault.HostFault.{HostFault}
 use Rattle.zb_host.specs.declared.fault.HostFault.TheVariants.{Disk, NoMemory, NoRecord, BadRecord, Worn}
 use Rattle.arrayvec.specs.declared.array_vec.ArrayVec.{ArrayVec}
-use Rattle.zb_change.specs.declared.change.Change.{Change}
+use Rattle.zb_node_types.specs.declared.change.Change.{Change}
 use Rattle.zb_store.specs.declared.fault.StoreFault.{StoreFault}
 use Rattle.zb_store.specs.declared.fault.StoreFault.TheVariants.{Disk as store_disk, NoRecord as store_no_record, TooLarge as store_too_large, NoMemory as store_no_memory, Worn as store_worn}
 use Rattle.zb_host.specs.Plans.{bad}

@@ -3,7 +3,7 @@ ghost use Rattle.std.specs.Prelude.{◌≡◌, ◌≤◌, ◌<◌, ◌==◌, ◌
 ghost use Rattle.zb_host.specs.Hosts.{IsCommit};
 
 use crate::Core;
-use zb_change::Changes;
+use zb_node_types::Changes;
 use zb_disk::Disk;
 use zb_store::{Store, StoreFault};
 

@@ -1,7 +1,7 @@
 //! Why a host's call failed.
 use std::error::Error;
 use std::fmt;
-use zb_change::Changes;
+use zb_node_types::Changes;
 
 /// Why a host's call failed. After a failed `handle` the host is down, and the node boots again from its disk.
 #[derive(Debug, Drop, PartialEq, Eq)]

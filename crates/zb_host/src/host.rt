@@ -15,7 +15,7 @@ use crate::{Core, HostFault};
 use std::alloc::Global;
 use std::marker::Model;
 use zb_base::{Config, OrMemory};
-use zb_change::{Changes, KeyError};
+use zb_node_types::{Changes, KeyError};
 use zb_disk::Disk;
 use zb_store::{Store, StoreFault};
 

@@ -1,12 +1,12 @@
 //! What a host needs of a node's policy.
 ghost use Rattle.std.specs.Prelude.{◌≡◌, ◌≢◌, ◌≤◌, ◌++◌, List, [], ℕ, length, take, get_or, IfOk, IfErr};
-ghost use Rattle.zb_change.specs.declared.change.Change.{Change as change};
+ghost use Rattle.zb_node_types.specs.declared.change.Change.{Change as change};
 ghost use Rattle.zb_base.specs.Config.{IsConfig};
 ghost use Rattle.zb_host.specs.Plans.{Restored, gives, IsRestoreFault};
 
 use std::alloc::Global;
 use zb_base::{Config, OrMemory};
-use zb_change::{Changes, KeyError};
+use zb_node_types::{Changes, KeyError};
 
 /// What an event leads to: the changes of the stable state, and what goes out once they are stored.
 #[derive(Debug, Drop)]

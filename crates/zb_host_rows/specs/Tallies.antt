@@ -1,8 +1,8 @@
 -- A core that counts what it sealed: its plans, its record and its entries.
 use Rattle.std.specs.Prelude.{ℕ, ◌+◌, ◌%◌, ◌≡◌, ◌==◌, ◌||◌, List, [], ◌∷◌, length, get_or, Option, Some, None, not, min, nat_lt, if◌then◌else◌}
 use Rattle.zb_base.specs.declared.label.Layer.TheVariants.{Nwk}
-use Rattle.zb_change.specs.declared.change.Change.{Change}
-use Rattle.zb_change.specs.declared.change.Change.TheVariants.{Reserve}
+use Rattle.zb_node_types.specs.declared.change.Change.{Change}
+use Rattle.zb_node_types.specs.declared.change.Change.TheVariants.{Reserve}
 use Rattle.zb_host.specs.declared.plan.Plan.{Plan}
 use Rattle.zb_host.specs.Plans.{Restored, gives, bad}
 use Rattle.zb_host_rows.specs.declared.tally.Tally.{Tally}

@@ -1,6 +1,6 @@
 -- What a counting core keeps of the law of cores.
 use Rattle.std.proofs.Common.{ℕ, ◌+◌, ◌≤◌, ◌≡◌, ◌≢◌, ◌++◌, ◌==◌, List, [], ◌∷◌, length, get_or, Option, Some, None, Bool, true, false, if◌then◌else◌, refl, sym, ◌∙◌, ap, subst, arith, append-nil}
-use Rattle.zb_change.specs.declared.change.Change.{Change}
+use Rattle.zb_node_types.specs.declared.change.Change.{Change}
 use Rattle.zb_host.specs.declared.plan.Plan.{Plan}
 use Rattle.zb_host.specs.Plans.{Restored, gives, bad}
 use Rattle.zb_host_rows.specs.declared.tally.Tally.{Tally}

@@ -1,14 +1,14 @@
 //! A core that counts what it sealed.
 ghost use Rattle.std.specs.Prelude.{◌≡◌, ◌+◌, ◌≤◌, ◌==◌, ◌||◌, nat_lt, min, if◌then◌else◌, [], ◌∷◌, length, take, get_or, Some, None, MatchResult};
 ghost use Rattle.zb_base.specs.declared.label.Layer.TheVariants.{Nwk as nwk};
-ghost use Rattle.zb_change.specs.declared.change.Change.TheVariants.{Reserve as reserve};
+ghost use Rattle.zb_node_types.specs.declared.change.Change.TheVariants.{Reserve as reserve};
 ghost use Rattle.zb_host.specs.Plans.{gives, bad};
 ghost use Rattle.zb_host_rows.specs.Tallies.{IsPlan, IsAfter, planned, sealed, number_of, entry, recorded, fault_in, counted, restored, spelled};
 ghost use Rattle.zb_host_rows.specs.TallyLaws.{tally_adds, tally_keeps, tally_newest, tally_idle, tally_short};
 
 use std::alloc::Global;
 use zb_base::{Config, Layer, OrMemory};
-use zb_change::{Change, Changes, KeyError};
+use zb_node_types::{Change, Changes, KeyError};
 use zb_host::{Core, Plan};
 
 /// What happens to a counting core.

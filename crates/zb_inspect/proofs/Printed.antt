@@ -12,18 +12,18 @@ use Rattle.zb_base.specs.declared.address.Short.{Short}
 use Rattle.zb_base.specs.declared.key.Key.{Key}
 use Rattle.zb_capture.specs.Grammar.{IsCapture}
 use Rattle.zb_capture.specs.declared.capture.Capture.{Capture}
-use Rattle.zb_sight.specs.Lines.{sights_text}
-use Rattle.zb_sight.specs.declared.sight.Sight.{Sight}
-use Rattle.zb_sight.proofs.UnopenedSights.{unopened_lines}
-use Rattle.zb_ring.specs.Pieces.{all_blocks, all_frames, frames_in, found_in, seen_text, HasRoom, StandsFor, Numbered, Shown, AllShown, IsCut, IsWithin}
-use Rattle.zb_ring.specs.Rings.{keys_of, sights, ring_of}
-use Rattle.zb_ring.specs.declared.block.Block.{Block}
-use Rattle.zb_ring.specs.declared.block.Seen.{Seen}
-use Rattle.zb_ring.specs.declared.block.Seen.TheVariants.{Nothing, Unopened, Lines, Sights}
-use Rattle.zb_ring.specs.declared.piece.Piece.{Piece}
-use Rattle.zb_ring.specs.declared.ring.Ring.{Ring}
-use Rattle.zb_ring.proofs.JoinLaws.{sights_append}
-use Rattle.zb_ring.proofs.PieceLists.{frames_count, in_pieces, whole_frames, within_cut}
+use Rattle.zb_inspect_frame.specs.Lines.{sights_text}
+use Rattle.zb_inspect_frame.specs.declared.sight.Sight.{Sight}
+use Rattle.zb_inspect_frame.proofs.UnopenedSights.{unopened_lines}
+use Rattle.zb_inspect_ring.specs.Pieces.{all_blocks, all_frames, frames_in, found_in, seen_text, HasRoom, StandsFor, Numbered, Shown, AllShown, IsCut, IsWithin}
+use Rattle.zb_inspect_ring.specs.Rings.{keys_of, sights, ring_of}
+use Rattle.zb_inspect_ring.specs.declared.block.Block.{Block}
+use Rattle.zb_inspect_ring.specs.declared.block.Seen.{Seen}
+use Rattle.zb_inspect_ring.specs.declared.block.Seen.TheVariants.{Nothing, Unopened, Lines, Sights}
+use Rattle.zb_inspect_ring.specs.declared.piece.Piece.{Piece}
+use Rattle.zb_inspect_ring.specs.declared.ring.Ring.{Ring}
+use Rattle.zb_inspect_ring.proofs.JoinLaws.{sights_append}
+use Rattle.zb_inspect_ring.proofs.PieceLists.{frames_count, in_pieces, whole_frames, within_cut}
 use Rattle.zb_inspect.specs.Report.{tail_text, report_text, report_of}
 use Rattle.zb_inspect.specs.Texts.{block_text, blocks_text, pages_text, BlockHasRoom, HaveRoom}
 

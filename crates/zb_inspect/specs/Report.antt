@@ -2,10 +2,10 @@
 use Rattle.std.specs.Prelude.{ℕ, ◌+◌, List, [], ◌∷◌, ◌++◌, length, codes, decimal, Option, Some, None}
 use Rattle.hex.specs.Hex.{encode_upper}
 use Rattle.zb_capture.specs.declared.capture.Capture.{Capture}
-use Rattle.zb_ring.specs.Rings.{keys_of, sights, ring_of}
-use Rattle.zb_ring.specs.declared.ring.Ring.{Ring}
-use Rattle.zb_ring.specs.declared.ring.RingKey.{RingKey}
-use Rattle.zb_sight.specs.Lines.{sights_text}
+use Rattle.zb_inspect_ring.specs.Rings.{keys_of, sights, ring_of}
+use Rattle.zb_inspect_ring.specs.declared.ring.Ring.{Ring}
+use Rattle.zb_inspect_ring.specs.declared.ring.RingKey.{RingKey}
+use Rattle.zb_inspect_frame.specs.Lines.{sights_text}
 use Rattle.zb_text.specs.Words.{then}
 
 abbrev pub found_text : Option (ℕ × ℕ) → List ℕ

@@ -4,7 +4,7 @@ ghost use Rattle.std.specs.Io.KnownBytes.{Appends};
 ghost use Rattle.std.specs.List.{AllByRecursion};
 ghost use Rattle.zb_base.specs.Outside.{AppendsFront, HasCause};
 ghost use Rattle.zb_capture.specs.Grammar.{IsCapture};
-ghost use Rattle.zb_ring.specs.Pieces.{all_blocks};
+ghost use Rattle.zb_inspect_ring.specs.Pieces.{all_blocks};
 ghost use Rattle.zb_inspect.specs.Report.{tail_text};
 ghost use Rattle.zb_inspect.specs.Texts.{blocks_text, pages_text, HaveRoom};
 ghost use Rattle.zb_inspect.specs.Reports.{Reports};
@@ -15,7 +15,7 @@ use std::alloc::{AllocError, Global};
 use std::thread::{Threads, map_vec};
 use zb_base::{Failed, NoMemory, Sink};
 use zb_capture::Capture;
-use zb_ring::{Gate, Piece, Ring, open_all};
+use zb_inspect_ring::{Gate, Piece, Ring, open_all};
 
 /// Writes the report on a capture, worked out by so many jobs. Nothing is written before the report is known.
 pub fn report<T: Threads + Sync, G: Gate, W: Sink>(

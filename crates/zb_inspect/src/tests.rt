@@ -7,7 +7,7 @@ use std::test::Fail;
 use std::thread::Threads;
 use zb_base::MemSink;
 use zb_capture::read_capture;
-use zb_ring::{Gate, OpenGate};
+use zb_inspect_ring::{Gate, OpenGate};
 
 const CAPTURE: &[u8] = b"code 83FED3407A939723A5C639B26916D505C3B5
 frame 08022B1A00001E00280000000001000000004B12000063DD603D8198631D3B765B34BA85

@@ -5,7 +5,7 @@ use std::alloc::Global;
 use std::process::Abort;
 use std::test::Fail;
 use zb_base::{Eui, Key, Layer, OrMemory, Role};
-use zb_change::{Change, Changes, KeyError};
+use zb_node_types::{Change, Changes, KeyError};
 use zb_keys::Tables;
 use zb_record::Version;
 

@@ -2,15 +2,15 @@
 use Rattle.std.proofs.Common.{◌≡◌, ℕ, ◌+◌, ◌<◌, ◌≤◌, List, [], ◌∷◌, ◌++◌, length, refl, sym, ap, ◌∙◌, arith, true, subst, take, drop, get_or}
 use Rattle.std.specs.Prelude.{vec_capacity}
 use Rattle.std.proofs.lemmas.List.{take_more, drop_more, take_all, get_or-map, length-map}
-use Rattle.zb_change.specs.declared.change.Change.{Change}
-use Rattle.zb_change.specs.Changes.{duty, edit, edits}
+use Rattle.zb_node_types.specs.declared.change.Change.{Change}
+use Rattle.zb_node_types.specs.Changes.{duty, edit, edits}
 use Rattle.zb_model.specs.Data.{Duty, Centre, Router, Device, Edit}
 use Rattle.zb_model.specs.State.{NodeState, new_node, shown, applied, applied_all}
 use Rattle.zb_model.specs.Fits.{keeps_rules, rows_have_room, keys_differ, at_most_two_live, active_is_live, partners_agree, links_are_marked, floors_are_kept, limits_are_started, duty_is_kept, pairs_are_kept, most_nets, most_links, most_pairs, fits, all_fit}
 use Rattle.zb_keys.specs.declared.contents.Contents.{Contents}
 use Rattle.zb_keys.specs.Tables.{state_of, IsSound, Forgets}
 use Rattle.zb_keys.proofs.StateLemmas.{both}
-use Rattle.zb_fits.proofs.ShownApplied.{shown_applied}
+use Rattle.zb_model_fits.proofs.ShownApplied.{shown_applied}
 use Rattle.zb_keys.proofs.RuleLemmas.{fits_kept}
 
 pub shown_is : (s : NodeState) → Forgets s → shown s ≡ s

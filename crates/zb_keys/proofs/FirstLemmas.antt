@@ -4,11 +4,11 @@ use Rattle.std.specs.Prelude.{nat_le}
 use Rattle.zb_base.specs.declared.address.Eui.{Eui}
 use Rattle.zb_base.specs.declared.key.Key.{Key}
 use Rattle.zb_base.specs.declared.label.Layer.{Layer}
-use Rattle.zb_change.specs.declared.change.Change.{Change}
-use Rattle.zb_change.specs.declared.change.Change.TheVariants as change
-use Rattle.zb_change.specs.Changes.{edit}
-use Rattle.zb_fits.specs.Fitting.{leaves_rules}
-use Rattle.zb_fits.proofs.FitLaws.{fits_is}
+use Rattle.zb_node_types.specs.declared.change.Change.{Change}
+use Rattle.zb_node_types.specs.declared.change.Change.TheVariants as change
+use Rattle.zb_node_types.specs.Changes.{edit}
+use Rattle.zb_model_fits.specs.Fitting.{leaves_rules}
+use Rattle.zb_model_fits.proofs.FitLaws.{fits_is}
 use Rattle.zb_model.specs.Data.{Reserve, Aps}
 use Rattle.zb_model.specs.State.{NodeState, applied}
 use Rattle.zb_model.specs.Fits.{keeps_rules, fits}

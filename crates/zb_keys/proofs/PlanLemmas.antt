@@ -3,14 +3,14 @@ use Rattle.std.proofs.Common.{◌≡◌, ℕ, ◌+◌, ◌<◌, ◌≤◌, List,
 use Rattle.std.specs.Prelude.{find, filter, option_map, Result, Ok, Err, nat_le, nat_eq, reverse, min, max}
 use Rattle.std.specs.List.{list_any}
 use borrow.Author.Tests.{lt-leb, le-leb, eqb-true, eq-eqb}
-use Rattle.zb_change.specs.declared.fault.KeyError.TheVariants.{KeysFull, RowsFull}
-use Rattle.zb_change.specs.declared.fault.KeyError.{KeyError}
+use Rattle.zb_node_types.specs.declared.fault.KeyError.TheVariants.{KeysFull, RowsFull}
+use Rattle.zb_node_types.specs.declared.fault.KeyError.{KeyError}
 use mathlib.Core.List.{reverse-cons}
 use Rattle.std.proofs.lemmas.List.{map_push, map_more, map-append, length_push, length-map, drop_more, drop_all, take_all, take-append-drop}
 use Rattle.std.proofs.lemmas.List.Elements.{filter-append}
 use Rattle.std.proofs.lemmas.Bool.{not-true}
-use Rattle.zb_change.specs.declared.change.Change.{Change}
-use Rattle.zb_change.specs.Changes.{edit, edits}
+use Rattle.zb_node_types.specs.declared.change.Change.{Change}
+use Rattle.zb_node_types.specs.Changes.{edit, edits}
 use Rattle.zb_model.specs.Data.{Bytes, Move, DropNet, Edit, Moved, Active, Install, Row, Live, Removed, Pair, Provisional, Unverified, Verified}
 use Rattle.zb_model.specs.State.{NodeState, NetKey, LinkKey, live_nets, same_key, has_net, has_link, is_live_of, is_unverified, live_of, last_where, newest, other_user, current, offered, is_centre}
 use Rattle.zb_model.specs.Fits.{keeps_rules, partners_agree, all_apart, like_rows, same_bool, most_links}
@@ -27,7 +27,7 @@ use Rattle.zb_keys.proofs.Mapping.{list_any-map}
 use Rattle.zb_keys.proofs.FindLemmas.{find_map}
 use Rattle.zb_keys.proofs.ShownLemmas.{filter-map}
 use Rattle.zb_keys.proofs.StateLemmas.{both, rules_of}
-use Rattle.zb_fits.proofs.Tests.{neither}
+use Rattle.zb_model_fits.proofs.Tests.{neither}
 
 pub adds_one : (old new : List Change) (x : Change) → new ≡ old ++ x ∷ [] → Adds (edit x ∷ []) 1 old new
 adds_one old new x is = record { made = ap (map edit) is ∙ map_push edit old x; room = omega (arith, ap (length {A = Change}) is, length_push old x) }

@@ -4,7 +4,7 @@ use Rattle.std.specs.Prelude.{filter}
 use Rattle.std.specs.List.{flat_map}
 use Rattle.std.proofs.lemmas.List.{length-map}
 use borrow.Author.Tests.{leb-true}
-use Rattle.zb_change.specs.Changes.{duty, stage, is_sending}
+use Rattle.zb_node_types.specs.Changes.{duty, stage, is_sending}
 use Rattle.zb_model.specs.Data.{Duty, Centre, Router, Device}
 use Rattle.zb_model.specs.State.{NetKey, live_nets}
 use Rattle.zb_model.specs.Fits.{at_most_two_live, most_links}

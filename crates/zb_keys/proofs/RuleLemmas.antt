@@ -8,9 +8,9 @@ use Rattle.zb_model.specs.State.{NodeState, SenderFloor, NetKey, LinkKey, same_k
 use Rattle.zb_model.specs.Fits.{keeps_rules, rows_have_room, keys_differ, at_most_two_live, active_is_live, partners_agree, links_are_marked, floors_are_kept, limits_are_started, duty_is_kept, pairs_are_kept, senders_ascend, most_senders, row_is_live, all_apart, like_rows, same_bool, most_links, fits, may_change}
 use Rattle.std.proofs.lemmas.Bool.{not-true}
 use Rattle.std.proofs.lemmas.List.Folds.{list_all-map}
-use Rattle.zb_fits.proofs.Tests.{neither, any_same}
-use Rattle.zb_fits.proofs.Parts.{same_key_is, same_key_sym}
-use Rattle.zb_fits.proofs.Shown.{rules_shown}
+use Rattle.zb_model_fits.proofs.Tests.{neither, any_same}
+use Rattle.zb_model_fits.proofs.Parts.{same_key_is, same_key_sym}
+use Rattle.zb_model_fits.proofs.Shown.{rules_shown}
 use Rattle.zb_keys.specs.Senders.{counted_row}
 use Rattle.zb_keys.proofs.Mapping.{list_any-map}
 use Rattle.zb_keys.proofs.ShownLemmas.{filter-map}

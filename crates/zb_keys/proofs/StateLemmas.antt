@@ -6,7 +6,7 @@ use Rattle.std.specs.List.{list_any, list_all}
 use Rattle.std.proofs.lemmas.List.{map-append, length-map, with_items_is}
 use Rattle.std.proofs.lemmas.List.Elements.{All-nil, All-cons}
 use borrow.Author.Tests.{leb-true}
-use Rattle.zb_change.specs.Changes.{duty}
+use Rattle.zb_node_types.specs.Changes.{duty}
 use Rattle.zb_model.specs.Data.{Bytes, Trust, Nwk, Reserve, Floor, Start, Moved, DropNet, Row, Pair, Removed}
 use Rattle.zb_model.specs.State.{NodeState, SenderFloor, NetKey, LinkKey, PairKey, at_net, has_net, shown_net, reserved, started_at, dropped_net, applied, shown, is_told, is_live_of, with_link, with_pair, names_two, names, is_link, has_link, new_link, revived, at_link}
 use Rattle.zb_model.specs.Fits.{keeps_rules, rows_have_room, keys_differ, at_most_two_live, active_is_live, partners_agree, links_are_marked, floors_are_kept, limits_are_started, duty_is_kept, pairs_are_kept, senders_ascend, most_nets, most_links, most_pairs, most_senders}
@@ -19,7 +19,7 @@ use Rattle.zb_keys.specs.Senders.{live_floor, HasRoom}
 use Rattle.zb_keys.specs.Tables.{state_of, with_row, Becomes, IsSound, Forgets}
 use Rattle.zb_record.specs.Redoing.{limited, with_limit}
 use Rattle.zb_keys.proofs.Mapping.{list_any-map}
-use Rattle.zb_fits.proofs.ShownApplied.{shown_twice}
+use Rattle.zb_model_fits.proofs.ShownApplied.{shown_twice}
 use Rattle.zb_keys.proofs.ShownLemmas.{shown_reserved, shown_started, shown_dropped, shown_stored, shown_limited}
 
 pub both : (a b : Bool) → (a && b) ≡ true → (a ≡ true) × (b ≡ true)

@@ -2,10 +2,10 @@
 -- not among them.
 use Rattle.std.specs.Prelude.{◌≡◌, ℕ, ◌+◌, Bool, false, not, if◌then◌else◌, ◌&&◌, ◌||◌, List, [], ◌∷◌, ◌++◌, map, ◌≤◌, length, find, min, max, Option, Some, None, Result, Ok, Err, is_none}
 use Rattle.zb_mmo.specs.Keyed.{verify_hash}
-use Rattle.zb_change.specs.declared.change.Change.{Change}
-use Rattle.zb_change.specs.declared.fault.KeyError.{KeyError}
-use Rattle.zb_change.specs.declared.fault.KeyError.TheVariants.{KeyOld, KeysFull, RowsFull, KeyInUse, NoRow, WrongHash}
-use Rattle.zb_change.specs.Changes.{edits}
+use Rattle.zb_node_types.specs.declared.change.Change.{Change}
+use Rattle.zb_node_types.specs.declared.fault.KeyError.{KeyError}
+use Rattle.zb_node_types.specs.declared.fault.KeyError.TheVariants.{KeyOld, KeysFull, RowsFull, KeyInUse, NoRow, WrongHash}
+use Rattle.zb_node_types.specs.Changes.{edits}
 use Rattle.zb_model.specs.Data.{Bytes, Provisional, Unverified, Verified, Move, Install, Active, Row, Pair, Live, Removed, Edit, Moved}
 use Rattle.zb_model.specs.State.{NodeState, NetKey, LinkKey, is_centre, has_net, has_link, is_live_of, same_key, current, offered, other_user, live_of}
 use Rattle.zb_model.specs.Rules.{nets_full, links_full, pairs_full, drop_old, drop_row, drop_partner}

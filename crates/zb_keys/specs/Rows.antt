@@ -1,6 +1,6 @@
 -- The rows of the program as the model's.
 use Rattle.std.specs.Prelude.{map}
-use Rattle.zb_change.specs.Changes.{trust}
+use Rattle.zb_node_types.specs.Changes.{trust}
 use Rattle.zb_keys.specs.declared.net.NetRow.{NetRow}
 use Rattle.zb_keys.specs.declared.net.SenderFloor as program
 use Rattle.zb_keys.specs.declared.link.LinkRow.{LinkRow}

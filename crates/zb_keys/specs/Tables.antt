@@ -1,7 +1,7 @@
 -- What the tables of a node hold, as the model's state of a node, and what they keep of themselves.
 use Rattle.std.specs.Prelude.{◌≡◌, ◌≤◌, true, if◌then◌else◌, [], ◌∷◌, ◌++◌, map, Option, Some, None, vec_capacity}
 use Rattle.zb_base.specs.declared.key.Key.{Key}
-use Rattle.zb_change.specs.Changes.{duty, stage, is_sending}
+use Rattle.zb_node_types.specs.Changes.{duty, stage, is_sending}
 use Rattle.zb_keys.specs.declared.contents.Contents.{Contents}
 use Rattle.zb_keys.specs.Rows.{net_key, link_key, pair_key}
 use Rattle.zb_record.specs.declared.record.Record.{Record}

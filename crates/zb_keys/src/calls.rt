@@ -2,12 +2,12 @@
 //! the state of the node are not among the changes: who calls adds them.
 ghost use Rattle.std.specs.Prelude.{◌≡◌, ◌<◌, ◌≤◌, length};
 ghost use Rattle.zb_model.specs.Rules.{drop_old};
-ghost use Rattle.zb_change.specs.Changes.{edits};
+ghost use Rattle.zb_node_types.specs.Changes.{edits};
 ghost use Rattle.zb_keys.specs.Planning.{Adds, Tells, moves, activation, installing, providing, offering, partnering, verifying, switching, dropping, pairing};
 
 use crate::Tables;
 use zb_base::{Eui, Key};
-use zb_change::{Changes, KeyError};
+use zb_node_types::{Changes, KeyError};
 
 impl Tables {
     /// What a network key changes that comes to a router or device: where two keys are in use, the one that isn't active

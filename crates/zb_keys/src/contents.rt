@@ -1,7 +1,7 @@
 //! What the tables of a node hold, and how one change changes it.
 ghost use Rattle.std.specs.Option.{option_copied};
 ghost use Rattle.std.specs.Prelude.{◌≡◌, ◌<◌, ◌≤◌, ◌-◌, ◌^◌, option_map, [], ◌∷◌, ◌++◌, true, false, length, vec_capacity, vec_len, All, map};
-ghost use Rattle.zb_change.specs.Changes.{tier, trust, stage, edit, is_sending};
+ghost use Rattle.zb_node_types.specs.Changes.{tier, trust, stage, edit, is_sending};
 ghost use Rattle.zb_keys.specs.Rows.{net_key, link_key};
 ghost use Rattle.zb_keys.specs.Senders.{HasRoom, live_floor};
 ghost use Rattle.zb_keys.specs.Reading.{outgoing_of, place_of_key};
@@ -20,7 +20,7 @@ use crate::net::{
 use crate::pair::{drop_pairs, has_pair};
 use crate::{LinkRow, NetRow, Pair};
 use zb_base::{Eui, Key, Layer, Role};
-use zb_change::{Attribute, Change, Rollover, State};
+use zb_node_types::{Attribute, Change, Rollover, State};
 use zb_counter::Outgoing;
 
 /// The stable state of a node, with the next counters and the floors in memory.

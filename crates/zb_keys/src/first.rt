@@ -1,6 +1,6 @@
 //! Changes behind a record of version 1, where all network keys have one NWK limit, and behind later ones.
 ghost use Rattle.std.specs.Prelude.{◌≡◌, ◌≤◌, true, length, vec_capacity};
-ghost use Rattle.zb_change.specs.Changes.{edit, tier};
+ghost use Rattle.zb_node_types.specs.Changes.{edit, tier};
 ghost use Rattle.zb_keys.specs.Tables.{state_of, Becomes, Forgets, IsSound};
 ghost use Rattle.zb_model.specs.Data.{Reserve};
 ghost use Rattle.zb_model.specs.State.{shown};
@@ -10,7 +10,7 @@ use crate::NetRow;
 use crate::contents::Contents;
 use crate::net::limit_nets;
 use zb_base::{Key, Layer};
-use zb_change::Change;
+use zb_node_types::Change;
 use zb_record::Version;
 
 impl Contents {

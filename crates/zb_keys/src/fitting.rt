@@ -2,8 +2,8 @@
 ghost use Rattle.std.specs.Prelude.{◌≡◌, ◌≤◌, ◌&&◌, ◌||◌, not, map, option_map, find, is_none, is_some, length, nat_eq, nat_le, nat_lt};
 ghost use Rattle.std.specs.List.{list_any};
 ghost use Rattle.std.specs.Option.{option_copied};
-ghost use Rattle.zb_change.specs.Changes.{edit, is_sending, stage, tier, trust};
-ghost use Rattle.zb_fits.specs.Fitting.{leaves_rules, move_leaves, floor_has_room, is_rival, key_is_used};
+ghost use Rattle.zb_node_types.specs.Changes.{edit, is_sending, stage, tier, trust};
+ghost use Rattle.zb_model_fits.specs.Fitting.{leaves_rules, move_leaves, floor_has_room, is_rival, key_is_used};
 ghost use Rattle.zb_keys.specs.Rows.{net_key, link_key, heard_floor};
 ghost use Rattle.zb_keys.specs.Tables.{state_of, IsSound};
 ghost use Rattle.zb_model.specs.Data.{Reserve, Floor, Row};
@@ -17,7 +17,7 @@ use crate::pair::pair_row;
 use crate::planning::{count_live, is_key};
 use crate::{LinkRow, NetRow, SenderFloor};
 use zb_base::{Eui, Key, Layer, Role};
-use zb_change::{Attribute, Change, Rollover, State};
+use zb_node_types::{Attribute, Change, Rollover, State};
 
 impl Contents {
     /// Whether a change fits.
@@ -66,7 +66,7 @@ impl Contents {
     }
 
     /// Whether the rules for records stand after a change that may be made.
-    #[tactic(auto, unfolding(zb_fits::specs::Fitting::leaves_rules))]
+    #[tactic(auto, unfolding(zb_model_fits::specs::Fitting::leaves_rules))]
     fn leaves_rules(&self, change: &Change) -> bool
         ensures { result ≡ leaves_rules (edit change.now) (state_of self.now) }
     {
@@ -211,7 +211,7 @@ impl Contents {
     }
 
     /// Whether a floor has a place.
-    #[tactic(auto, unfolding(zb_fits::specs::Fitting::leaves_rules))]
+    #[tactic(auto, unfolding(zb_model_fits::specs::Fitting::leaves_rules))]
     fn has_floor_room(&self, layer: Layer, key: &Key, sender: Eui, value: u32) -> bool
         ensures { result ≡ leaves_rules (Floor (tier layer) key.now.0 sender.0 value) (state_of self.now) }
     {

@@ -2,13 +2,13 @@
 ghost use Rattle.std.specs.Prelude.{◌≡◌, ◌&&◌, false, not, map, find, nat_eq, if◌then◌else◌};
 ghost use Rattle.std.specs.List.{list_any};
 ghost use Rattle.std.specs.Option.{option_copied};
-ghost use Rattle.zb_change.specs.Changes.{duty, trust};
+ghost use Rattle.zb_node_types.specs.Changes.{duty, trust};
 ghost use Rattle.zb_model.specs.Fits.{most_links};
 ghost use Rattle.zb_keys.specs.Rows.{link_key};
 ghost use Rattle.zb_model.specs.State.{at_link, is_link, has_link, is_live_of, dropped_link, link_floor, link_kept, revived, new_link, told_as, with_told, is_unverified, is_verified, same_key};
 
 use zb_base::{Eui, Key, Role};
-use zb_change::Attribute;
+use zb_node_types::Attribute;
 use zb_counter::Floor;
 
 /// A link key shared with a partner. A row is never taken away: a key that comes again for its partner revives it.

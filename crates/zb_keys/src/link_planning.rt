@@ -1,7 +1,7 @@
 //! What the calls on tables tell of link keys: changes of rows, or why there are none. They change nothing.
 ghost use Rattle.std.specs.Prelude.{◌≡◌, ◌<◌, ◌≤◌, ◌++◌, ◌∷◌, [], ◌||◌, ◌&&◌, not, is_none, List, length, find, option_map, min, max};
 ghost use Rattle.std.specs.Option.{option_copied};
-ghost use Rattle.zb_change.specs.Changes.{edit, edits};
+ghost use Rattle.zb_node_types.specs.Changes.{edit, edits};
 ghost use Rattle.zb_keys.specs.Planning.{Adds, Tells, moves, taking, refused_or, providing, offering, partnering, is_proof, verified_row, verifying, dropping, pairing};
 ghost use Rattle.zb_keys.specs.Rows.{link_key};
 ghost use Rattle.zb_keys.specs.Tables.{state_of, IsSound};
@@ -16,7 +16,7 @@ use crate::link::{has_row, link_room, live_row, other_row};
 use crate::planning::add;
 use arrayvec::ArrayVec;
 use zb_base::{Eui, Key, Role};
-use zb_change::{Attribute, Change, Changes, KeyError};
+use zb_node_types::{Attribute, Change, Changes, KeyError};
 use zb_mmo::verify_hash;
 
 /// Whether that row has the key.

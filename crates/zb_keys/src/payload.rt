@@ -1,14 +1,14 @@
 //! The payload of a commit: the changes that it stores, as bytes.
 ghost use Rattle.std.specs.Prelude.{◌≡◌, ◌+◌, ◌<◌, ◌≤◌, ◌^◌, ◌++◌, [], ◌∷◌, length, take, filter};
 ghost use Rattle.std.specs.List.{flat_map};
-ghost use Rattle.zb_change.specs.Changes.{edit, edits, tier, trust, stage, is_sending};
+ghost use Rattle.zb_node_types.specs.Changes.{edit, edits, tier, trust, stage, is_sending};
 ghost use Rattle.zb_keys.specs.Written.{Writes};
 ghost use Rattle.zb_model.specs.Record.{edit_bytes, payload, is_stored, eight_bytes, four_bytes, tier_byte, trust_byte, stage_byte, worth};
 
 use crate::Tables;
 use crate::writing::put;
 use zb_base::{Eui, Key, Layer};
-use zb_change::{Attribute, Change, Changes, Rollover, State};
+use zb_node_types::{Attribute, Change, Changes, Rollover, State};
 
 /// The byte of a layer.
 fn layer_byte(layer: Layer) -> u8

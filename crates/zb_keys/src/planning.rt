@@ -1,7 +1,7 @@
 //! What the calls on tables tell of network keys: changes of rows, or why there are none. They change nothing.
 ghost use Rattle.std.specs.Prelude.{◌≡◌, ◌<◌, ◌≤◌, ◌++◌, ◌∷◌, [], ◌&&◌, not, length, find, filter, option_map, map, nat_eq, IfSome};
 ghost use Rattle.std.specs.Option.{option_copied};
-ghost use Rattle.zb_change.specs.Changes.{edit, edits};
+ghost use Rattle.zb_node_types.specs.Changes.{edit, edits};
 ghost use Rattle.zb_keys.specs.Planning.{Adds, Tells, moves, activation, taken, installing, installing_after, switching};
 ghost use Rattle.zb_keys.specs.Rows.{net_key};
 ghost use Rattle.zb_keys.specs.Tables.{state_of, IsSound, active_bytes};
@@ -16,7 +16,7 @@ use crate::contents::Contents;
 use crate::net::{has_key, key_row};
 use arrayvec::ArrayVec;
 use zb_base::Key;
-use zb_change::{Change, Changes, KeyError, State};
+use zb_node_types::{Change, Changes, KeyError, State};
 
 /// Adds a change, for which there is room.
 pub fn add(changes: &mut Changes, change: Change)

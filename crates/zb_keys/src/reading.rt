@@ -1,7 +1,7 @@
 //! The readers of tables, and what seals and accepted frames do to them.
 ghost use Rattle.std.specs.Prelude.{◌≡◌, ◌<◌, ◌-◌, ◌^◌, [], map, option_map, slice_get};
 ghost use Rattle.std.specs.Option.{option_copied};
-ghost use Rattle.zb_change.specs.Changes.{duty, tier, stage, is_sending};
+ghost use Rattle.zb_node_types.specs.Changes.{duty, tier, stage, is_sending};
 ghost use Rattle.zb_keys.specs.Rows.{net_key, link_key, pair_key};
 ghost use Rattle.zb_keys.specs.Reading.{place_of_key, outgoing_of, floor_at, sender_at, heard_under, heard_from};
 ghost use Rattle.zb_model.specs.Data.{Nwk};
@@ -10,7 +10,7 @@ ghost use Rattle.zb_model.specs.State.{next_counter, stored_limit, counted, with
 use crate::pair::pair_row;
 use crate::{LinkRow, NetRow, Pair, Tables};
 use zb_base::{Eui, Key, Layer, Role};
-use zb_change::{Rollover, State};
+use zb_node_types::{Rollover, State};
 use zb_counter::{Floor, Outgoing};
 
 impl Tables {

@@ -1,7 +1,7 @@
 //! The record of tables: what a disk keeps of them, version 3.
 ghost use Rattle.std.specs.Prelude.{◌≡◌, ◌+◌, ◌*◌, ◌<◌, ◌≤◌, ◌++◌, [], ◌∷◌, length, take, filter, map, if◌then◌else◌};
 ghost use Rattle.std.specs.List.{flat_map};
-ghost use Rattle.zb_change.specs.Changes.{duty, stage, is_sending};
+ghost use Rattle.zb_node_types.specs.Changes.{duty, stage, is_sending};
 ghost use Rattle.zb_keys.specs.Rows.{net_key, link_key, pair_key, heard_floor};
 ghost use Rattle.zb_keys.specs.Tables.{state_of, IsSound};
 ghost use Rattle.zb_keys.specs.Written.{Writes};

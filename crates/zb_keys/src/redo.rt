@@ -1,12 +1,12 @@
 //! Making the changes of journal entries again.
 ghost use Rattle.std.specs.Prelude.{◌≡◌, ◌≤◌, ◌∷◌, [], length, IfNone, IfSome, OnOk};
-ghost use Rattle.zb_change.specs.declared.fault.KeyError.TheVariants.{BadRecord};
+ghost use Rattle.zb_node_types.specs.declared.fault.KeyError.TheVariants.{BadRecord};
 ghost use Rattle.zb_keys.specs.Tables.{state_of, IsSound};
 ghost use Rattle.zb_record.specs.Redoing.{Redoes, change_redone, changes_redone, place_of, redone, redo_answer};
 
 use crate::Tables;
 use crate::contents::Contents;
-use zb_change::KeyError;
+use zb_node_types::KeyError;
 use zb_cursor::Reader;
 use zb_record::{Version, read_change};
 

@@ -1,8 +1,8 @@
 //! Tables from a record.
 ghost use Rattle.std.specs.Prelude.{◌≡◌, ◌≢◌, ◌≤◌, ◌⊎◌, ℕ, Err, Ok, IfOk, IfErr, length, map, vec_capacity};
 ghost use Rattle.zb_base.specs.declared.fault.OrMemory.TheVariants.{Fault, NoMemory as lacks};
-ghost use Rattle.zb_change.specs.Changes.{duty};
-ghost use Rattle.zb_change.specs.declared.fault.KeyError.TheVariants.{BadRecord};
+ghost use Rattle.zb_node_types.specs.Changes.{duty};
+ghost use Rattle.zb_node_types.specs.declared.fault.KeyError.TheVariants.{BadRecord};
 ghost use Rattle.zb_keys.specs.Rows.{heard_floor, net_key, link_key, pair_key};
 ghost use Rattle.zb_keys.specs.Tables.{active_bytes, state_of, IsRestored};
 ghost use Rattle.zb_model.specs.Fits.{most_links};
@@ -17,7 +17,7 @@ use crate::{LinkRow, NetRow, Pair, SenderFloor, Tables};
 use arrayvec::ArrayVec;
 use std::alloc::Global;
 use zb_base::{Key, NoMemory, OrMemory, Role};
-use zb_change::KeyError;
+use zb_node_types::KeyError;
 use zb_counter::Floor;
 use zb_record::{LinkRecord, NetRecord, PairRecord, Record, SenderRecord, read_record};
 

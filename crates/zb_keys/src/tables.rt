@@ -5,7 +5,7 @@ use crate::{LinkRow, NetRow, Pair};
 use std::alloc::Global;
 use std::marker::Model;
 use zb_base::{NoMemory, Role};
-use zb_change::{Changes, Rollover, State};
+use zb_node_types::{Changes, Rollover, State};
 
 /// What a node keeps: its network keys with their floors, its link keys, its counters and, at the centre, the keys of
 /// pairs of devices. All room is taken when the tables are made.
@@ -28,7 +28,7 @@ impl Model for Tables {
 
 impl Tables {
     ghost use Rattle.std.specs.Prelude.{◌≡◌, true, map, IfOk};
-    ghost use Rattle.zb_change.specs.Changes.{duty, stage, is_sending, edits};
+    ghost use Rattle.zb_node_types.specs.Changes.{duty, stage, is_sending, edits};
     ghost use Rattle.zb_model.specs.State.{new_node, shown, applied_all};
     ghost use Rattle.zb_model.specs.Fits.{AllFit, keeps_rules};
     ghost use Rattle.zb_keys.specs.Tables.{Forgets};

@@ -2,15 +2,15 @@
 use Rattle.std.proofs.Common.{◌≡◌, ℕ, zero, suc, ◌+◌, ◌≤◌, Bool, true, false, if◌then◌else◌, List, [], ◌∷◌, ◌++◌, length, filter, flat_map, Result, Ok, Err, refl, sym, ap, ◌≢◌, ◌∙◌, subst, arith, append_assoc, append-nil, length-append}
 use Rattle.std.specs.List.{AllByRecursion}
 use Rattle.std.proofs.lemmas.List.Concat.{flat_map-cons}
-use Rattle.zb_change.specs.declared.change.Change.{Change}
-use Rattle.zb_change.specs.Changes.{edit, edits}
+use Rattle.zb_node_types.specs.declared.change.Change.{Change}
+use Rattle.zb_node_types.specs.Changes.{edit, edits}
 use Rattle.zb_model.specs.Data.{Draw, DropNet, DropLink, Install, Active, Row, Pair, Became, Live, Removed, Roll, Told, Untold, Edit, Reserve, Floor, Start, Moved}
 use Rattle.zb_model.specs.State.{NodeState, shown, applied, applied_all}
 use Rattle.zb_model.specs.Fits.{keeps_rules, fits, all_fit, may_change}
 use Rattle.zb_model.specs.Record.{edit_bytes, is_stored, payload}
-use Rattle.zb_fits.proofs.Tests.{both}
-use Rattle.zb_fits.proofs.Shown.{fits_shown}
-use Rattle.zb_fits.proofs.ShownApplied.{shown_applied}
+use Rattle.zb_model_fits.proofs.Tests.{both}
+use Rattle.zb_model_fits.proofs.Shown.{fits_shown}
+use Rattle.zb_model_fits.proofs.ShownApplied.{shown_applied}
 use Rattle.zb_record.specs.Changes.{change_at}
 use Rattle.zb_record.specs.Ranges.{InRange}
 use Rattle.zb_record.specs.declared.version.Version.{Version}

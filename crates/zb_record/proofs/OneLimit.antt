@@ -2,8 +2,8 @@
 use Rattle.std.proofs.Common.{◌≡◌, ℕ, zero, suc, ◌≤◌, Bool, true, false, if◌then◌else◌, List, [], ◌∷◌, ◌++◌, length, map, Option, Some, None, Result, Ok, Err, refl, sym, ap, ◌∙◌, subst, arith, ◌==◌}
 use Rattle.std.specs.List.{AllByRecursion}
 use Rattle.std.proofs.lemmas.Bool.{leb-true}
-use Rattle.zb_change.specs.declared.change.Change.{Change}
-use Rattle.zb_change.specs.Changes.{edit}
+use Rattle.zb_node_types.specs.declared.change.Change.{Change}
+use Rattle.zb_node_types.specs.Changes.{edit}
 use Rattle.zb_model.specs.Data.{Bytes, Draw, DropNet, DropLink, Install, Active, Row, Pair, Became, Live, Removed, Roll, Told, Untold, Edit, Reserve, Floor, Start, Moved, Move, Nwk, Aps}
 use Rattle.zb_model.specs.State.{NodeState, NetKey, same_key, at_net, has_net, net_floor, dropped_net, given_net, applied, shown, shown_net}
 use Rattle.zb_record.specs.declared.version.Version.{Version}
@@ -19,7 +19,7 @@ use Rattle.zb_record.specs.Placed.{◌>>=◌, give, field, whole, rows_at}
 use Rattle.zb_record.specs.Rows.{net_at, net_flags_fit, is_new_net, floors_at, live_floors_at, all_floors_at, links_at, pairs_at}
 use Rattle.zb_record.specs.Records.{may_enter, may_roll, has_net_room, is_place, node_at, head_at, nets_at, state_from, record_at, record_read, ended}
 use Rattle.zb_record.proofs.Sound.{both_read, rows_keep, given}
-use Rattle.zb_change.specs.Changes.{duty}
+use Rattle.zb_node_types.specs.Changes.{duty}
 use Rattle.zb_record.specs.Redoing.{Redone, onward, made, limited, first_applied, first_fits, fits_behind, applied_behind, change_redone, changes_redone, payloads_redone, redone, GoesOn, HasOneLimit}
 
 -- ---- what each change keeps, all of them keep

@@ -10,9 +10,9 @@ use Rattle.std.proofs.lemmas.List.Elements.{filter-append}
 use Rattle.std.proofs.lemmas.List.Folds.{list_all-append}
 use Rattle.zb_base.specs.declared.address.Eui.{Eui}
 use Rattle.zb_base.specs.declared.key.Key.{Key}
-use Rattle.zb_change.specs.declared.state.Attribute.{Attribute}
-use Rattle.zb_change.specs.declared.state.Attribute.TheVariants as attribute
-use Rattle.zb_change.specs.Changes.{trust}
+use Rattle.zb_node_types.specs.declared.state.Attribute.{Attribute}
+use Rattle.zb_node_types.specs.declared.state.Attribute.TheVariants as attribute
+use Rattle.zb_node_types.specs.Changes.{trust}
 use Rattle.zb_cursor.specs.Spelling.{bit}
 use Rattle.zb_cursor.specs.Reading.{Reading, byte_at, number_at, eui_at, key_at}
 use Rattle.zb_cursor.proofs.ReadAgain.{wide32, number_again, eui_again, key_again}
@@ -20,8 +20,8 @@ use Rattle.zb_model.specs.Data.{Duty, Trust, Provisional, Unverified, Verified}
 use Rattle.zb_model.specs.State.{SenderFloor, NetKey, LinkKey, PairKey, same_key, has_net, booted_floor, booted_net, booted_link, shown_net}
 use Rattle.zb_model.specs.Fits.{senders_ascend, all_apart, most_senders}
 use Rattle.zb_model.specs.Record.{worth, net_bytes, sender_bytes, floors_bytes, link_bytes, pair_bytes, trust_byte, four_bytes, eight_bytes}
-use Rattle.zb_fits.proofs.Tests.{both, any_map, apart_snoc}
-use Rattle.zb_fits.proofs.Parts.{nets_alike, links_alike, pairs_alike, pair_rule, floors_rule, limit_rule}
+use Rattle.zb_model_fits.proofs.Tests.{both, any_map, apart_snoc}
+use Rattle.zb_model_fits.proofs.Parts.{nets_alike, links_alike, pairs_alike, pair_rule, floors_rule, limit_rule}
 use Rattle.zb_record.specs.declared.version.Version.TheVariants.{Third}
 use Rattle.zb_record.specs.Fields.{attribute_at}
 use Rattle.zb_record.specs.Placed.{Placed, onward, ◌>>=◌, give, judged, field, rows_at}

@@ -1,7 +1,7 @@
 -- Making changes again: how the loops go on and end.
 use Rattle.std.proofs.Common.{◌≡◌, ℕ, zero, suc, ◌+◌, ◌-◌, ◌<◌, ◌≤◌, true, false, List, [], ◌∷◌, ◌++◌, length, Ok, Err, refl, sym, ap, ◌∙◌, arith, length-append}
-use Rattle.zb_change.specs.declared.change.Change.{Change}
-use Rattle.zb_change.specs.Changes.{edit}
+use Rattle.zb_node_types.specs.declared.change.Change.{Change}
+use Rattle.zb_node_types.specs.Changes.{edit}
 use Rattle.zb_model.specs.State.{NodeState, shown}
 use Rattle.zb_record.specs.Changes.{change_at}
 use Rattle.zb_record.specs.declared.version.Version.{Version}

@@ -5,19 +5,19 @@ use Rattle.std.specs.Int.{w16, w32}
 use Rattle.std.proofs.lemmas.Bool.{le-leb, lt-ltb, eqb-true}
 use Rattle.zb_base.specs.declared.node.Role.{Role}
 use Rattle.zb_base.specs.declared.node.Role.TheVariants as role
-use Rattle.zb_change.specs.declared.state.State.{State}
-use Rattle.zb_change.specs.declared.state.State.TheVariants as state
-use Rattle.zb_change.specs.declared.state.Rollover.{Rollover}
-use Rattle.zb_change.specs.declared.state.Rollover.TheVariants as rollover
-use Rattle.zb_change.specs.Changes.{duty, stage, is_sending}
+use Rattle.zb_node_types.specs.declared.state.State.{State}
+use Rattle.zb_node_types.specs.declared.state.State.TheVariants as state
+use Rattle.zb_node_types.specs.declared.state.Rollover.{Rollover}
+use Rattle.zb_node_types.specs.declared.state.Rollover.TheVariants as rollover
+use Rattle.zb_node_types.specs.Changes.{duty, stage, is_sending}
 use Rattle.zb_cursor.specs.Reading.{number_at}
 use Rattle.zb_cursor.proofs.ReadAgain.{wide16, wide32, number_again}
 use Rattle.zb_model.specs.Data.{Bytes, Duty, Centre, Router, Device, Stage, Fresh, Knocked, Joined, Offered, Confirmed, Rejoining, Gone}
 use Rattle.zb_model.specs.State.{NodeState, NetKey, same_key, is_centre, live_nets, booted_net, booted_link, after_boot, shown, shown_net}
 use Rattle.zb_model.specs.Fits.{keeps_rules, duty_is_kept, active_is_live, row_is_live, is_fresh, most_nets, most_pairs}
 use Rattle.zb_model.specs.Record.{record_of, active_place, place_from, duty_byte, stage_byte, worth, two_bytes, four_bytes, net_bytes, floors_bytes, link_bytes, pair_bytes}
-use Rattle.zb_fits.proofs.Tests.{both}
-use Rattle.zb_fits.proofs.Parts.{Rules, rules_of, same_key_is}
+use Rattle.zb_model_fits.proofs.Tests.{both}
+use Rattle.zb_model_fits.proofs.Parts.{Rules, rules_of, same_key_is}
 use Rattle.zb_record.specs.declared.version.Version.TheVariants.{Third}
 use Rattle.zb_record.specs.declared.record.Node.{Node}
 use Rattle.zb_record.specs.declared.record.Head.{Head}

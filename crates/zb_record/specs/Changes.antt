@@ -2,8 +2,8 @@
 -- that of a change that isn't whole.
 use Rattle.std.specs.Prelude.{ℕ, Err, ◌==◌, if◌then◌else◌}
 use Rattle.std.specs.Int.{w32}
-use Rattle.zb_change.specs.declared.change.Change.{Change}
-use Rattle.zb_change.specs.declared.change.Change.TheVariants.{Reserve, Floor, DropNet, DropLink, Install, Active, Row, State, Roll, Told, Untold, Live, Removed, Start, Pair}
+use Rattle.zb_node_types.specs.declared.change.Change.{Change}
+use Rattle.zb_node_types.specs.declared.change.Change.TheVariants.{Reserve, Floor, DropNet, DropLink, Install, Active, Row, State, Roll, Told, Untold, Live, Removed, Start, Pair}
 use Rattle.zb_cursor.specs.Reading.{Reading, ◌>>=◌, give, byte_at, number_at, eui_at, key_at}
 use Rattle.zb_record.specs.Fields.{layer_at, attribute_at, state_at, rollover_at}
 

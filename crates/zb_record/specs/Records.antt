@@ -5,11 +5,11 @@ use Rattle.std.specs.Int.{w16, w32}
 use Rattle.zb_base.specs.declared.fault.OrMemory.{OrMemory}
 use Rattle.zb_base.specs.declared.fault.OrMemory.TheVariants.{Fault, NoMemory}
 use Rattle.zb_base.specs.declared.node.Role.{Role}
-use Rattle.zb_change.specs.declared.fault.KeyError.{KeyError}
-use Rattle.zb_change.specs.declared.fault.KeyError.TheVariants.{KeyOld, KeysFull, RowsFull, KeyInUse, NoRow, WrongHash, BadRecord}
-use Rattle.zb_change.specs.declared.state.State.{State}
-use Rattle.zb_change.specs.declared.state.Rollover.{Rollover}
-use Rattle.zb_change.specs.Changes.{duty, stage, is_sending}
+use Rattle.zb_node_types.specs.declared.fault.KeyError.{KeyError}
+use Rattle.zb_node_types.specs.declared.fault.KeyError.TheVariants.{KeyOld, KeysFull, RowsFull, KeyInUse, NoRow, WrongHash, BadRecord}
+use Rattle.zb_node_types.specs.declared.state.State.{State}
+use Rattle.zb_node_types.specs.declared.state.Rollover.{Rollover}
+use Rattle.zb_node_types.specs.Changes.{duty, stage, is_sending}
 use Rattle.zb_cursor.specs.Reading.{number_at}
 use Rattle.zb_model.specs.Data.{Bytes}
 use Rattle.zb_model.specs.State.{NodeState, NetKey, LinkKey, PairKey, is_centre}

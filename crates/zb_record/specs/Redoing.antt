@@ -3,10 +3,10 @@
 -- don't stand.
 use Rattle.std.specs.Prelude.{◌≡◌, ℕ, zero, suc, ◌-◌, max, min, Bool, true, false, nat_le, List, [], ◌∷◌, ◌++◌, length, map, Result, Ok, Err, if◌then◌else◌}
 use Rattle.std.specs.List.{AllByRecursion}
-use Rattle.zb_change.specs.declared.change.Change.{Change}
-use Rattle.zb_change.specs.declared.fault.KeyError.{KeyError}
-use Rattle.zb_change.specs.declared.fault.KeyError.TheVariants.{BadRecord}
-use Rattle.zb_change.specs.Changes.{edit}
+use Rattle.zb_node_types.specs.declared.change.Change.{Change}
+use Rattle.zb_node_types.specs.declared.fault.KeyError.{KeyError}
+use Rattle.zb_node_types.specs.declared.fault.KeyError.TheVariants.{BadRecord}
+use Rattle.zb_node_types.specs.Changes.{edit}
 use Rattle.zb_model.specs.Data.{Bytes, Edit, Reserve, Start, Moved, Install, Pair, Nwk}
 use Rattle.zb_model.specs.State.{NodeState, NetKey, has_net, given_net, shown, applied}
 use Rattle.zb_model.specs.Fits.{fits}

@@ -4,7 +4,7 @@ use Rattle.std.specs.List.{list_any, list_all}
 use Rattle.std.specs.Int.{w16, w32}
 use Rattle.zb_base.specs.declared.address.Eui.{Eui}
 use Rattle.zb_base.specs.declared.key.Key.{Key}
-use Rattle.zb_change.specs.Changes.{trust}
+use Rattle.zb_node_types.specs.Changes.{trust}
 use Rattle.zb_cursor.specs.Spelling.{bit}
 use Rattle.zb_cursor.specs.Reading.{byte_at, number_at, eui_at, key_at}
 use Rattle.zb_model.specs.Data.{Bytes, Duty, Trust}

@@ -1,13 +1,13 @@
 //! The changes of a journal entry: a kind byte and the fields of that kind. Numbers and addresses are least significant byte
 //! first.
 ghost use Rattle.std.specs.Prelude.{◌≡◌, ◌∷◌, ◌++◌, ◌<◌, length, IfOk, OnOk};
-ghost use Rattle.zb_change.specs.Changes.{edit};
+ghost use Rattle.zb_node_types.specs.Changes.{edit};
 ghost use Rattle.zb_cursor.specs.Reading.{Gives};
 ghost use Rattle.zb_model.specs.Record.{edit_bytes};
 ghost use Rattle.zb_record.specs.Changes.{reserve_at, floor_at, drop_net_at, drop_link_at, install_at, active_at, row_at, became_at, roll_at, told_at, untold_at, live_at, removed_at, start_at, pair_at, later_of, fields_of, change_at};
 
 use crate::field::{read_attribute, read_layer, read_rollover, read_state};
-use zb_change::Change;
+use zb_node_types::Change;
 use zb_cursor::Reader;
 
 /// A layer, and the limit up to which its counter is reserved.

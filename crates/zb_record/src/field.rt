@@ -1,13 +1,13 @@
 //! Fields of one byte that stand for a layer, an attribute, a state or a rollover. A byte that stands for none is refused
 //! by the reader's fault.
 ghost use Rattle.std.specs.Prelude.{◌≡◌, ◌∷◌, IfOk};
-ghost use Rattle.zb_change.specs.Changes.{duty, tier, trust, stage, is_sending};
+ghost use Rattle.zb_node_types.specs.Changes.{duty, tier, trust, stage, is_sending};
 ghost use Rattle.zb_cursor.specs.Reading.{Gives};
 ghost use Rattle.zb_model.specs.Record.{duty_byte, tier_byte, trust_byte, stage_byte, worth};
 ghost use Rattle.zb_record.specs.Fields.{role_at, layer_at, attribute_at, state_at, rollover_at};
 
 use zb_base::{Layer, Role};
-use zb_change::{Attribute, Rollover, State};
+use zb_node_types::{Attribute, Rollover, State};
 use zb_cursor::Reader;
 
 /// A layer: 00 network, 01 application support.

@@ -1,8 +1,8 @@
 //! Laws of entries and records: what is written is read back. Each function here says laws and does nothing.
 ghost use Rattle.std.specs.Prelude.{◌≡◌, ℕ, List, [], ◌++◌, ◌≢◌, Ok, Some, true};
 ghost use Rattle.std.specs.List.{AllByRecursion};
-ghost use Rattle.zb_change.specs.Changes.{edits};
-ghost use Rattle.zb_change.specs.declared.change.Change.{Change};
+ghost use Rattle.zb_node_types.specs.Changes.{edits};
+ghost use Rattle.zb_node_types.specs.declared.change.Change.{Change};
 ghost use Rattle.zb_model.specs.Fits.{AllFit, keeps_rules};
 ghost use Rattle.zb_model.specs.Record.{payload, record_of};
 ghost use Rattle.zb_model.specs.State.{NodeState, after_boot, applied_all, shown};

@@ -2,7 +2,7 @@
 ghost use Rattle.std.specs.Prelude.{◌≡◌, ◌&&◌, ◌||◌, not, [], map, nat_eq, nat_le, nat_lt};
 ghost use Rattle.std.specs.List.{list_any};
 ghost use Rattle.std.specs.Int.{w16, w32};
-ghost use Rattle.zb_change.specs.Changes.{duty, trust};
+ghost use Rattle.zb_node_types.specs.Changes.{duty, trust};
 ghost use Rattle.zb_cursor.specs.Reading.{byte_at, eui_at, key_at, number_at};
 ghost use Rattle.zb_cursor.specs.Spelling.{bit};
 ghost use Rattle.zb_model.specs.State.{is_centre, is_provisional, is_unverified, same_key};
@@ -14,7 +14,7 @@ use crate::field::read_attribute;
 use crate::place::begin;
 use std::alloc::Global;
 use zb_base::{Eui, Key, OrMemory, Role};
-use zb_change::Attribute;
+use zb_node_types::Attribute;
 use zb_cursor::{Reader, has_bit};
 
 /// A link key in a record: partner 8, key 16, attribute 1, flags 1 (bit 0 live, bit 1 from a code, bit 2 told), floor 4.

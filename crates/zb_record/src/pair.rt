@@ -2,7 +2,7 @@
 ghost use Rattle.std.specs.Prelude.{◌≡◌, ◌&&◌, ◌==◌, not, [], map, nat_le, nat_lt};
 ghost use Rattle.std.specs.List.{list_any};
 ghost use Rattle.std.specs.Int.{w16};
-ghost use Rattle.zb_change.specs.Changes.{duty};
+ghost use Rattle.zb_node_types.specs.Changes.{duty};
 ghost use Rattle.zb_cursor.specs.Reading.{byte_at, eui_at, number_at};
 ghost use Rattle.zb_record.specs.Placed.{Answers, Gives, field, rows_at};
 ghost use Rattle.zb_record.specs.Rows.{pair_seen, is_pair, is_new_pair, is_one, pairs_room, has_pair_room, pair_at, all_pairs_at, pairs_at};

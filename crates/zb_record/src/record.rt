@@ -1,7 +1,7 @@
 //! A whole record.
 ghost use Rattle.std.specs.Prelude.{◌≡◌, ◌&&◌, ◌||◌, ◌==◌, not, [], map, nat_le, nat_lt};
 ghost use Rattle.std.specs.Int.{w16, w32};
-ghost use Rattle.zb_change.specs.Changes.{duty, is_sending, stage};
+ghost use Rattle.zb_node_types.specs.Changes.{duty, is_sending, stage};
 ghost use Rattle.zb_cursor.specs.Reading.{number_at};
 ghost use Rattle.zb_model.specs.State.{is_centre};
 ghost use Rattle.zb_record.specs.Fields.{rollover_at, state_at};
@@ -18,7 +18,7 @@ use crate::sender::read_all_floors;
 use crate::version::{Version, read_version};
 use std::alloc::Global;
 use zb_base::{OrMemory, Role};
-use zb_change::{Rollover, State};
+use zb_node_types::{Rollover, State};
 use zb_cursor::Reader;
 
 /// What a record says of its node first.

@@ -2,9 +2,9 @@
 use Rattle.std.proofs.Common.{◌≡◌, ℕ, ◌+◌, ◌<◌, ◌≤◌, List, [], ◌∷◌, ◌++◌, length, ap, ◌∙◌, arith, true, false, refl, Option}
 use Rattle.std.specs.Prelude.{Ok, Err, nat_le}
 use borrow.Author.Tests.{le-leb, lt-leb}
-use Rattle.zb_change.specs.declared.change.Change.{Change}
-use Rattle.zb_change.specs.declared.fault.KeyError.TheVariants.{KeysFull}
-use Rattle.zb_change.specs.Changes.{edits}
+use Rattle.zb_node_types.specs.declared.change.Change.{Change}
+use Rattle.zb_node_types.specs.declared.fault.KeyError.TheVariants.{KeysFull}
+use Rattle.zb_node_types.specs.Changes.{edits}
 use Rattle.zb_model.specs.Data.{Bytes, Moved, Install, Roll}
 use Rattle.zb_model.specs.State.{NodeState, NetKey, active_row, newest}
 use Rattle.zb_model.specs.Rules.{drop_old}

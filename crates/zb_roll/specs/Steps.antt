@@ -1,7 +1,7 @@
 -- The steps of a rollover of the network key, in the words of the policy.
 use Rattle.std.specs.Prelude.{ℕ, ◌+◌, ◌%◌, true, false, if◌then◌else◌, List, [], ◌∷◌, ◌++◌, Option, Some, None, Result, Ok, Err}
-use Rattle.zb_change.specs.declared.fault.KeyError.{KeyError}
-use Rattle.zb_change.specs.declared.fault.KeyError.TheVariants.{KeysFull}
+use Rattle.zb_node_types.specs.declared.fault.KeyError.{KeyError}
+use Rattle.zb_node_types.specs.declared.fault.KeyError.TheVariants.{KeysFull}
 use Rattle.zb_keys.specs.Planning.{moves, activation}
 use Rattle.zb_model.specs.Data.{Bytes, Edit, Moved, Install, Roll, Untold}
 use Rattle.zb_model.specs.State.{NodeState, NetKey, active_row, newest}

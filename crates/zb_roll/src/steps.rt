@@ -1,6 +1,6 @@
 //! What the steps of a rollover change.
 ghost use Rattle.std.specs.Prelude.{◌≡◌, ◌≤◌, false, true, is_some, length};
-ghost use Rattle.zb_change.specs.Changes.{edits};
+ghost use Rattle.zb_node_types.specs.Changes.{edits};
 ghost use Rattle.zb_keys.specs.Planning.{Adds, Tells};
 ghost use Rattle.zb_roll.specs.Steps.{starting, begun, finishing, finished_with, repeating, sequence_after};
 ghost use Rattle.zb_model.specs.OwnEvents.{is_unfinished};
@@ -8,7 +8,7 @@ ghost use Rattle.zb_model.specs.State.{active_row, has_net, is_live, is_told, ne
 
 use arrayvec::ArrayVec;
 use zb_base::{Eui, Key};
-use zb_change::{Change, Changes, KeyError, Rollover};
+use zb_node_types::{Change, Changes, KeyError, Rollover};
 use zb_keys::{Tables, add};
 
 /// What it changes that a rollover begins with a new key: where two network keys are in use, the one that isn't active is

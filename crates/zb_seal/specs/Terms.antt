@@ -1,7 +1,7 @@
 -- A term of the program as the model's.
 use Rattle.zb_base.specs.declared.label.Label.{Label}
 use Rattle.zb_base.specs.declared.label.Label.TheVariants as label
-use Rattle.zb_change.specs.Changes.{tier}
+use Rattle.zb_node_types.specs.Changes.{tier}
 use Rattle.zb_model.specs.Data as model
 use Rattle.zb_seal.specs.declared.term.Term.{Term}
 

@@ -4,19 +4,19 @@ use Rattle.std.specs.Prelude.{nat_lt}
 use Rattle.std.specs.List.{AllByRecursion}
 use Rattle.std.proofs.lemmas.Bool.{ltb-true, ltb-false, and_from}
 use Rattle.zb_base.specs.declared.label.Layer.TheVariants as layer
-use Rattle.zb_change.specs.declared.change.Change.{Change}
-use Rattle.zb_change.specs.declared.change.Change.TheVariants as change
-use Rattle.zb_change.specs.Changes.{edits}
-use Rattle.zb_fits.proofs.Tests.{both}
+use Rattle.zb_node_types.specs.declared.change.Change.{Change}
+use Rattle.zb_node_types.specs.declared.change.Change.TheVariants as change
+use Rattle.zb_node_types.specs.Changes.{edits}
+use Rattle.zb_model_fits.proofs.Tests.{both}
 use Rattle.zb_host.specs.declared.plan.Plan.{Plan}
 use Rattle.zb_model.specs.Data.{Centre, Nwk}
 use Rattle.zb_model.specs.Fits.{all_fit}
 use Rattle.zb_model.specs.State.{NodeState, active_row, next_counter, stored_limit, applied_all, shown, most}
 use Rattle.zb_record.specs.Ranges.{InRange}
-use Rattle.zb_table_host.specs.Stored.{IsKept, IsStorable}
-use Rattle.zb_table_host.proofs.CoreLaws.{none_storable}
-use Rattle.zb_table_host.proofs.Reserving.{reserve_fits, next_reserved, limit_reserved}
-use Rattle.zb_table_host.proofs.Short.{few_short}
+use Rattle.zb_stored_tables.specs.Stored.{IsKept, IsStorable}
+use Rattle.zb_stored_tables.proofs.CoreLaws.{none_storable}
+use Rattle.zb_stored_tables.proofs.Reserving.{reserve_fits, next_reserved, limit_reserved}
+use Rattle.zb_stored_tables.proofs.Short.{few_short}
 use Rattle.zb_table_rows.specs.declared.sealer.SealerEvent.{SealerEvent}
 use Rattle.zb_table_rows.specs.declared.sealer.SealerEvent.TheVariants.{Rest, Seal}
 use Rattle.zb_table_rows.specs.Sealers.{Sealing, can_seal, planned, sealed, IsPlan}

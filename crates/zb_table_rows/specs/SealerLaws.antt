@@ -1,15 +1,15 @@
 -- The sealing centre keeps the law of cores: it is one over tables.
 use Rattle.std.proofs.Common.{ℕ, ◌≡◌, ◌≢◌, ◌≤◌, ◌++◌, List, [], length, get_or, Option, Some, None, refl, ◌∙◌, ap, subst}
-use Rattle.zb_change.specs.declared.change.Change.{Change}
-use Rattle.zb_change.specs.Changes.{edits}
+use Rattle.zb_node_types.specs.declared.change.Change.{Change}
+use Rattle.zb_node_types.specs.Changes.{edits}
 use Rattle.zb_host.specs.declared.plan.Plan.{Plan}
 use Rattle.zb_host.specs.Plans.{gives}
 use Rattle.zb_model.specs.Data.{Centre, Nwk}
 use Rattle.zb_model.specs.Record.{payload, record_of}
 use Rattle.zb_model.specs.State.{NodeState, after_boot, applied_all, shown}
-use Rattle.zb_table_host.specs.Stored.{IsStoredAfter, restored}
-use Rattle.zb_table_host.proofs.CoreLaws.{core_adds, core_keeps, core_newest, core_idle}
-use Rattle.zb_table_host.proofs.InMemory.{boot_of_counted}
+use Rattle.zb_stored_tables.specs.Stored.{IsStoredAfter, restored}
+use Rattle.zb_stored_tables.proofs.CoreLaws.{core_adds, core_keeps, core_newest, core_idle}
+use Rattle.zb_stored_tables.proofs.InMemory.{boot_of_counted}
 use Rattle.zb_table_rows.specs.declared.sealer.SealerEvent.{SealerEvent}
 use Rattle.zb_table_rows.specs.Sealers.{Sealing, IsPlan, IsAfter, after_out}
 

@@ -1,13 +1,13 @@
 -- A centre that seals under its active network key, and does nothing else: its plans.
 use Rattle.std.specs.Prelude.{ℕ, ◌+◌, ◌≡◌, ◌≤◌, Bool, not, ◌&&◌, List, [], ◌∷◌, Option, Some, None, min, nat_lt, is_some, if◌then◌else◌}
 use Rattle.zb_base.specs.declared.label.Layer.TheVariants as layer
-use Rattle.zb_change.specs.declared.change.Change.{Change}
-use Rattle.zb_change.specs.declared.change.Change.TheVariants.{Reserve}
-use Rattle.zb_change.specs.Changes.{edits}
+use Rattle.zb_node_types.specs.declared.change.Change.{Change}
+use Rattle.zb_node_types.specs.declared.change.Change.TheVariants.{Reserve}
+use Rattle.zb_node_types.specs.Changes.{edits}
 use Rattle.zb_host.specs.declared.plan.Plan.{Plan}
 use Rattle.zb_model.specs.Data.{Centre, Nwk}
 use Rattle.zb_model.specs.State.{NodeState, active_row, next_counter, stored_limit, counted, applied_all, shown, most}
-use Rattle.zb_table_host.specs.Stored.{IsStorable}
+use Rattle.zb_stored_tables.specs.Stored.{IsStorable}
 use Rattle.zb_table_rows.specs.declared.sealer.SealerEvent.{SealerEvent}
 use Rattle.zb_table_rows.specs.declared.sealer.SealerEvent.TheVariants.{Rest, Seal}
 

@@ -1,21 +1,21 @@
 //! A core over tables: a centre that seals under its active network key.
 ghost use Rattle.std.specs.Prelude.{◌≡◌, ◌≤◌, ◌+◌, min, if◌then◌else◌, [], ◌∷◌, length, Some, None, IfOk, nat_lt};
 ghost use Rattle.zb_base.specs.declared.label.Layer.TheVariants.{Nwk as nwk};
-ghost use Rattle.zb_change.specs.Changes.{edits};
-ghost use Rattle.zb_change.specs.declared.change.Change.TheVariants.{Reserve as reserve};
+ghost use Rattle.zb_node_types.specs.Changes.{edits};
+ghost use Rattle.zb_node_types.specs.declared.change.Change.TheVariants.{Reserve as reserve};
 ghost use Rattle.zb_model.specs.Data.{Centre, Nwk};
 ghost use Rattle.zb_model.specs.Record.{payload, record_of};
 ghost use Rattle.zb_model.specs.State.{most, next_counter, stored_limit};
-ghost use Rattle.zb_table_host.specs.Stored.{restored};
+ghost use Rattle.zb_stored_tables.specs.Stored.{restored};
 ghost use Rattle.zb_table_rows.specs.Sealers.{IsPlan, IsAfter, Sealing, can_seal, planned, sealed};
 ghost use Rattle.zb_table_rows.specs.SealerLaws.{sealer_adds, sealer_keeps, sealer_newest, sealer_idle, sealer_short};
 
 use std::alloc::Global;
 use std::marker::Model;
 use zb_base::{Config, Layer, OrMemory, Role};
-use zb_change::{Change, Changes, KeyError};
+use zb_node_types::{Change, Changes, KeyError};
 use zb_host::{Core, Plan};
-use zb_table_host::{StoredTables, change_bytes, hold_ranges};
+use zb_stored_tables::{StoredTables, change_bytes, hold_ranges};
 
 /// What happens to a sealing centre.
 #[derive(Clone, Copy, Debug, PartialEq, Eq)]

@@ -8,10 +8,10 @@ use Rattle.zb_base.specs.declared.label.Layer.{Layer}
 use Rattle.zb_base.specs.declared.label.Layer.TheVariants as layer
 use Rattle.zb_base.specs.declared.label.Label.{Label}
 use Rattle.zb_base.specs.declared.label.Label.TheVariants as label
-pub use Rattle.zb_change.specs.Texts.{attribute_text, place_text, rollover_text, state_text}
-use Rattle.zb_change.specs.declared.refusal.Place.{Place}
-use Rattle.zb_change.specs.declared.refusal.Refusal.{Refusal}
-use Rattle.zb_change.specs.declared.refusal.Refusal.TheVariants as refusal
+pub use Rattle.zb_node_types.specs.Texts.{attribute_text, place_text, rollover_text, state_text}
+use Rattle.zb_node_types.specs.declared.refusal.Place.{Place}
+use Rattle.zb_node_types.specs.declared.refusal.Refusal.{Refusal}
+use Rattle.zb_node_types.specs.declared.refusal.Refusal.TheVariants as refusal
 use Rattle.zb_seal.specs.declared.term.Term.{Term}
 use Rattle.zb_text.specs.Fields.{is_name, eui_text, short_text}
 use Rattle.zb_text.specs.Hexadecimal.{bytes_text}

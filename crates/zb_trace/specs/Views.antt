@@ -4,8 +4,8 @@
 use Rattle.std.specs.Prelude.{ℕ, List, [], ◌∷◌, ◌++◌, fold, find, bytes_eq, codes, Option, Some, None, if◌then◌else◌}
 use Rattle.zb_base.specs.declared.node.Role.{Role}
 use Rattle.zb_base.specs.declared.node.Role.TheVariants as role
-use Rattle.zb_change.specs.Changes.{tier, stage, trust, is_sending, spot, reason}
-use Rattle.zb_change.specs.Changes as changes
+use Rattle.zb_node_types.specs.Changes.{tier, stage, trust, is_sending, spot, reason}
+use Rattle.zb_node_types.specs.Changes as changes
 use Rattle.zb_model.specs.Data as model
 use Rattle.zb_model.specs.Data.{Station, nobody}
 use Rattle.zb_model.specs.Lines as log

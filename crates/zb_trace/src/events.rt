@@ -8,7 +8,7 @@ use crate::parts::{add_refusal, add_term, begin, begin_of};
 use crate::spelling::answer_text;
 use std::alloc::AllocError;
 use zb_base::{Frame, List, Name};
-use zb_change::Refusal;
+use zb_node_types::Refusal;
 use zb_seal::Term;
 use zb_text::page::{add_bytes, add_number, add_word, end_line, put};
 

@@ -12,8 +12,8 @@ use std::alloc::{AllocError, Global};
 use std::{env, fs, io};
 use zb_base::OrMemory;
 use zb_trace::{Line, put_line};
-use zb_trace_reader::{TraceError, read_lines};
-use zb_watch::Watch;
+use zb_trace_read::{TraceError, read_lines};
+use zb_trace_watch::Watch;
 
 fn main(rt: HostRuntime) -> io::Result<()> {
     for name in env::args(&rt)?.skip(1) {

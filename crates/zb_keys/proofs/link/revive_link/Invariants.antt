@@ -1,6 +1,6 @@
 use Rattle.std.proofs.Common.{if◌then◌else◌}
 use Rattle.zb_model.specs.State.{LinkKey, is_link, revived}
-use Rattle.zb_change.specs.Changes.{trust}
+use Rattle.zb_node_types.specs.Changes.{trust}
 use Rattle.zb_keys.specs.Rows.{link_key}
 use Rattle.zb_keys.proofs.Mapping.{Mapped}
 use Rattle.zb_keys.proofs.link.revive_link.Given as goal

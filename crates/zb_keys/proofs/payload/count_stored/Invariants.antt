@@ -1,6 +1,6 @@
 use Rattle.std.proofs.Common.{◌≡◌, ◌≤◌, length, take}
 use Rattle.std.specs.Prelude.{filter}
-use Rattle.zb_change.specs.Changes.{edits}
+use Rattle.zb_node_types.specs.Changes.{edits}
 use Rattle.zb_model.specs.Record.{is_stored}
 use Rattle.zb_keys.proofs.payload.count_stored.Given as goal
 

@@ -1,6 +1,6 @@
 use Rattle.std.proofs.Common.{◌+◌, ◌≤◌, length, sym, subst, arith}
 use Rattle.std.proofs.lemmas.List.Folds.{flat_map-map}
-use Rattle.zb_change.specs.Changes.{edit}
+use Rattle.zb_node_types.specs.Changes.{edit}
 use Rattle.zb_model.specs.Record.{edit_bytes}
 use Rattle.zb_keys.proofs.WritingLemmas.{written_none, written_more, written_room, written_all, writes_as}
 use Rattle.zb_keys.proofs.payload.put_changes.Goals as goal

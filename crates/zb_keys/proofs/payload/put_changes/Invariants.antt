@@ -1,5 +1,5 @@
-use Rattle.zb_change.specs.Changes.{edit}
-use Rattle.zb_change.specs.declared.change.Change.{Change}
+use Rattle.zb_node_types.specs.Changes.{edit}
+use Rattle.zb_node_types.specs.declared.change.Change.{Change}
 use Rattle.zb_model.specs.Record.{edit_bytes}
 use Rattle.zb_keys.proofs.WritingLemmas.{Written}
 use Rattle.zb_keys.proofs.payload.put_changes.Given as goal

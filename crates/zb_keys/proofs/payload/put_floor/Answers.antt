@@ -1,5 +1,5 @@
 use Rattle.std.proofs.Common.{◌∷◌, ◌++◌}
-use Rattle.zb_change.specs.Changes.{tier}
+use Rattle.zb_node_types.specs.Changes.{tier}
 use Rattle.zb_model.specs.Record.{tier_byte, eight_bytes, four_bytes}
 use Rattle.zb_keys.proofs.WritingLemmas.{writes_then}
 use Rattle.zb_keys.proofs.payload.put_floor.Goals as goal

@@ -1,6 +1,6 @@
 use Rattle.std.proofs.Common.{◌≡◌, ◌≤◌, map, take}
 use Rattle.std.specs.Prelude.{vec_capacity}
-use Rattle.zb_change.specs.Changes.{duty}
+use Rattle.zb_node_types.specs.Changes.{duty}
 use Rattle.zb_model.specs.Fits.{most_links}
 use Rattle.zb_keys.specs.Rows.{link_key}
 use Rattle.zb_record.specs.Rows.{link_seen}

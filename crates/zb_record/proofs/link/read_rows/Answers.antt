@@ -1,5 +1,5 @@
 use Rattle.std.proofs.Common.{[], ◌∙◌, sym, ap, map, ◌-◌, ◌+◌}
-use Rattle.zb_change.specs.Changes.{duty}
+use Rattle.zb_node_types.specs.Changes.{duty}
 use Rattle.zb_record.specs.Rows.{link_seen, link_at}
 use Rattle.zb_record.specs.Placed.{rows_at}
 use Rattle.zb_record.proofs.Placing.{go_on, stop, all_read}

@@ -1,6 +1,6 @@
 use Rattle.std.proofs.Common.{rules, ◌≡◌, ◌==◌, ◌||◌, ◌⊎◌, List, Bool, Option, Ok, Err, Result, refl, sym, ◌∙◌, ap, subst}
 use Rattle.zb_store.specs.Store.{Place}
-use Rattle.zb_change.specs.declared.change.Change.{Change}
+use Rattle.zb_node_types.specs.declared.change.Change.{Change}
 use Rattle.zb_host.specs.declared.fault.HostFault.{HostFault}
 use Rattle.zb_host.specs.declared.fault.HostFault.TheVariants.{Disk as disk_of, Worn as worn_out}
 use Rattle.zb_store.specs.declared.fault.StoreFault.{StoreFault}

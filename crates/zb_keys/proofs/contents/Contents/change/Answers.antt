@@ -1,7 +1,7 @@
 use Rattle.std.proofs.Common.{◌≡◌, arith, true, subst}
-use Rattle.zb_change.specs.declared.change.Change.{Change}
-use Rattle.zb_change.specs.declared.change.Change.TheVariants as change
-use Rattle.zb_change.specs.Changes.{edit, tier}
+use Rattle.zb_node_types.specs.declared.change.Change.{Change}
+use Rattle.zb_node_types.specs.declared.change.Change.TheVariants as change
+use Rattle.zb_node_types.specs.Changes.{edit, tier}
 use Rattle.zb_model.specs.Data.{Floor}
 use Rattle.zb_model.specs.State.{applied, shown}
 use Rattle.zb_model.specs.Fits.{keeps_rules}

@@ -1,5 +1,5 @@
 use Rattle.std.proofs.Common.{◌≡◌, ◌∙◌, sym, ap, subst, true}
-use Rattle.zb_change.specs.Changes.{edit}
+use Rattle.zb_node_types.specs.Changes.{edit}
 use Rattle.zb_model.specs.State.{shown}
 use Rattle.zb_keys.specs.Tables.{state_of}
 use Rattle.zb_record.specs.declared.version.Version.{Version}

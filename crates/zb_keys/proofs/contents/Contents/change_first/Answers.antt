@@ -1,7 +1,7 @@
 use Rattle.std.proofs.Common.{◌≡◌, ◌∙◌, sym, ap, arith, subst, true}
-use Rattle.zb_change.specs.declared.change.Change.{Change}
-use Rattle.zb_change.specs.declared.change.Change.TheVariants as change
-use Rattle.zb_change.specs.Changes.{edit}
+use Rattle.zb_node_types.specs.declared.change.Change.{Change}
+use Rattle.zb_node_types.specs.declared.change.Change.TheVariants as change
+use Rattle.zb_node_types.specs.Changes.{edit}
 use Rattle.zb_model.specs.Fits.{keeps_rules}
 use Rattle.zb_model.specs.State.{NodeState, shown}
 use Rattle.zb_keys.specs.Tables.{state_of}

@@ -1,12 +1,12 @@
 use Rattle.std.proofs.Common.{◌∙◌, ap, [], ◌∷◌, ◌++◌}
-use Rattle.zb_change.specs.Changes.{edits}
+use Rattle.zb_node_types.specs.Changes.{edits}
 use Rattle.zb_model.specs.Data.{Moved}
 use Rattle.zb_keys.specs.Planning.{moves}
 use Rattle.zb_keys.specs.Tables.{state_of}
 use Rattle.zb_keys.proofs.PlanLemmas.{dropping_centre, dropping_other}
 use Rattle.zb_model.specs.Rules.{drop_partner}
 use Rattle.zb_model.specs.State.{is_centre}
-use Rattle.zb_change.specs.Changes.{duty}
+use Rattle.zb_node_types.specs.Changes.{duty}
 use Rattle.zb_base.specs.declared.node.Role.{Role}
 use Rattle.zb_model.specs.Data.{Removed}
 use Rattle.zb_keys.proofs.contents.Contents.drop_partner.Goals as goal

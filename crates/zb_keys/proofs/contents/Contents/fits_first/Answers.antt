@@ -1,6 +1,6 @@
 use Rattle.std.proofs.Common.{◌∙◌, sym, ap}
-use Rattle.zb_change.specs.declared.change.Change.{Change}
-use Rattle.zb_change.specs.Changes.{edit}
+use Rattle.zb_node_types.specs.declared.change.Change.{Change}
+use Rattle.zb_node_types.specs.Changes.{edit}
 use Rattle.zb_keys.specs.Tables.{state_of}
 use Rattle.zb_keys.proofs.FirstLemmas.{fits_as_ever}
 use Rattle.zb_record.specs.Redoing.{first_fits}

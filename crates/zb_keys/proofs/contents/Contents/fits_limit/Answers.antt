@@ -1,6 +1,6 @@
 use Rattle.std.proofs.Common.{◌∙◌, sym, ap}
 use Rattle.zb_base.specs.declared.label.Layer.{Layer}
-use Rattle.zb_change.specs.Changes.{tier}
+use Rattle.zb_node_types.specs.Changes.{tier}
 use Rattle.zb_model.specs.Data.{Reserve}
 use Rattle.zb_keys.specs.Tables.{state_of}
 use Rattle.zb_keys.proofs.FirstLemmas.{aps_fits}

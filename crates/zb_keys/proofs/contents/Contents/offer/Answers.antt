@@ -1,6 +1,6 @@
 use Rattle.std.proofs.Common.{rules, ◌≡◌, ◌∙◌, sym, ap, []}
 use Rattle.std.specs.Prelude.{Ok}
-use Rattle.zb_change.specs.Changes.{edits}
+use Rattle.zb_node_types.specs.Changes.{edits}
 use Rattle.zb_keys.specs.Tables.{state_of}
 use Rattle.zb_keys.proofs.PlanLemmas.{offer_held, offer_takes}
 use Rattle.zb_keys.proofs.contents.Contents.offer.Goals as goal

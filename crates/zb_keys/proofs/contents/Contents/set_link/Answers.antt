@@ -1,7 +1,7 @@
 use Rattle.std.proofs.Common.{rules, ◌≡◌, ◌∙◌, sym, ap, map, refl, length, ◌<◌, subst, ◌&&◌}
 use Rattle.std.specs.Prelude.{vec_len, vec_capacity}
 use Rattle.std.specs.List.{list_any}
-use Rattle.zb_change.specs.Changes.{trust}
+use Rattle.zb_node_types.specs.Changes.{trust}
 use Rattle.zb_model.specs.State.{at_link, applied, is_link, is_live_of, revived}
 use Rattle.zb_keys.specs.declared.link.LinkRow.{LinkRow}
 use Rattle.zb_keys.specs.Rows.{link_key}

@@ -1,5 +1,5 @@
 use Rattle.std.proofs.Common.{◌≡◌, true, subst, sym}
-use Rattle.zb_change.specs.Changes.{edits}
+use Rattle.zb_node_types.specs.Changes.{edits}
 use Rattle.zb_model.specs.Fits.{all_fit}
 use Rattle.zb_keys.proofs.ApplyLemmas.{begins, change_fits, change_made}
 use Rattle.zb_keys.proofs.tables.Tables.apply.Goals as goal

@@ -1,4 +1,4 @@
-use Rattle.zb_change.specs.Changes.{edits}
+use Rattle.zb_node_types.specs.Changes.{edits}
 use Rattle.zb_keys.proofs.ApplyLemmas.{Applying}
 use Rattle.zb_keys.proofs.tables.Tables.apply.Given as goal
 

@@ -1,6 +1,6 @@
 use Rattle.std.proofs.Common.{◌≡◌, ◌≤◌, refl, subst}
 use Rattle.zb_model.specs.Data.{Centre}
-use Rattle.zb_table_host.specs.Stored.{IsKept}
+use Rattle.zb_stored_tables.specs.Stored.{IsKept}
 use Rattle.zb_table_rows.specs.Sealers.{Sealing}
 use Rattle.zb_table_rows.proofs.Sealing.{rest_plan}
 use Rattle.zb_table_rows.proofs.sealer.Sealer.rest.Goals as goal

@@ -1,6 +1,6 @@
 use Rattle.std.proofs.Common.{◌≡◌, ◌≤◌, subst}
 use Rattle.zb_model.specs.Data.{Centre}
-use Rattle.zb_table_host.specs.Stored.{IsKept}
+use Rattle.zb_stored_tables.specs.Stored.{IsKept}
 use Rattle.zb_table_rows.specs.Sealers.{Sealing}
 use Rattle.zb_table_rows.proofs.Sealing.{seal_plan}
 use Rattle.zb_table_rows.proofs.sealer.Sealer.seal.Goals as goal

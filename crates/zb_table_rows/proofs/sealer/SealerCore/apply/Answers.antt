@@ -1,5 +1,5 @@
 use Rattle.std.proofs.Common.{◌<◌, ◌∙◌, ap, sym, subst}
-use Rattle.zb_change.specs.Changes.{edits}
+use Rattle.zb_node_types.specs.Changes.{edits}
 use Rattle.zb_model.specs.Data.{Nwk}
 use Rattle.zb_model.specs.State.{NodeState, applied_all, next_counter, shown, stored_limit}
 use Rattle.zb_table_rows.specs.Sealers.{Sealing}

@@ -1,0 +1,2 @@
+//! Tests of the cryptography over its public calls: published vectors and check values.
+#![tactic(auto)]

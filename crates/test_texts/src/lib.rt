@@ -1,0 +1,2 @@
+//! Tests of texts over their public calls: lines and words, schedules, made schedules, transcripts.
+#![tactic(auto)]

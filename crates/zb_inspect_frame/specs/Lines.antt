@@ -1,0 +1,66 @@
+-- The lines of a frame in a report (this project's profile): one for each layer.
+use Rattle.std.specs.Prelude.{ℕ, zero, suc, ◌+◌, List, [], ◌∷◌, ◌++◌, codes, decimal, Option, Some, None}
+use Rattle.zb_base.specs.declared.label.Label.{Label}
+use Rattle.zb_base.specs.declared.label.Label.TheVariants as label
+use Rattle.zb_base.specs.declared.label.Layer.{Layer}
+use Rattle.zb_base.specs.declared.label.Layer.TheVariants as layer
+use Rattle.zb_seal.specs.declared.term.Term.{Term}
+use Rattle.zb_inspect_frame.specs.declared.layer.Finding.{Finding}
+use Rattle.zb_inspect_frame.specs.declared.layer.Finding.TheVariants.{Malformed, NotSecured, NoSource, Closed, Opened}
+use Rattle.zb_inspect_frame.specs.declared.sight.Below.{Below}
+use Rattle.zb_inspect_frame.specs.declared.sight.Sight.{Sight}
+use Rattle.zb_text.specs.Fields.{eui_text}
+use Rattle.zb_text.specs.Hexadecimal.{bytes_text}
+use Rattle.zb_text.specs.Words.{then}
+
+-- LABEL, which stands at APS alone
+abbrev pub label_word : Label → List ℕ
+label_word label.Data = codes "data"
+label_word label.Network = codes "network"
+label_word label.Transport = codes "transport"
+label_word label.Load = codes "load"
+
+abbrev pub label_text : Layer → Label → List ℕ
+label_text layer.Nwk sealed = []
+label_text layer.Aps sealed = then (label_word sealed)
+
+-- SOURCE COUNTER CONTENT
+abbrev pub opened_text : Term → List ℕ
+opened_text term = label_text term.layer term.label ++ then (eui_text term.source.0) ++ then (decimal term.counter) ++ then (bytes_text term.content.items)
+
+-- what was found at a layer
+abbrev pub finding_text : Finding → List ℕ
+finding_text Malformed = then (codes "malformed")
+finding_text NotSecured = then (codes "not-secured")
+finding_text NoSource = then (codes "no-source")
+finding_text (Closed s source) = then (codes "no-key")
+finding_text (Opened key term) = then (codes "key") ++ then (decimal key) ++ opened_text term
+
+-- the line of a layer of a frame
+unfoldable pub layer_line : ℕ → List ℕ → Finding → List ℕ
+layer_line frame layer finding = decimal frame ++ then layer ++ finding_text finding ++ 10 ∷ []
+
+abbrev pub inner_text : ℕ → Option Finding → List ℕ
+inner_text frame None = []
+inner_text frame (Some inner) = layer_line frame (codes "inner") inner
+
+abbrev pub below_text : ℕ → Option Below → List ℕ
+below_text frame None = []
+below_text frame (Some below) = layer_line frame (codes "aps") below.aps ++ inner_text frame below.inner
+
+-- the lines of a frame
+abbrev pub sight_text : ℕ → Sight → List ℕ
+sight_text frame sight = layer_line frame (codes "nwk") sight.nwk ++ below_text frame sight.below
+
+-- those of frames, the first of which has the number `frame`
+abbrev pub sights_text : ℕ → List Sight → List ℕ
+sights_text frame [] = []
+sights_text frame (sight ∷ more) = sight_text frame sight ++ sights_text (frame + 1) more
+
+-- those of so many frames that no key opened
+abbrev pub unopened_line : ℕ → List ℕ
+unopened_line frame = decimal frame ++ then (codes "nwk") ++ then (codes "no-key") ++ 10 ∷ []
+
+unfoldable pub unopened_text : ℕ → ℕ → List ℕ
+unopened_text frame zero = []
+unopened_text frame (suc more) = unopened_line frame ++ unopened_text (frame + 1) more

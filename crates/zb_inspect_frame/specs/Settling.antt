@@ -1,0 +1,35 @@
+-- Frames of which further keys show no more.
+use Rattle.std.specs.Prelude.{◌≡◌, ℕ, ◌≤◌, ◌&&◌, Bool, true, not, is_some, List, [], length, take, Option, Some, None}
+use Rattle.zb_base.specs.declared.address.Eui.{Eui}
+use Rattle.zb_base.specs.declared.address.Short.{Short}
+use Rattle.zb_base.specs.declared.key.Key.{Key}
+use Rattle.zb_inspect_frame.specs.Layers.{is_closed}
+use Rattle.zb_inspect_frame.specs.Sights.{sight}
+use Rattle.zb_inspect_frame.specs.declared.layer.Finding.{Finding}
+use Rattle.zb_inspect_frame.specs.declared.sight.Below.{Below}
+use Rattle.zb_inspect_frame.specs.declared.sight.Sight.{Sight}
+
+abbrev pub inner_settled : Option Finding → Bool
+inner_settled None = true
+inner_settled (Some inner) = not (is_closed inner)
+
+abbrev pub below_settled : Option Below → Bool
+below_settled None = true
+below_settled (Some below) = not (is_closed below.aps) && inner_settled below.inner
+
+-- whether no layer of a frame is closed
+abbrev pub is_settled : Sight → Bool
+is_settled sight = not (is_closed sight.nwk) && below_settled sight.below
+
+-- whether no key opened the NWK layer of a frame, so that nothing is known of what is below it
+abbrev pub is_unopened : Sight → Bool
+is_unopened sight = is_closed sight.nwk && not (is_some sight.below)
+
+-- A frame that shows this under some keys shows the same under any further ones.
+abbrev pub ShowsNoMore : Sight → Type 0
+ShowsNoMore seen = (known : ℕ) (addrs : List (Short × Eui)) (keys : List Key) (bytes : List ℕ) → known ≤ length keys
+    → seen ≡ sight addrs (take known keys) bytes → sight addrs keys bytes ≡ seen
+
+-- A frame that shows this under some keys shows the same under none.
+abbrev pub ShowsNothing : Sight → Type 0
+ShowsNothing seen = (addrs : List (Short × Eui)) (keys : List Key) (bytes : List ℕ) → seen ≡ sight addrs keys bytes → sight addrs [] bytes ≡ seen

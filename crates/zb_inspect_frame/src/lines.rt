@@ -1,0 +1,152 @@
+//! The lines of a frame in a report: one for each layer.
+ghost use Rattle.std.specs.Prelude.{◌≡◌, ◌+◌, ◌<◌, ◌^◌, ◌++◌, ◌∷◌, [], length, decimal, OnOk};
+ghost use Rattle.zb_text.specs.Words.{then};
+ghost use Rattle.zb_inspect_frame.specs.Lines.{label_word, label_text, opened_text, finding_text, layer_line, inner_text, below_text, sight_text, sights_text, unopened_line, unopened_text};
+
+use crate::layer::Finding;
+use crate::sight::{Below, Sight};
+use std::alloc::AllocError;
+use zb_base::{Label, Layer};
+use zb_seal::Term;
+use zb_text::numbers::put_number;
+use zb_text::page::{add_bytes, add_eui, add_number, add_word, end_line};
+
+/// Prints the lines of frames, the first of which has the number `first`.
+pub fn put_sights(out: &mut Vec<u8>, first: u32, sights: &[Sight]) -> Result<(), AllocError>
+    requires { first + length sights.now < 2 ^ 32 }
+    ensures { OnOk result (out.new.items ≡ out.old.items ++ sights_text first sights.now) }
+{
+    let mut frame = first;
+    for sight in sights {
+        put_sight(out, frame, sight)?;
+        frame += 1;
+    }
+    Ok(())
+}
+
+/// Prints the lines of so many frames that no key opened, the first of which has the number `first`.
+pub fn put_unopened(out: &mut Vec<u8>, first: u32, count: u32) -> Result<(), AllocError>
+    requires { first + count < 2 ^ 32 }
+    ensures { OnOk result (out.new.items ≡ out.old.items ++ unopened_text first count) }
+{
+    for frame in first..first + count {
+        put_unopened_line(out, frame)?;
+    }
+    Ok(())
+}
+
+#[tactic(auto, using(std::proofs::Common::append_assoc))]
+fn put_unopened_line(out: &mut Vec<u8>, frame: u32) -> Result<(), AllocError>
+    ensures { OnOk result (out.new.items ≡ out.old.items ++ unopened_line frame) }
+{
+    put_number(out, frame)?;
+    add_word(out, b"nwk")?;
+    add_word(out, b"no-key")?;
+    end_line(out)?;
+    Ok(())
+}
+
+#[tactic(auto, using(std::proofs::Common::append_assoc))]
+fn put_sight(out: &mut Vec<u8>, frame: u32, sight: &Sight) -> Result<(), AllocError>
+    ensures { OnOk result (out.new.items ≡ out.old.items ++ sight_text frame sight.now) }
+{
+    put_layer(out, frame, b"nwk", &sight.nwk)?;
+    put_below(out, frame, &sight.below)?;
+    Ok(())
+}
+
+#[tactic(auto, using(std::proofs::Common::append_assoc))]
+fn put_below(out: &mut Vec<u8>, frame: u32, below: &Option<Below>) -> Result<(), AllocError>
+    ensures { OnOk result (out.new.items ≡ out.old.items ++ below_text frame below.now) }
+{
+    let Some(below) = below else {
+        return Ok(());
+    };
+    put_layer(out, frame, b"aps", &below.aps)?;
+    put_inner(out, frame, &below.inner)?;
+    Ok(())
+}
+
+fn put_inner(out: &mut Vec<u8>, frame: u32, inner: &Option<Finding>) -> Result<(), AllocError>
+    ensures { OnOk result (out.new.items ≡ out.old.items ++ inner_text frame inner.now) }
+{
+    if let Some(inner) = inner {
+        put_layer(out, frame, b"inner", inner)?;
+    }
+    Ok(())
+}
+
+#[tactic(auto, using(std::proofs::Common::append_assoc), unfolding(crate::specs::Lines::layer_line))]
+fn put_layer(
+    out: &mut Vec<u8>,
+    frame: u32,
+    layer: &[u8],
+    finding: &Finding,
+) -> Result<(), AllocError>
+    ensures { OnOk result (out.new.items ≡ out.old.items ++ layer_line frame layer.now finding.now) }
+{
+    put_number(out, frame)?;
+    add_word(out, layer)?;
+    put_finding(out, finding)?;
+    end_line(out)?;
+    Ok(())
+}
+
+#[tactic(auto, using(std::proofs::Common::append_assoc))]
+fn put_finding(out: &mut Vec<u8>, finding: &Finding) -> Result<(), AllocError>
+    ensures { OnOk result (out.new.items ≡ out.old.items ++ finding_text finding.now) }
+{
+    match finding {
+        Finding::Malformed => add_word(out, b"malformed")?,
+        Finding::NotSecured => add_word(out, b"not-secured")?,
+        Finding::NoSource => add_word(out, b"no-source")?,
+        Finding::Closed { .. } => add_word(out, b"no-key")?,
+        Finding::Opened { key, term } => put_opened(out, *key, term)?,
+    }
+    Ok(())
+}
+
+#[tactic(auto, using(std::proofs::Common::append_assoc))]
+fn put_opened(out: &mut Vec<u8>, key: u32, term: &Term) -> Result<(), AllocError>
+    ensures { OnOk result (out.new.items ≡ out.old.items ++ (then (107 ∷ 101 ∷ 121 ∷ []) ++ then (decimal key) ++ opened_text term.now)) }
+{
+    add_word(out, b"key")?;
+    add_number(out, key)?;
+    put_term(out, term)?;
+    Ok(())
+}
+
+#[tactic(auto, using(std::proofs::Common::append_assoc))]
+fn put_term(out: &mut Vec<u8>, term: &Term) -> Result<(), AllocError>
+    ensures { OnOk result (out.new.items ≡ out.old.items ++ opened_text term.now) }
+{
+    put_label(out, term.layer, term.label)?;
+    add_eui(out, term.source)?;
+    add_number(out, term.counter)?;
+    add_bytes(out, term.content.as_slice())?;
+    Ok(())
+}
+
+fn put_label(out: &mut Vec<u8>, layer: Layer, label: Label) -> Result<(), AllocError>
+    ensures { OnOk result (out.new.items ≡ out.old.items ++ label_text layer label) }
+{
+    match layer {
+        Layer::Nwk => Ok(()),
+        Layer::Aps => {
+            add_label(out, label)?;
+            Ok(())
+        }
+    }
+}
+
+fn add_label(out: &mut Vec<u8>, label: Label) -> Result<(), AllocError>
+    ensures { OnOk result (out.new.items ≡ out.old.items ++ then (label_word label)) }
+{
+    match label {
+        Label::Data => add_word(out, b"data")?,
+        Label::Network => add_word(out, b"network")?,
+        Label::Transport => add_word(out, b"transport")?,
+        Label::Load => add_word(out, b"load")?,
+    }
+    Ok(())
+}

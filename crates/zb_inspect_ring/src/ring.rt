@@ -1,0 +1,143 @@
+//! The ring of keys as it grows.
+ghost use Rattle.std.specs.Prelude.{◌≡◌, [], IfOk};
+ghost use Rattle.zb_inspect_ring.specs.Rings.{learnt, given_from};
+
+use std::alloc::Global;
+use std::collections::BTreeSet;
+use std::marker::Model;
+use zb_base::{Key, List, NoMemory};
+use zb_seal::Ciphers;
+
+/// A key of the ring, and where it was found: the number of the frame, from 1, and of the round, from 1. A given key
+/// was not found.
+#[derive(Clone, Copy, Debug, PartialEq, Eq)]
+pub struct RingKey {
+    pub key: Key,
+    pub found: Option<(u32, u32)>,
+}
+
+/// The keys that are given or that the frames give, in the order in which they became known, and the number of rounds
+/// that it took.
+#[derive(Debug, Drop)]
+pub struct Ring {
+    pub keys: List<RingKey>,
+    pub rounds: u32,
+}
+
+/// A key that a frame carries, and the number of the frame, from 1.
+#[derive(Clone, Copy, Debug, PartialEq, Eq)]
+pub struct Lead {
+    pub frame: u32,
+    pub key: Key,
+}
+
+/// The ring so far, each key with its sealing keys expanded. A contract sees it as its keys.
+#[derive(Drop)]
+pub(crate) struct KeyRing {
+    keys: Vec<RingKey>,
+    ciphers: Vec<Ciphers>,
+    /// The same keys, so that a key is found among them by its order.
+    known: BTreeSet<Key>,
+}
+
+impl Model for KeyRing {
+    ghost use Rattle.std.specs.Prelude.{◌≡◌, ℕ, List};
+    ghost use Rattle.zb_base.specs.declared.key.Key.{Key};
+    ghost use Rattle.zb_inspect_ring.specs.Rings.{has_key, keys_of};
+    ghost use Rattle.zb_inspect_ring.specs.Known.{is_known};
+    ghost use Rattle.zb_inspect_ring.specs.declared.ring.RingKey.{RingKey};
+
+    ghost Value = { List RingKey };
+
+    ghost view = { λ r. r.keys.items };
+
+    ghost invariant = { λ r. (r.ciphers.items ≡ keys_of r.keys.items) × ((key : Key) → is_known r.known key ≡ has_key r.keys.items key) };
+}
+
+impl KeyRing {
+    ghost use Rattle.std.specs.Prelude.{◌≡◌, [], length, IfOk};
+    ghost use Rattle.zb_inspect_ring.specs.Rings.{has_key, with_key, keys_of};
+
+    /// No keys.
+    pub fn new(alloc: Global) -> KeyRing
+        ensures { result ≡ [] }
+    {
+        KeyRing {
+            keys: Vec::new(alloc),
+            ciphers: Vec::new(alloc),
+            known: BTreeSet::new(alloc),
+        }
+    }
+
+    /// Whether the ring has the key.
+    fn has(&self, key: &Key) -> bool
+        ensures { result ≡ has_key self.now key.now }
+    {
+        self.known.contains(key)
+    }
+
+    /// The ring with one key more, if that is new.
+    pub fn with(self, key: Key, found: Option<(u32, u32)>) -> Result<KeyRing, NoMemory>
+        ensures { IfOk result (λ r. r ≡ with_key self key found) }
+    {
+        if self.has(&key) {
+            return Ok(self);
+        }
+        let KeyRing {
+            mut keys,
+            mut ciphers,
+            mut known,
+        } = self;
+        known.insert(key)?;
+        ciphers.push(Ciphers::new(&key))?;
+        keys.push(RingKey { key, found })?;
+        Ok(KeyRing {
+            keys,
+            ciphers,
+            known,
+        })
+    }
+
+    /// The keys, each with its sealing keys.
+    pub fn ciphers(&self) -> &[Ciphers]
+        ensures { result.now ≡ keys_of self.now }
+    {
+        self.ciphers.as_slice()
+    }
+
+    /// How many keys the ring has.
+    pub fn len(&self) -> usize
+        ensures { result ≡ length self.now }
+    {
+        self.keys.len()
+    }
+
+    /// The keys, and where they were found.
+    pub fn into_keys(self) -> List<RingKey>
+        ensures { result ≡ self }
+    {
+        List::from_vec(self.keys)
+    }
+}
+
+/// The ring of given keys.
+pub(crate) fn given_ring(alloc: Global, keys: &[Key]) -> Result<KeyRing, NoMemory>
+    ensures { IfOk result (λ r. r ≡ given_from [] keys.now) }
+{
+    let mut ring = KeyRing::new(alloc);
+    for key in keys {
+        ring = ring.with(*key, None)?;
+    }
+    Ok(ring)
+}
+
+/// The ring with the keys that were found in a round, in their order.
+pub(crate) fn learn(ring: KeyRing, round: u32, leads: &[Lead]) -> Result<KeyRing, NoMemory>
+    ensures { IfOk result (λ r. r ≡ learnt round ring leads.now) }
+{
+    let mut ring = ring;
+    for lead in leads {
+        ring = ring.with(lead.key, Some((lead.frame, round)))?;
+    }
+    Ok(ring)
+}

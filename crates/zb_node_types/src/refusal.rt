@@ -1,0 +1,104 @@
+//! Why an event of a node is refused.
+use std::fmt;
+use zb_base::Eui;
+
+/// Where an event is refused.
+#[derive(Clone, Copy, Debug, PartialEq, Eq, PartialOrd, Ord, Hash)]
+pub enum Place {
+    /// In the network layer of a frame.
+    Nwk,
+    /// In the application support part of a frame, after its network layer was accepted.
+    Aps,
+    /// In an event of the node's own.
+    Event,
+}
+
+impl fmt::Display for Place {
+    ghost use Rattle.std.specs.Prelude.{Some};
+    ghost use Rattle.zb_node_types.specs.Texts.{place_text};
+
+    ghost output = { λ it. Some (place_text it) };
+
+    fn fmt<W: fmt::Write>(&self, f: &mut fmt::Formatter<W>) -> fmt::Result {
+        f.write_str(match self {
+            Place::Nwk => "nwk",
+            Place::Aps => "aps",
+            Place::Event => "event",
+        })
+    }
+}
+
+/// The reasons, in the order in which they are tried, but for `NoFrame`, which is tried right after `Down`.
+#[derive(Clone, Copy, Debug, PartialEq, Eq)]
+pub enum Refusal {
+    /// The node is down.
+    Down { place: Place },
+    /// The bytes are no frame, or no command that a node reads.
+    Malformed { place: Place },
+    /// The frame is from this node, or for another.
+    NotForMe { place: Place },
+    /// The network layer has no security where it needs it.
+    Unsecured { place: Place },
+    /// There is no key to open, or to seal, with.
+    NoKey { place: Place },
+    /// The frame has the greatest counter, which is never used.
+    CounterMax { place: Place },
+    /// The frame's counter is below the sender's floor, which is shown.
+    Stale { place: Place, floor: u32 },
+    /// The integrity code doesn't match.
+    BadMic { place: Place },
+    /// No node of this role takes such a command in that form.
+    Policy { place: Place },
+    /// The sender, or the device that is spoken of, isn't admitted.
+    NotMember { place: Place },
+    /// The node isn't in a state for it.
+    WrongState { place: Place },
+    /// The network key was dropped before; `at` is the place of its row, from 0.
+    KeyOld { place: Place, at: u32 },
+    /// There is no room for another network key.
+    KeysFull { place: Place },
+    /// There is no room for another link key, pair or floor.
+    RowsFull { place: Place },
+    /// The link key is that of another partner, which is shown.
+    KeyInUse { place: Place, partner: Eui },
+    /// The supply of keys is used up.
+    NoDraw { place: Place },
+    /// An outgoing counter is used up.
+    CounterSpent { place: Place },
+    /// The hash is that of no key of the device.
+    WrongHash { place: Place },
+    /// No frame of that number went on the air.
+    NoFrame { place: Place },
+}
+
+impl Refusal {
+    ghost use Rattle.std.specs.Prelude.{◌≡◌};
+    ghost use Rattle.zb_node_types.specs.Changes.{place_of};
+
+    /// Where the event is refused.
+    pub fn place(&self) -> Place
+        ensures { result ≡ place_of self.now }
+    {
+        match *self {
+            Refusal::Down { place } => place,
+            Refusal::Malformed { place } => place,
+            Refusal::NotForMe { place } => place,
+            Refusal::Unsecured { place } => place,
+            Refusal::NoKey { place } => place,
+            Refusal::CounterMax { place } => place,
+            Refusal::Stale { place, floor: _ } => place,
+            Refusal::BadMic { place } => place,
+            Refusal::Policy { place } => place,
+            Refusal::NotMember { place } => place,
+            Refusal::WrongState { place } => place,
+            Refusal::KeyOld { place, at: _ } => place,
+            Refusal::KeysFull { place } => place,
+            Refusal::RowsFull { place } => place,
+            Refusal::KeyInUse { place, partner: _ } => place,
+            Refusal::NoDraw { place } => place,
+            Refusal::CounterSpent { place } => place,
+            Refusal::WrongHash { place } => place,
+            Refusal::NoFrame { place } => place,
+        }
+    }
+}

@@ -1,6 +1,0 @@
-use Rattle.std.proofs.Common.{◌∙◌, ap}
-use Rattle.zb_sight.specs.Sights.{addr_of}
-use Rattle.zb_sight.proofs.addresses.Addresses.of.Goals as goal
-
-pub returns : goal.returns
-returns c = c.copied.ensures ∙ c.get.ensures.value ∙ c.self.invariant c.args.short.0 ∙ ap (addr_of c.args.short) c.self.view_is

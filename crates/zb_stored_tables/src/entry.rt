@@ -1,0 +1,53 @@
+//! The changes of a plan, as an entry stores them.
+ghost use Rattle.std.specs.Prelude.{◌≡◌, ◌≤◌, length, take};
+ghost use Rattle.std.specs.List.{AllByRecursion};
+ghost use Rattle.zb_node_types.specs.Changes.{edits};
+ghost use Rattle.zb_model.specs.Record.{payload};
+ghost use Rattle.zb_record.specs.Ranges.{InRange};
+
+use zb_node_types::{Change, Changes};
+use zb_keys::Tables;
+
+/// Writes the payload of changes, which has at most 481 bytes, and answers its length. There are 481 bytes of room.
+pub fn change_bytes(changes: &Changes, into: &mut [u8]) -> u32
+    requires short { length (payload (edits changes.now.items)) ≤ 481 }
+    requires room { 481 ≤ length into.old }
+    ensures len { result ≡ length (payload (edits changes.now.items)) }
+    ensures bytes { take result into.new ≡ payload (edits changes.now.items) }
+{
+    Tables::change_bytes(changes, &mut into[..481])
+}
+
+/// Says of changes that their values can be spelled: keys have 16 bytes, and numbers are within their types. It does
+/// nothing.
+pub fn hold_ranges(changes: &Changes)
+    ensures { AllByRecursion InRange changes.now.items }
+{
+    for change in changes.as_slice() {
+        hold_range(*change);
+    }
+}
+
+// The same of one change.
+fn hold_range(change: Change)
+    ensures { InRange change }
+{
+    match change {
+        Change::Reserve { .. }
+        | Change::Floor { .. }
+        | Change::Draw { .. }
+        | Change::DropNet { .. }
+        | Change::DropLink { .. }
+        | Change::Install { .. }
+        | Change::Active { .. }
+        | Change::Start { .. }
+        | Change::Row { .. }
+        | Change::Pair { .. }
+        | Change::State { .. }
+        | Change::Live { .. }
+        | Change::Removed { .. }
+        | Change::Roll { .. }
+        | Change::Told { .. }
+        | Change::Untold { .. } => {}
+    }
+}

@@ -1,0 +1,124 @@
+//! Tables from a record and the entries behind it.
+ghost use Rattle.std.specs.Prelude.{◌≡◌, ◌≤◌, Ok, OnOk, IfOk, IfErr, length};
+ghost use Rattle.zb_base.specs.declared.fault.OrMemory.TheVariants.{Fault};
+ghost use Rattle.zb_node_types.specs.Changes.{duty};
+ghost use Rattle.zb_model.specs.Record.{duty_byte};
+ghost use Rattle.zb_model.specs.State.{after_boot};
+ghost use Rattle.zb_record.specs.Ranges.{FitsBytes};
+ghost use Rattle.zb_record.specs.Redoing.{redone};
+ghost use Rattle.zb_stored_tables.specs.Stored.{behind, is_of_other, state_given, version_in, IsGivenFault};
+
+use std::alloc::Global;
+use zb_base::{NoMemory, OrMemory, Role};
+use zb_node_types::KeyError;
+use zb_keys::Tables;
+use zb_record::{Version, version_of};
+
+// The byte of a role in a record.
+fn role_byte(role: Role) -> u8
+    ensures { result ≡ duty_byte (duty role) }
+{
+    match role {
+        Role::Centre => 0,
+        Role::Router => 1,
+        Role::Device => 2,
+    }
+}
+
+// Whether a record is of another role, or of none.
+fn is_of_other(role: Role, content: &[u8]) -> bool
+    ensures { result ≡ is_of_other (duty role) content.now }
+{
+    version_of(content).is_some() && content.get(1) != Some(&role_byte(role))
+}
+
+// The version of a record.
+fn version(content: &[u8]) -> Version
+    ensures { result ≡ version_in content.now }
+{
+    version_of(content).unwrap_or(Version::Third)
+}
+
+// Makes the entries behind a record of so many bytes again. The place of a fault counts on from the record's length.
+fn redo(
+    tables: &mut Tables,
+    version: Version,
+    before: usize,
+    entries: &[u8],
+) -> Result<(), KeyError>
+    requires before { before ≤ 49152 }
+    requires entries { length entries.now ≤ 15488 }
+    ensures made { OnOk result (behind before (length entries.now) (redone version entries.now tables.old).0 (redone version entries.now tables.old).1 ≡ Ok (after_boot tables.new)) }
+    ensures fault { IfErr result (λ e. IsGivenFault (behind before (length entries.now) (redone version entries.now tables.old).0 (redone version entries.now tables.old).1) (Fault e)) }
+{
+    match tables.redo(version, entries) {
+        Ok(()) => Ok(()),
+        Err(KeyError::BadRecord { at }) => Err(KeyError::BadRecord {
+            at: before as u32 + at,
+        }),
+        // It has no other fault.
+        Err(fault) => Err(fault),
+    }
+}
+
+// The tables that a record and the payloads behind it lead to, before a boot.
+fn read(
+    alloc: Global,
+    role: Role,
+    content: &[u8],
+    entries: &[u8],
+) -> Result<Tables, OrMemory<KeyError>>
+    requires record_size { length content.now ≤ 49152 }
+    requires entries_size { length entries.now ≤ 15488 }
+    ensures given { IfOk result (λ t. state_given (duty role) content.now entries.now ≡ Ok (after_boot t)) }
+    ensures widths { IfOk result (λ t. FitsBytes t) }
+    ensures role { IfOk result (λ t. t.duty ≡ duty role) }
+    ensures fault { IfErr result (IsGivenFault (state_given (duty role) content.now entries.now)) }
+{
+    if is_of_other(role, content) {
+        return Err(OrMemory::Fault(KeyError::BadRecord { at: 1 }));
+    }
+    let mut tables = Tables::from_record(alloc, content)?;
+    match redo(&mut tables, version(content), content.len(), entries) {
+        Ok(()) => Ok(tables),
+        Err(fault) => Err(OrMemory::Fault(fault)),
+    }
+}
+
+// The tables of a node that boots: those of their record.
+fn boot(alloc: Global, tables: &Tables, room: &mut [u8]) -> Result<Tables, NoMemory>
+    requires room { 49152 ≤ length room.old }
+    requires widths { FitsBytes tables.now }
+    ensures { IfOk result (λ t. t ≡ after_boot tables.now) }
+{
+    tables.keep_rules();
+    let len = tables.record_bytes(room) as usize;
+    match Tables::from_record(alloc, &room[..len]) {
+        Ok(booted) => Ok(booted),
+        // A record that was written is one.
+        Err(_) => Err(NoMemory),
+    }
+}
+
+/// The tables with which a node of that role boots on a record and the payloads behind it.
+pub(crate) fn restore(
+    alloc: Global,
+    role: Role,
+    content: &[u8],
+    entries: &[u8],
+    room: &mut [u8],
+) -> Result<Tables, OrMemory<KeyError>>
+    requires record_size { length content.now ≤ 49152 }
+    requires entries_size { length entries.now ≤ 15488 }
+    requires room { 49152 ≤ length room.old }
+    ensures given { IfOk result (λ t. state_given (duty role) content.now entries.now ≡ Ok t) }
+    ensures widths { IfOk result (λ t. FitsBytes t) }
+    ensures role { IfOk result (λ t. t.duty ≡ duty role) }
+    ensures fault { IfErr result (IsGivenFault (state_given (duty role) content.now entries.now)) }
+{
+    let tables = read(alloc, role, content, entries)?;
+    match boot(alloc, &tables, room) {
+        Ok(booted) => Ok(booted),
+        Err(NoMemory) => Err(OrMemory::NoMemory),
+    }
+}

@@ -1,0 +1,125 @@
+//! A node's tables, as the core of a host keeps them.
+ghost use Rattle.std.specs.Prelude.{◌≡◌, ◌<◌, ◌≤◌, ◌^◌, ◌-◌, Ok, IfOk, IfErr, length, take, slice_get};
+ghost use Rattle.std.specs.List.{AllByRecursion};
+ghost use Rattle.zb_node_types.specs.Changes.{duty, edits, tier};
+ghost use Rattle.zb_host.specs.Plans.{gives, IsRestoreFault};
+ghost use Rattle.zb_keys.specs.Reading.{heard_under, heard_from};
+ghost use Rattle.zb_model.specs.Fits.{AllFit};
+ghost use Rattle.zb_model.specs.Record.{record_of};
+ghost use Rattle.zb_model.specs.State.{applied_all, counted, next_counter, stored_limit, shown};
+ghost use Rattle.zb_record.specs.Ranges.{InRange};
+ghost use Rattle.zb_stored_tables.specs.Stored.{restored, state_given, IsGivenFault, IsKept};
+
+use crate::restore::restore;
+use std::alloc::Global;
+use std::marker::Model;
+use zb_base::{Eui, Layer, OrMemory, Role};
+use zb_node_types::{Changes, KeyError};
+use zb_keys::Tables;
+
+/// A node's tables, as the core of a host keeps them: what a record and the entries behind it gave, and what plans made of
+/// it since. Their values fit the widths of a record.
+#[derive(Debug, Drop)]
+pub struct StoredTables {
+    tables: Tables,
+}
+
+impl Model for StoredTables {
+    ghost use Rattle.zb_model.specs.State.{NodeState};
+    ghost use Rattle.zb_record.specs.Ranges.{FitsBytes};
+
+    ghost Value = { NodeState };
+
+    ghost view = { λ t. t.tables };
+
+    ghost invariant = { λ t. FitsBytes t.tables };
+}
+
+impl StoredTables {
+    /// The tables with which a node of that role boots on a record and the payloads behind it. `room` has 49,152 bytes.
+    ///
+    /// Refused as `BadRecord` at the place of the first fault: at 1 where the record is of another role, in the record where
+    /// `Tables::from_record` finds it, and in the entries where `Tables::redo` finds it, counted on from the record's length.
+    pub fn restore(
+        alloc: Global,
+        role: Role,
+        content: &[u8],
+        entries: &[u8],
+        room: &mut [u8],
+    ) -> Result<StoredTables, OrMemory<KeyError>>
+        requires record_size { length content.now ≤ 49152 }
+        requires entries_size { length entries.now ≤ 15488 }
+        requires room { 49152 ≤ length room.old }
+        ensures given { IfOk result (λ t. state_given (duty role) content.now entries.now ≡ Ok t) }
+        ensures role { IfOk result (λ t. t.duty ≡ duty role) }
+        ensures fault { IfErr result (IsGivenFault (state_given (duty role) content.now entries.now)) }
+
+        // So a core over them is the one that its host asks for.
+        ensures core { IfOk result (λ t. restored (duty role) content.now entries.now ≡ gives (record_of t)) }
+        ensures no_core { IfErr result (IsRestoreFault (restored (duty role) content.now entries.now)) }
+    {
+        let tables = restore(alloc, role, content, entries, room)?;
+        Ok(StoredTables { tables })
+    }
+
+    /// The tables.
+    pub fn tables(&self) -> &Tables
+        ensures { result.now ≡ self.now }
+    {
+        &self.tables
+    }
+
+    /// What holds of them at all times. This call does nothing.
+    pub fn keep_rules(&self)
+        ensures { IsKept self.now }
+    {
+        self.tables.keep_rules();
+    }
+
+    /// Makes changes, which fit, in their order.
+    pub fn apply(&mut self, changes: &Changes)
+        requires fit { AllFit (edits changes.now.items) self.old }
+        requires range { AllByRecursion InRange changes.now.items }
+        ensures made { self.new ≡ shown (applied_all (edits changes.now.items) self.old) }
+        ensures role { self.new.duty ≡ self.old.duty }
+    {
+        self.tables.apply(changes);
+    }
+
+    /// Uses the next outgoing counter of a layer, which is reserved.
+    pub fn sealed(&mut self, layer: Layer)
+        requires { next_counter (tier layer) self.old < stored_limit (tier layer) self.old }
+        ensures counted { self.new ≡ counted (tier layer) self.old }
+        ensures role { self.new.duty ≡ self.old.duty }
+    {
+        self.tables.sealed(layer);
+    }
+
+    /// Keeps what was accepted of a sender under the network key at a place.
+    pub fn accepted_net(&mut self, place: u32, sender: Eui, counter: u32)
+        requires { counter < 2 ^ 32 - 1 }
+        ensures heard { self.new ≡ heard_under (slice_get self.old.nets place) sender.0 counter self.old }
+        ensures role { self.new.duty ≡ self.old.duty }
+    {
+        self.tables.accepted_net(place, sender, counter);
+    }
+
+    /// Keeps what was accepted under the link key at a place.
+    pub fn accepted_link(&mut self, place: u32, counter: u32)
+        requires { counter < 2 ^ 32 - 1 }
+        ensures heard { self.new ≡ heard_from (slice_get self.old.links place) counter self.old }
+        ensures role { self.new.duty ≡ self.old.duty }
+    {
+        self.tables.accepted_link(place, counter);
+    }
+
+    /// Writes their record, for which there are 49,152 bytes of room, and answers its length.
+    pub fn record(&self, into: &mut [u8]) -> u32
+        requires { 49152 ≤ length into.old }
+        ensures len { result ≡ length (record_of self.now) }
+        ensures small { result ≤ 49152 }
+        ensures bytes { take result into.new ≡ record_of self.now }
+    {
+        self.tables.record_bytes(into)
+    }
+}

@@ -1,5 +1,0 @@
-use Rattle.zb_table_host.proofs.Readings.{bytes_again}
-use Rattle.zb_table_host.proofs.law.what_is_read_has_these_bytes_as_its_record.Goals as goal
-
-pub returns : goal.returns
-returns c = bytes_again

@@ -1,5 +1,0 @@
-use Rattle.zb_table_host.proofs.ReadChanges.{read_in_range}
-use Rattle.zb_table_host.proofs.law.what_is_read_is_in_range.Goals as goal
-
-pub returns : goal.returns
-returns c = λ cut bytes rest change are read. (read_in_range cut bytes rest change are read).0

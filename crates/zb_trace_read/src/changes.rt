@@ -1,0 +1,245 @@
+//! The lines of changes of a node's stable state.
+ghost use Rattle.std.specs.Prelude.{◌≡◌, ◌∷◌, [], codes, IfSome, true};
+ghost use Rattle.std.specs.List.{AllByRecursion};
+ghost use Rattle.std.specs.Option.{option_map};
+ghost use Rattle.zb_text.specs.Fields.{is_name};
+ghost use Rattle.zb_text.specs.Words.{left, Shows};
+ghost use Rattle.zb_trace.specs.Text.{Fixed, MayStand, attributes, begun_of, rollovers, states, words};
+ghost use Rattle.zb_trace_read.specs.Grammar.{AKey, AnAddress, OneOf, a_count, a_layer, a_sequence, shaped, two_forms};
+ghost use Rattle.zb_trace_read.specs.Reading as spec;
+
+use crate::fields::{attribute, count, eui, key, layer, rollover, sequence, state};
+use crate::start::read_start;
+use zb_base::Name;
+use zb_text::words::Words;
+use zb_trace::Line;
+
+/// What stands behind the name of a node whose stable state changes, or that is declared.
+#[tactic(auto, unfolding(crate::specs::Reading::of_change))]
+pub(crate) fn read_change(
+    event: u32,
+    kind: &[u8],
+    node: Name,
+    reader: &mut Words<'_>,
+) -> Option<Line>
+    requires { is_name node.bytes ≡ true }
+    ensures value { Shows words result (spec.of_change event kind.now node.bytes (left reader.old)) }
+    ensures fits { IfSome result (λ l. AllByRecursion MayStand (words l)) }
+{
+    if kind == b"reserve".as_slice() {
+        read_reserve(event, node, reader)
+    } else if kind == b"floor".as_slice() {
+        read_floor(event, node, reader)
+    } else if kind == b"drop".as_slice() {
+        read_drop(event, node, reader)
+    } else if kind == b"install".as_slice() {
+        read_install(event, node, reader)
+    } else if kind == b"active".as_slice() {
+        read_active(event, node, reader)
+    } else if kind == b"start".as_slice() {
+        read_first_counter(event, node, reader)
+    } else if kind == b"row".as_slice() {
+        read_row(event, node, reader)
+    } else if kind == b"pair".as_slice() {
+        read_pair(event, node, reader)
+    } else if kind == b"state".as_slice() {
+        read_state(event, node, reader)
+    } else if kind == b"roll".as_slice() {
+        read_roll(event, node, reader)
+    } else if event == 0 {
+        read_start(kind, node, reader)
+    } else {
+        None
+    }
+}
+
+/// A reserved outgoing counter.
+fn read_reserve(event: u32, node: Name, reader: &mut Words<'_>) -> Option<Line>
+    requires { is_name node.bytes ≡ true }
+    ensures value { Shows words result (option_map (begun_of event (codes "reserve") node.bytes) (shaped (a_layer ∷ a_count ∷ []) (left reader.old))) }
+    ensures fits { IfSome result (λ l. AllByRecursion MayStand (words l)) }
+{
+    let layer = layer(reader)?;
+    let limit = count(reader)?;
+    reader.end()?;
+    Some(Line::Reserve {
+        event,
+        node,
+        layer,
+        limit,
+    })
+}
+
+/// A stored floor.
+fn read_floor(event: u32, node: Name, reader: &mut Words<'_>) -> Option<Line>
+    requires { is_name node.bytes ≡ true }
+    ensures value { Shows words result (option_map (begun_of event (codes "floor") node.bytes) (shaped (a_layer ∷ AKey ∷ AnAddress ∷ a_count ∷ []) (left reader.old))) }
+    ensures fits { IfSome result (λ l. AllByRecursion MayStand (words l)) }
+{
+    let layer = layer(reader)?;
+    let key = key(reader)?;
+    let sender = eui(reader)?;
+    let value = count(reader)?;
+    reader.end()?;
+    Some(Line::Floor {
+        event,
+        node,
+        layer,
+        key,
+        sender,
+        value,
+    })
+}
+
+/// A key that is dropped: a network key or a link key.
+fn read_drop(event: u32, node: Name, reader: &mut Words<'_>) -> Option<Line>
+    requires { is_name node.bytes ≡ true }
+    ensures value { Shows words result (option_map (begun_of event (codes "drop") node.bytes) (two_forms (codes "net") (AKey ∷ []) (codes "link") (AnAddress ∷ AKey ∷ []) (left reader.old))) }
+    ensures fits { IfSome result (λ l. AllByRecursion MayStand (words l)) }
+{
+    let form = reader.word()?;
+    if form == b"net".as_slice() {
+        read_drop_net(event, node, reader)
+    } else if form == b"link".as_slice() {
+        read_drop_link(event, node, reader)
+    } else {
+        None
+    }
+}
+
+/// A network key that is dropped.
+fn read_drop_net(event: u32, node: Name, reader: &mut Words<'_>) -> Option<Line>
+    requires { is_name node.bytes ≡ true }
+    ensures value { Shows words result (option_map (λ behind. begun_of event (codes "drop") node.bytes (Fixed (codes "net") ∷ behind)) (shaped (AKey ∷ []) (left reader.old))) }
+    ensures fits { IfSome result (λ l. AllByRecursion MayStand (words l)) }
+{
+    let key = key(reader)?;
+    reader.end()?;
+    Some(Line::DropNet { event, node, key })
+}
+
+/// A link key that is dropped.
+fn read_drop_link(event: u32, node: Name, reader: &mut Words<'_>) -> Option<Line>
+    requires { is_name node.bytes ≡ true }
+    ensures value { Shows words result (option_map (λ behind. begun_of event (codes "drop") node.bytes (Fixed (codes "link") ∷ behind)) (shaped (AnAddress ∷ AKey ∷ []) (left reader.old))) }
+    ensures fits { IfSome result (λ l. AllByRecursion MayStand (words l)) }
+{
+    let partner = eui(reader)?;
+    let key = key(reader)?;
+    reader.end()?;
+    Some(Line::DropLink {
+        event,
+        node,
+        partner,
+        key,
+    })
+}
+
+/// A new network key.
+fn read_install(event: u32, node: Name, reader: &mut Words<'_>) -> Option<Line>
+    requires { is_name node.bytes ≡ true }
+    ensures value { Shows words result (option_map (begun_of event (codes "install") node.bytes) (shaped (AKey ∷ a_sequence ∷ []) (left reader.old))) }
+    ensures fits { IfSome result (λ l. AllByRecursion MayStand (words l)) }
+{
+    let key = key(reader)?;
+    let sequence = sequence(reader)?;
+    reader.end()?;
+    Some(Line::Install {
+        event,
+        node,
+        key,
+        sequence,
+    })
+}
+
+/// The active network key.
+fn read_active(event: u32, node: Name, reader: &mut Words<'_>) -> Option<Line>
+    requires { is_name node.bytes ≡ true }
+    ensures value { Shows words result (option_map (begun_of event (codes "active") node.bytes) (shaped (AKey ∷ []) (left reader.old))) }
+    ensures fits { IfSome result (λ l. AllByRecursion MayStand (words l)) }
+{
+    let key = key(reader)?;
+    reader.end()?;
+    Some(Line::Active { event, node, key })
+}
+
+/// The first counter of a network key.
+fn read_first_counter(event: u32, node: Name, reader: &mut Words<'_>) -> Option<Line>
+    requires { is_name node.bytes ≡ true }
+    ensures value { Shows words result (option_map (begun_of event (codes "start") node.bytes) (shaped (AKey ∷ a_count ∷ []) (left reader.old))) }
+    ensures fits { IfSome result (λ l. AllByRecursion MayStand (words l)) }
+{
+    let key = key(reader)?;
+    let value = count(reader)?;
+    reader.end()?;
+    Some(Line::Start {
+        event,
+        node,
+        key,
+        value,
+    })
+}
+
+/// A link key and its attribute.
+fn read_row(event: u32, node: Name, reader: &mut Words<'_>) -> Option<Line>
+    requires { is_name node.bytes ≡ true }
+    ensures value { Shows words result (option_map (begun_of event (codes "row") node.bytes) (shaped (AnAddress ∷ AKey ∷ OneOf attributes ∷ []) (left reader.old))) }
+    ensures fits { IfSome result (λ l. AllByRecursion MayStand (words l)) }
+{
+    let partner = eui(reader)?;
+    let key = key(reader)?;
+    let attribute = attribute(reader)?;
+    reader.end()?;
+    Some(Line::Row {
+        event,
+        node,
+        partner,
+        key,
+        attribute,
+    })
+}
+
+/// A key for two devices.
+fn read_pair(event: u32, node: Name, reader: &mut Words<'_>) -> Option<Line>
+    requires { is_name node.bytes ≡ true }
+    ensures value { Shows words result (option_map (begun_of event (codes "pair") node.bytes) (shaped (AnAddress ∷ AnAddress ∷ AKey ∷ []) (left reader.old))) }
+    ensures fits { IfSome result (λ l. AllByRecursion MayStand (words l)) }
+{
+    let first = eui(reader)?;
+    let second = eui(reader)?;
+    let key = key(reader)?;
+    reader.end()?;
+    Some(Line::Pair {
+        event,
+        node,
+        first,
+        second,
+        key,
+    })
+}
+
+/// The state of a node.
+fn read_state(event: u32, node: Name, reader: &mut Words<'_>) -> Option<Line>
+    requires { is_name node.bytes ≡ true }
+    ensures value { Shows words result (option_map (begun_of event (codes "state") node.bytes) (shaped (OneOf states ∷ []) (left reader.old))) }
+    ensures fits { IfSome result (λ l. AllByRecursion MayStand (words l)) }
+{
+    let state = state(reader)?;
+    reader.end()?;
+    Some(Line::State { event, node, state })
+}
+
+/// A rollover.
+fn read_roll(event: u32, node: Name, reader: &mut Words<'_>) -> Option<Line>
+    requires { is_name node.bytes ≡ true }
+    ensures value { Shows words result (option_map (begun_of event (codes "roll") node.bytes) (shaped (OneOf rollovers ∷ []) (left reader.old))) }
+    ensures fits { IfSome result (λ l. AllByRecursion MayStand (words l)) }
+{
+    let rollover = rollover(reader)?;
+    reader.end()?;
+    Some(Line::Roll {
+        event,
+        node,
+        rollover,
+    })
+}

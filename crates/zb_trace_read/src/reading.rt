@@ -1,0 +1,192 @@
+//! A transcript as a whole, line by line.
+ghost use Rattle.std.specs.Prelude.{◌≡◌, ◌<◌, ◌+◌, ◌^◌, ◌++◌, ℕ, List, length, codes, IfSome, IfOk, IfErr, OnErr, MatchOption, Some, map};
+ghost use Rattle.std.specs.List.{AllByRecursion};
+ghost use Rattle.hex.specs.Hex.{IsBytes};
+ghost use Rattle.zb_text.specs.Words.{left, Shows, words as words_of};
+ghost use Rattle.zb_trace.specs.Text.{MayStand, words, text as text_of, texts, IsProper, AllProper};
+ghost use Rattle.zb_trace.specs.declared.line.Line.{Line as ALine};
+ghost use Rattle.zb_trace_read.specs.Faults.{IsTraceFault, IsNoMemory};
+ghost use Rattle.zb_trace_read.specs.Grammar.{all_bytes_of};
+ghost use Rattle.zb_trace_read.specs.Reading as spec;
+
+use crate::TraceError;
+use crate::fields::{answer, count};
+use crate::nobodys::read_of_nobody;
+use hex::FromHexError;
+use std::alloc::{AllocError, Global};
+use zb_base::OrMemory;
+use zb_text::lines::next_line;
+use zb_text::numbers::number;
+use zb_text::words::Words;
+use zb_trace::{Line, put_line};
+
+/// The lines of a transcript: those that the whole text is the text of, hexadecimal digits in upper case and a line feed behind
+/// the last line included. Else the fault is at the first line that is no text of a line.
+pub fn read_lines(alloc: Global, bytes: &[u8]) -> Result<Vec<Line>, OrMemory<TraceError>>
+    requires { length bytes.now < 2 ^ 32 }
+    ensures found { IfOk result (λ lines. AllProper lines.items × (bytes.now ≡ texts lines.items)) }
+    ensures fault { IfErr result (λ e. IsTraceFault bytes.now e) }
+    // Any lines that the text is the text of are those that were found, word for word.
+    ensures only { (ls : List ALine) → AllProper ls → bytes.now ≡ texts ls
+        → IfOk result (λ lines. map words lines.items ≡ map words ls) }
+    ensures accepts { (ls : List ALine) → AllProper ls → bytes.now ≡ texts ls → IfErr result IsNoMemory }
+{
+    let mut lines = Vec::new(alloc);
+    let mut page = Vec::new(alloc);
+    let mut rest = bytes;
+    while !rest.is_empty() {
+        match take_line(alloc, &mut page, rest)? {
+            Some((line, after)) => {
+                lines.push(line)?;
+                rest = after;
+            }
+            None => return Err(first_bad(lines.len())),
+        }
+    }
+    Ok(lines)
+}
+
+/// The fault behind so many lines.
+fn first_bad(before: usize) -> OrMemory<TraceError>
+    requires { before + 1 < 2 ^ 32 }
+    ensures { result ≡ OrMemory.Fault (record { line = before + 1 }) }
+{
+    OrMemory::Fault(TraceError {
+        line: before as u32 + 1,
+    })
+}
+
+/// The line whose text the text begins with, and what is behind it. The line is printed again, into the page, and compared.
+fn take_line<'a>(
+    alloc: Global,
+    page: &mut Vec<u8>,
+    text: &'a [u8],
+) -> Result<Option<(Line, &'a [u8])>, AllocError>
+    ensures found { IfOk result (λ o. IfSome o (λ t. IsProper t.0 × (text.now ≡ text_of t.0 ++ t.1.now))) }
+    ensures none { IfOk result (λ o. MatchOption o ((l : ALine) (more : List ℕ) → IsProper l → text.now ≡ text_of l ++ more → ⊥) (λ t. length t.1.now < length text.now)) }
+{
+    let Some((front, _)) = next_line(text) else {
+        return Ok(None);
+    };
+    let Some(line) = read_line(alloc, front)? else {
+        return Ok(None);
+    };
+    page.clear();
+    put_line(page, &line)?;
+    match without_front(text, page.as_slice()) {
+        Some(rest) => Ok(Some((line, rest))),
+        None => Ok(None),
+    }
+}
+
+/// What is behind a front, where the text begins with it.
+#[tactic(auto, using(crate::proofs::Taking::with_front, crate::proofs::Taking::no_front))]
+fn without_front<'a>(text: &'a [u8], front: &[u8]) -> Option<&'a [u8]>
+    ensures { MatchOption result ((more : List ℕ) → text.now ≡ front.now ++ more → ⊥) (λ rest. text.now ≡ front.now ++ rest.now) }
+{
+    match text.strip_prefix(front) {
+        Some(rest) => Some(rest),
+        None => None,
+    }
+}
+
+/// What a line is, without its line feed; its hexadecimal digits may still be in either case.
+#[tactic(auto, unfolding(crate::specs::Reading::read_words))]
+pub(crate) fn read_line(alloc: Global, line: &[u8]) -> Result<Option<Line>, AllocError>
+    ensures value { IfOk result (λ o. Shows words o (spec.read_words (words_of (Some line.now)))) }
+    ensures fits { IfOk result (λ o. IfSome o (λ l. AllByRecursion MayStand (words l))) }
+{
+    let mut reader = Words::new(line);
+    let Some(first) = reader.word() else {
+        return Ok(None);
+    };
+    if first == b"end".as_slice() {
+        return Ok(read_end(&mut reader));
+    }
+    match number(u32::MAX, first) {
+        Some(event) => read_event(alloc, event, &mut reader),
+        None => Ok(None),
+    }
+}
+
+fn read_event(alloc: Global, event: u32, reader: &mut Words<'_>) -> Result<Option<Line>, AllocError>
+    ensures value { IfOk result (λ o. Shows words o (spec.of_event event (left reader.old))) }
+    ensures fits { IfOk result (λ o. IfSome o (λ l. AllByRecursion MayStand (words l))) }
+{
+    let Some(kind) = reader.word() else {
+        return Ok(None);
+    };
+    if kind == b"dump".as_slice() {
+        read_dump(alloc, event, reader)
+    } else {
+        Ok(read_of_nobody(event, kind, reader))
+    }
+}
+
+/// The end of a transcript.
+fn read_end(reader: &mut Words<'_>) -> Option<Line>
+    ensures value { Shows words result (spec.of_end (left reader.old)) }
+    ensures fits { IfSome result (λ l. AllByRecursion MayStand (words l)) }
+{
+    let events = count(reader)?;
+    let seals = count(reader)?;
+    let accepts = count(reader)?;
+    let refusals = count(reader)?;
+    let ideal = answer(reader)?;
+    let private = answer(reader)?;
+    reader.end()?;
+    Some(Line::End {
+        events,
+        seals,
+        accepts,
+        refusals,
+        ideal,
+        private,
+    })
+}
+
+/// The record of a node's disk, which may be of any length.
+fn read_dump(alloc: Global, event: u32, reader: &mut Words<'_>) -> Result<Option<Line>, AllocError>
+    ensures value { IfOk result (λ o. Shows words o (spec.of_dump event (left reader.old))) }
+    ensures fits { IfOk result (λ o. IfSome o (λ l. AllByRecursion MayStand (words l))) }
+{
+    let Some(node) = reader.name() else {
+        return Ok(None);
+    };
+    let Some(word) = reader.word() else {
+        return Ok(None);
+    };
+    let Some(bytes) = all_bytes(alloc, word)? else {
+        return Ok(None);
+    };
+    if reader.end().is_none() {
+        return Ok(None);
+    }
+    Ok(Some(Line::Dump { event, node, bytes }))
+}
+
+/// The bytes that a word spells, as many as there are.
+fn all_bytes(alloc: Global, word: &[u8]) -> Result<Option<zb_base::List<u8>>, AllocError>
+    ensures value { IfOk result (λ o. o ≡ all_bytes_of word.now) }
+    ensures fits { IfOk result (λ o. IfSome o (λ bytes. IsBytes bytes)) }
+{
+    if word == b"-".as_slice() {
+        return Ok(Some(zb_base::List::from_vec(Vec::new(alloc))));
+    }
+    if word.is_empty() {
+        return Ok(None);
+    }
+    match hex::decode(alloc, word) {
+        Ok(bytes) => {
+            known_bytes(bytes.as_slice());
+            Ok(Some(zb_base::List::from_vec(bytes)))
+        }
+        Err(FromHexError::OutOfMemory) => Err(AllocError),
+        Err(_) => Ok(None),
+    }
+}
+
+/// Each byte is below 256.
+fn known_bytes(bytes: &[u8])
+    ensures { IsBytes bytes.now }
+{}

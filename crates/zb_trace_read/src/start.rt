@@ -1,0 +1,110 @@
+//! The lines of the start. Their event has the number 0.
+ghost use Rattle.std.specs.Prelude.{◌≡◌, ◌∷◌, [], codes, IfSome, true};
+ghost use Rattle.std.specs.List.{AllByRecursion};
+ghost use Rattle.std.specs.Option.{option_map};
+ghost use Rattle.zb_text.specs.Fields.{is_name};
+ghost use Rattle.zb_text.specs.Words.{left, Shows};
+ghost use Rattle.zb_trace.specs.Text.{Fixed, MayStand, begun_of, roles, words};
+ghost use Rattle.zb_trace_read.specs.Grammar.{AKey, AnAddress, AShort, OneOf, a_count, a_layer, a_sequence, shaped, two_forms};
+ghost use Rattle.zb_trace_read.specs.Reading as spec;
+
+use crate::fields::{count, eui, key, layer, role, sequence, short};
+use zb_base::Name;
+use zb_text::words::Words;
+use zb_trace::Line;
+
+/// What stands behind the name of a node at the start.
+#[tactic(auto, unfolding(crate::specs::Reading::of_start))]
+pub(crate) fn read_start(kind: &[u8], node: Name, reader: &mut Words<'_>) -> Option<Line>
+    requires { is_name node.bytes ≡ true }
+    ensures value { Shows words result (spec.of_start kind.now node.bytes (left reader.old)) }
+    ensures fits { IfSome result (λ l. AllByRecursion MayStand (words l)) }
+{
+    if kind == b"node".as_slice() {
+        read_node(node, reader)
+    } else if kind == b"given".as_slice() {
+        read_given(node, reader)
+    } else if kind == b"counter".as_slice() {
+        read_counter(node, reader)
+    } else {
+        None
+    }
+}
+
+/// A node as it is declared.
+fn read_node(name: Name, reader: &mut Words<'_>) -> Option<Line>
+    requires { is_name name.bytes ≡ true }
+    ensures value { Shows words result (option_map (begun_of 0 (codes "node") name.bytes) (shaped (OneOf roles ∷ AnAddress ∷ AShort ∷ a_count ∷ a_count ∷ []) (left reader.old))) }
+    ensures fits { IfSome result (λ l. AllByRecursion MayStand (words l)) }
+{
+    let role = role(reader)?;
+    let eui = eui(reader)?;
+    let short = short(reader)?;
+    let out_block = count(reader)?;
+    let in_block = count(reader)?;
+    reader.end()?;
+    Some(Line::Node {
+        name,
+        role,
+        eui,
+        short,
+        out_block,
+        in_block,
+    })
+}
+
+/// A key that a node holds: a network key or a link key.
+fn read_given(node: Name, reader: &mut Words<'_>) -> Option<Line>
+    requires { is_name node.bytes ≡ true }
+    ensures value { Shows words result (option_map (begun_of 0 (codes "given") node.bytes) (two_forms (codes "net") (AKey ∷ a_sequence ∷ []) (codes "link") (AnAddress ∷ AKey ∷ []) (left reader.old))) }
+    ensures fits { IfSome result (λ l. AllByRecursion MayStand (words l)) }
+{
+    let form = reader.word()?;
+    if form == b"net".as_slice() {
+        read_given_net(node, reader)
+    } else if form == b"link".as_slice() {
+        read_given_link(node, reader)
+    } else {
+        None
+    }
+}
+
+/// A network key.
+fn read_given_net(node: Name, reader: &mut Words<'_>) -> Option<Line>
+    requires { is_name node.bytes ≡ true }
+    ensures value { Shows words result (option_map (λ behind. begun_of 0 (codes "given") node.bytes (Fixed (codes "net") ∷ behind)) (shaped (AKey ∷ a_sequence ∷ []) (left reader.old))) }
+    ensures fits { IfSome result (λ l. AllByRecursion MayStand (words l)) }
+{
+    let key = key(reader)?;
+    let sequence = sequence(reader)?;
+    reader.end()?;
+    Some(Line::GivenNet {
+        node,
+        key,
+        sequence,
+    })
+}
+
+/// A link key.
+fn read_given_link(node: Name, reader: &mut Words<'_>) -> Option<Line>
+    requires { is_name node.bytes ≡ true }
+    ensures value { Shows words result (option_map (λ behind. begun_of 0 (codes "given") node.bytes (Fixed (codes "link") ∷ behind)) (shaped (AnAddress ∷ AKey ∷ []) (left reader.old))) }
+    ensures fits { IfSome result (λ l. AllByRecursion MayStand (words l)) }
+{
+    let partner = eui(reader)?;
+    let key = key(reader)?;
+    reader.end()?;
+    Some(Line::GivenLink { node, partner, key })
+}
+
+/// A stored limit.
+fn read_counter(node: Name, reader: &mut Words<'_>) -> Option<Line>
+    requires { is_name node.bytes ≡ true }
+    ensures value { Shows words result (option_map (begun_of 0 (codes "counter") node.bytes) (shaped (a_layer ∷ a_count ∷ []) (left reader.old))) }
+    ensures fits { IfSome result (λ l. AllByRecursion MayStand (words l)) }
+{
+    let layer = layer(reader)?;
+    let limit = count(reader)?;
+    reader.end()?;
+    Some(Line::Counter { node, layer, limit })
+}

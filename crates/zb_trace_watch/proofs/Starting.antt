@@ -1,0 +1,117 @@
+-- A watch over no lines, its two words, and forms that answers share.
+use Rattle.std.proofs.Common.{◌≡◌, ℕ, List, [], Bool, true, false, not, ◌||◌, ◌&&◌, Option, Some, None, refl, ap, sym, ◌∙◌, bytes_eq, Result, Ok, Err, ◌+◌, ◌<◌, length, get_or, take}
+use Rattle.std.specs.Result.{OnOk}
+use Rattle.std.proofs.lemmas.List.Sums.{fold_more}
+use Rattle.zb_trace.specs.Views.{log_of, with_line}
+use Rattle.zb_trace.specs.declared.line.Line.{Line}
+use Rattle.std.specs.Option.{is_none, option_map}
+use Rattle.std.specs.Prelude.{if◌then◌else◌}
+use Rattle.zb_aps.specs.Reading.{frame_of}
+use Rattle.zb_aps.specs.declared.auxiliary.ApsAux.{ApsAux}
+use Rattle.zb_aps.specs.declared.fault.ApsError.{ApsError}
+use Rattle.zb_aps.specs.declared.frame.ApsFrame.{ApsFrame}
+use Rattle.zb_transported.specs.Carrying as carrying
+use Rattle.zb_cmd.specs.Reading.{command_of}
+use Rattle.zb_cmd.specs.declared.command.Command.{Command}
+use Rattle.zb_cmd.specs.declared.command.Command.TheVariants as command
+use Rattle.zb_cmd.specs.declared.fault.CmdError.{CmdError}
+use Rattle.zb_cmd.specs.declared.fault.CmdError.TheVariants as fault
+use Rattle.zb_base.specs.declared.address.Eui.{Eui}
+use Rattle.zb_base.specs.declared.key.Key.{Key}
+use Rattle.zb_model.specs.Data.{Bytes}
+use Rattle.zb_model.specs.Lines.{LogLine}
+use Rattle.zb_model.specs.Readings.{stations_of}
+use Rattle.zb_model.specs.Secrets.{clear_key, key_of_sight, unsealed_key, bases, codes_of, each_line, ever, ideal, network_keys, passes_on, private, removed_devices, terms_of}
+use Rattle.zb_model.specs.Tools.{Tools}
+use Rattle.zb_seal.specs.declared.term.Term.{Term}
+use Rattle.zb_trace_watch.specs.Exposure.{IsSettled, was_removed}
+use Rattle.zb_trace_watch.specs.Nodes.{Declares}
+use Rattle.zb_trace_watch.specs.Sets.{has, is_carried, is_node, node_has}
+use Rattle.zb_trace_watch.specs.Readers.{aps_sight, auxiliary, order_sight, with_readers}
+use Rattle.zb_trace_watch.specs.Standing.{FindKeys, Stands, bytes_of}
+use Rattle.zb_trace_watch.specs.Terms.{has_term}
+use Rattle.zb_trace_watch.specs.declared.exposure.Exposure.{Exposure}
+use Rattle.zb_trace_watch.specs.declared.holdings.Holdings.{Holdings}
+use Rattle.zb_trace_watch.specs.declared.nodes.Nodes.{Nodes}
+use Rattle.zb_trace_watch.specs.declared.origins.Origins.{Origins}
+use Rattle.zb_trace_watch.specs.declared.passing.Passing.{Passing}
+use Rattle.zb_trace_watch.specs.declared.watch.Watch.{Watch}
+use Rattle.zb_trace_watch.proofs.Outsiders.{known_is_exposed}
+use Rattle.zb_trace_watch.proofs.Truth.{not_both}
+
+-- A node, if there is one, has one more key.
+abbrev pub node_has_more : Holdings Eui → Holdings Eui → Option Eui → Key → Type 0
+node_has_more old new node key = (n : ℕ) (k : Bytes) → node_has new n k ≡ (node_has old n k || (is_node node n && bytes_eq k key.0))
+
+pub on_ok : {T E : Type 0} (r : Result T E) (P Q : Type 0) → (P → Q) → OnOk r P → OnOk r Q
+on_ok (Ok x) P Q f p = f p
+on_ok (Err e) P Q f p = tt
+
+pub private_is : (tools : Tools) (w : Watch) (h : List LogLine) → Stands tools w h → (w.exposure.based && not w.passing.passed_on) ≡ private tools h
+unfolding private
+private_is tools w h stands = rw (stands.based, stands.passed_on) refl
+
+module _ (tools : Tools) (nodes : Nodes) (origins : Origins) (passing : Passing) (exposure : Exposure) where
+  pub new_stands : Declares nodes [] → ((t : Term) → has_term origins.terms t ≡ false) → ((n : ℕ) (k : Bytes) → node_has origins.codes n k ≡ false) → ((n : ℕ) (k : Bytes) → node_has origins.bases n k ≡ false)
+      → ((k b : Bytes) → is_carried origins.carriers k b ≡ false) → ((n : ℕ) (k : Bytes) → node_has origins.traced n k ≡ false) → origins.ideal ≡ true → ((k : Bytes) → has passing.network k ≡ false) → ((k : Bytes) → has passing.forged k ≡ false) → passing.passed_on ≡ false
+      → IsSettled exposure → ((n : ℕ) (k : Bytes) → node_has exposure.ever n k ≡ false) → ((d : ℕ) → was_removed exposure d ≡ false) → ((b k : Bytes) → is_carried exposure.carried b k ≡ false) → exposure.based ≡ true
+      → Stands tools (record { nodes = nodes; origins = origins; passing = passing; exposure = exposure }) []
+  unfolding stations_of terms_of ever codes_of bases removed_devices network_keys passes_on ideal each_line
+  new_stands declares terms codes bases carriers traced ideal network forged passed settled ever removed carried based = record {
+    nodes = declares;
+    terms = terms;
+    carried = carried;
+    ever = λ n some k. ever n k;
+    codes = λ n some k. codes n k;
+    bases = λ n some k. bases n k;
+    carriers = λ b k. carriers k b;
+    traced = λ n some k it. absurd (not_both _ it (traced n k));
+    removed = removed;
+    somebody = refl;
+    known = known_is_exposed tools exposure [] carried (λ n some k. ever n k) removed refl settled;
+    network = network;
+    forged = forged;
+    passed_on = passed;
+    ideal = ideal;
+    based = based;
+  }
+
+-- The model's tools find what this program's readers find, where they read as these do.
+
+command_found : (r : Result Command CmdError) → key_of_sight (order_sight r) ≡ bytes_of (carrying.key_in r)
+command_found (Ok (command.TransportNetwork key sequence destination source)) = refl
+command_found (Ok (command.TransportApplication key partner initiator)) = refl
+command_found (Ok (command.TransportLink key destination source)) = refl
+command_found (Ok (command.Update device short status)) = refl
+command_found (Ok (command.Remove target)) = refl
+command_found (Ok (command.RequestApplication partner)) = refl
+command_found (Ok command.RequestLink) = refl
+command_found (Ok (command.Switch sequence)) = refl
+command_found (Ok (command.Tunnel destination inner)) = refl
+command_found (Ok (command.Verify kind source hash)) = refl
+command_found (Ok (command.Confirm status kind destination)) = refl
+command_found (Err (fault.Unknown id)) = refl
+command_found (Err (fault.KeyType found)) = refl
+command_found (Err (fault.Short at)) = refl
+command_found (Err (fault.Trailing count)) = refl
+
+unsealed_found : (tools : Tools) (f : ApsFrame) (aux : Option ApsAux) (b : Bool)
+    → unsealed_key (with_readers tools) (record { is_command = b; auxiliary = option_map auxiliary aux; body = f.body.items }) (option_map auxiliary aux)
+    ≡ bytes_of (if is_none aux && b then carrying.key_in (command_of f.body.items) else None)
+unsealed_found tools f None true = command_found (command_of f.body.items)
+unsealed_found tools f None false = refl
+unsealed_found tools f (Some aux) b = refl
+
+frame_found : (tools : Tools) (r : Result ApsFrame ApsError) → clear_key (with_readers tools) (aps_sight r) ≡ bytes_of (carrying.clear_key r)
+frame_found tools (Ok f) = unsealed_found tools f f.aux (carrying.is_command f.header.control)
+frame_found tools (Err e) = refl
+
+pub readers_find : (tools : Tools) → FindKeys (with_readers tools)
+readers_find tools = record {
+  in_command = λ bytes. command_found (command_of bytes);
+  in_frame = λ bytes. frame_found tools (frame_of bytes);
+}
+
+pub log_more : (lines : List Line) (i : ℕ) (l : Line) → i < length lines → l ≡ get_or lines i l → log_of (take (i + 1) lines) ≡ with_line (log_of (take i lines)) l
+unfolding log_of
+log_more lines i l in_range is = fold_more with_line [] lines i l in_range ∙ ap (with_line (log_of (take i lines))) (sym is)

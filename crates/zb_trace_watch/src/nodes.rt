@@ -1,0 +1,130 @@
+//! The nodes that a transcript declared so far.
+ghost use Rattle.std.specs.Prelude.{◌≡◌, ◌++◌, ◌∷◌, [], ℕ, List, Some, OnOk, if◌then◌else◌, None, bytes_eq, nat_eq, ◌<◌, ◌^◌};
+ghost use Rattle.std.specs.Option.{option_or};
+ghost use Rattle.arrayvec.specs.ArrayString.{ArrayString};
+ghost use Rattle.zb_model.specs.Data.{Station};
+ghost use Rattle.zb_model.specs.State.{is_centre};
+ghost use Rattle.zb_trace.specs.Views.{duty};
+ghost use Rattle.zb_trace_watch.specs.Nodes.{address_in, address_of, is_first_centre, is_joiner, role_in, IsOf, Declares};
+
+use std::alloc::{AllocError, Global};
+use std::collections::BTreeMap;
+use zb_base::{Eui, Name, Role};
+
+/// What is needed of the declared nodes. Where two have one name or one address, the first counts.
+#[derive(Drop)]
+pub struct Nodes {
+    /// The address of the first node of each name.
+    pub addresses: BTreeMap<Name, Eui>,
+    /// The role of the first node of each address.
+    pub roles: BTreeMap<Eui, Role>,
+    /// The address of the first centre.
+    pub centre: Option<Eui>,
+}
+
+impl Nodes {
+    /// No nodes.
+    pub fn new(alloc: Global) -> Nodes
+        ensures { Declares result [] }
+    {
+        Nodes {
+            addresses: BTreeMap::new(alloc),
+            roles: BTreeMap::new(alloc),
+            centre: None,
+        }
+    }
+
+    /// The address of the first node of that name.
+    pub fn named(&self, name: &Name) -> Option<Eui>
+        ensures { result ≡ address_of self.now name.now }
+    {
+        self.addresses.get(name).copied()
+    }
+
+    /// The node, where it is a router or device.
+    pub fn joiner(&self, node: Option<Eui>) -> Option<Eui>
+        ensures { result ≡ (if is_joiner self.now node then node else None) }
+    {
+        if self.joins(node) { node } else { None }
+    }
+
+    fn joins(&self, node: Option<Eui>) -> bool
+        ensures { result ≡ is_joiner self.now node }
+    {
+        match node {
+            Some(eui) => self.has_joiner(eui),
+            None => false,
+        }
+    }
+
+    fn has_joiner(&self, eui: Eui) -> bool
+        ensures { result ≡ is_joiner self.now (Some eui) }
+    {
+        match self.roles.get(&eui) {
+            Some(role) => *role != Role::Centre,
+            None => false,
+        }
+    }
+
+    /// The partner of a node's link row, where the node is the centre.
+    pub fn partner(&self, node: Option<Eui>, partner: Eui) -> Option<Eui>
+        ensures { result ≡ (if is_first_centre self.now.centre node then Some partner else None) }
+    {
+        if self.is_centre(node) {
+            Some(partner)
+        } else {
+            None
+        }
+    }
+
+    fn is_centre(&self, node: Option<Eui>) -> bool
+        ensures { result ≡ is_first_centre self.now.centre node }
+    {
+        match (self.centre, node) {
+            (Some(centre), Some(eui)) => centre == eui,
+            _ => false,
+        }
+    }
+
+    /// One more node.
+    pub fn add(&mut self, name: Name, eui: Eui, role: Role) -> Result<(), AllocError>
+        ensures { OnOk result ((known : List Station) (station : Station) → IsOf station name.bytes eui.0 role → Declares self.old known → Declares self.new (known ++ station ∷ [])) }
+    {
+        name_it(&mut self.addresses, name, eui)?;
+        give_role(&mut self.roles, eui, role)?;
+        self.centre = first_centre(self.centre, eui, role);
+        Ok(())
+    }
+}
+
+/// The centre, where it was declared before, or is this node.
+fn first_centre(before: Option<Eui>, eui: Eui, role: Role) -> Option<Eui>
+    ensures first { result ≡ option_or before (if is_centre (duty role) then Some eui else None) }
+    ensures somebody { eui.0 < 2 ^ 64 }
+{
+    match before {
+        Some(centre) => Some(centre),
+        None if role == Role::Centre => Some(eui),
+        None => None,
+    }
+}
+
+/// Notes the address of a name, unless one is there.
+fn name_it(addresses: &mut BTreeMap<Name, Eui>, name: Name, eui: Eui) -> Result<(), AllocError>
+    ensures { OnOk result ((q : ArrayString) → address_in addresses.new q ≡ option_or (address_in addresses.old q) (if bytes_eq name.bytes q.bytes then Some eui else None)) }
+{
+    if !addresses.contains_key(&name) {
+        addresses.insert(name, eui)?;
+    }
+    Ok(())
+}
+
+/// Notes the role of an address, unless one is there.
+fn give_role(roles: &mut BTreeMap<Eui, Role>, eui: Eui, role: Role) -> Result<(), AllocError>
+    ensures { OnOk result ((q : ℕ) → role_in roles.new q ≡ option_or (role_in roles.old q) (if nat_eq q eui.0 then Some role else None)) }
+{
+    if !roles.contains_key(&eui) {
+        roles.insert(eui, role)?;
+    }
+    Ok(())
+}

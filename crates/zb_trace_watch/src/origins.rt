@@ -1,0 +1,161 @@
+//! Where what was accepted, and the keys that were taken in, came from.
+ghost use Rattle.std.specs.Prelude.{◌≡◌, ◌||◌, ◌&&◌, ◌⊎◌, ℕ, List, OnOk, Some, bytes_eq, false, true, not};
+ghost use Rattle.zb_model.specs.Secrets.{same_term};
+ghost use Rattle.zb_seal.specs.Terms.{sealing};
+ghost use Rattle.zb_seal.specs.declared.term.Term.{Term as AnyTerm};
+ghost use Rattle.zb_trace_watch.specs.Origins.{IsTraced, came};
+ghost use Rattle.zb_trace_watch.specs.Sets.{eui_cmp, is_carried, is_key, is_node, key_cmp, keys_at, meet, node_has};
+ghost use Rattle.zb_trace_watch.specs.Terms.{has_term};
+
+use crate::holdings::Holdings;
+use crate::terms::Terms;
+use std::alloc::{AllocError, Global};
+use zb_base::{Eui, Key};
+use zb_seal::Term;
+
+/// The terms so far, and whether all that was accepted or taken in came from earlier ones.
+#[derive(Drop)]
+pub struct Origins {
+    /// The terms that were sealed or forged.
+    pub terms: Terms,
+    /// The link keys of each node's install code.
+    pub codes: Holdings<Eui>,
+    /// The keys under which each node may be sent a key: its code's, and those of its link rows.
+    pub bases: Holdings<Eui>,
+    /// For each key that terms carry, the base keys of these terms.
+    pub carriers: Holdings<Key>,
+    /// For each node, keys of which it was found where they came from, so that none is looked for twice.
+    pub traced: Holdings<Eui>,
+    /// Whether each accepted term was sealed or forged before, and each key that a router or device took in is its
+    /// code's or came in an earlier term under one of its keys.
+    pub ideal: bool,
+}
+
+impl Origins {
+    /// Before the first line.
+    pub fn new(alloc: Global) -> Origins
+        ensures terms { (t : AnyTerm) → has_term result.terms t ≡ false }
+        ensures codes { (n : ℕ) (k : List ℕ) → node_has result.codes n k ≡ false }
+        ensures bases { (n : ℕ) (k : List ℕ) → node_has result.bases n k ≡ false }
+        ensures carriers { (k b : List ℕ) → is_carried result.carriers k b ≡ false }
+        ensures traced { (n : ℕ) (k : List ℕ) → node_has result.traced n k ≡ false }
+        ensures ideal { result.ideal ≡ true }
+    {
+        Origins {
+            terms: Terms::new(alloc),
+            codes: Holdings::new(alloc),
+            bases: Holdings::new(alloc),
+            carriers: Holdings::new(alloc),
+            traced: Holdings::new(alloc),
+            ideal: true,
+        }
+    }
+
+    /// A term was sealed or forged, which carries a key or none.
+    pub fn term(&mut self, alloc: Global, term: &Term, key: Option<Key>) -> Result<(), AllocError>
+        ensures terms { OnOk result ((t : AnyTerm) → has_term self.new.terms t ≡ (has_term self.old.terms t || same_term (sealing t) (sealing term.now))) }
+        ensures codes { OnOk result (self.new.codes ≡ self.old.codes) }
+        ensures bases { OnOk result (self.new.bases ≡ self.old.bases) }
+        ensures carriers { OnOk result ((k b : List ℕ) → is_carried self.new.carriers k b ≡ (is_carried self.old.carriers k b || (is_key key k && bytes_eq b term.now.base.0))) }
+        ensures traced { OnOk result (self.new.traced ≡ self.old.traced) }
+        ensures ideal { OnOk result (self.new.ideal ≡ self.old.ideal) }
+    {
+        self.carriers.add_under(alloc, key, term.base)?;
+        self.terms.add(term)?;
+        Ok(())
+    }
+
+    /// A term was accepted.
+    pub fn accept(&mut self, term: &Term)
+        ensures { self.new ≡ record self.old { ideal = self.old.ideal && has_term self.old.terms term.now } }
+    {
+        self.ideal = self.ideal && self.terms.has(term);
+    }
+
+    /// A router or device took a key in, or no node did. What was traced isn't looked for again, and once a key came from
+    /// nowhere none is.
+    pub fn take_in(&mut self, alloc: Global, node: Option<Eui>, key: Key) -> Result<(), AllocError>
+        ensures ideal { OnOk result (IsTraced self.old node key.0 → self.new.ideal ≡ (self.old.ideal && came self.old node key.0)) }
+        ensures traced { OnOk result ((n : ℕ) (k : List ℕ) → node_has self.new.traced n k ≡ true
+            → (node_has self.old.traced n k ≡ true) ⊎ (((is_node node n && bytes_eq k key.0) ≡ true) × (came self.old node key.0 ≡ true))) }
+        ensures terms { OnOk result (self.new.terms ≡ self.old.terms) }
+        ensures codes { OnOk result (self.new.codes ≡ self.old.codes) }
+        ensures bases { OnOk result (self.new.bases ≡ self.old.bases) }
+        ensures carriers { OnOk result (self.new.carriers ≡ self.old.carriers) }
+    {
+        match node {
+            Some(eui) => self.trace(alloc, eui, key),
+            None => Ok(()),
+        }
+    }
+
+    fn trace(&mut self, alloc: Global, eui: Eui, key: Key) -> Result<(), AllocError>
+        ensures ideal { OnOk result (IsTraced self.old (Some eui) key.0 → self.new.ideal ≡ (self.old.ideal && came self.old (Some eui) key.0)) }
+        ensures traced { OnOk result ((n : ℕ) (k : List ℕ) → node_has self.new.traced n k ≡ true
+            → (node_has self.old.traced n k ≡ true) ⊎ (((is_node (Some eui) n && bytes_eq k key.0) ≡ true) × (came self.old (Some eui) key.0 ≡ true))) }
+        ensures terms { OnOk result (self.new.terms ≡ self.old.terms) }
+        ensures codes { OnOk result (self.new.codes ≡ self.old.codes) }
+        ensures bases { OnOk result (self.new.bases ≡ self.old.bases) }
+        ensures carriers { OnOk result (self.new.carriers ≡ self.old.carriers) }
+    {
+        if self.is_settled(&eui, &key) {
+            return Ok(());
+        }
+        if self.came(&eui, &key) {
+            self.traced.add_at(alloc, Some(eui), key)?;
+        } else {
+            self.ideal = false;
+        }
+        Ok(())
+    }
+
+    // Whether nothing is to be looked for: the key was traced, or the run isn't ideal anyway.
+    fn is_settled(&self, eui: &Eui, key: &Key) -> bool
+        ensures { result ≡ (not self.now.ideal || node_has self.now.traced eui.now.0 key.now.0) }
+    {
+        !self.ideal || self.traced.has(eui, key)
+    }
+
+    // Whether the key is that of the node's code, or a term carries it under one of the node's keys.
+    fn came(&self, eui: &Eui, key: &Key) -> bool
+        ensures { result ≡ came self.now (Some eui.now) key.now.0 }
+    {
+        self.codes.has(eui, key) || self.came_under_a_key(eui, key)
+    }
+
+    fn came_under_a_key(&self, eui: &Eui, key: &Key) -> bool
+        ensures { result ≡ meet (keys_at eui_cmp self.now.bases eui.now) (keys_at key_cmp self.now.carriers key.now) }
+    {
+        match self.bases.sets.get(eui) {
+            Some(bases) => self.carriers.meets(key, bases),
+            None => false,
+        }
+    }
+
+    /// A node, if it was declared, was given a link key by its install code.
+    pub fn code(&mut self, alloc: Global, node: Option<Eui>, key: Key) -> Result<(), AllocError>
+        ensures codes { OnOk result ((n : ℕ) (k : List ℕ) → node_has self.new.codes n k ≡ (node_has self.old.codes n k || (is_node node n && bytes_eq k key.0))) }
+        ensures bases { OnOk result ((n : ℕ) (k : List ℕ) → node_has self.new.bases n k ≡ (node_has self.old.bases n k || (is_node node n && bytes_eq k key.0))) }
+        ensures terms { OnOk result (self.new.terms ≡ self.old.terms) }
+        ensures carriers { OnOk result (self.new.carriers ≡ self.old.carriers) }
+        ensures traced { OnOk result (self.new.traced ≡ self.old.traced) }
+        ensures ideal { OnOk result (self.new.ideal ≡ self.old.ideal) }
+    {
+        self.codes.add_at(alloc, node, key)?;
+        self.bases.add_at(alloc, node, key)?;
+        Ok(())
+    }
+
+    /// A node, if it was declared, has a link row with that key.
+    pub fn row(&mut self, alloc: Global, node: Option<Eui>, key: Key) -> Result<(), AllocError>
+        ensures bases { OnOk result ((n : ℕ) (k : List ℕ) → node_has self.new.bases n k ≡ (node_has self.old.bases n k || (is_node node n && bytes_eq k key.0))) }
+        ensures codes { OnOk result (self.new.codes ≡ self.old.codes) }
+        ensures terms { OnOk result (self.new.terms ≡ self.old.terms) }
+        ensures carriers { OnOk result (self.new.carriers ≡ self.old.carriers) }
+        ensures traced { OnOk result (self.new.traced ≡ self.old.traced) }
+        ensures ideal { OnOk result (self.new.ideal ≡ self.old.ideal) }
+    {
+        self.bases.add_at(alloc, node, key)?;
+        Ok(())
+    }
+}
