@@ -4,7 +4,7 @@ use Rattle.std.specs.Io.KnownBytes.{Appends, IsAtEnd, Keeps}
 use Rattle.zb_base.specs.Outside.{AppendsFront, Rose}
 use Rattle.zb_gen.specs.Made.{made}
 use Rattle.zb_model.specs.Data.{Bytes}
-use Rattle.zb_model.specs.Lines.{LogLine}
+use Rattle.zb_model.specs.Lines.{Line}
 use Rattle.zb_model.specs.FirstPath.{Plan, Lawful, Fresh, Counted}
 use Rattle.zb_player.specs.Text.{text}
 use Rattle.zb_player.specs.Wire.{wire}
@@ -65,7 +65,7 @@ WritesFront s answer before after = Unit {0}
 -- A schedule was played: what was written is the text of lines that are a lawful run of it, in which no node seals twice
 -- under one key and nonce, and each seal has its node's next counter.
 pub record IsRun (plan : Plan) (written : Bytes) : Type 0 where
-  pub lines : List LogLine
+  pub lines : List Line
   pub text_of : written ≡ text lines
   pub lawful : Lawful wire plan lines
   pub fresh : Fresh lines

@@ -18,8 +18,8 @@ use std::alloc::{AllocError, Global};
 use std::thread::Threads;
 use zb_base::{OrMemory, Sink, Source};
 use zb_inspect::{InspectFault, report};
-use zb_pcap::{Counts, Extraction, extract};
 use zb_inspect_ring::OpenGate;
+use zb_pcap::{Counts, Extraction, extract};
 use zb_text::page::{add_number, end_line, hand_out, put};
 
 /// Writes the report on the capture file on the input, under the keys that the words stand for, and the counts of its

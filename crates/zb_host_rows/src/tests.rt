@@ -15,7 +15,7 @@ use zb_store::Store;
 // A network of one node, which reserves so many numbers at once.
 fn alone(block: u32) -> Config
     requires least { 1 ≤ block }
-    requires most { block ≤ 65536 }
+    requires greatest_counter { block ≤ 65536 }
     ensures { IsConfig result }
 {
     let mut peers = ArrayVec::new();

@@ -33,8 +33,8 @@ piece_items old new p items = ap all_blocks items ∙ blocks_more old p
 
 -- some frames are given to each job
 pub some_size : (n size jobs : ℕ) → n ≤ size * jobs → 0 < n → 0 < size
-some_size n zero jobs most some = absurd (omega arith)
-some_size n (suc size) jobs most some = omega arith
+some_size n zero jobs greatest_counter some = absurd (omega arith)
+some_size n (suc size) jobs greatest_counter some = omega arith
 
 -- what was cut off so far, whatever is cut off behind it
 abbrev pub AreSizedSoFar : ℕ → ℕ → ℕ → ℕ → List Piece → Type 0
@@ -56,10 +56,10 @@ sized_end size frames number left pieces so_far none =
 
 -- there are no more pieces than jobs
 pub few_pieces : (size number left jobs : ℕ) (pieces : List Piece) → AreSized size number left pieces → left ≤ size * jobs → length pieces ≤ jobs
-few_pieces size number left jobs [] sized most = omega arith
-few_pieces size number left zero (p ∷ more) sized most = absurd (omega (arith, most, sized.1))
-few_pieces size number left (suc jobs) (p ∷ more) sized most =
-    omega (arith, few_pieces size (number + 1) (left - min size left) jobs more sized.3 (omega (arith, most)))
+few_pieces size number left jobs [] sized greatest_counter = omega arith
+few_pieces size number left zero (p ∷ more) sized greatest_counter = absurd (omega (arith, greatest_counter, sized.1))
+few_pieces size number left (suc jobs) (p ∷ more) sized greatest_counter =
+    omega (arith, few_pieces size (number + 1) (left - min size left) jobs more sized.3 (omega (arith, greatest_counter)))
 
 -- the same of so many frames as there are
 pub sized_as : (frames jobs all : ℕ) (pieces : List Piece) → all ≡ frames → AreSized (div_ceil all jobs) 0 all pieces → AreSized (div_ceil frames jobs) 0 frames pieces

@@ -13,11 +13,11 @@ use std::alloc::{AllocError, Global};
 use std::mem;
 use zb_base::{Frame, Key, NoMemory};
 use zb_capture::{FrameRun, Frames};
-use zb_seal::Ciphers;
 use zb_inspect_frame::{
     Addresses, Carried, Finding, Sight, carried_keys, is_settled, is_unopened, put_sights,
     put_unopened, show, show_more,
 };
+use zb_seal::Ciphers;
 
 /// What is kept of the frames of a block.
 #[derive(Drop)]

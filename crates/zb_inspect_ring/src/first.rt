@@ -8,8 +8,8 @@ use crate::ring::Lead;
 use std::alloc::{AllocError, Global};
 use zb_base::NoMemory;
 use zb_capture::Frames;
-use zb_seal::Ciphers;
 use zb_inspect_frame::Addresses;
+use zb_seal::Ciphers;
 
 /// So many frames are looked at together: where some were opened and a layer of one of them is closed, all that they show
 /// is kept.

@@ -10,8 +10,8 @@ use crate::ring::Lead;
 use std::alloc::Global;
 use zb_base::NoMemory;
 use zb_capture::Frames;
-use zb_seal::Ciphers;
 use zb_inspect_frame::Addresses;
+use zb_seal::Ciphers;
 
 /// Consecutive blocks of the frames of a capture: the work of one job.
 #[derive(Drop)]

@@ -15,8 +15,8 @@ use std::alloc::Global;
 use std::thread::{Threads, map_vec};
 use zb_base::NoMemory;
 use zb_capture::{Capture, Frames};
-use zb_seal::Ciphers;
 use zb_inspect_frame::Addresses;
+use zb_seal::Ciphers;
 
 /// The ring of a capture, and what the frames of the capture show under it.
 #[derive(Drop)]

@@ -5,8 +5,8 @@ use std::alloc::Global;
 use std::process::Abort;
 use std::test::Fail;
 use zb_base::{Eui, Key, Layer, OrMemory, Role};
-use zb_node_types::{Change, Changes, KeyError};
 use zb_keys::Tables;
+use zb_node_types::{Change, Changes, KeyError};
 use zb_record::Version;
 
 // A record of the centre with rows of all kinds: a dropped, an active and a new network key, two floors, a dropped, a

@@ -3,10 +3,10 @@ use Rattle.std.proofs.Common.{◌≡◌, ℕ, ◌+◌, ◌<◌, ◌≤◌, List,
 use Rattle.std.specs.Prelude.{vec_capacity}
 use Rattle.std.proofs.lemmas.List.{take_more, drop_more, take_all, get_or-map, length-map}
 use Rattle.zb_node_types.specs.declared.change.Change.{Change}
-use Rattle.zb_node_types.specs.Changes.{duty, edit, edits}
-use Rattle.zb_model.specs.Data.{Duty, Centre, Router, Device, Edit}
+use Rattle.zb_node_types.specs.Changes.{model_role, edit, edits}
+use Rattle.zb_model.specs.Data.{Role, Centre, Router, Device, Edit}
 use Rattle.zb_model.specs.State.{NodeState, new_node, shown, applied, applied_all}
-use Rattle.zb_model.specs.Fits.{keeps_rules, rows_have_room, keys_differ, at_most_two_live, active_is_live, partners_agree, links_are_marked, floors_are_kept, limits_are_started, duty_is_kept, pairs_are_kept, most_nets, most_links, most_pairs, fits, all_fit}
+use Rattle.zb_model.specs.Fits.{keeps_rules, rows_have_room, keys_differ, at_most_two_live, active_is_live, partners_agree, links_are_marked, floors_are_kept, limits_are_started, role_is_kept, pairs_are_kept, most_nets, most_links, most_pairs, fits, all_fit}
 use Rattle.zb_keys.specs.declared.contents.Contents.{Contents}
 use Rattle.zb_keys.specs.Tables.{state_of, IsSound, Forgets}
 use Rattle.zb_keys.proofs.StateLemmas.{both}
@@ -21,15 +21,15 @@ pub forgets_is : (s : NodeState) → shown s ≡ s → Forgets s
 unfolding shown
 forgets_is s e = ap (λ (x : NodeState). x.nets) e
 
-pub new_keeps_rules : (d : Duty) → keeps_rules (new_node d) ≡ true
-unfolding keeps_rules rows_have_room keys_differ at_most_two_live active_is_live partners_agree links_are_marked floors_are_kept limits_are_started duty_is_kept pairs_are_kept
+pub new_keeps_rules : (d : Role) → keeps_rules (new_node d) ≡ true
+unfolding keeps_rules rows_have_room keys_differ at_most_two_live active_is_live partners_agree links_are_marked floors_are_kept limits_are_started role_is_kept pairs_are_kept
 new_keeps_rules Centre = refl
 new_keeps_rules Router = refl
 new_keeps_rules Device = refl
 
-pub sound_new : (a : Contents) → state_of a ≡ new_node (duty a.role) → most_nets ≤ vec_capacity a.nets → most_links (duty a.role) ≤ vec_capacity a.links → most_pairs ≤ vec_capacity a.pairs → IsSound a
+pub sound_new : (a : Contents) → state_of a ≡ new_node (model_role a.role) → most_nets ≤ vec_capacity a.nets → most_links (model_role a.role) ≤ vec_capacity a.links → most_pairs ≤ vec_capacity a.pairs → IsSound a
 sound_new a is nets links pairs = record {
-  rules = subst (λ s. keeps_rules s ≡ true) (sym is) (new_keeps_rules (duty a.role));
+  rules = subst (λ s. keeps_rules s ≡ true) (sym is) (new_keeps_rules (model_role a.role));
   forgets = subst Forgets (sym is) refl;
   nets_room = nets;
   links_room = links;

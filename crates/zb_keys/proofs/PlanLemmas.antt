@@ -12,11 +12,11 @@ use Rattle.std.proofs.lemmas.Bool.{not-true}
 use Rattle.zb_node_types.specs.declared.change.Change.{Change}
 use Rattle.zb_node_types.specs.Changes.{edit, edits}
 use Rattle.zb_model.specs.Data.{Bytes, Move, DropNet, Edit, Moved, Active, Install, Row, Live, Removed, Pair, Provisional, Unverified, Verified}
-use Rattle.zb_model.specs.State.{NodeState, NetKey, LinkKey, live_nets, same_key, has_net, has_link, is_live_of, is_unverified, live_of, last_where, newest, other_user, current, offered, is_centre}
+use Rattle.zb_model.specs.State.{NodeState, NetKey, LinkKey, live_nets, same_key, has_net, has_link, is_live_of, is_unverified, live_of, last_where, newest, other_user, current, offered, is_centre, is_active_key}
 use Rattle.zb_model.specs.Fits.{keeps_rules, partners_agree, all_apart, like_rows, same_bool, most_links}
-use Rattle.zb_model.specs.Rules.{drop_old, first_drop, is_active, links_full, drop_link, drop_partner, drop_row}
+use Rattle.zb_model.specs.Rules.{drop_old, first_drop, links_full, drop_link, drop_partner, drop_row}
 use Rattle.zb_model.specs.Commands.{dropped_at, activates, has_key}
-use Rattle.zb_model.specs.Answer.{is_active_key, start_edit, start_for, is_started_key, row_is_started}
+use Rattle.zb_model.specs.Answer.{start_edit, start_for, is_started_key, row_is_started}
 use Rattle.zb_keys.specs.declared.contents.Contents.{Contents}
 use Rattle.zb_keys.specs.declared.net.NetRow.{NetRow}
 use Rattle.zb_keys.specs.declared.link.LinkRow.{LinkRow}
@@ -91,13 +91,13 @@ drop_few a n is few =
     rw two refl
 
 pub drop_idle : (a : Contents) (n : ℕ) (o : Option NetRow) → n ≡ length (filter (λ (r : NetRow). (net_key r).live) a.nets.items) → 2 ≤ n
-    → o ≡ find (λ (r : NetRow). (net_key r).live && not (is_active (active_bytes a.active) (net_key r))) a.nets.items → moves (to_drop (option_map net_key o)) ≡ moves (drop_old (state_of a))
+    → o ≡ find (λ (r : NetRow). (net_key r).live && not (is_active_key (active_bytes a.active) (net_key r).key)) a.nets.items → moves (to_drop (option_map net_key o)) ≡ moves (drop_old (state_of a))
 unfolding drop_old
 drop_idle a n o is many found =
     let two : nat_le 2 (length (live_nets (state_of a))) ≡ true = le-leb 2 _ (omega (arith, is, live_count a)) in
-    let row : to_drop (option_map net_key o) ≡ first_drop (filter (λ (r : NetKey). not (is_active (active_bytes a.active) r)) (live_nets (state_of a))) =
-    ap (λ x. to_drop (option_map net_key x)) found ∙ sym (ap to_drop (find_map (λ (r : NetKey). r.live && not (is_active (active_bytes a.active) r)) net_key a.nets.items))
-    ∙ sym (first_of (λ (r : NetKey). r.live) (λ (r : NetKey). not (is_active (active_bytes a.active) r)) (map net_key a.nets.items)) in
+    let row : to_drop (option_map net_key o) ≡ first_drop (filter (λ (r : NetKey). not (is_active_key (active_bytes a.active) r.key)) (live_nets (state_of a))) =
+    ap (λ x. to_drop (option_map net_key x)) found ∙ sym (ap to_drop (find_map (λ (r : NetKey). r.live && not (is_active_key (active_bytes a.active) r.key)) net_key a.nets.items))
+    ∙ sym (first_of (λ (r : NetKey). r.live) (λ (r : NetKey). not (is_active_key (active_bytes a.active) r.key)) (map net_key a.nets.items)) in
     rw two (ap moves row)
 
 -- the dropped row of a key, looked for from a place on
@@ -160,7 +160,7 @@ none_pass p q each (x ∷ xs) none =
     at_test false is isnt e each = rw is e
 
 abbrev of_class : ℕ → Bool → LinkKey → Bool
-of_class partner class r = is_live_of partner r && same_bool (is_unverified r.trust) class
+of_class partner class r = is_live_of partner r && same_bool (is_unverified r.attribute) class
 
 same_bool_is : (a b : Bool) → same_bool a b ≡ true → a ≡ b
 same_bool_is true true e = refl
@@ -172,34 +172,34 @@ same_bool_self : (a : Bool) → same_bool a a ≡ true
 same_bool_self true = refl
 same_bool_self false = refl
 
-alike_of : (partner : ℕ) (class : Bool) (r x : LinkKey) → of_class partner class r ≡ true → of_class partner class x ≡ true → (like_rows r x && same_bool (is_unverified r.trust) (is_unverified x.trust)) ≡ true
+alike_of : (partner : ℕ) (class : Bool) (r x : LinkKey) → of_class partner class r ≡ true → of_class partner class x ≡ true → (like_rows r x && same_bool (is_unverified r.attribute) (is_unverified x.attribute)) ≡ true
 alike_of partner class r x a b =
-    let ra = both (is_live_of partner r) (same_bool (is_unverified r.trust) class) a in
-    let xa = both (is_live_of partner x) (same_bool (is_unverified x.trust) class) b in
+    let ra = both (is_live_of partner r) (same_bool (is_unverified r.attribute) class) a in
+    let xa = both (is_live_of partner x) (same_bool (is_unverified x.attribute) class) b in
     let rl = both r.live (nat_eq r.partner partner) ra.0 in
     let xl = both x.live (nat_eq x.partner partner) xa.0 in
     let same : r.partner ≡ x.partner = eqb-true _ _ rl.1 ∙ sym (eqb-true _ _ xl.1) in
     let partners : nat_eq r.partner x.partner ≡ true = eq-eqb _ _ same in
-    let classes : is_unverified r.trust ≡ is_unverified x.trust = same_bool_is _ _ ra.1 ∙ sym (same_bool_is _ _ xa.1) in
-    let equal : same_bool (is_unverified r.trust) (is_unverified x.trust) ≡ true = rw classes (same_bool_self (is_unverified x.trust)) in
+    let classes : is_unverified r.attribute ≡ is_unverified x.attribute = same_bool_is _ _ ra.1 ∙ sym (same_bool_is _ _ xa.1) in
+    let equal : same_bool (is_unverified r.attribute) (is_unverified x.attribute) ≡ true = rw classes (same_bool_self (is_unverified x.attribute)) in
     rw (rl.0, xl.0, partners, equal) refl
 
-one_of_class : (partner : ℕ) (class : Bool) (links : List LinkKey) → all_apart (λ (a b : LinkKey). like_rows a b && same_bool (is_unverified a.trust) (is_unverified b.trust)) links ≡ true → length (filter (of_class partner class) links) ≤ 1
+one_of_class : (partner : ℕ) (class : Bool) (links : List LinkKey) → all_apart (λ (a b : LinkKey). like_rows a b && same_bool (is_unverified a.attribute) (is_unverified b.attribute)) links ≡ true → length (filter (of_class partner class) links) ≤ 1
 one_of_class partner class [] apart = omega arith
 one_of_class partner class (r ∷ rs) apart =
-    let parts = both (not (list_any (λ (b : LinkKey). like_rows r b && same_bool (is_unverified r.trust) (is_unverified b.trust)) rs)) _ apart in
+    let parts = both (not (list_any (λ (b : LinkKey). like_rows r b && same_bool (is_unverified r.attribute) (is_unverified b.attribute)) rs)) _ apart in
     at_test (of_class partner class r) refl (not-true _ parts.0) (one_of_class partner class rs parts.1)
   where
-    at_test : (b : Bool) → of_class partner class r ≡ b → list_any (λ (x : LinkKey). like_rows r x && same_bool (is_unverified r.trust) (is_unverified x.trust)) rs ≡ false
+    at_test : (b : Bool) → of_class partner class r ≡ b → list_any (λ (x : LinkKey). like_rows r x && same_bool (is_unverified r.attribute) (is_unverified x.attribute)) rs ≡ false
         → length (filter (of_class partner class) rs) ≤ 1 → length (if of_class partner class r then r ∷ filter (of_class partner class) rs else filter (of_class partner class) rs) ≤ 1
     at_test true is alone few =
-        let none : filter (of_class partner class) rs ≡ [] = none_pass (of_class partner class) (λ (x : LinkKey). like_rows r x && same_bool (is_unverified r.trust) (is_unverified x.trust)) (λ x passes. alike_of partner class r x is passes) rs alone in
+        let none : filter (of_class partner class) rs ≡ [] = none_pass (of_class partner class) (λ (x : LinkKey). like_rows r x && same_bool (is_unverified r.attribute) (is_unverified x.attribute)) (λ x passes. alike_of partner class r x is passes) rs alone in
         rw (is, none) (omega arith)
     at_test false is alone few = rw is few
 
 two_classes : (partner : ℕ) (links : List LinkKey) → length (filter (is_live_of partner) links) ≤ length (filter (of_class partner true) links) + length (filter (of_class partner false) links)
 two_classes partner [] = omega arith
-two_classes partner (r ∷ rs) = at_test (is_live_of partner r) (is_unverified r.trust) (two_classes partner rs)
+two_classes partner (r ∷ rs) = at_test (is_live_of partner r) (is_unverified r.attribute) (two_classes partner rs)
   where
     at_test : (b u : Bool) → length (filter (is_live_of partner) rs) ≤ length (filter (of_class partner true) rs) + length (filter (of_class partner false) rs)
         → length (if b then r ∷ filter (is_live_of partner) rs else filter (is_live_of partner) rs)
@@ -211,7 +211,7 @@ two_classes partner (r ∷ rs) = at_test (is_live_of partner r) (is_unverified r
 pub few_live : (s : NodeState) (partner : ℕ) → keeps_rules s ≡ true → length (filter (is_live_of partner) s.links) ≤ 2
 unfolding partners_agree
 few_live s partner kept =
-    let apart = (both (all_apart (λ (a b : LinkKey). like_rows a b && same_bool (is_unverified a.trust) (is_unverified b.trust)) s.links) _ (rules_of s kept).partners).0 in
+    let apart = (both (all_apart (λ (a b : LinkKey). like_rows a b && same_bool (is_unverified a.attribute) (is_unverified b.attribute)) s.links) _ (rules_of s kept).partners).0 in
     omega (arith, two_classes partner s.links, one_of_class partner true s.links apart, one_of_class partner false s.links apart)
 
 -- the drops of a partner's rows, up to a place
@@ -262,8 +262,8 @@ drops_all a partner n old new sound long so =
     adds_as _ 2 old new (ap (λ l. moves (map drop_link (filter (is_live_of partner) (map link_key l)))) whole)
     (omega (arith, few_live (state_of a) partner sound.rules, ap (λ l. length {A = LinkKey} (filter (is_live_of partner) (map link_key l))) whole)) so.adds
 
-pub taking_full : (s : NodeState) (partner : ℕ) (key : Bytes) (told : List Edit) → has_link partner key s.links ≡ false → most_links s.duty ≤ length s.links → taking s partner key told ≡ Err RowsFull
-taking_full s partner key told none many = let full : nat_le (most_links s.duty) (length s.links) ≡ true = le-leb _ _ many in rw (none, full) refl
+pub taking_full : (s : NodeState) (partner : ℕ) (key : Bytes) (told : List Edit) → has_link partner key s.links ≡ false → most_links s.role ≤ length s.links → taking s partner key told ≡ Err RowsFull
+taking_full s partner key told none many = let full : nat_le (most_links s.role) (length s.links) ≡ true = le-leb _ _ many in rw (none, full) refl
 
 pub taking_other : (s : NodeState) (partner : ℕ) (key : Bytes) (told : List Edit) (o : Option LinkKey) → (not (has_link partner key s.links) && links_full s) ≡ false → o ≡ other_user s partner key → taking s partner key told ≡ unless_other o told
 taking_other s partner key told o room is = rw room (ap (λ x. unless_other x told) (sym is))
@@ -290,11 +290,11 @@ pub partner_takes : (s : NodeState) (partner : ℕ) (key : Bytes) (answer : Resu
 unfolding partnering
 partner_takes s partner key answer isnt is = rw isnt is
 
-pub dropping_centre : (s : NodeState) (partner : ℕ) → is_centre s.duty ≡ true → moves (drop_partner s partner) ++ Moved (Removed partner) ∷ [] ≡ dropping s partner
+pub dropping_centre : (s : NodeState) (partner : ℕ) → is_centre s.role ≡ true → moves (drop_partner s partner) ++ Moved (Removed partner) ∷ [] ≡ dropping s partner
 unfolding dropping
 dropping_centre s partner is = rw is refl
 
-pub dropping_other : (s : NodeState) (partner : ℕ) → is_centre s.duty ≡ false → moves (drop_partner s partner) ≡ dropping s partner
+pub dropping_other : (s : NodeState) (partner : ℕ) → is_centre s.role ≡ false → moves (drop_partner s partner) ≡ dropping s partner
 unfolding dropping
 dropping_other s partner isnt = rw isnt (sym (append-nil (moves (drop_partner s partner))))
 

@@ -4,11 +4,11 @@ use Rattle.std.specs.Prelude.{filter}
 use Rattle.std.specs.List.{flat_map}
 use Rattle.std.proofs.lemmas.List.{length-map}
 use borrow.Author.Tests.{leb-true}
-use Rattle.zb_node_types.specs.Changes.{duty, stage, is_sending}
-use Rattle.zb_model.specs.Data.{Duty, Centre, Router, Device}
+use Rattle.zb_node_types.specs.Changes.{model_role, model_state, is_sending}
+use Rattle.zb_model.specs.Data.{Role, Centre, Router, Device}
 use Rattle.zb_model.specs.State.{NetKey, live_nets}
 use Rattle.zb_model.specs.Fits.{at_most_two_live, most_links}
-use Rattle.zb_model.specs.Record.{record_of, active_place, duty_byte, stage_byte, two_bytes, four_bytes, net_bytes, floors_bytes, link_bytes, pair_bytes, worth}
+use Rattle.zb_model.specs.Record.{record_of, active_place, role_byte, state_byte, two_bytes, four_bytes, net_bytes, floors_bytes, link_bytes, pair_bytes, worth}
 use Rattle.zb_keys.specs.declared.contents.Contents.{Contents}
 use Rattle.zb_keys.specs.declared.net.NetRow.{NetRow}
 use Rattle.zb_keys.specs.Rows.{net_key, link_key, pair_key}
@@ -30,18 +30,18 @@ regroup : (f g h i j k : List ℕ) → ((f ++ g) ++ (h ++ i)) ++ (j ++ k) ≡ f 
 regroup f g h i j k = simp append_assoc
 
 pub parts_are : (a : Contents)
-    → (((((3 ∷ duty_byte (duty a.role) ∷ stage_byte (stage a.state) ∷ four_bytes a.declared) ++ (four_bytes a.aps_limit ++ worth 1 (is_sending a.rolling) ∷ []))
+    → (((((3 ∷ role_byte (model_role a.role) ∷ state_byte (model_state a.state) ∷ four_bytes a.declared) ++ (four_bytes a.aps_limit ++ worth 1 (is_sending a.rolling) ∷ []))
     ++ ((two_bytes (length a.nets.items) ++ two_bytes (active_place (state_of a))) ++ (flat_map net_bytes (map net_key a.nets.items) ++ flat_map (λ (r : NetRow). if (net_key r).live then floors_bytes (net_key r) else []) a.nets.items)))
     ++ (two_bytes (length a.links.items) ++ flat_map link_bytes (map link_key a.links.items)))
     ++ (two_bytes (length a.pairs.items) ++ flat_map pair_bytes (map pair_key a.pairs.items))) ≡ record_of (state_of a)
 unfolding record_of
 parts_are a =
     rw (flat_map_if floors_bytes a.nets.items, length-map a.nets.items net_key, length-map a.links.items link_key, length-map a.pairs.items pair_key)
-    (ap (λ l. (3 ∷ duty_byte (duty a.role) ∷ stage_byte (stage a.state) ∷ four_bytes a.declared) ++ ((four_bytes a.aps_limit ++ worth 1 (is_sending a.rolling) ∷ []) ++ ((two_bytes (length a.nets.items) ++ two_bytes (active_place (state_of a))) ++ l)))
+    (ap (λ l. (3 ∷ role_byte (model_role a.role) ∷ state_byte (model_state a.state) ∷ four_bytes a.declared) ++ ((four_bytes a.aps_limit ++ worth 1 (is_sending a.rolling) ∷ []) ++ ((two_bytes (length a.nets.items) ++ two_bytes (active_place (state_of a))) ++ l)))
     (regroup (flat_map net_bytes (map net_key a.nets.items)) (flat_map floors_bytes (filter (λ (r : NetKey). r.live) (map net_key a.nets.items)))
     (two_bytes (length a.links.items)) (flat_map link_bytes (map link_key a.links.items)) (two_bytes (length a.pairs.items)) (flat_map pair_bytes (map pair_key a.pairs.items))))
 
-most_1024 : (d : Duty) → most_links d ≤ 1024
+most_1024 : (d : Role) → most_links d ≤ 1024
 most_1024 Centre = omega arith
 most_1024 Router = omega arith
 most_1024 Device = omega arith
@@ -60,7 +60,7 @@ counts a sound =
     let two : length (live_nets (state_of a)) ≤ 2 = leb-true _ _ r.two in
     record {
       nets = omega (arith, room.nets, length-map a.nets.items net_key);
-      links = omega (arith, room.links, length-map a.links.items link_key, most_1024 (duty a.role));
+      links = omega (arith, room.links, length-map a.links.items link_key, most_1024 (model_role a.role));
       pairs = omega (arith, room.pairs, length-map a.pairs.items pair_key);
       live = omega (arith, two, ap (length {A = NetKey}) (filter-map (λ (x : NetKey). x.live) net_key a.nets.items), length-map (filter (λ (x : NetRow). (net_key x).live) a.nets.items) net_key);
     }

@@ -3,9 +3,9 @@ use Rattle.std.proofs.Common.{◌≡◌, ℕ, ◌+◌, List, [], ◌∷◌, leng
 use Rattle.std.specs.Prelude.{find, nat_le, nat_lt, nat_eq}
 use Rattle.std.specs.List.{list_any, list_all}
 use Rattle.std.proofs.lemmas.List.{length-map}
-use Rattle.zb_model.specs.Data.{Bytes, Duty, Move, Draw, DropNet, DropLink, Install, Active, Row, Pair, Became, Live, Removed, Roll, Told, Untold, Edit, Reserve, Floor, Start, Moved}
+use Rattle.zb_model.specs.Data.{Bytes, Role, Move, Draw, DropNet, DropLink, Install, Active, Row, Pair, Became, Live, Removed, Roll, Told, Untold, Edit, Reserve, Floor, Start, Moved}
 use Rattle.zb_model.specs.State.{NodeState, SenderFloor, NetKey, LinkKey, same_key, live_nets, shown, applied, at_net, next_at, net_kept, floor_kept, is_centre, is_provisional, is_unverified}
-use Rattle.zb_model.specs.Fits.{keeps_rules, rows_have_room, keys_differ, at_most_two_live, active_is_live, partners_agree, links_are_marked, floors_are_kept, limits_are_started, duty_is_kept, pairs_are_kept, senders_ascend, most_senders, row_is_live, all_apart, like_rows, same_bool, most_links, fits, may_change}
+use Rattle.zb_model.specs.Fits.{keeps_rules, rows_have_room, keys_differ, at_most_two_live, active_is_live, partners_agree, links_are_marked, floors_are_kept, limits_are_started, role_is_kept, pairs_are_kept, senders_ascend, most_senders, row_is_live, all_apart, like_rows, same_bool, most_links, fits, may_change}
 use Rattle.std.proofs.lemmas.Bool.{not-true}
 use Rattle.std.proofs.lemmas.List.Folds.{list_all-map}
 use Rattle.zb_model_fits.proofs.Tests.{neither, any_same}
@@ -63,7 +63,7 @@ still_active g mild s None none kept = rw none refl
 still_active g mild s (Some key) is kept = rw is (found_live g mild key s.nets ∙ rw is at kept)
 
 pub kept_by_map : (g : NetKey → NetKey) → Mild g → (s : NodeState) → keeps_rules s ≡ true → keeps_rules (record s { nets = map g s.nets }) ≡ true
-unfolding rows_have_room keys_differ at_most_two_live partners_agree links_are_marked floors_are_kept limits_are_started duty_is_kept pairs_are_kept
+unfolding rows_have_room keys_differ at_most_two_live partners_agree links_are_marked floors_are_kept limits_are_started role_is_kept pairs_are_kept
 kept_by_map g mild s kept =
     let r = rules_of s kept in
     let alike : (a b : NetKey) → same_key (g a).key (g b).key ≡ same_key a.key b.key = λ a b. ap (λ k. same_key k (g b).key) (mild.key a) ∙ ap (same_key a.key) (mild.key b) in
@@ -81,7 +81,7 @@ kept_by_map g mild s kept =
       marks = r.marks;
       floors = all_map floors_rule g mild.floors s.nets r.floors;
       limits = all_map limit_rule g mild.limit s.nets r.limits;
-      duty_kept = r.duty_kept;
+      role_kept = r.role_kept;
       pairs_kept = r.pairs_kept;
     })
 
@@ -93,9 +93,9 @@ move_kept (DropNet key) s fit kept = rules_shown _ (both (may_change (Moved (Dro
 move_kept (DropLink partner key) s fit kept = rules_shown _ (both (may_change (Moved (DropLink partner key)) s) _ fit).1
 move_kept (Install key sequence) s fit kept = rules_shown _ (both (may_change (Moved (Install key sequence)) s) _ fit).1
 move_kept (Active key) s fit kept = rules_shown _ (both (may_change (Moved (Active key)) s) _ fit).1
-move_kept (Row partner key trust) s fit kept = rules_shown _ (both (may_change (Moved (Row partner key trust)) s) _ fit).1
+move_kept (Row partner key attribute) s fit kept = rules_shown _ (both (may_change (Moved (Row partner key attribute)) s) _ fit).1
 move_kept (Pair first second key) s fit kept = rules_shown _ (both (may_change (Moved (Pair first second key)) s) _ fit).1
-move_kept (Became stage) s fit kept = rules_shown _ (both (may_change (Moved (Became stage)) s) _ fit).1
+move_kept (Became state) s fit kept = rules_shown _ (both (may_change (Moved (Became state)) s) _ fit).1
 move_kept (Live device) s fit kept = rules_shown _ (both (may_change (Moved (Live device)) s) _ fit).1
 move_kept (Removed device) s fit kept = rules_shown _ (both (may_change (Moved (Removed device)) s) _ fit).1
 move_kept (Roll sending) s fit kept = rules_shown _ (both (may_change (Moved (Roll sending)) s) _ fit).1
@@ -207,33 +207,33 @@ heard_is_mild sender kept = record {
 abbrev bare : LinkKey → LinkKey
 bare r = record r { kept = 0; stored = 0 }
 
-abbrev link_rule : Duty → LinkKey → Bool
-link_rule duty r = (not r.told || (r.live && is_centre duty)) && (not (is_provisional r.trust) || r.code)
+abbrev link_rule : Role → LinkKey → Bool
+link_rule role r = (not r.told || (r.live && is_centre role)) && (not (is_provisional r.attribute) || r.code)
 
 pub kept_by_links : (g : LinkKey → LinkKey) → ((r : LinkKey) → bare (g r) ≡ bare r) → (s : NodeState) → keeps_rules s ≡ true → keeps_rules (record s { links = map g s.links }) ≡ true
-unfolding rows_have_room keys_differ at_most_two_live active_is_live partners_agree links_are_marked floors_are_kept limits_are_started duty_is_kept pairs_are_kept
+unfolding rows_have_room keys_differ at_most_two_live active_is_live partners_agree links_are_marked floors_are_kept limits_are_started role_is_kept pairs_are_kept
 kept_by_links g each s kept =
     let r = rules_of s kept in
     let now : NodeState = record s { links = map g s.links } in
     let keys : all_apart (λ (a b : LinkKey). same_key a.key b.key) (map g s.links) ≡ all_apart (λ (a b : LinkKey). same_key a.key b.key) s.links =
     apart_map (λ (a b : LinkKey). same_key a.key b.key) g (λ a b. ap (λ (x : LinkKey). same_key x.key (g b).key) (each a) ∙ ap (λ (x : LinkKey). same_key a.key x.key) (each b)) s.links in
-    let classes : all_apart (λ (a b : LinkKey). like_rows a b && same_bool (is_unverified a.trust) (is_unverified b.trust)) (map g s.links) ≡ all_apart (λ (a b : LinkKey). like_rows a b && same_bool (is_unverified a.trust) (is_unverified b.trust)) s.links =
-    apart_map (λ (a b : LinkKey). like_rows a b && same_bool (is_unverified a.trust) (is_unverified b.trust)) g
-    (λ a b. ap (λ (x : LinkKey). like_rows x (g b) && same_bool (is_unverified x.trust) (is_unverified (g b).trust)) (each a) ∙ ap (λ (x : LinkKey). like_rows a x && same_bool (is_unverified a.trust) (is_unverified x.trust)) (each b)) s.links in
+    let classes : all_apart (λ (a b : LinkKey). like_rows a b && same_bool (is_unverified a.attribute) (is_unverified b.attribute)) (map g s.links) ≡ all_apart (λ (a b : LinkKey). like_rows a b && same_bool (is_unverified a.attribute) (is_unverified b.attribute)) s.links =
+    apart_map (λ (a b : LinkKey). like_rows a b && same_bool (is_unverified a.attribute) (is_unverified b.attribute)) g
+    (λ a b. ap (λ (x : LinkKey). like_rows x (g b) && same_bool (is_unverified x.attribute) (is_unverified (g b).attribute)) (each a) ∙ ap (λ (x : LinkKey). like_rows a x && same_bool (is_unverified a.attribute) (is_unverified x.attribute)) (each b)) s.links in
     let tolds : all_apart (λ (a b : LinkKey). like_rows a b && not (same_bool a.told b.told)) (map g s.links) ≡ all_apart (λ (a b : LinkKey). like_rows a b && not (same_bool a.told b.told)) s.links =
     apart_map (λ (a b : LinkKey). like_rows a b && not (same_bool a.told b.told)) g
     (λ a b. ap (λ (x : LinkKey). like_rows x (g b) && not (same_bool x.told (g b).told)) (each a) ∙ ap (λ (x : LinkKey). like_rows a x && not (same_bool a.told x.told)) (each b)) s.links in
     rules_back now (record {
-      room = ap (λ n. nat_le (length s.nets) 256 && (nat_le n (most_links s.duty) && nat_le (length s.pairs) 256)) (length-map s.links g) ∙ r.room;
+      room = ap (λ n. nat_le (length s.nets) 256 && (nat_le n (most_links s.role) && nat_le (length s.pairs) 256)) (length-map s.links g) ∙ r.room;
       keys = ap (λ b. all_apart (λ (a b : NetKey). same_key a.key b.key) s.nets && b) keys ∙ r.keys;
       two = r.two;
       active = r.active;
       partners = ap (λ b. b && all_apart (λ (a b : LinkKey). like_rows a b && not (same_bool a.told b.told)) (map g s.links)) classes
-          ∙ ap (λ b. all_apart (λ (a b : LinkKey). like_rows a b && same_bool (is_unverified a.trust) (is_unverified b.trust)) s.links && b) tolds ∙ r.partners;
-      marks = all_map (link_rule s.duty) g (λ x e. ap (λ (y : LinkKey). link_rule s.duty y) (each x) ∙ e) s.links r.marks;
+          ∙ ap (λ b. all_apart (λ (a b : LinkKey). like_rows a b && same_bool (is_unverified a.attribute) (is_unverified b.attribute)) s.links && b) tolds ∙ r.partners;
+      marks = all_map (link_rule s.role) g (λ x e. ap (λ (y : LinkKey). link_rule s.role y) (each x) ∙ e) s.links r.marks;
       floors = r.floors;
       limits = r.limits;
-      duty_kept = r.duty_kept;
+      role_kept = r.role_kept;
       pairs_kept = r.pairs_kept;
     })
 

@@ -6,10 +6,10 @@ use Rattle.std.specs.List.{list_any, list_all}
 use Rattle.std.proofs.lemmas.List.{map-append, length-map, with_items_is}
 use Rattle.std.proofs.lemmas.List.Elements.{All-nil, All-cons}
 use borrow.Author.Tests.{leb-true}
-use Rattle.zb_node_types.specs.Changes.{duty}
-use Rattle.zb_model.specs.Data.{Bytes, Trust, Nwk, Reserve, Floor, Start, Moved, DropNet, Row, Pair, Removed}
+use Rattle.zb_node_types.specs.Changes.{model_role}
+use Rattle.zb_model.specs.Data.{Bytes, Attribute, Nwk, Reserve, Floor, Start, Moved, DropNet, Row, Pair, Removed}
 use Rattle.zb_model.specs.State.{NodeState, SenderFloor, NetKey, LinkKey, PairKey, at_net, has_net, shown_net, reserved, started_at, dropped_net, applied, shown, is_told, is_live_of, with_link, with_pair, names_two, names, is_link, has_link, new_link, revived, at_link}
-use Rattle.zb_model.specs.Fits.{keeps_rules, rows_have_room, keys_differ, at_most_two_live, active_is_live, partners_agree, links_are_marked, floors_are_kept, limits_are_started, duty_is_kept, pairs_are_kept, senders_ascend, most_nets, most_links, most_pairs, most_senders}
+use Rattle.zb_model.specs.Fits.{keeps_rules, rows_have_room, keys_differ, at_most_two_live, active_is_live, partners_agree, links_are_marked, floors_are_kept, limits_are_started, role_is_kept, pairs_are_kept, senders_ascend, most_nets, most_links, most_pairs, most_senders}
 use Rattle.zb_keys.specs.declared.contents.Contents.{Contents}
 use Rattle.zb_keys.specs.declared.net.NetRow.{NetRow}
 use Rattle.zb_keys.specs.declared.link.LinkRow.{LinkRow}
@@ -80,11 +80,11 @@ pub installed_state : (s : NodeState) (row : NetKey) (nets : List NetKey) → ne
 unfolding shown
 installed_state s row nets e = ap (λ l. record s { nets = l }) e
 
-pub linked_state : (s : NodeState) (partner : ℕ) (key : Bytes) (trust : Trust) (told : Bool) (links : List LinkKey) → Forgets s → told ≡ is_told s partner → links ≡ with_link partner key trust told s.links → record s { links = links } ≡ shown (applied (Moved (Row partner key trust)) s)
+pub linked_state : (s : NodeState) (partner : ℕ) (key : Bytes) (attribute : Attribute) (told : Bool) (links : List LinkKey) → Forgets s → told ≡ is_told s partner → links ≡ with_link partner key attribute told s.links → record s { links = links } ≡ shown (applied (Moved (Row partner key attribute)) s)
 unfolding applied shown
-linked_state s partner key trust told links forgets told_is e =
-    ap (λ l. record s { links = l }) (e ∙ ap (λ t. with_link partner key trust t s.links) told_is)
-    ∙ ap (λ n. record s { nets = n; links = with_link partner key trust (is_told s partner) s.links }) (sym forgets)
+linked_state s partner key attribute told links forgets told_is e =
+    ap (λ l. record s { links = l }) (e ∙ ap (λ t. with_link partner key attribute t s.links) told_is)
+    ∙ ap (λ n. record s { nets = n; links = with_link partner key attribute (is_told s partner) s.links }) (sym forgets)
 
 pub paired_state : (s : NodeState) (first second : ℕ) (key : Bytes) (pairs : List PairKey) → Forgets s → pairs ≡ with_pair first second key s.pairs → record s { pairs = pairs } ≡ shown (applied (Moved (Pair first second key)) s)
 unfolding applied shown
@@ -102,24 +102,24 @@ unfolding is_told
 told_of a partner = sym (list_any-map (λ (r : LinkKey). is_live_of partner r && r.told) link_key a.links.items)
 
 -- a row that is there is revived, and one that isn't is added
-pub linked_same : (partner : ℕ) (key : Bytes) (trust : Trust) (told : Bool) (rows : List LinkRow) → list_any (λ (r : LinkRow). is_link partner key (link_key r)) rows ≡ true
-    → at_link partner key (revived trust told) (map link_key rows) ≡ with_link partner key trust told (map link_key rows)
-linked_same partner key trust told rows some =
+pub linked_same : (partner : ℕ) (key : Bytes) (attribute : Attribute) (told : Bool) (rows : List LinkRow) → list_any (λ (r : LinkRow). is_link partner key (link_key r)) rows ≡ true
+    → at_link partner key (revived attribute told) (map link_key rows) ≡ with_link partner key attribute told (map link_key rows)
+linked_same partner key attribute told rows some =
     let present : has_link partner key (map link_key rows) ≡ true = list_any-map (is_link partner key) link_key rows ∙ some in
     rw present refl
 
-pub linked_new : (partner : ℕ) (key : Bytes) (trust : Trust) (told : Bool) (rows : List LinkRow) (row : LinkRow) → list_any (λ (r : LinkRow). is_link partner key (link_key r)) rows ≡ false
-    → link_key row ≡ new_link partner key trust told → map link_key (rows ++ row ∷ []) ≡ with_link partner key trust told (map link_key rows)
-linked_new partner key trust told rows row none is =
+pub linked_new : (partner : ℕ) (key : Bytes) (attribute : Attribute) (told : Bool) (rows : List LinkRow) (row : LinkRow) → list_any (λ (r : LinkRow). is_link partner key (link_key r)) rows ≡ false
+    → link_key row ≡ new_link partner key attribute told → map link_key (rows ++ row ∷ []) ≡ with_link partner key attribute told (map link_key rows)
+linked_new partner key attribute told rows row none is =
     let absent : has_link partner key (map link_key rows) ≡ false = list_any-map (is_link partner key) link_key rows ∙ none in
     rw absent (map-append link_key rows (row ∷ []) ∙ ap (λ z. map link_key rows ++ z ∷ []) is)
 
-pub linked_room : (partner : ℕ) (key : Bytes) (trust : Trust) (told : Bool) (rows : List LinkRow) (room : ℕ) → list_any (λ (r : LinkRow). is_link partner key (link_key r)) rows ≡ false
-    → length (with_link partner key trust told (map link_key rows)) ≤ room → length rows < room
-linked_room partner key trust told rows room none fits =
+pub linked_room : (partner : ℕ) (key : Bytes) (attribute : Attribute) (told : Bool) (rows : List LinkRow) (room : ℕ) → list_any (λ (r : LinkRow). is_link partner key (link_key r)) rows ≡ false
+    → length (with_link partner key attribute told (map link_key rows)) ≤ room → length rows < room
+linked_room partner key attribute told rows room none fits =
     let absent : has_link partner key (map link_key rows) ≡ false = list_any-map (is_link partner key) link_key rows ∙ none in
-    let long : length (map link_key rows ++ new_link partner key trust told ∷ []) ≤ room = rw absent at fits in
-    omega (arith, length-append (map link_key rows) (new_link partner key trust told ∷ []), length-map rows link_key)
+    let long : length (map link_key rows ++ new_link partner key attribute told ∷ []) ≤ room = rw absent at fits in
+    omega (arith, length-append (map link_key rows) (new_link partner key attribute told ∷ []), length-map rows link_key)
 
 pub paired_same : (first second : ℕ) (key : Bytes) (rows : List program.Pair) → list_any (λ (p : program.Pair). names_two first second (pair_key p)) rows ≡ true
     → map pair_key rows ≡ with_pair first second key (map pair_key rows)
@@ -151,7 +151,7 @@ pub record Rules (s : NodeState) : Type 0 where
   pub marks : links_are_marked s ≡ true
   pub floors : floors_are_kept s ≡ true
   pub limits : limits_are_started s ≡ true
-  pub duty_kept : duty_is_kept s ≡ true
+  pub role_kept : role_is_kept s ≡ true
   pub pairs_kept : pairs_are_kept s ≡ true
 
 pub rules_of : (s : NodeState) → keeps_rules s ≡ true → Rules s
@@ -165,24 +165,24 @@ rules_of s kept =
     let r6 = both (links_are_marked s) _ r5.1 in
     let r7 = both (floors_are_kept s) _ r6.1 in
     let r8 = both (limits_are_started s) _ r7.1 in
-    let r9 = both (duty_is_kept s) _ r8.1 in
-    record { room = r1.0; keys = r2.0; two = r3.0; active = r4.0; partners = r5.0; marks = r6.0; floors = r7.0; limits = r8.0; duty_kept = r9.0; pairs_kept = r9.1 }
+    let r9 = both (role_is_kept s) _ r8.1 in
+    record { room = r1.0; keys = r2.0; two = r3.0; active = r4.0; partners = r5.0; marks = r6.0; floors = r7.0; limits = r8.0; role_kept = r9.0; pairs_kept = r9.1 }
 
 pub rules_back : (s : NodeState) → Rules s → keeps_rules s ≡ true
 unfolding keeps_rules
-rules_back s r = rw (r.room, r.keys, r.two, r.active, r.partners, r.marks, r.floors, r.limits, r.duty_kept, r.pairs_kept) refl
+rules_back s r = rw (r.room, r.keys, r.two, r.active, r.partners, r.marks, r.floors, r.limits, r.role_kept, r.pairs_kept) refl
 
 -- how many rows a state may have, from what is shown of it
 pub record Rooms (s : NodeState) : Type 0 where
   pub nets : length s.nets ≤ most_nets
-  pub links : length s.links ≤ most_links s.duty
+  pub links : length s.links ≤ most_links s.role
   pub pairs : length s.pairs ≤ most_pairs
 
 pub rooms_of : (s : NodeState) → rows_have_room s ≡ true → Rooms s
 unfolding rows_have_room
 rooms_of s kept =
     let first = both (nat_le (length s.nets) most_nets) _ kept in
-    let last = both (nat_le (length s.links) (most_links s.duty)) _ first.1 in
+    let last = both (nat_le (length s.links) (most_links s.role)) _ first.1 in
     record { nets = leb-true _ _ first.0; links = leb-true _ _ last.0; pairs = leb-true _ _ last.1 }
 
 pub rooms : (s : NodeState) → keeps_rules (shown s) ≡ true → Rooms s
@@ -211,6 +211,6 @@ sound_again now old new so kept sound = record {
   rules = subst (λ s. keeps_rules s ≡ true) (sym so.state) kept;
   forgets = subst Forgets (sym so.state) (shown_twice now.nets);
   nets_room = omega (arith, so.nets_room, sound.nets_room);
-  links_room = subst (λ r. most_links (duty r) ≤ vec_capacity new.links) (sym so.role) (omega (arith, so.links_room, sound.links_room));
+  links_room = subst (λ r. most_links (model_role r) ≤ vec_capacity new.links) (sym so.role) (omega (arith, so.links_room, sound.links_room));
   pairs_room = omega (arith, so.pairs_room, sound.pairs_room);
 }

@@ -7,10 +7,10 @@ use Rattle.zb_node_types.specs.declared.fault.KeyError.{KeyError}
 use Rattle.zb_node_types.specs.declared.fault.KeyError.TheVariants.{KeyOld, KeysFull, RowsFull, KeyInUse, NoRow, WrongHash}
 use Rattle.zb_node_types.specs.Changes.{edits}
 use Rattle.zb_model.specs.Data.{Bytes, Provisional, Unverified, Verified, Move, Install, Active, Row, Pair, Live, Removed, Edit, Moved}
-use Rattle.zb_model.specs.State.{NodeState, NetKey, LinkKey, is_centre, has_net, has_link, is_live_of, same_key, current, offered, other_user, live_of}
+use Rattle.zb_model.specs.State.{NodeState, NetKey, LinkKey, is_centre, has_net, has_link, is_live_of, same_key, current, offered, other_user, live_of, is_active_key}
 use Rattle.zb_model.specs.Rules.{nets_full, links_full, pairs_full, drop_old, drop_row, drop_partner}
 use Rattle.zb_model.specs.Commands.{dropped_at, activates, has_key, verified_current}
-use Rattle.zb_model.specs.Answer.{is_active_key, start_edit, start_for}
+use Rattle.zb_model.specs.Answer.{start_edit, start_for}
 
 abbrev pub moves : List Move → List Edit
 moves ms = map Moved ms
@@ -93,13 +93,13 @@ switching s sequence = switching_to s (live_of s sequence)
 
 -- A partner's rows are dropped, and at the centre it is removed.
 unfoldable pub dropping : NodeState → ℕ → List Edit
-dropping s partner = moves (drop_partner s partner) ++ (if is_centre s.duty then Moved (Removed partner) ∷ [] else [])
+dropping s partner = moves (drop_partner s partner) ++ (if is_centre s.role then Moved (Removed partner) ∷ [] else [])
 
 -- Two devices get a key for one another.
 unfoldable pub pairing : NodeState → ℕ → ℕ → Bytes → Result (List Edit) KeyError
 pairing s a b key = if pairs_full s then Err RowsFull else Ok (Moved (Pair (min a b) (max a b) key) ∷ [])
 
 -- A piece is added to changes, with at most so many of them.
-pub record Adds (piece : List Edit) (most : ℕ) (old new : List Change) : Type 0 where
+pub record Adds (piece : List Edit) (greatest_counter : ℕ) (old new : List Change) : Type 0 where
   pub made : edits new ≡ edits old ++ piece
-  pub room : length new ≤ length old + most
+  pub room : length new ≤ length old + greatest_counter

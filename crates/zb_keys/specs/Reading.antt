@@ -2,7 +2,7 @@
 use Rattle.std.specs.Prelude.{ℕ, List, Option, Some, None, position, slice_get}
 use Rattle.zb_counter.specs.declared.receiving.Floor.{Floor}
 use Rattle.zb_counter.specs.declared.sending.Outgoing.{Outgoing}
-use Rattle.zb_model.specs.Data.{Bytes, Tier, Nwk, Aps}
+use Rattle.zb_model.specs.Data.{Bytes, Layer, Nwk, Aps}
 use Rattle.zb_model.specs.State.{NodeState, SenderFloor, NetKey, LinkKey, same_key, sender_floor, heard, next_counter, stored_limit}
 
 -- the place of the active network key among the rows
@@ -40,5 +40,5 @@ heard_from None counter s = s
 heard_from (Some r) counter s = heard Aps r.key r.partner counter s
 
 -- the outgoing counter of a layer, which is reserved in blocks of that size
-abbrev pub outgoing_of : Tier → ℕ → NodeState → Outgoing
+abbrev pub outgoing_of : Layer → ℕ → NodeState → Outgoing
 outgoing_of layer block s = record { next = next_counter layer s; limit = stored_limit layer s; block = block }

@@ -1,6 +1,6 @@
 -- The rows of the program as the model's.
 use Rattle.std.specs.Prelude.{map}
-use Rattle.zb_node_types.specs.Changes.{trust}
+use Rattle.zb_node_types.specs.Changes.{model_attribute}
 use Rattle.zb_keys.specs.declared.net.NetRow.{NetRow}
 use Rattle.zb_keys.specs.declared.net.SenderFloor as program
 use Rattle.zb_keys.specs.declared.link.LinkRow.{LinkRow}
@@ -25,7 +25,7 @@ abbrev pub link_key : LinkRow → LinkKey
 link_key r = record {
   partner = r.partner.0;
   key = r.key.0;
-  trust = trust r.attribute;
+  model_attribute = model_attribute r.attribute;
   live = r.live;
   code = r.code;
   told = r.told;

@@ -1,7 +1,7 @@
 -- What the tables of a node hold, as the model's state of a node, and what they keep of themselves.
 use Rattle.std.specs.Prelude.{◌≡◌, ◌≤◌, true, if◌then◌else◌, [], ◌∷◌, ◌++◌, map, Option, Some, None, vec_capacity}
 use Rattle.zb_base.specs.declared.key.Key.{Key}
-use Rattle.zb_node_types.specs.Changes.{duty, stage, is_sending}
+use Rattle.zb_node_types.specs.Changes.{model_role, model_state, is_sending}
 use Rattle.zb_keys.specs.declared.contents.Contents.{Contents}
 use Rattle.zb_keys.specs.Rows.{net_key, link_key, pair_key}
 use Rattle.zb_record.specs.declared.record.Record.{Record}
@@ -16,8 +16,8 @@ active_bytes (Some key) = Some key.0
 
 abbrev pub state_of : Contents → NodeState
 state_of a = record {
-  duty = duty a.role;
-  stage = stage a.state;
+  model_role = model_role a.role;
+  model_state = model_state a.state;
   declared = a.declared;
   aps_limit = a.aps_limit;
   aps_next = a.aps_next;
@@ -42,7 +42,7 @@ pub record IsSound (a : Contents) : Type 0 where
   pub rules : keeps_rules (state_of a) ≡ true
   pub forgets : Forgets (state_of a)
   pub nets_room : most_nets ≤ vec_capacity a.nets
-  pub links_room : most_links (duty a.role) ≤ vec_capacity a.links
+  pub links_room : most_links (model_role a.role) ≤ vec_capacity a.links
   pub pairs_room : most_pairs ≤ vec_capacity a.pairs
 
 -- The contents have that state now, and no less room than before.
@@ -57,5 +57,5 @@ pub record Becomes (now : NodeState) (old new : Contents) : Type 0 where
 pub record IsRestored (a : Contents) (r : Record) : Type 0 where
   pub state : state_of a ≡ record_seen r
   pub nets_room : most_nets ≤ vec_capacity a.nets
-  pub links_room : most_links (duty a.role) ≤ vec_capacity a.links
+  pub links_room : most_links (model_role a.role) ≤ vec_capacity a.links
   pub pairs_room : most_pairs ≤ vec_capacity a.pairs

@@ -1,7 +1,7 @@
 //! What the tables of a node hold, and how one change changes it.
 ghost use Rattle.std.specs.Option.{option_copied};
 ghost use Rattle.std.specs.Prelude.{◌≡◌, ◌<◌, ◌≤◌, ◌-◌, ◌^◌, option_map, [], ◌∷◌, ◌++◌, true, false, length, vec_capacity, vec_len, All, map};
-ghost use Rattle.zb_node_types.specs.Changes.{tier, trust, stage, edit, is_sending};
+ghost use Rattle.zb_node_types.specs.Changes.{model_layer, model_attribute, model_state, edit, is_sending};
 ghost use Rattle.zb_keys.specs.Rows.{net_key, link_key};
 ghost use Rattle.zb_keys.specs.Senders.{HasRoom, live_floor};
 ghost use Rattle.zb_keys.specs.Reading.{outgoing_of, place_of_key};
@@ -20,8 +20,8 @@ use crate::net::{
 use crate::pair::{drop_pairs, has_pair};
 use crate::{LinkRow, NetRow, Pair};
 use zb_base::{Eui, Key, Layer, Role};
-use zb_node_types::{Attribute, Change, Rollover, State};
 use zb_counter::Outgoing;
+use zb_node_types::{Attribute, Change, Rollover, State};
 
 /// The stable state of a node, with the next counters and the floors in memory.
 #[derive(Debug, Drop)]
@@ -70,7 +70,7 @@ impl Contents {
 
     /// The outgoing counter of a layer.
     pub(crate) fn outgoing(&self, layer: Layer, block: u32) -> Outgoing
-        ensures { result ≡ outgoing_of (tier layer) block (state_of self.now) }
+        ensures { result ≡ outgoing_of (model_layer layer) block (state_of self.now) }
     {
         match layer {
             Layer::Nwk => self.outgoing_nwk(block),
@@ -135,8 +135,8 @@ impl Contents {
     /// Uses the next outgoing counter of a layer, which is reserved.
     pub(crate) fn count(&mut self, layer: Layer)
         requires sound { IsSound self.old }
-        requires reserved { next_counter (tier layer) (state_of self.old) < stored_limit (tier layer) (state_of self.old) }
-        ensures state { state_of self.new ≡ counted (tier layer) (state_of self.old) }
+        requires reserved { next_counter (model_layer layer) (state_of self.old) < stored_limit (model_layer layer) (state_of self.old) }
+        ensures state { state_of self.new ≡ counted (model_layer layer) (state_of self.old) }
         ensures sound { IsSound self.new }
     {
         match layer {
@@ -229,7 +229,7 @@ impl Contents {
     /// Reserves outgoing counters of a layer.
     fn reserve(&mut self, layer: Layer, limit: u32)
         requires { Forgets (state_of self.old) }
-        ensures { Becomes (shown (applied (Reserve (tier layer) limit) (state_of self.old))) self.old self.new }
+        ensures { Becomes (shown (applied (Reserve (model_layer layer) limit) (state_of self.old))) self.old self.new }
     {
         match layer {
             Layer::Nwk => self.reserve_nwk(limit),
@@ -241,7 +241,7 @@ impl Contents {
     fn store(&mut self, layer: Layer, key: &Key, sender: Eui, value: u32)
         requires forgets { Forgets (state_of self.old) }
         requires room { layer ≡ Layer.Nwk → All HasRoom (at_net key.now.0 (live_floor sender.0 value) (state_of self.old).nets) }
-        ensures { Becomes (shown (applied (Floor (tier layer) key.now.0 sender.0 value) (state_of self.old))) self.old self.new }
+        ensures { Becomes (shown (applied (Floor (model_layer layer) key.now.0 sender.0 value) (state_of self.old))) self.old self.new }
     {
         match layer {
             Layer::Nwk => self.store_nwk(key, sender, value),
@@ -340,8 +340,8 @@ impl Contents {
     /// Brings a link key into use, for which there is room.
     fn set_link(&mut self, partner: Eui, key: Key, attribute: Attribute)
         requires forgets { Forgets (state_of self.old) }
-        requires fits { length (applied (Moved (Row partner.0 key.0 (trust attribute))) (state_of self.old)).links ≤ vec_capacity self.old.links }
-        ensures { Becomes (shown (applied (Moved (Row partner.0 key.0 (trust attribute))) (state_of self.old))) self.old self.new }
+        requires fits { length (applied (Moved (Row partner.0 key.0 (model_attribute attribute))) (state_of self.old)).links ≤ vec_capacity self.old.links }
+        ensures { Becomes (shown (applied (Moved (Row partner.0 key.0 (model_attribute attribute))) (state_of self.old))) self.old self.new }
     {
         let told = has_told(self.links.as_slice(), partner);
         if has_row(self.links.as_slice(), partner, &key) {
@@ -367,7 +367,7 @@ impl Contents {
     /// Enters a state.
     fn enter(&mut self, state: State)
         requires { Forgets (state_of self.old) }
-        ensures { Becomes (shown (applied (Moved (Became (stage state))) (state_of self.old))) self.old self.new }
+        ensures { Becomes (shown (applied (Moved (Became (model_state state))) (state_of self.old))) self.old self.new }
     {
         self.state = state;
     }

@@ -1,6 +1,6 @@
 //! Changes behind a record of version 1, where all network keys have one NWK limit, and behind later ones.
 ghost use Rattle.std.specs.Prelude.{◌≡◌, ◌≤◌, true, length, vec_capacity};
-ghost use Rattle.zb_node_types.specs.Changes.{edit, tier};
+ghost use Rattle.zb_node_types.specs.Changes.{edit, model_layer};
 ghost use Rattle.zb_keys.specs.Tables.{state_of, Becomes, Forgets, IsSound};
 ghost use Rattle.zb_model.specs.Data.{Reserve};
 ghost use Rattle.zb_model.specs.State.{shown};
@@ -49,7 +49,7 @@ impl Contents {
     #[tactic(auto, unfolding(zb_record::specs::Redoing::first_fits))]
     fn fits_limit(&self, layer: Layer, limit: u32) -> bool
         requires { IsSound self.now }
-        ensures { result ≡ first_fits (Reserve (tier layer) limit) (state_of self.now) }
+        ensures { result ≡ first_fits (Reserve (model_layer layer) limit) (state_of self.now) }
     {
         match layer {
             Layer::Nwk => self.declared <= limit,
@@ -89,7 +89,7 @@ impl Contents {
     #[tactic(auto, unfolding(zb_record::specs::Redoing::first_applied))]
     fn set_limit(&mut self, layer: Layer, limit: u32)
         requires { Forgets (state_of self.old) }
-        ensures { Becomes (shown (first_applied (Reserve (tier layer) limit) (state_of self.old))) self.old self.new }
+        ensures { Becomes (shown (first_applied (Reserve (model_layer layer) limit) (state_of self.old))) self.old self.new }
     {
         match layer {
             Layer::Nwk => self.limit_all(limit),

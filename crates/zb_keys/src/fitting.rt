@@ -2,7 +2,7 @@
 ghost use Rattle.std.specs.Prelude.{◌≡◌, ◌≤◌, ◌&&◌, ◌||◌, not, map, option_map, find, is_none, is_some, length, nat_eq, nat_le, nat_lt};
 ghost use Rattle.std.specs.List.{list_any};
 ghost use Rattle.std.specs.Option.{option_copied};
-ghost use Rattle.zb_node_types.specs.Changes.{edit, is_sending, stage, tier, trust};
+ghost use Rattle.zb_node_types.specs.Changes.{edit, is_sending, model_state, model_layer, model_attribute};
 ghost use Rattle.zb_model_fits.specs.Fitting.{leaves_rules, move_leaves, floor_has_room, is_rival, key_is_used};
 ghost use Rattle.zb_keys.specs.Rows.{net_key, link_key, heard_floor};
 ghost use Rattle.zb_keys.specs.Tables.{state_of, IsSound};
@@ -100,7 +100,7 @@ impl Contents {
 
     /// Whether the node is the centre.
     fn is_centre(&self) -> bool
-        ensures { result ≡ is_centre (state_of self.now).duty }
+        ensures { result ≡ is_centre (state_of self.now).role }
     {
         matches!(self.role, Role::Centre)
     }
@@ -138,7 +138,7 @@ impl Contents {
 
     /// Whether a limit isn't below the one that stands.
     fn may_reserve(&self, layer: Layer, limit: u32) -> bool
-        ensures { result ≡ may_change (Reserve (tier layer) limit) (state_of self.now) }
+        ensures { result ≡ may_change (Reserve (model_layer layer) limit) (state_of self.now) }
     {
         match layer {
             Layer::Nwk => self.has_active() && self.outgoing_nwk(1).limit <= limit,
@@ -158,7 +158,7 @@ impl Contents {
 
     /// Whether a floor isn't below the one that stands, under a key in use.
     fn may_store(&self, layer: Layer, key: &Key, sender: Eui, value: u32) -> bool
-        ensures { result ≡ may_change (Floor (tier layer) key.now.0 sender.0 value) (state_of self.now) }
+        ensures { result ≡ may_change (Floor (model_layer layer) key.now.0 sender.0 value) (state_of self.now) }
     {
         match layer {
             Layer::Nwk => {
@@ -197,7 +197,7 @@ impl Contents {
     /// Whether the node is the centre, and a device is live.
     #[tactic(auto, unfolding(zb_model::specs::State::is_live), using(crate::proofs::Mapping::any_map))]
     fn has_device(&self, device: Eui) -> bool
-        ensures { result ≡ (is_centre (state_of self.now).duty && is_live (state_of self.now) device.0) }
+        ensures { result ≡ (is_centre (state_of self.now).role && is_live (state_of self.now) device.0) }
     {
         self.is_centre() && has_live(self.links.as_slice(), device)
     }
@@ -205,7 +205,7 @@ impl Contents {
     /// Whether the node is the centre, and a device isn't live.
     #[tactic(auto, unfolding(zb_model::specs::State::is_live), using(crate::proofs::Mapping::any_map))]
     fn lacks_device(&self, device: Eui) -> bool
-        ensures { result ≡ (is_centre (state_of self.now).duty && not (is_live (state_of self.now) device.0)) }
+        ensures { result ≡ (is_centre (state_of self.now).role && not (is_live (state_of self.now) device.0)) }
     {
         self.is_centre() && !has_live(self.links.as_slice(), device)
     }
@@ -213,7 +213,7 @@ impl Contents {
     /// Whether a floor has a place.
     #[tactic(auto, unfolding(zb_model_fits::specs::Fitting::leaves_rules))]
     fn has_floor_room(&self, layer: Layer, key: &Key, sender: Eui, value: u32) -> bool
-        ensures { result ≡ leaves_rules (Floor (tier layer) key.now.0 sender.0 value) (state_of self.now) }
+        ensures { result ≡ leaves_rules (Floor (model_layer layer) key.now.0 sender.0 value) (state_of self.now) }
     {
         match layer {
             Layer::Nwk => has_room_in(self.net_row(key), sender, value),
@@ -244,28 +244,28 @@ impl Contents {
 
     /// Whether a link key has a row or room for one, and no rival.
     fn has_link_room(&self, partner: Eui, key: &Key, attribute: Attribute) -> bool
-        ensures { result ≡ move_leaves (Row partner.0 key.now.0 (trust attribute)) (state_of self.now) }
+        ensures { result ≡ move_leaves (Row partner.0 key.now.0 (model_attribute attribute)) (state_of self.now) }
     {
         self.may_hold(partner, key) && !self.has_rival(partner, key, attribute)
     }
 
     /// Whether a link key has a row or room for one.
     fn may_hold(&self, partner: Eui, key: &Key) -> bool
-        ensures { result ≡ (has_link partner.0 key.now.0 (state_of self.now).links || (nat_lt (length (state_of self.now).links) (most_links (state_of self.now).duty) && not (key_is_used key.now.0 (state_of self.now).links))) }
+        ensures { result ≡ (has_link partner.0 key.now.0 (state_of self.now).links || (nat_lt (length (state_of self.now).links) (most_links (state_of self.now).role) && not (key_is_used key.now.0 (state_of self.now).links))) }
     {
         self.has_link(partner, key) || self.may_add_link(key)
     }
 
     /// Whether there is room for another link key, which isn't used.
     fn may_add_link(&self, key: &Key) -> bool
-        ensures { result ≡ (nat_lt (length (state_of self.now).links) (most_links (state_of self.now).duty) && not (key_is_used key.now.0 (state_of self.now).links)) }
+        ensures { result ≡ (nat_lt (length (state_of self.now).links) (most_links (state_of self.now).role) && not (key_is_used key.now.0 (state_of self.now).links)) }
     {
         self.has_link_slot() && !self.uses_key(key)
     }
 
     /// Whether there is room for another link key.
     fn has_link_slot(&self) -> bool
-        ensures { result ≡ nat_lt (length (state_of self.now).links) (most_links (state_of self.now).duty) }
+        ensures { result ≡ nat_lt (length (state_of self.now).links) (most_links (state_of self.now).role) }
     {
         self.links.as_slice().len() < link_room(self.role)
     }
@@ -281,28 +281,28 @@ impl Contents {
     /// Whether a partner has another row in use that is offered where this one is to be, or else isn't.
     #[tactic(auto, using(crate::proofs::Mapping::any_map))]
     fn has_rival(&self, partner: Eui, key: &Key, attribute: Attribute) -> bool
-        ensures { result ≡ list_any (is_rival partner.0 key.now.0 (trust attribute)) (state_of self.now).links }
+        ensures { result ≡ list_any (is_rival partner.0 key.now.0 (model_attribute attribute)) (state_of self.now).links }
     {
         has_rival(self.links.as_slice(), partner, key, attribute)
     }
 
     /// Whether there is room for another pair, whose first address is the smaller one.
     fn has_pair_room(&self, first: Eui, second: Eui) -> bool
-        ensures { result ≡ (is_centre (state_of self.now).duty && (nat_lt (length (state_of self.now).pairs) most_pairs && nat_lt first.0 second.0)) }
+        ensures { result ≡ (is_centre (state_of self.now).role && (nat_lt (length (state_of self.now).pairs) most_pairs && nat_lt first.0 second.0)) }
     {
         self.is_centre() && self.pairs.as_slice().len() < 256 && first.0 < second.0
     }
 
     /// Whether the node may have a state: the centre has the first one alone.
     fn may_enter(&self, state: State) -> bool
-        ensures { result ≡ (not (is_centre (state_of self.now).duty) || is_fresh (stage state)) }
+        ensures { result ≡ (not (is_centre (state_of self.now).role) || is_fresh (model_state state)) }
     {
         !self.is_centre() || matches!(state, State::Fresh)
     }
 
     /// Whether the node may have a rollover: it begins in the centre alone.
     fn may_roll(&self, rollover: Rollover) -> bool
-        ensures { result ≡ (not (is_sending rollover) || is_centre (state_of self.now).duty) }
+        ensures { result ≡ (not (is_sending rollover) || is_centre (state_of self.now).role) }
     {
         matches!(rollover, Rollover::Idle) || self.is_centre()
     }
@@ -404,7 +404,7 @@ fn uses_key(rows: &[LinkRow], key: &Key) -> bool
 
 /// Whether a partner has another row in use that is offered where this one is to be, or else isn't.
 fn has_rival(rows: &[LinkRow], partner: Eui, key: &Key, attribute: Attribute) -> bool
-    ensures { result ≡ list_any (λ r. is_rival partner.0 key.now.0 (trust attribute) (link_key r)) rows.now }
+    ensures { result ≡ list_any (λ r. is_rival partner.0 key.now.0 (model_attribute attribute) (link_key r)) rows.now }
 {
     rows.iter()
         .any(|row| row.is_rival_of(partner, key, attribute))
@@ -413,7 +413,7 @@ fn has_rival(rows: &[LinkRow], partner: Eui, key: &Key, attribute: Attribute) ->
 impl LinkRow {
     /// Whether it is another row of the partner in use, which is offered where this one is to be, or else isn't.
     fn is_rival_of(&self, partner: Eui, key: &Key, attribute: Attribute) -> bool
-        ensures { result ≡ is_rival partner.0 key.now.0 (trust attribute) (link_key self.now) }
+        ensures { result ≡ is_rival partner.0 key.now.0 (model_attribute attribute) (link_key self.now) }
     {
         self.is_live_of(partner)
             && !self.is_of(partner, key)

@@ -2,14 +2,14 @@
 ghost use Rattle.std.specs.Prelude.{◌≡◌, ◌&&◌, false, not, map, find, nat_eq, if◌then◌else◌};
 ghost use Rattle.std.specs.List.{list_any};
 ghost use Rattle.std.specs.Option.{option_copied};
-ghost use Rattle.zb_node_types.specs.Changes.{duty, trust};
+ghost use Rattle.zb_node_types.specs.Changes.{model_role, model_attribute};
 ghost use Rattle.zb_model.specs.Fits.{most_links};
 ghost use Rattle.zb_keys.specs.Rows.{link_key};
 ghost use Rattle.zb_model.specs.State.{at_link, is_link, has_link, is_live_of, dropped_link, link_floor, link_kept, revived, new_link, told_as, with_told, is_unverified, is_verified, same_key};
 
 use zb_base::{Eui, Key, Role};
-use zb_node_types::Attribute;
 use zb_counter::Floor;
+use zb_node_types::Attribute;
 
 /// A link key shared with a partner. A row is never taken away: a key that comes again for its partner revives it.
 #[derive(Clone, Copy, Debug, PartialEq, Eq)]
@@ -33,7 +33,7 @@ pub struct LinkRow {
 impl LinkRow {
     /// A key that was just given.
     pub(crate) fn given(partner: Eui, key: Key, attribute: Attribute, told: bool) -> LinkRow
-        ensures { link_key result ≡ new_link partner.0 key.0 (trust attribute) told }
+        ensures { link_key result ≡ new_link partner.0 key.0 (model_attribute attribute) told }
     {
         LinkRow {
             partner,
@@ -62,14 +62,14 @@ impl LinkRow {
 
     /// Whether it is only offered: nobody proved yet that both sides hold the key.
     pub fn is_unverified(&self) -> bool
-        ensures { result ≡ is_unverified (link_key self.now).trust }
+        ensures { result ≡ is_unverified (link_key self.now).attribute }
     {
         matches!(self.attribute, Attribute::Unverified)
     }
 
     /// Whether both sides proved that they hold the key.
     pub fn is_verified(&self) -> bool
-        ensures { result ≡ is_verified (link_key self.now).trust }
+        ensures { result ≡ is_verified (link_key self.now).attribute }
     {
         matches!(self.attribute, Attribute::Verified)
     }
@@ -104,7 +104,7 @@ impl LinkRow {
 
     /// Brings the row into use, if it is of that partner and key.
     fn revive_at(&mut self, partner: Eui, key: &Key, attribute: Attribute, told: bool)
-        ensures { link_key self.new ≡ (if is_link partner.0 key.now.0 (link_key self.old) then revived (trust attribute) told (link_key self.old) else link_key self.old) }
+        ensures { link_key self.new ≡ (if is_link partner.0 key.now.0 (link_key self.old) then revived (model_attribute attribute) told (link_key self.old) else link_key self.old) }
     {
         if self.is_of(partner, key) {
             self.attribute = attribute;
@@ -157,7 +157,7 @@ pub(crate) fn revive_link(
     attribute: Attribute,
     told: bool,
 )
-    ensures { map link_key rows.new ≡ at_link partner.0 key.now.0 (revived (trust attribute) told) (map link_key rows.old) }
+    ensures { map link_key rows.new ≡ at_link partner.0 key.now.0 (revived (model_attribute attribute) told) (map link_key rows.old) }
 {
     for row in rows.iter_mut() {
         row.revive_at(partner, key, attribute, told);
@@ -207,14 +207,14 @@ pub(crate) fn has_told(rows: &[LinkRow], partner: Eui) -> bool
 
 /// The current row of a partner: its row in use that isn't only offered.
 pub(crate) fn current_row<'a>(rows: &'a [LinkRow], partner: Eui) -> Option<&'a LinkRow>
-    ensures { option_copied result ≡ find (λ r. is_live_of partner.0 (link_key r) && not (is_unverified (link_key r).trust)) rows.now }
+    ensures { option_copied result ≡ find (λ r. is_live_of partner.0 (link_key r) && not (is_unverified (link_key r).attribute)) rows.now }
 {
     rows.iter().find(|row| row.live && row.partner.0 == partner.0 && !row.is_unverified())
 }
 
 /// The offered row of a partner: its unverified row in use.
 pub(crate) fn offered_row<'a>(rows: &'a [LinkRow], partner: Eui) -> Option<&'a LinkRow>
-    ensures { option_copied result ≡ find (λ r. is_live_of partner.0 (link_key r) && is_unverified (link_key r).trust) rows.now }
+    ensures { option_copied result ≡ find (λ r. is_live_of partner.0 (link_key r) && is_unverified (link_key r).attribute) rows.now }
 {
     rows.iter().find(|row| row.live && row.partner.0 == partner.0 && row.is_unverified())
 }
@@ -246,7 +246,7 @@ pub(crate) fn hear_link(rows: &mut [LinkRow], partner: Eui, key: &Key, kept: u32
 
 /// How many link keys a node may hold.
 pub(crate) fn link_room(role: Role) -> usize
-    ensures { result ≡ most_links (duty role) }
+    ensures { result ≡ most_links (model_role role) }
 {
     match role {
         Role::Centre => 1024,

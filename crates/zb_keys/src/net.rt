@@ -3,7 +3,7 @@ ghost use Rattle.std.specs.Prelude.{◌≡◌, ◌+◌, ◌<◌, ◌≤◌, [], 
 ghost use Rattle.std.specs.List.{list_any};
 ghost use Rattle.std.specs.Option.{option_copied};
 ghost use Rattle.zb_keys.specs.Rows.{net_key, heard_floor};
-ghost use Rattle.zb_model.specs.State.{most, at_net, new_net, given_net, same_key, reserved, started_at, dropped_net, shown_net, next_at, net_floor, net_kept, floor_stored, floor_kept};
+ghost use Rattle.zb_model.specs.State.{greatest_counter, at_net, new_net, given_net, same_key, reserved, started_at, dropped_net, shown_net, next_at, net_floor, net_kept, floor_stored, floor_kept};
 ghost use Rattle.zb_keys.specs.Reading.{floor_of_row};
 ghost use Rattle.zb_record.specs.Redoing.{limited};
 ghost use Rattle.zb_keys.specs.Senders.{IsPlace, IsAbsent, HasRoom, live_floor, counted_row};

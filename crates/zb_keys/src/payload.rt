@@ -1,9 +1,9 @@
 //! The payload of a commit: the changes that it stores, as bytes.
 ghost use Rattle.std.specs.Prelude.{◌≡◌, ◌+◌, ◌<◌, ◌≤◌, ◌^◌, ◌++◌, [], ◌∷◌, length, take, filter};
 ghost use Rattle.std.specs.List.{flat_map};
-ghost use Rattle.zb_node_types.specs.Changes.{edit, edits, tier, trust, stage, is_sending};
+ghost use Rattle.zb_node_types.specs.Changes.{edit, edits, model_layer, model_attribute, model_state, is_sending};
 ghost use Rattle.zb_keys.specs.Written.{Writes};
-ghost use Rattle.zb_model.specs.Record.{edit_bytes, payload, is_stored, eight_bytes, four_bytes, tier_byte, trust_byte, stage_byte, worth};
+ghost use Rattle.zb_model.specs.Record.{edit_bytes, payload, is_stored, eight_bytes, four_bytes, layer_byte, attribute_byte, state_byte, worth};
 
 use crate::Tables;
 use crate::writing::put;
@@ -12,7 +12,7 @@ use zb_node_types::{Attribute, Change, Changes, Rollover, State};
 
 /// The byte of a layer.
 fn layer_byte(layer: Layer) -> u8
-    ensures { result ≡ tier_byte (tier layer) }
+    ensures { result ≡ layer_byte (model_layer layer) }
 {
     match layer {
         Layer::Nwk => 0,
@@ -22,7 +22,7 @@ fn layer_byte(layer: Layer) -> u8
 
 /// The byte of an attribute.
 pub(crate) fn attribute_byte(attribute: Attribute) -> u8
-    ensures { result ≡ trust_byte (trust attribute) }
+    ensures { result ≡ attribute_byte (model_attribute attribute) }
 {
     match attribute {
         Attribute::Provisional => 0,
@@ -33,7 +33,7 @@ pub(crate) fn attribute_byte(attribute: Attribute) -> u8
 
 /// The byte of a state.
 pub(crate) fn state_byte(state: State) -> u8
-    ensures { result ≡ stage_byte (stage state) }
+    ensures { result ≡ state_byte (model_state state) }
 {
     match state {
         State::Fresh => 0,
@@ -96,8 +96,8 @@ fn put_eui_key(into: &mut [u8], at: usize, kind: u8, partner: Eui, key: &Key) ->
 
 /// A reservation.
 fn put_reserve(into: &mut [u8], at: usize, layer: Layer, limit: u32) -> usize
-    requires { at + length (1 ∷ tier_byte (tier layer) ∷ four_bytes limit) ≤ length into.old }
-    ensures { Writes into.old into.new at result (1 ∷ tier_byte (tier layer) ∷ four_bytes limit) }
+    requires { at + length (1 ∷ layer_byte (model_layer layer) ∷ four_bytes limit) ≤ length into.old }
+    ensures { Writes into.old into.new at result (1 ∷ layer_byte (model_layer layer) ∷ four_bytes limit) }
 {
     let at = put(into, at, &[1, layer_byte(layer)]);
     put(into, at, &limit.to_le_bytes())
@@ -105,8 +105,8 @@ fn put_reserve(into: &mut [u8], at: usize, layer: Layer, limit: u32) -> usize
 
 /// A floor.
 fn put_floor(into: &mut [u8], at: usize, layer: Layer, key: &Key, sender: Eui, value: u32) -> usize
-    requires { at + length (2 ∷ tier_byte (tier layer) ∷ key.now.0 ++ (eight_bytes sender.0 ++ four_bytes value)) ≤ length into.old }
-    ensures { Writes into.old into.new at result (2 ∷ tier_byte (tier layer) ∷ key.now.0 ++ (eight_bytes sender.0 ++ four_bytes value)) }
+    requires { at + length (2 ∷ layer_byte (model_layer layer) ∷ key.now.0 ++ (eight_bytes sender.0 ++ four_bytes value)) ≤ length into.old }
+    ensures { Writes into.old into.new at result (2 ∷ layer_byte (model_layer layer) ∷ key.now.0 ++ (eight_bytes sender.0 ++ four_bytes value)) }
 {
     let at = put_layer_key(into, at, layer, key);
     put_eui_number(into, at, sender, value)
@@ -114,8 +114,8 @@ fn put_floor(into: &mut [u8], at: usize, layer: Layer, key: &Key, sender: Eui, v
 
 /// The beginning of a floor: its kind, layer and key.
 fn put_layer_key(into: &mut [u8], at: usize, layer: Layer, key: &Key) -> usize
-    requires { at + length (2 ∷ tier_byte (tier layer) ∷ key.now.0) ≤ length into.old }
-    ensures { Writes into.old into.new at result (2 ∷ tier_byte (tier layer) ∷ key.now.0) }
+    requires { at + length (2 ∷ layer_byte (model_layer layer) ∷ key.now.0) ≤ length into.old }
+    ensures { Writes into.old into.new at result (2 ∷ layer_byte (model_layer layer) ∷ key.now.0) }
 {
     let at = put(into, at, &[2, layer_byte(layer)]);
     put(into, at, &key.0)
@@ -157,8 +157,8 @@ fn put_install(into: &mut [u8], at: usize, key: &Key, sequence: u8) -> usize
 
 /// A link key.
 fn put_row(into: &mut [u8], at: usize, partner: Eui, key: &Key, attribute: Attribute) -> usize
-    requires { at + length (7 ∷ eight_bytes partner.0 ++ (key.now.0 ++ trust_byte (trust attribute) ∷ [])) ≤ length into.old }
-    ensures { Writes into.old into.new at result (7 ∷ eight_bytes partner.0 ++ (key.now.0 ++ trust_byte (trust attribute) ∷ [])) }
+    requires { at + length (7 ∷ eight_bytes partner.0 ++ (key.now.0 ++ attribute_byte (model_attribute attribute) ∷ [])) ≤ length into.old }
+    ensures { Writes into.old into.new at result (7 ∷ eight_bytes partner.0 ++ (key.now.0 ++ attribute_byte (model_attribute attribute) ∷ [])) }
 {
     let at = put_eui_key(into, at, 7, partner, key);
     put(into, at, &[attribute_byte(attribute)])

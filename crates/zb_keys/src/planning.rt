@@ -6,10 +6,10 @@ ghost use Rattle.zb_keys.specs.Planning.{Adds, Tells, moves, activation, taken, 
 ghost use Rattle.zb_keys.specs.Rows.{net_key};
 ghost use Rattle.zb_keys.specs.Tables.{state_of, IsSound, active_bytes};
 ghost use Rattle.zb_model.specs.Data.{Install, Moved};
-ghost use Rattle.zb_model.specs.Answer.{is_active_key, start_for, first_counter, row_is_started};
-ghost use Rattle.zb_model.specs.Rules.{drop_old, is_active};
+ghost use Rattle.zb_model.specs.Answer.{start_for, first_counter, row_is_started};
+ghost use Rattle.zb_model.specs.Rules.{drop_old};
 ghost use Rattle.zb_model.specs.Commands.{activates, dropped_at};
-ghost use Rattle.zb_model.specs.State.{same_key, last_where, newest};
+ghost use Rattle.zb_model.specs.State.{same_key, last_where, newest, is_active_key};
 
 use crate::NetRow;
 use crate::contents::Contents;
@@ -41,19 +41,10 @@ pub(crate) fn count_live(rows: &[NetRow]) -> usize
 
 /// The first network key in use that isn't the active one.
 fn idle_row<'a>(rows: &'a [NetRow], active: &Option<Key>) -> Option<&'a NetRow>
-    ensures { option_copied result ≡ find (λ r. (net_key r).live && not (is_active (active_bytes active.now) (net_key r))) rows.now }
+    ensures { option_copied result ≡ find (λ r. (net_key r).live && not (is_active_key (active_bytes active.now) (net_key r).key)) rows.now }
 {
-    rows.iter().find(|row| row.live && !is_active(active, row))
-}
-
-/// Whether that row is the active one.
-fn is_active(active: &Option<Key>, row: &NetRow) -> bool
-    ensures { result ≡ is_active (active_bytes active.now) (net_key row.now) }
-{
-    match active {
-        Some(active) => row.key == *active,
-        None => false,
-    }
+    rows.iter()
+        .find(|row| row.live && !is_key(active, &row.key))
 }
 
 /// Whether that key is the active one.
@@ -61,7 +52,7 @@ pub(crate) fn is_key(active: &Option<Key>, key: &Key) -> bool
     ensures { result ≡ is_active_key (active_bytes active.now) key.now.0 }
 {
     match active {
-        Some(active) => *active == *key,
+        Some(active) => *key == *active,
         None => false,
     }
 }

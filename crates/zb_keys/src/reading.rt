@@ -1,7 +1,7 @@
 //! The readers of tables, and what seals and accepted frames do to them.
 ghost use Rattle.std.specs.Prelude.{◌≡◌, ◌<◌, ◌-◌, ◌^◌, [], map, option_map, slice_get};
 ghost use Rattle.std.specs.Option.{option_copied};
-ghost use Rattle.zb_node_types.specs.Changes.{duty, tier, stage, is_sending};
+ghost use Rattle.zb_node_types.specs.Changes.{model_role, model_layer, model_state, is_sending};
 ghost use Rattle.zb_keys.specs.Rows.{net_key, link_key, pair_key};
 ghost use Rattle.zb_keys.specs.Reading.{place_of_key, outgoing_of, floor_at, sender_at, heard_under, heard_from};
 ghost use Rattle.zb_model.specs.Data.{Nwk};
@@ -10,13 +10,13 @@ ghost use Rattle.zb_model.specs.State.{next_counter, stored_limit, counted, with
 use crate::pair::pair_row;
 use crate::{LinkRow, NetRow, Pair, Tables};
 use zb_base::{Eui, Key, Layer, Role};
-use zb_node_types::{Rollover, State};
 use zb_counter::{Floor, Outgoing};
+use zb_node_types::{Rollover, State};
 
 impl Tables {
     /// The part that the node plays.
     pub fn role(&self) -> Role
-        ensures { duty result ≡ self.now.duty }
+        ensures { model_role result ≡ self.now.role }
     {
         self.contents.role
     }
@@ -44,7 +44,7 @@ impl Tables {
 
     /// The state of a router or device.
     pub fn state(&self) -> State
-        ensures { stage result ≡ self.now.stage }
+        ensures { model_state result ≡ self.now.state }
     {
         self.contents.state
     }
@@ -131,15 +131,15 @@ impl Tables {
 
     /// The outgoing counter of a layer, which is reserved in blocks of that size. At NWK it is that of the active key.
     pub fn outgoing(&self, layer: Layer, block: u32) -> Outgoing
-        ensures { result ≡ outgoing_of (tier layer) block self.now }
+        ensures { result ≡ outgoing_of (model_layer layer) block self.now }
     {
         self.contents.outgoing(layer, block)
     }
 
     /// Uses the next outgoing counter of a layer, which is reserved.
     pub fn sealed(&mut self, layer: Layer)
-        requires { next_counter (tier layer) self.old < stored_limit (tier layer) self.old }
-        ensures { self.new ≡ counted (tier layer) self.old }
+        requires { next_counter (model_layer layer) self.old < stored_limit (model_layer layer) self.old }
+        ensures { self.new ≡ counted (model_layer layer) self.old }
     {
         self.contents.count(layer);
     }

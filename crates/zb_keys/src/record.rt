@@ -1,11 +1,11 @@
 //! The record of tables: what a disk keeps of them, version 3.
 ghost use Rattle.std.specs.Prelude.{◌≡◌, ◌+◌, ◌*◌, ◌<◌, ◌≤◌, ◌++◌, [], ◌∷◌, length, take, filter, map, if◌then◌else◌};
 ghost use Rattle.std.specs.List.{flat_map};
-ghost use Rattle.zb_node_types.specs.Changes.{duty, stage, is_sending};
+ghost use Rattle.zb_node_types.specs.Changes.{model_role, model_state, is_sending};
 ghost use Rattle.zb_keys.specs.Rows.{net_key, link_key, pair_key, heard_floor};
 ghost use Rattle.zb_keys.specs.Tables.{state_of, IsSound};
 ghost use Rattle.zb_keys.specs.Written.{Writes};
-ghost use Rattle.zb_model.specs.Record.{record_of, active_place, place_from, duty_byte, stage_byte, two_bytes, four_bytes, eight_bytes, net_bytes, sender_bytes, floors_bytes, link_bytes, pair_bytes, worth};
+ghost use Rattle.zb_model.specs.Record.{record_of, active_place, place_from, role_byte, state_byte, two_bytes, four_bytes, eight_bytes, net_bytes, sender_bytes, floors_bytes, link_bytes, pair_bytes, worth};
 
 use crate::contents::Contents;
 use crate::net::Senders;
@@ -16,7 +16,7 @@ use zb_base::{Key, Role};
 
 /// The byte of a role.
 fn role_byte(role: Role) -> u8
-    ensures { result ≡ duty_byte (duty role) }
+    ensures { result ≡ role_byte (model_role role) }
 {
     match role {
         Role::Centre => 0,
@@ -215,7 +215,7 @@ impl Contents {
     /// The record's version 1, role 1, state 1 and declared start 4.
     fn put_node(&self, into: &mut [u8], at: usize) -> usize
         requires { at + 7 ≤ length into.old }
-        ensures writes { Writes into.old into.new at result (3 ∷ duty_byte (duty self.now.role) ∷ stage_byte (stage self.now.state) ∷ four_bytes self.now.declared) }
+        ensures writes { Writes into.old into.new at result (3 ∷ role_byte (model_role self.now.role) ∷ state_byte (model_state self.now.state) ∷ four_bytes self.now.declared) }
         ensures short { result ≤ at + 7 }
     {
         let at = put(into, at, &[3, role_byte(self.role), state_byte(self.state)]);

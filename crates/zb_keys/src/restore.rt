@@ -1,7 +1,7 @@
 //! Tables from a record.
 ghost use Rattle.std.specs.Prelude.{◌≡◌, ◌≢◌, ◌≤◌, ◌⊎◌, ℕ, Err, Ok, IfOk, IfErr, length, map, vec_capacity};
 ghost use Rattle.zb_base.specs.declared.fault.OrMemory.TheVariants.{Fault, NoMemory as lacks};
-ghost use Rattle.zb_node_types.specs.Changes.{duty};
+ghost use Rattle.zb_node_types.specs.Changes.{model_role};
 ghost use Rattle.zb_node_types.specs.declared.fault.KeyError.TheVariants.{BadRecord};
 ghost use Rattle.zb_keys.specs.Rows.{heard_floor, net_key, link_key, pair_key};
 ghost use Rattle.zb_keys.specs.Tables.{active_bytes, state_of, IsRestored};
@@ -17,8 +17,8 @@ use crate::{LinkRow, NetRow, Pair, SenderFloor, Tables};
 use arrayvec::ArrayVec;
 use std::alloc::Global;
 use zb_base::{Key, NoMemory, OrMemory, Role};
-use zb_node_types::KeyError;
 use zb_counter::Floor;
+use zb_node_types::KeyError;
 use zb_record::{LinkRecord, NetRecord, PairRecord, Record, SenderRecord, read_record};
 
 /// The floors of a record, as they are after a boot.
@@ -85,7 +85,7 @@ fn link_row(source: &LinkRecord) -> LinkRow
 /// The link keys of a record, with room for all that a node may hold.
 fn link_rows(alloc: Global, role: Role, records: &[LinkRecord]) -> Result<Vec<LinkRow>, NoMemory>
     ensures rows { IfOk result (λ v. map link_key v.items ≡ map link_seen records.now) }
-    ensures room { IfOk result (λ v. most_links (duty role) ≤ vec_capacity v) }
+    ensures room { IfOk result (λ v. most_links (model_role role) ≤ vec_capacity v) }
 {
     let mut rows = Vec::with_capacity(alloc, link_room(role))?;
     for source in records {

@@ -28,7 +28,7 @@ impl Model for Tables {
 
 impl Tables {
     ghost use Rattle.std.specs.Prelude.{◌≡◌, true, map, IfOk};
-    ghost use Rattle.zb_node_types.specs.Changes.{duty, stage, is_sending, edits};
+    ghost use Rattle.zb_node_types.specs.Changes.{model_role, model_state, is_sending, edits};
     ghost use Rattle.zb_model.specs.State.{new_node, shown, applied_all};
     ghost use Rattle.zb_model.specs.Fits.{AllFit, keeps_rules};
     ghost use Rattle.zb_keys.specs.Tables.{Forgets};
@@ -36,7 +36,7 @@ impl Tables {
     /// The tables of a new node, which hold nothing. They have room for 256 network keys with 64 floors each, 256 pairs,
     /// and 1,024 link keys in the centre or 64 in another node.
     pub fn new(alloc: Global, role: Role) -> Result<Tables, NoMemory>
-        ensures { IfOk result (λ t. t ≡ new_node (duty role)) }
+        ensures { IfOk result (λ t. t ≡ new_node (model_role role)) }
     {
         let nets = Vec::with_capacity(alloc, 256)?;
         let links = Vec::with_capacity(alloc, link_room(role))?;

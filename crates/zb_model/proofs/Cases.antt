@@ -1,13 +1,13 @@
 -- Consequences of the definitions that no worked run shows, each computed.
 use Rattle.std.specs.Prelude.{◌≡◌, ℕ, true, List, [], ◌∷◌, map, Some, None, refl}
-use Rattle.zb_model.specs.Data.{nobody, Centre, Device, Stage, Joined, Provisional, Verified, ForData, ForTransport, Aps, Sealing, Draw, Install, Active, Row, Removed, Roll, Became, Moved}
+use Rattle.zb_model.specs.Data.{nobody, Centre, Device, State, Joined, Provisional, Verified, ForData, ForTransport, Aps, Term, Draw, Install, Active, Row, Removed, Roll, Became, Moved}
 use Rattle.zb_model.specs.State.{LinkKey, PairKey, applied, after_boot, active_row}
 use Rattle.zb_model.specs.Rules.{Does, Setting, unless, given, choose, centre_of, drop_old}
 use Rattle.zb_model.specs.OwnEvents.{roll}
 use Rattle.zb_model.specs.Judging.{candidates}
 use Rattle.zb_model.specs.Commands.{Heard, take_net_key}
 use Rattle.zb_model.specs.Answer.{changes}
-use Rattle.zb_model.specs.Lines.{LogLine, Declared, Changed}
+use Rattle.zb_model.specs.Lines.{Line, Declared, Changed}
 use Rattle.zb_model.specs.Secrets.{carried, ever}
 use Rattle.std.specs.Prelude.{filter}
 use Rattle.zb_model.proofs.Toy.{x, toy}
@@ -39,21 +39,21 @@ unfolding take_net_key unless choose centre_of drop_old
 first_key_is_active = refl
 
 -- the sequence of network keys wraps at 256
-sequence_wraps : roll (record (keyed_node Centre Stage.Fresh []) { nets = record (net_at 1 true 7) { sequence = 255 } ∷ [] }) (Some (k 8)) ≡ Does (Draw (k 8) ∷ Install (k 8) 0 ∷ Roll true ∷ []) None
+sequence_wraps : roll (record (keyed_node Centre State.Fresh []) { nets = record (net_at 1 true 7) { sequence = 255 } ∷ [] }) (Some (k 8)) ≡ Does (Draw (k 8) ∷ Install (k 8) 0 ∷ Roll true ∷ []) None
 unfolding roll given unless active_row drop_old
 sequence_wraps = refl
 
 -- a pair ends with the removal of either
-pairs_end : map (λ (p : PairKey). p.key) (applied (Moved (Removed 4)) (record (bare Centre Stage.Fresh) { pairs = record { first = 2; second = 4; key = k 8 } ∷ record { first = 4; second = 7; key = k 9 } ∷ record { first = 2; second = 7; key = k 10 } ∷ [] })).pairs ≡ k 10 ∷ []
+pairs_end : map (λ (p : PairKey). p.key) (applied (Moved (Removed 4)) (record (bare Centre State.Fresh) { pairs = record { first = 2; second = 4; key = k 8 } ∷ record { first = 4; second = 7; key = k 9 } ∷ record { first = 2; second = 7; key = k 10 } ∷ [] })).pairs ≡ k 10 ∷ []
 unfolding applied
 pairs_end = refl
 
 -- a knock that leaves all as it is changes nothing
-second_knock : filter (changes (keyed_node Device Stage.Knocked (link_of 1 5 Provisional true ∷ []))) (Row 1 (k 5) Provisional ∷ Became Stage.Knocked ∷ []) ≡ []
+second_knock : filter (changes (keyed_node Device State.Knocked (link_of 1 5 Provisional true ∷ []))) (Row 1 (k 5) Provisional ∷ Became State.Knocked ∷ []) ≡ []
 second_knock = refl
 
 -- application data that spells a Transport-Key carries no key; a command does
-data_term : ℕ → Sealing
+data_term : ℕ → Term
 data_term control = record { layer = Aps; base = k 1; label = ForData; source = 1; counter = 0; control = 37; header = control ∷ []; content = x "0503303132333435363738393A3B3C3D3E3F040000000000000001" }
 
 data_carries_nothing : carried toy (data_term 32) ≡ None
@@ -65,7 +65,7 @@ unfolding carried toy data_term
 command_carries = refl
 
 -- a row of the centre is its partner's too from where the centre is declared on, and no row of an undeclared node is
-late_centre : List LogLine
+late_centre : List Line
 late_centre = Changed 1 1 (Moved (Row 2 (k 5) Provisional)) ∷ Declared (node Centre 1 0) ∷ Changed 2 1 (Moved (Row 2 (k 6) Provisional)) ∷ []
 
 centre_known_at_the_line : ever late_centre 2 ≡ k 6 ∷ []

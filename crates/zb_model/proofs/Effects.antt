@@ -1,7 +1,7 @@
 -- What rules do and definitions say where no worked run tells: one small case each, computed.
 use Rattle.std.specs.Prelude.{◌≡◌, ℕ, true, false, List, [], ◌∷◌, map, Option, Some, None, refl}
-use Rattle.zb_model.specs.Data.{Bytes, Duty, Centre, Device, Stage, Joined, Offered, Confirmed, Rejoining, Provisional, Unverified, Verified, Purpose, ForData, ForNetwork, ForTransport, ForLoad, Tier, Nwk, Aps, Station, Sealing, Draw, DropNet, DropLink, Active, Row, Pair, Became, Untold, Floor, Moved, WrongState, TransportNet, TransportApp, TransportLink, ConfirmKey}
-use Rattle.zb_model.specs.Lines.{LogLine, Declared, GivenLink, Changed, Seal, Forge}
+use Rattle.zb_model.specs.Data.{Bytes, Role, Centre, Device, State, Joined, Offered, Confirmed, Rejoining, Provisional, Unverified, Verified, Label, ForData, ForNetwork, ForTransport, ForLoad, Layer, Nwk, Aps, Station, Term, Draw, DropNet, DropLink, Active, Row, Pair, Became, Untold, Floor, Moved, WrongState, TransportNet, TransportApp, TransportLink, ConfirmKey}
+use Rattle.zb_model.specs.Lines.{Line, Declared, GivenLink, Changed, Seal, Forge}
 use Rattle.zb_model.specs.State.{SenderFloor, NetKey, LinkKey, NodeState, active_row, live_of, usable_of, usable_nets, newest, current, offered, is_live, is_told, pair_of, next_counter, other_user, applied, accepted, heard, dropped_link}
 use Rattle.zb_model.specs.Record.{link_bytes, net_bytes}
 use Rattle.zb_model.specs.Rules.{Secret, Stop, Does, Setting, unless, given, choose, sends, centre_of, short_of, station_of, spent, both_spent, drop_partner, drop_old}
@@ -26,17 +26,17 @@ device = record { me = node Device 2 258; stations = all }
 abbrev centre : Setting
 centre = record { me = node Centre 1 0; stations = all }
 
-abbrev from_centre : Purpose → Option LinkKey → Heard
+abbrev from_centre : Label → Option LinkKey → Heard
 from_centre label row = record { sender = 1; label = Some label; row = row; nwk_source = Some 1 }
 
-abbrev from_device : Purpose → Option LinkKey → Heard
+abbrev from_device : Label → Option LinkKey → Heard
 from_device label row = record { sender = 2; label = Some label; row = row; nwk_source = Some 2 }
 
 abbrev clear_from_device : Heard
 clear_from_device = record { sender = 2; label = None; row = None; nwk_source = Some 2 }
 
-abbrev with_links : Duty → Stage → List LinkKey → NodeState
-with_links duty stage links = keyed_node duty stage links
+abbrev with_links : Role → State → List LinkKey → NodeState
+with_links role state links = keyed_node role state links
 
 -- Commands
 
@@ -64,29 +64,29 @@ rejoined_with_a_code : take_net_key device (with_links Device Rejoining (link_of
 unfolding take_net_key unless choose centre_of offered current
 rejoined_with_a_code = refl
 
-offer_is_sent_again : take_request centre (with_links Centre Stage.Fresh (link_of 2 5 Verified true ∷ link_of 2 6 Unverified true ∷ [])) (from_device ForData (Some (link_of 2 5 Verified true))) (Some (k 9)) ≡ Does [] (sends 258 true (Secret ForLoad (k 5) (TransportLink (k 6) 2 1)))
+offer_is_sent_again : take_request centre (with_links Centre State.Fresh (link_of 2 5 Verified true ∷ link_of 2 6 Unverified true ∷ [])) (from_device ForData (Some (link_of 2 5 Verified true))) (Some (k 9)) ≡ Does [] (sends 258 true (Secret ForLoad (k 5) (TransportLink (k 6) 2 1)))
 unfolding take_request unless given offered current both_spent spent next_counter active_row short_of station_of
 offer_is_sent_again = refl
 
-pair_key_is_sent_again : take_app_request centre (record (with_links Centre Stage.Fresh (link_of 2 5 Verified true ∷ link_of 4 6 Verified true ∷ [])) { pairs = record { first = 2; second = 4; key = k 8 } ∷ [] }) (from_device ForData (Some (link_of 2 5 Verified true))) (Some (k 9)) 4 ≡ Does [] (sends 258 true (Secret ForLoad (k 5) (TransportApp (k 8) 4 1)))
+pair_key_is_sent_again : take_app_request centre (record (with_links Centre State.Fresh (link_of 2 5 Verified true ∷ link_of 4 6 Verified true ∷ [])) { pairs = record { first = 2; second = 4; key = k 8 } ∷ [] }) (from_device ForData (Some (link_of 2 5 Verified true))) (Some (k 9)) 4 ≡ Does [] (sends 258 true (Secret ForLoad (k 5) (TransportApp (k 8) 4 1)))
 unfolding take_app_request unless given current is_live pair_of both_spent spent next_counter active_row short_of station_of
 pair_key_is_sent_again = refl
 
-pair_is_drawn : take_app_request centre (with_links Centre Stage.Fresh (link_of 2 5 Verified true ∷ link_of 4 6 Verified true ∷ [])) (from_device ForData (Some (link_of 2 5 Verified true))) (Some (k 9)) 4 ≡ Does (Draw (k 9) ∷ Pair 2 4 (k 9) ∷ []) (sends 258 true (Secret ForLoad (k 5) (TransportApp (k 9) 4 1)))
+pair_is_drawn : take_app_request centre (with_links Centre State.Fresh (link_of 2 5 Verified true ∷ link_of 4 6 Verified true ∷ [])) (from_device ForData (Some (link_of 2 5 Verified true))) (Some (k 9)) 4 ≡ Does (Draw (k 9) ∷ Pair 2 4 (k 9) ∷ []) (sends 258 true (Secret ForLoad (k 5) (TransportApp (k 9) 4 1)))
 unfolding take_app_request unless given current is_live pair_of both_spent spent next_counter active_row short_of station_of
 pair_is_drawn = refl
 
-current_key_is_confirmed_again : take_verify toy centre (with_links Centre Stage.Fresh (link_of 2 5 Verified true ∷ [])) clear_from_device 4 2 (toy.keyed (k 5) 3) ≡ Does [] (sends 258 true (Secret ForData (k 5) (ConfirmKey 0 4 2)))
+current_key_is_confirmed_again : take_verify toy centre (with_links Centre State.Fresh (link_of 2 5 Verified true ∷ [])) clear_from_device 4 2 (toy.keyed (k 5) 3) ≡ Does [] (sends 258 true (Secret ForData (k 5) (ConfirmKey 0 4 2)))
 unfolding toy take_verify unless given choose offered current is_live both_spent spent next_counter active_row short_of station_of
 current_key_is_confirmed_again = refl
 
-code_is_not_confirmed : take_verify toy centre (with_links Centre Stage.Fresh (link_of 2 5 Provisional true ∷ [])) clear_from_device 4 2 (toy.keyed (k 5) 3) ≡ Stop WrongState
+code_is_not_confirmed : take_verify toy centre (with_links Centre State.Fresh (link_of 2 5 Provisional true ∷ [])) clear_from_device 4 2 (toy.keyed (k 5) 3) ≡ Stop WrongState
 unfolding toy take_verify unless given choose offered current is_live both_spent spent next_counter active_row
 code_is_not_confirmed = refl
 
 -- Events of a node's own
 
-member_is_untold : again (record (with_links Centre Stage.Fresh (record (link_of 2 5 Verified true) { told = true } ∷ [])) { sending = true }) 2 ≡ Does (Untold 2 ∷ []) None
+member_is_untold : again (record (with_links Centre State.Fresh (record (link_of 2 5 Verified true) { told = true } ∷ [])) { sending = true }) 2 ≡ Does (Untold 2 ∷ []) None
 unfolding again unless is_live is_told
 member_is_untold = refl
 
@@ -118,11 +118,11 @@ first_key_makes_room = refl
 dropped_key_is_untold : (dropped_link (record (link_of 2 5 Verified true) { told = true })).told ≡ false
 dropped_key_is_untold = refl
 
-code_stays_a_code : map (λ (r : LinkKey). r.code) (applied (Moved (Row 2 (k 5) Provisional)) (with_links Centre Stage.Fresh (record (link_of 2 5 Verified false) { code = false } ∷ []))).links ≡ true ∷ []
+code_stays_a_code : map (λ (r : LinkKey). r.code) (applied (Moved (Row 2 (k 5) Provisional)) (with_links Centre State.Fresh (record (link_of 2 5 Verified false) { code = false } ∷ []))).links ≡ true ∷ []
 unfolding applied is_told
 code_stays_a_code = refl
 
-new_key_of_a_told_member : map (λ (r : LinkKey). r.told) (applied (Moved (Row 2 (k 6) Unverified)) (with_links Centre Stage.Fresh (record (link_of 2 5 Verified true) { told = true } ∷ []))).links ≡ true ∷ true ∷ []
+new_key_of_a_told_member : map (λ (r : LinkKey). r.told) (applied (Moved (Row 2 (k 6) Unverified)) (with_links Centre State.Fresh (record (link_of 2 5 Verified true) { told = true } ∷ []))).links ≡ true ∷ true ∷ []
 unfolding applied is_told
 new_key_of_a_told_member = refl
 
@@ -130,7 +130,7 @@ senders_by_address : map (λ (r : NetKey). map (λ (f : SenderFloor). f.sender) 
 unfolding applied
 senders_by_address = refl
 
-abbrev from_centre_at : Tier → ℕ → Sealing
+abbrev from_centre_at : Layer → ℕ → Term
 from_centre_at layer counter = record { layer = layer; base = k 1; label = ForNetwork; source = 1; counter = counter; control = 0x2d; header = []; content = [] }
 
 next_floor_is_one_more : map (λ (r : NetKey). map (λ (f : SenderFloor). f.kept) r.floors) (accepted (from_centre_at Nwk 8) (applied (Floor Nwk (k 1) 1 12) (keyed_node Device Joined []))).nets ≡ (9 ∷ []) ∷ []
@@ -178,7 +178,7 @@ torn_gate_of_a_boot = refl
 
 -- Keys that come out
 
-abbrev carrier : Bytes → Bytes → Sealing
+abbrev carrier : Bytes → Bytes → Term
 carrier base key = record { layer = Aps; base = base; label = ForTransport; source = 1; counter = 0; control = 0x35; header = 0x21 ∷ []; content = toy.spelled (TransportLink key 2 1) }
 
 -- in the first round a term opens nothing whose base key comes out only behind it
@@ -194,7 +194,7 @@ both_hold_a_pair : map (λ d. ever (Changed 1 1 (Moved (Pair 2 4 (k 8))) ∷ [])
 unfolding ever
 both_hold_a_pair = refl
 
-abbrev declared : List LogLine
+abbrev declared : List Line
 declared = Declared (node Centre 1 0) ∷ Declared (node Device 2 258) ∷ GivenLink 2 1 (k 5) ∷ []
 
 row_out_of_nowhere : ideal_line toy declared (Changed 1 2 (Moved (Row 1 (k 6) Unverified))) ≡ false

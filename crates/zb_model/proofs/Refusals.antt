@@ -1,11 +1,11 @@
 -- Each refusal of the policy's tables, computed on a small state: one lemma each.
 use Rattle.std.specs.Prelude.{◌≡◌, ℕ, ◌+◌, true, false, List, [], ◌∷◌, ◌++◌, replicate, Some, None, refl}
-use Rattle.zb_model.specs.Data.{Bytes, Duty, Centre, Router, Device, Nwk, Stage, Knocked, Joined, Offered, Confirmed, Rejoining, Provisional, Unverified, Verified, Purpose, ForData, ForTransport, ForLoad, Station, AtNwk, Malformed, NotForMe, Unsecured, NoKey, CounterMax, Stale, BadMic, Policy, NotMember, WrongState, KeyOld, KeysFull, RowsFull, KeyInUse, NoDraw, CounterSpent, WrongHash}
-use Rattle.zb_model.specs.State.{most, LinkKey, NodeState, active_row, usable_nets, usable_active, newest, usable_of, live_of, current, offered, is_live, is_known, is_told, code_row, other_user, pair_of, next_counter, sender_floor}
+use Rattle.zb_model.specs.Data.{Bytes, Role, Centre, Router, Device, Nwk, State, Knocked, Joined, Offered, Confirmed, Rejoining, Provisional, Unverified, Verified, Label, ForData, ForTransport, ForLoad, Station, AtNwk, Malformed, NotForMe, Unsecured, NoKey, CounterMax, Stale, BadMic, Policy, NotMember, WrongState, KeyOld, KeysFull, RowsFull, KeyInUse, NoDraw, CounterSpent, WrongHash}
+use Rattle.zb_model.specs.State.{greatest_counter, LinkKey, NodeState, active_row, usable_nets, usable_active, newest, usable_of, live_of, current, offered, is_live, is_known, is_told, code_row, other_user, pair_of, next_counter, sender_floor}
 use Rattle.zb_model.specs.Rules.{Stop, Setting, unless, given, choose, station_of, station_at, centre_of, short_of, spent, both_spent, drop_partner, drop_others, drop_old}
 use Rattle.zb_model.specs.OwnEvents.{say, knock, rejoin, request_key, verify_key, member_timer, ask, tell, child_of_router, child_of_centre, next_member, is_unfinished, centre_timer, provision, remove_device, roll, switch_over, again, share, own}
 use Rattle.zb_model.specs.Judging.{Not, reject, need, judge_net, judge_nwk, candidates, judge_aps}
-use Rattle.zb_model.specs.Commands.{Heard, take_net_key, take_row, take_link_key, take_app_key, take_switch, take_confirm, take_remove, take_tunnel, take_update, take_request, take_app_request, take_verify, take_order, take_leave}
+use Rattle.zb_model.specs.Commands.{Heard, take_net_key, take_row, take_link_key, take_app_key, take_switch, take_confirm, take_remove, take_tunnel, take_update, take_request, take_app_request, take_verify, take_command, take_leave}
 use Rattle.zb_model.specs.Data.{Received}
 use Rattle.zb_model.specs.Answer.{plan_of}
 use Rattle.zb_model.proofs.Toy.{x, toy}
@@ -15,8 +15,8 @@ use Rattle.zb_model.proofs.Small.{node, k, net_at, link_of, bare, keyed_node}
 abbrev all : List Station
 all = node Centre 1 0 ∷ node Device 2 258 ∷ node Router 3 259 ∷ node Device 4 260 ∷ []
 
-abbrev seen_by : Duty → ℕ → ℕ → Setting
-seen_by duty eui short = record { me = node duty eui short; stations = all }
+abbrev seen_by : Role → ℕ → ℕ → Setting
+seen_by role eui short = record { me = node role eui short; stations = all }
 
 abbrev centre : Setting
 centre = seen_by Centre 1 0
@@ -31,14 +31,14 @@ abbrev with_told_row : LinkKey → LinkKey
 with_told_row r = record r { told = true }
 
 -- a node whose NWK counter is at its end
-abbrev spent_node : Duty → Stage → List LinkKey → NodeState
-spent_node duty stage links = record (bare duty stage) { nets = net_at 1 true most ∷ []; active = Some (k 1); links = links }
+abbrev spent_node : Role → State → List LinkKey → NodeState
+spent_node role state links = record (bare role state) { nets = net_at 1 true greatest_counter ∷ []; active = Some (k 1); links = links }
 
 abbrev spent_aps : NodeState → NodeState
-spent_aps s = record s { aps_next = most; aps_limit = most }
+spent_aps s = record s { aps_next = greatest_counter; aps_limit = greatest_counter }
 
 abbrev sending_node : List LinkKey → NodeState
-sending_node links = record (keyed_node Centre Stage.Fresh links) { sending = true }
+sending_node links = record (keyed_node Centre State.Fresh links) { sending = true }
 
 abbrev full_nets : NodeState → NodeState
 full_nets s = record s { nets = net_at 1 true 7 ∷ replicate 255 (net_at 9 false 0) }
@@ -50,7 +50,7 @@ abbrev full_pairs : NodeState → NodeState
 full_pairs s = record s { pairs = replicate 256 (record { first = 70; second = 71; key = k 9 }) }
 
 -- A command as it comes from the centre, or from a node, sealed with a label under a row, or in clear.
-abbrev sealed_from : ℕ → Purpose → LinkKey → Heard
+abbrev sealed_from : ℕ → Label → LinkKey → Heard
 sealed_from sender label row = record { sender = sender; label = Some label; row = Some row; nwk_source = Some sender }
 
 abbrev clear_from : ℕ → Heard
@@ -96,7 +96,7 @@ say_counter_spent = refl
 
 -- knock, rejoin
 
-knock_no_key : knock device (bare Device Stage.Fresh) ≡ Stop NoKey
+knock_no_key : knock device (bare Device State.Fresh) ≡ Stop NoKey
 unfolding centre_of code_row drop_others given knock
 knock_no_key = refl
 
@@ -106,7 +106,7 @@ rejoin_wrong_state = refl
 
 -- child, at a router
 
-child_router_no_key : child_of_router router (bare Router Stage.Fresh) 2 false ≡ Stop NoKey
+child_router_no_key : child_of_router router (bare Router State.Fresh) 2 false ≡ Stop NoKey
 unfolding active_row both_spent centre_of child_of_router current given next_counter rejoin short_of spent station_of unless usable_active
 child_router_no_key = refl
 
@@ -124,15 +124,15 @@ child_router_aps_spent = refl
 
 -- child, at the centre
 
-child_centre_no_key : child_of_centre centre (bare Centre Stage.Fresh) 2 ≡ Stop NoKey
+child_centre_no_key : child_of_centre centre (bare Centre State.Fresh) 2 ≡ Stop NoKey
 unfolding active_row child_of_centre current given next_counter short_of spent station_of unless
 child_centre_no_key = refl
 
-child_centre_not_member : child_of_centre centre (keyed_node Centre Stage.Fresh []) 2 ≡ Stop NotMember
+child_centre_not_member : child_of_centre centre (keyed_node Centre State.Fresh []) 2 ≡ Stop NotMember
 unfolding active_row child_of_centre current given next_counter short_of spent station_of unless
 child_centre_not_member = refl
 
-child_centre_counter_spent : child_of_centre centre (spent_aps (keyed_node Centre Stage.Fresh (their_row 2 ∷ []))) 2 ≡ Stop CounterSpent
+child_centre_counter_spent : child_of_centre centre (spent_aps (keyed_node Centre State.Fresh (their_row 2 ∷ []))) 2 ≡ Stop CounterSpent
 unfolding active_row child_of_centre current given next_counter short_of spent station_of unless
 child_centre_counter_spent = refl
 
@@ -164,11 +164,11 @@ timer_offered_spent = refl
 
 -- timer, at the centre
 
-timer_centre_no_key : centre_timer centre (bare Centre Stage.Fresh) ≡ Stop NoKey
+timer_centre_no_key : centre_timer centre (bare Centre State.Fresh) ≡ Stop NoKey
 unfolding active_row both_spent centre_timer current given newest next_counter next_member short_of spent station_of unless
 timer_centre_no_key = refl
 
-timer_centre_idle : centre_timer centre (keyed_node Centre Stage.Fresh (their_row 2 ∷ [])) ≡ Stop WrongState
+timer_centre_idle : centre_timer centre (keyed_node Centre State.Fresh (their_row 2 ∷ [])) ≡ Stop WrongState
 unfolding active_row both_spent centre_timer current given newest next_counter next_member short_of spent station_of unless
 timer_centre_idle = refl
 
@@ -182,27 +182,27 @@ timer_centre_counter_spent = refl
 
 -- provision
 
-provision_wrong_state : provision (keyed_node Centre Stage.Fresh (their_row 2 ∷ [])) 2 (k 8) ≡ Stop WrongState
+provision_wrong_state : provision (keyed_node Centre State.Fresh (their_row 2 ∷ [])) 2 (k 8) ≡ Stop WrongState
 unfolding is_live other_user provision unless
 provision_wrong_state = refl
 
-provision_rows_full : provision (full_links 1024 (keyed_node Centre Stage.Fresh [])) 2 (k 8) ≡ Stop RowsFull
+provision_rows_full : provision (full_links 1024 (keyed_node Centre State.Fresh [])) 2 (k 8) ≡ Stop RowsFull
 unfolding is_live other_user provision unless
 provision_rows_full = refl
 
-provision_key_in_use : provision (keyed_node Centre Stage.Fresh (their_row 4 ∷ [])) 2 (k 24) ≡ Stop (KeyInUse 4)
+provision_key_in_use : provision (keyed_node Centre State.Fresh (their_row 4 ∷ [])) 2 (k 24) ≡ Stop (KeyInUse 4)
 unfolding is_live other_user provision unless
 provision_key_in_use = refl
 
 -- remove
 
-remove_not_member : remove_device centre (keyed_node Centre Stage.Fresh []) 2 1 ≡ Stop NotMember
+remove_not_member : remove_device centre (keyed_node Centre State.Fresh []) 2 1 ≡ Stop NotMember
 unfolding active_row both_spent current drop_partner is_live next_counter remove_device short_of spent station_of unless
 remove_not_member = refl
 
 -- roll
 
-roll_no_key : roll (bare Centre Stage.Fresh) (Some (k 8)) ≡ Stop NoKey
+roll_no_key : roll (bare Centre State.Fresh) (Some (k 8)) ≡ Stop NoKey
 unfolding active_row drop_old given roll unless
 roll_no_key = refl
 
@@ -210,17 +210,17 @@ roll_wrong_state : roll (sending_node []) (Some (k 8)) ≡ Stop WrongState
 unfolding active_row drop_old given roll unless
 roll_wrong_state = refl
 
-roll_keys_full : roll (full_nets (keyed_node Centre Stage.Fresh [])) (Some (k 8)) ≡ Stop KeysFull
+roll_keys_full : roll (full_nets (keyed_node Centre State.Fresh [])) (Some (k 8)) ≡ Stop KeysFull
 unfolding active_row drop_old given roll unless
 roll_keys_full = refl
 
-roll_no_draw : roll (keyed_node Centre Stage.Fresh []) None ≡ Stop NoDraw
+roll_no_draw : roll (keyed_node Centre State.Fresh []) None ≡ Stop NoDraw
 unfolding active_row drop_old given roll unless
 roll_no_draw = refl
 
 -- switch
 
-switch_no_key : switch_over (bare Centre Stage.Fresh) ≡ Stop NoKey
+switch_no_key : switch_over (bare Centre State.Fresh) ≡ Stop NoKey
 unfolding active_row choose given is_unfinished newest next_counter next_member spent switch_over unless
 switch_no_key = refl
 
@@ -228,7 +228,7 @@ switch_wrong_state : switch_over (sending_node (their_row 2 ∷ [])) ≡ Stop Wr
 unfolding active_row choose given is_unfinished newest next_counter next_member spent switch_over unless
 switch_wrong_state = refl
 
-switch_counter_spent : switch_over (spent_node Centre Stage.Fresh []) ≡ Stop CounterSpent
+switch_counter_spent : switch_over (spent_node Centre State.Fresh []) ≡ Stop CounterSpent
 unfolding active_row choose given is_unfinished newest next_counter next_member spent switch_over unless
 switch_counter_spent = refl
 
@@ -238,7 +238,7 @@ again_not_member : again (sending_node []) 2 ≡ Stop NotMember
 unfolding again is_live is_told unless
 again_not_member = refl
 
-again_idle : again (keyed_node Centre Stage.Fresh (with_told_row (their_row 2) ∷ [])) 2 ≡ Stop WrongState
+again_idle : again (keyed_node Centre State.Fresh (with_told_row (their_row 2) ∷ [])) 2 ≡ Stop WrongState
 unfolding again is_live is_told unless
 again_idle = refl
 
@@ -266,19 +266,19 @@ ask_counter_spent = refl
 
 -- share
 
-share_no_key : share centre (bare Centre Stage.Fresh) 2 4 ≡ Stop NoKey
+share_no_key : share centre (bare Centre State.Fresh) 2 4 ≡ Stop NoKey
 unfolding active_row both_spent current given is_live next_counter pair_of share short_of spent station_of unless
 share_no_key = refl
 
-share_not_member : share centre (keyed_node Centre Stage.Fresh (their_row 2 ∷ [])) 2 4 ≡ Stop NotMember
+share_not_member : share centre (keyed_node Centre State.Fresh (their_row 2 ∷ [])) 2 4 ≡ Stop NotMember
 unfolding active_row both_spent current given is_live next_counter pair_of share short_of spent station_of unless
 share_not_member = refl
 
-share_wrong_state : share centre (keyed_node Centre Stage.Fresh (their_row 2 ∷ their_row 4 ∷ [])) 2 4 ≡ Stop WrongState
+share_wrong_state : share centre (keyed_node Centre State.Fresh (their_row 2 ∷ their_row 4 ∷ [])) 2 4 ≡ Stop WrongState
 unfolding active_row both_spent current given is_live next_counter pair_of share short_of spent station_of unless
 share_wrong_state = refl
 
-share_counter_spent : share centre (record (spent_node Centre Stage.Fresh (their_row 2 ∷ their_row 4 ∷ [])) { pairs = record { first = 2; second = 4; key = k 9 } ∷ [] }) 2 4 ≡ Stop CounterSpent
+share_counter_spent : share centre (record (spent_node Centre State.Fresh (their_row 2 ∷ their_row 4 ∷ [])) { pairs = record { first = 2; second = 4; key = k 9 } ∷ [] }) 2 4 ≡ Stop CounterSpent
 unfolding active_row both_spent current given is_live next_counter pair_of share short_of spent station_of unless
 share_counter_spent = refl
 
@@ -302,7 +302,7 @@ tell_counter_spent = refl
 
 -- Transport-Key of a network key
 
-net_key_policy_centre : take_net_key centre (keyed_node Centre Stage.Fresh []) (sealed_from 1 ForTransport own_row) (k 8) 0 1 1 ≡ Stop Policy
+net_key_policy_centre : take_net_key centre (keyed_node Centre State.Fresh []) (sealed_from 1 ForTransport own_row) (k 8) 0 1 1 ≡ Stop Policy
 unfolding centre_of choose current drop_old offered take_net_key unless
 net_key_policy_centre = refl
 
@@ -376,23 +376,23 @@ app_key_in_use = refl
 
 -- Update-Device
 
-update_policy_sender : take_update centre (keyed_node Centre Stage.Fresh (their_row 2 ∷ [])) (clear_from 4) 2 1 ≡ Stop Policy
+update_policy_sender : take_update centre (keyed_node Centre State.Fresh (their_row 2 ∷ [])) (clear_from 4) 2 1 ≡ Stop Policy
 unfolding active_row both_spent choose current given next_counter short_of spent station_of take_update unless
 update_policy_sender = refl
 
-update_policy_status : take_update centre (keyed_node Centre Stage.Fresh (their_row 2 ∷ [])) (clear_from 3) 2 4 ≡ Stop Policy
+update_policy_status : take_update centre (keyed_node Centre State.Fresh (their_row 2 ∷ [])) (clear_from 3) 2 4 ≡ Stop Policy
 unfolding active_row both_spent choose current given next_counter short_of spent station_of take_update unless
 update_policy_status = refl
 
-update_no_key : take_update centre (bare Centre Stage.Fresh) (clear_from 3) 2 1 ≡ Stop NoKey
+update_no_key : take_update centre (bare Centre State.Fresh) (clear_from 3) 2 1 ≡ Stop NoKey
 unfolding active_row both_spent choose current given next_counter short_of spent station_of take_update unless
 update_no_key = refl
 
-update_not_member : take_update centre (keyed_node Centre Stage.Fresh []) (clear_from 3) 2 1 ≡ Stop NotMember
+update_not_member : take_update centre (keyed_node Centre State.Fresh []) (clear_from 3) 2 1 ≡ Stop NotMember
 unfolding active_row both_spent choose current given next_counter short_of spent station_of take_update unless
 update_not_member = refl
 
-update_counter_spent : take_update centre (spent_aps (keyed_node Centre Stage.Fresh (their_row 2 ∷ []))) (clear_from 3) 2 3 ≡ Stop CounterSpent
+update_counter_spent : take_update centre (spent_aps (keyed_node Centre State.Fresh (their_row 2 ∷ []))) (clear_from 3) 2 3 ≡ Stop CounterSpent
 unfolding active_row both_spent choose current given next_counter short_of spent station_of take_update unless
 update_counter_spent = refl
 
@@ -416,55 +416,55 @@ remove_device_counter_spent = refl
 
 -- Request-Key of a link key with the centre
 
-request_policy_offered : take_request centre (keyed_node Centre Stage.Fresh (their_row 2 ∷ their_offer 2 ∷ [])) (sealed_from 2 ForData (their_offer 2)) None ≡ Stop Policy
+request_policy_offered : take_request centre (keyed_node Centre State.Fresh (their_row 2 ∷ their_offer 2 ∷ [])) (sealed_from 2 ForData (their_offer 2)) None ≡ Stop Policy
 unfolding active_row both_spent current given next_counter offered short_of spent station_of take_request unless
 request_policy_offered = refl
 
-request_rows_full : take_request centre (full_links 1023 (keyed_node Centre Stage.Fresh (their_row 2 ∷ []))) (sealed_from 2 ForData (their_row 2)) (Some (k 8)) ≡ Stop RowsFull
+request_rows_full : take_request centre (full_links 1023 (keyed_node Centre State.Fresh (their_row 2 ∷ []))) (sealed_from 2 ForData (their_row 2)) (Some (k 8)) ≡ Stop RowsFull
 unfolding active_row both_spent current given next_counter offered short_of spent station_of take_request unless
 request_rows_full = refl
 
-request_no_draw : take_request centre (keyed_node Centre Stage.Fresh (their_row 2 ∷ [])) (sealed_from 2 ForData (their_row 2)) None ≡ Stop NoDraw
+request_no_draw : take_request centre (keyed_node Centre State.Fresh (their_row 2 ∷ [])) (sealed_from 2 ForData (their_row 2)) None ≡ Stop NoDraw
 unfolding active_row both_spent current given next_counter offered short_of spent station_of take_request unless
 request_no_draw = refl
 
-request_counter_spent : take_request centre (spent_aps (keyed_node Centre Stage.Fresh (their_row 2 ∷ their_offer 2 ∷ []))) (sealed_from 2 ForData (their_row 2)) None ≡ Stop CounterSpent
+request_counter_spent : take_request centre (spent_aps (keyed_node Centre State.Fresh (their_row 2 ∷ their_offer 2 ∷ []))) (sealed_from 2 ForData (their_row 2)) None ≡ Stop CounterSpent
 unfolding active_row both_spent current given next_counter offered short_of spent station_of take_request unless
 request_counter_spent = refl
 
-request_new_counter_spent : take_request centre (spent_aps (keyed_node Centre Stage.Fresh (their_row 2 ∷ []))) (sealed_from 2 ForData (their_row 2)) (Some (k 8)) ≡ Stop CounterSpent
+request_new_counter_spent : take_request centre (spent_aps (keyed_node Centre State.Fresh (their_row 2 ∷ []))) (sealed_from 2 ForData (their_row 2)) (Some (k 8)) ≡ Stop CounterSpent
 unfolding active_row both_spent current given next_counter offered short_of spent station_of take_request unless
 request_new_counter_spent = refl
 
 -- Request-Key of a link key with a partner
 
-app_request_policy_self : take_app_request centre (keyed_node Centre Stage.Fresh (their_row 2 ∷ their_row 4 ∷ [])) (sealed_from 2 ForData (their_row 2)) (Some (k 8)) 2 ≡ Stop Policy
+app_request_policy_self : take_app_request centre (keyed_node Centre State.Fresh (their_row 2 ∷ their_row 4 ∷ [])) (sealed_from 2 ForData (their_row 2)) (Some (k 8)) 2 ≡ Stop Policy
 unfolding active_row both_spent current given is_live next_counter pair_of short_of spent station_of take_app_request unless
 app_request_policy_self = refl
 
-app_request_not_member : take_app_request centre (keyed_node Centre Stage.Fresh (their_row 2 ∷ [])) (sealed_from 2 ForData (their_row 2)) (Some (k 8)) 4 ≡ Stop NotMember
+app_request_not_member : take_app_request centre (keyed_node Centre State.Fresh (their_row 2 ∷ [])) (sealed_from 2 ForData (their_row 2)) (Some (k 8)) 4 ≡ Stop NotMember
 unfolding active_row both_spent current given is_live next_counter pair_of short_of spent station_of take_app_request unless
 app_request_not_member = refl
 
-app_request_wrong_state : take_app_request centre (keyed_node Centre Stage.Fresh (their_row 2 ∷ joining_row 4 ∷ [])) (sealed_from 2 ForData (their_row 2)) (Some (k 8)) 4 ≡ Stop WrongState
+app_request_wrong_state : take_app_request centre (keyed_node Centre State.Fresh (their_row 2 ∷ joining_row 4 ∷ [])) (sealed_from 2 ForData (their_row 2)) (Some (k 8)) 4 ≡ Stop WrongState
 unfolding active_row both_spent current given is_live next_counter pair_of short_of spent station_of take_app_request unless
 app_request_wrong_state = refl
 
-app_request_rows_full : take_app_request centre (full_pairs (keyed_node Centre Stage.Fresh (their_row 2 ∷ their_row 4 ∷ []))) (sealed_from 2 ForData (their_row 2)) (Some (k 8)) 4 ≡ Stop RowsFull
+app_request_rows_full : take_app_request centre (full_pairs (keyed_node Centre State.Fresh (their_row 2 ∷ their_row 4 ∷ []))) (sealed_from 2 ForData (their_row 2)) (Some (k 8)) 4 ≡ Stop RowsFull
 unfolding active_row both_spent current given is_live next_counter pair_of short_of spent station_of take_app_request unless
 app_request_rows_full = refl
 
-app_request_no_draw : take_app_request centre (keyed_node Centre Stage.Fresh (their_row 2 ∷ their_row 4 ∷ [])) (sealed_from 2 ForData (their_row 2)) None 4 ≡ Stop NoDraw
+app_request_no_draw : take_app_request centre (keyed_node Centre State.Fresh (their_row 2 ∷ their_row 4 ∷ [])) (sealed_from 2 ForData (their_row 2)) None 4 ≡ Stop NoDraw
 unfolding active_row both_spent current given is_live next_counter pair_of short_of spent station_of take_app_request unless
 app_request_no_draw = refl
 
-app_request_counter_spent : take_app_request centre (spent_node Centre Stage.Fresh (their_row 2 ∷ their_row 4 ∷ [])) (sealed_from 2 ForData (their_row 2)) (Some (k 8)) 4 ≡ Stop CounterSpent
+app_request_counter_spent : take_app_request centre (spent_node Centre State.Fresh (their_row 2 ∷ their_row 4 ∷ [])) (sealed_from 2 ForData (their_row 2)) (Some (k 8)) 4 ≡ Stop CounterSpent
 unfolding active_row both_spent current given is_live next_counter pair_of short_of spent station_of take_app_request unless
 app_request_counter_spent = refl
 
 -- Switch-Key
 
-switch_key_policy : take_switch centre (keyed_node Centre Stage.Fresh []) (clear_from 1) 1 ≡ Stop Policy
+switch_key_policy : take_switch centre (keyed_node Centre State.Fresh []) (clear_from 1) 1 ≡ Stop Policy
 unfolding centre_of given live_of take_switch unless
 switch_key_policy = refl
 
@@ -492,27 +492,27 @@ tunnel_not_member_self = refl
 
 -- Verify-Key
 
-verify_policy_source : take_verify toy centre (keyed_node Centre Stage.Fresh (their_row 2 ∷ [])) (clear_from 2) 4 4 (k 8) ≡ Stop Policy
+verify_policy_source : take_verify toy centre (keyed_node Centre State.Fresh (their_row 2 ∷ [])) (clear_from 2) 4 4 (k 8) ≡ Stop Policy
 unfolding active_row both_spent choose current given is_live next_counter offered short_of spent station_of take_verify toy unless
 verify_policy_source = refl
 
-verify_policy_sealed : take_verify toy centre (keyed_node Centre Stage.Fresh (their_row 2 ∷ [])) (sealed_from 2 ForData (their_row 2)) 4 2 (k 8) ≡ Stop Policy
+verify_policy_sealed : take_verify toy centre (keyed_node Centre State.Fresh (their_row 2 ∷ [])) (sealed_from 2 ForData (their_row 2)) 4 2 (k 8) ≡ Stop Policy
 unfolding active_row both_spent choose current given is_live next_counter offered short_of spent station_of take_verify toy unless
 verify_policy_sealed = refl
 
-verify_not_member : take_verify toy centre (keyed_node Centre Stage.Fresh []) (clear_from 2) 4 2 (k 8) ≡ Stop NotMember
+verify_not_member : take_verify toy centre (keyed_node Centre State.Fresh []) (clear_from 2) 4 2 (k 8) ≡ Stop NotMember
 unfolding active_row both_spent choose current given is_live next_counter offered short_of spent station_of take_verify toy unless
 verify_not_member = refl
 
-verify_wrong_state : take_verify toy centre (keyed_node Centre Stage.Fresh (joining_row 2 ∷ [])) (clear_from 2) 4 2 (k 8) ≡ Stop WrongState
+verify_wrong_state : take_verify toy centre (keyed_node Centre State.Fresh (joining_row 2 ∷ [])) (clear_from 2) 4 2 (k 8) ≡ Stop WrongState
 unfolding active_row both_spent choose current given is_live next_counter offered short_of spent station_of take_verify toy unless
 verify_wrong_state = refl
 
-verify_counter_spent : take_verify toy centre (spent_node Centre Stage.Fresh (joining_row 2 ∷ their_offer 2 ∷ [])) (clear_from 2) 4 2 (k 8) ≡ Stop CounterSpent
+verify_counter_spent : take_verify toy centre (spent_node Centre State.Fresh (joining_row 2 ∷ their_offer 2 ∷ [])) (clear_from 2) 4 2 (k 8) ≡ Stop CounterSpent
 unfolding active_row both_spent choose current given is_live next_counter offered short_of spent station_of take_verify toy unless
 verify_counter_spent = refl
 
-verify_wrong_hash : take_verify toy centre (keyed_node Centre Stage.Fresh (joining_row 2 ∷ their_offer 2 ∷ [])) (clear_from 2) 4 2 (k 8) ≡ Stop WrongHash
+verify_wrong_hash : take_verify toy centre (keyed_node Centre State.Fresh (joining_row 2 ∷ their_offer 2 ∷ [])) (clear_from 2) 4 2 (k 8) ≡ Stop WrongHash
 unfolding active_row both_spent choose current given is_live next_counter offered short_of spent station_of take_verify toy unless
 verify_wrong_hash = refl
 
@@ -536,15 +536,15 @@ confirm_not_offered = refl
 
 -- Leave
 
-leave_policy_centre : take_leave centre (record { layer = Nwk; base = k 1; label = Purpose.ForNetwork; source = 3; counter = 0; control = 45; header = []; content = [] }) 64 ≡ Stop Policy
+leave_policy_centre : take_leave centre (record { layer = Nwk; base = k 1; label = Label.ForNetwork; source = 3; counter = 0; control = 45; header = []; content = [] }) 64 ≡ Stop Policy
 unfolding centre_of take_leave unless
 leave_policy_centre = refl
 
-leave_policy_sender : take_leave device (record { layer = Nwk; base = k 1; label = Purpose.ForNetwork; source = 4; counter = 0; control = 45; header = []; content = [] }) 64 ≡ Stop Policy
+leave_policy_sender : take_leave device (record { layer = Nwk; base = k 1; label = Label.ForNetwork; source = 4; counter = 0; control = 45; header = []; content = [] }) 64 ≡ Stop Policy
 unfolding centre_of take_leave unless
 leave_policy_sender = refl
 
-leave_policy_options : take_leave device (record { layer = Nwk; base = k 1; label = Purpose.ForNetwork; source = 3; counter = 0; control = 45; header = []; content = [] }) 0 ≡ Stop Policy
+leave_policy_options : take_leave device (record { layer = Nwk; base = k 1; label = Label.ForNetwork; source = 3; counter = 0; control = 45; header = []; content = [] }) 0 ≡ Stop Policy
 unfolding centre_of take_leave unless
 leave_policy_options = refl
 
@@ -594,7 +594,7 @@ nwk_not_declared : judge_nwk toy device (keyed_node Device Joined []) (x "080202
 unfolding is_known is_live judge_net judge_nwk need reject sender_floor station_of toy usable_nets usable_of
 nwk_not_declared = refl
 
-nwk_removed : judge_nwk toy centre (keyed_node Centre Stage.Fresh (link_of 2 22 Verified false ∷ [])) (x "0802000002011E00280000000002000000000000000101010101") ≡ Not AtNwk NotMember
+nwk_removed : judge_nwk toy centre (keyed_node Centre State.Fresh (link_of 2 22 Verified false ∷ [])) (x "0802000002011E00280000000002000000000000000101010101") ≡ Not AtNwk NotMember
 unfolding is_known is_live judge_net judge_nwk need reject sender_floor station_of toy usable_nets usable_of
 nwk_removed = refl
 
@@ -605,41 +605,41 @@ nwk_rows_full = refl
 -- Judging the APS part, and the payload of commands
 
 aps_malformed : (plan_of toy device (keyed_node Device Joined []) (Received (x "0802020100001E0028000000000100000000000000010701010101") None)).outcome ≡ Stop Malformed
-unfolding active_row again ask both_spent candidates centre_of centre_timer child_of_centre child_of_router choose code_row current drop_old drop_others drop_partner given is_known is_live is_told is_unfinished judge_aps judge_net judge_nwk knock live_of member_timer need newest next_counter next_member offered other_user own pair_of plan_of provision reject rejoin remove_device request_key roll say sender_floor share short_of spent station_at station_of switch_over take_app_key take_app_request take_confirm take_leave take_link_key take_net_key take_order take_remove take_request take_row take_switch take_tunnel take_update take_verify tell toy unless usable_active usable_nets usable_of verify_key
+unfolding active_row again ask both_spent candidates centre_of centre_timer child_of_centre child_of_router choose code_row current drop_old drop_others drop_partner given is_known is_live is_told is_unfinished judge_aps judge_net judge_nwk knock live_of member_timer need newest next_counter next_member offered other_user own pair_of plan_of provision reject rejoin remove_device request_key roll say sender_floor share short_of spent station_at station_of switch_over take_app_key take_app_request take_confirm take_leave take_link_key take_net_key take_command take_remove take_request take_row take_switch take_tunnel take_update take_verify tell toy unless usable_active usable_nets usable_of verify_key
 aps_malformed = refl
 
 aps_command_unknown : (plan_of toy device (keyed_node Device Joined []) (Received (x "0802020100001E00280000000001000000000000000101007F01010101") None)).outcome ≡ Stop Policy
-unfolding active_row again ask both_spent candidates centre_of centre_timer child_of_centre child_of_router choose code_row current drop_old drop_others drop_partner given is_known is_live is_told is_unfinished judge_aps judge_net judge_nwk knock live_of member_timer need newest next_counter next_member offered other_user own pair_of plan_of provision reject rejoin remove_device request_key roll say sender_floor share short_of spent station_at station_of switch_over take_app_key take_app_request take_confirm take_leave take_link_key take_net_key take_order take_remove take_request take_row take_switch take_tunnel take_update take_verify tell toy unless usable_active usable_nets usable_of verify_key
+unfolding active_row again ask both_spent candidates centre_of centre_timer child_of_centre child_of_router choose code_row current drop_old drop_others drop_partner given is_known is_live is_told is_unfinished judge_aps judge_net judge_nwk knock live_of member_timer need newest next_counter next_member offered other_user own pair_of plan_of provision reject rejoin remove_device request_key roll say sender_floor share short_of spent station_at station_of switch_over take_app_key take_app_request take_confirm take_leave take_link_key take_net_key take_command take_remove take_request take_row take_switch take_tunnel take_update take_verify tell toy unless usable_active usable_nets usable_of verify_key
 aps_command_unknown = refl
 
 aps_command_broken : (plan_of toy device (keyed_node Device Joined []) (Received (x "0802020100001E00280000000001000000000000000101000801010101") None)).outcome ≡ Stop Malformed
-unfolding active_row again ask both_spent candidates centre_of centre_timer child_of_centre child_of_router choose code_row current drop_old drop_others drop_partner given is_known is_live is_told is_unfinished judge_aps judge_net judge_nwk knock live_of member_timer need newest next_counter next_member offered other_user own pair_of plan_of provision reject rejoin remove_device request_key roll say sender_floor share short_of spent station_at station_of switch_over take_app_key take_app_request take_confirm take_leave take_link_key take_net_key take_order take_remove take_request take_row take_switch take_tunnel take_update take_verify tell toy unless usable_active usable_nets usable_of verify_key
+unfolding active_row again ask both_spent candidates centre_of centre_timer child_of_centre child_of_router choose code_row current drop_old drop_others drop_partner given is_known is_live is_told is_unfinished judge_aps judge_net judge_nwk knock live_of member_timer need newest next_counter next_member offered other_user own pair_of plan_of provision reject rejoin remove_device request_key roll say sender_floor share short_of spent station_at station_of switch_over take_app_key take_app_request take_confirm take_leave take_link_key take_net_key take_command take_remove take_request take_row take_switch take_tunnel take_update take_verify tell toy unless usable_active usable_nets usable_of verify_key
 aps_command_broken = refl
 
 aps_no_key : (plan_of toy device (keyed_node Device Joined []) (Received (x "0802020100001E00280000000001000000000000000121002000000000010000000000000008040505050501010101") None)).outcome ≡ Stop NoKey
-unfolding active_row again ask both_spent candidates centre_of centre_timer child_of_centre child_of_router choose code_row current drop_old drop_others drop_partner given is_known is_live is_told is_unfinished judge_aps judge_net judge_nwk knock live_of member_timer need newest next_counter next_member offered other_user own pair_of plan_of provision reject rejoin remove_device request_key roll say sender_floor share short_of spent station_at station_of switch_over take_app_key take_app_request take_confirm take_leave take_link_key take_net_key take_order take_remove take_request take_row take_switch take_tunnel take_update take_verify tell toy unless usable_active usable_nets usable_of verify_key
+unfolding active_row again ask both_spent candidates centre_of centre_timer child_of_centre child_of_router choose code_row current drop_old drop_others drop_partner given is_known is_live is_told is_unfinished judge_aps judge_net judge_nwk knock live_of member_timer need newest next_counter next_member offered other_user own pair_of plan_of provision reject rejoin remove_device request_key roll say sender_floor share short_of spent station_at station_of switch_over take_app_key take_app_request take_confirm take_leave take_link_key take_net_key take_command take_remove take_request take_row take_switch take_tunnel take_update take_verify tell toy unless usable_active usable_nets usable_of verify_key
 aps_no_key = refl
 
 aps_counter_max : (plan_of toy device (keyed_node Device Joined (record own_row { kept = 5; stored = 9 } ∷ [])) (Received (x "0802020100001E002800000000010000000000000001210020FFFFFFFF010000000000000008040505050501010101") None)).outcome ≡ Stop CounterMax
-unfolding active_row again ask both_spent candidates centre_of centre_timer child_of_centre child_of_router choose code_row current drop_old drop_others drop_partner given is_known is_live is_told is_unfinished judge_aps judge_net judge_nwk knock live_of member_timer need newest next_counter next_member offered other_user own pair_of plan_of provision reject rejoin remove_device request_key roll say sender_floor share short_of spent station_at station_of switch_over take_app_key take_app_request take_confirm take_leave take_link_key take_net_key take_order take_remove take_request take_row take_switch take_tunnel take_update take_verify tell toy unless usable_active usable_nets usable_of verify_key
+unfolding active_row again ask both_spent candidates centre_of centre_timer child_of_centre child_of_router choose code_row current drop_old drop_others drop_partner given is_known is_live is_told is_unfinished judge_aps judge_net judge_nwk knock live_of member_timer need newest next_counter next_member offered other_user own pair_of plan_of provision reject rejoin remove_device request_key roll say sender_floor share short_of spent station_at station_of switch_over take_app_key take_app_request take_confirm take_leave take_link_key take_net_key take_command take_remove take_request take_row take_switch take_tunnel take_update take_verify tell toy unless usable_active usable_nets usable_of verify_key
 aps_counter_max = refl
 
 aps_stale : (plan_of toy device (keyed_node Device Joined (record own_row { kept = 5; stored = 9 } ∷ [])) (Received (x "0802020100001E00280000000001000000000000000121002004000000010000000000000008040505050501010101") None)).outcome ≡ Stop (Stale 5)
-unfolding active_row again ask both_spent candidates centre_of centre_timer child_of_centre child_of_router choose code_row current drop_old drop_others drop_partner given is_known is_live is_told is_unfinished judge_aps judge_net judge_nwk knock live_of member_timer need newest next_counter next_member offered other_user own pair_of plan_of provision reject rejoin remove_device request_key roll say sender_floor share short_of spent station_at station_of switch_over take_app_key take_app_request take_confirm take_leave take_link_key take_net_key take_order take_remove take_request take_row take_switch take_tunnel take_update take_verify tell toy unless usable_active usable_nets usable_of verify_key
+unfolding active_row again ask both_spent candidates centre_of centre_timer child_of_centre child_of_router choose code_row current drop_old drop_others drop_partner given is_known is_live is_told is_unfinished judge_aps judge_net judge_nwk knock live_of member_timer need newest next_counter next_member offered other_user own pair_of plan_of provision reject rejoin remove_device request_key roll say sender_floor share short_of spent station_at station_of switch_over take_app_key take_app_request take_confirm take_leave take_link_key take_net_key take_command take_remove take_request take_row take_switch take_tunnel take_update take_verify tell toy unless usable_active usable_nets usable_of verify_key
 aps_stale = refl
 
 aps_bad_mic : (plan_of toy device (keyed_node Device Joined (record own_row { kept = 5; stored = 9 } ∷ [])) (Received (x "0802020100001E00280000000001000000000000000121002005000000010000000000000008040909090901010101") None)).outcome ≡ Stop BadMic
-unfolding active_row again ask both_spent candidates centre_of centre_timer child_of_centre child_of_router choose code_row current drop_old drop_others drop_partner given is_known is_live is_told is_unfinished judge_aps judge_net judge_nwk knock live_of member_timer need newest next_counter next_member offered other_user own pair_of plan_of provision reject rejoin remove_device request_key roll say sender_floor share short_of spent station_at station_of switch_over take_app_key take_app_request take_confirm take_leave take_link_key take_net_key take_order take_remove take_request take_row take_switch take_tunnel take_update take_verify tell toy unless usable_active usable_nets usable_of verify_key
+unfolding active_row again ask both_spent candidates centre_of centre_timer child_of_centre child_of_router choose code_row current drop_old drop_others drop_partner given is_known is_live is_told is_unfinished judge_aps judge_net judge_nwk knock live_of member_timer need newest next_counter next_member offered other_user own pair_of plan_of provision reject rejoin remove_device request_key roll say sender_floor share short_of spent station_at station_of switch_over take_app_key take_app_request take_confirm take_leave take_link_key take_net_key take_command take_remove take_request take_row take_switch take_tunnel take_update take_verify tell toy unless usable_active usable_nets usable_of verify_key
 aps_bad_mic = refl
 
 leave_malformed : (plan_of toy device (keyed_node Device Joined []) (Received (x "0902020100001E0028000000000100000000000000010440FF01010101") None)).outcome ≡ Stop Malformed
-unfolding active_row again ask both_spent candidates centre_of centre_timer child_of_centre child_of_router choose code_row current drop_old drop_others drop_partner given is_known is_live is_told is_unfinished judge_aps judge_net judge_nwk knock live_of member_timer need newest next_counter next_member offered other_user own pair_of plan_of provision reject rejoin remove_device request_key roll say sender_floor share short_of spent station_at station_of switch_over take_app_key take_app_request take_confirm take_leave take_link_key take_net_key take_order take_remove take_request take_row take_switch take_tunnel take_update take_verify tell toy unless usable_active usable_nets usable_of verify_key
+unfolding active_row again ask both_spent candidates centre_of centre_timer child_of_centre child_of_router choose code_row current drop_old drop_others drop_partner given is_known is_live is_told is_unfinished judge_aps judge_net judge_nwk knock live_of member_timer need newest next_counter next_member offered other_user own pair_of plan_of provision reject rejoin remove_device request_key roll say sender_floor share short_of spent station_at station_of switch_over take_app_key take_app_request take_confirm take_leave take_link_key take_net_key take_command take_remove take_request take_row take_switch take_tunnel take_update take_verify tell toy unless usable_active usable_nets usable_of verify_key
 leave_malformed = refl
 
 leave_other : (plan_of toy device (keyed_node Device Joined []) (Received (x "0902020100001E0028000000000100000000000000010501010101") None)).outcome ≡ Stop Policy
-unfolding active_row again ask both_spent candidates centre_of centre_timer child_of_centre child_of_router choose code_row current drop_old drop_others drop_partner given is_known is_live is_told is_unfinished judge_aps judge_net judge_nwk knock live_of member_timer need newest next_counter next_member offered other_user own pair_of plan_of provision reject rejoin remove_device request_key roll say sender_floor share short_of spent station_at station_of switch_over take_app_key take_app_request take_confirm take_leave take_link_key take_net_key take_order take_remove take_request take_row take_switch take_tunnel take_update take_verify tell toy unless usable_active usable_nets usable_of verify_key
+unfolding active_row again ask both_spent candidates centre_of centre_timer child_of_centre child_of_router choose code_row current drop_old drop_others drop_partner given is_known is_live is_told is_unfinished judge_aps judge_net judge_nwk knock live_of member_timer need newest next_counter next_member offered other_user own pair_of plan_of provision reject rejoin remove_device request_key roll say sender_floor share short_of spent station_at station_of switch_over take_app_key take_app_request take_confirm take_leave take_link_key take_net_key take_command take_remove take_request take_row take_switch take_tunnel take_update take_verify tell toy unless usable_active usable_nets usable_of verify_key
 leave_other = refl
 
 leave_empty : (plan_of toy device (keyed_node Device Joined []) (Received (x "0902020100001E00280000000001000000000000000101010101") None)).outcome ≡ Stop Malformed
-unfolding active_row again ask both_spent candidates centre_of centre_timer child_of_centre child_of_router choose code_row current drop_old drop_others drop_partner given is_known is_live is_told is_unfinished judge_aps judge_net judge_nwk knock live_of member_timer need newest next_counter next_member offered other_user own pair_of plan_of provision reject rejoin remove_device request_key roll say sender_floor share short_of spent station_at station_of switch_over take_app_key take_app_request take_confirm take_leave take_link_key take_net_key take_order take_remove take_request take_row take_switch take_tunnel take_update take_verify tell toy unless usable_active usable_nets usable_of verify_key
+unfolding active_row again ask both_spent candidates centre_of centre_timer child_of_centre child_of_router choose code_row current drop_old drop_others drop_partner given is_known is_live is_told is_unfinished judge_aps judge_net judge_nwk knock live_of member_timer need newest next_counter next_member offered other_user own pair_of plan_of provision reject rejoin remove_device request_key roll say sender_floor share short_of spent station_at station_of switch_over take_app_key take_app_request take_confirm take_leave take_link_key take_net_key take_command take_remove take_request take_row take_switch take_tunnel take_update take_verify tell toy unless usable_active usable_nets usable_of verify_key
 leave_empty = refl

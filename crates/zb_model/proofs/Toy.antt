@@ -2,10 +2,10 @@
 -- bytes of the sealing key as its tag, so that frames open under their own key alone.
 use Rattle.std.specs.Prelude.{ℕ, ◌+◌, ◌-◌, ◌*◌, ◌/◌, ◌%◌, Bool, true, false, not, if◌then◌else◌, ◌&&◌, ◌||◌, List, [], ◌∷◌, ◌++◌, length, get_or, take, drop, set, Option, Some, None, nat_eq, nat_lt, nat_le, codes}
 use Prim.Native.String.{String}
-use Rattle.zb_model.specs.Data.{Bytes, Purpose, ForData, ForNetwork, ForTransport, ForLoad, Tier, Nwk, Aps, Sealing, Order, TransportNet, TransportApp, TransportLink, UpdateDevice, RemoveDevice, RequestApp, RequestLink, SwitchKey, Tunnel, VerifyKey, ConfirmKey}
+use Rattle.zb_model.specs.Data.{Bytes, Label, ForData, ForNetwork, ForTransport, ForLoad, Layer, Nwk, Aps, Term, Command, TransportNet, TransportApp, TransportLink, UpdateDevice, RemoveDevice, RequestApp, RequestLink, SwitchKey, Tunnel, VerifyKey, ConfirmKey}
 use Rattle.zb_model.specs.State.{same_key}
 use Rattle.zb_model.specs.Record.{two_bytes, eight_bytes}
-use Rattle.zb_model.specs.Tools.{Tools, NwkSight, NwkAuxiliary, ApsSight, ApsAuxiliary, OrderSight, Known, Unknown, Broken, LeaveSight, Leave, Other, NoCommand}
+use Rattle.zb_model.specs.Tools.{Tools, NwkShown, NwkAuxiliary, ApsShown, ApsAuxiliary, CommandShown, Known, Unknown, Broken, LeaveShown, Leave, Other, NoCommand}
 
 -- hexadecimal digits as bytes
 abbrev digit : ℕ → ℕ
@@ -33,23 +33,23 @@ byte_at at bytes = get_or bytes at 0
 abbrev keyed_by : Bytes → ℕ → Bytes
 keyed_by key n = (240 + n) ∷ drop 1 key
 
-abbrev seal_key : Purpose → Bytes → Bytes
+abbrev seal_key : Label → Bytes → Bytes
 seal_key ForTransport key = keyed_by key 0
 seal_key ForLoad key = keyed_by key 2
 seal_key _ key = key
 
-abbrev tag : Purpose → Bytes → Bytes
+abbrev tag : Label → Bytes → Bytes
 tag label key = take 4 (seal_key label key)
 
 -- the level bits of the auxiliary control go out as 000
-abbrev control_place : Tier → ℕ → ℕ
+abbrev control_place : Layer → ℕ → ℕ
 control_place Nwk n = n - 14
 control_place Aps n = n - 13
 
-abbrev without_level : Tier → Bytes → Bytes
+abbrev without_level : Layer → Bytes → Bytes
 without_level layer header = set header (control_place layer (length header)) (8 * (byte_at (control_place layer (length header)) header / 8))
 
-abbrev wire_of : Sealing → Bytes
+abbrev wire_of : Term → Bytes
 wire_of t = without_level t.layer t.header ++ (t.content ++ tag t.label t.base)
 
 -- NWK frames, with their optional fields; an auxiliary header has 14 bytes and stands before the payload
@@ -80,8 +80,8 @@ nwk_whole bytes =
     && (not (nwk_secured bytes) || (nat_le (nwk_front bytes + 18) (length bytes)
     && (nat_eq ((byte_at (nwk_front bytes) bytes / 8) % 4) 1 && nat_eq (bit 32 (byte_at (nwk_front bytes) bytes)) 1))))))))
 
-abbrev nwk_sight : Bytes → Option NwkSight
-nwk_sight bytes =
+abbrev nwk_shown : Bytes → Option NwkShown
+nwk_shown bytes =
     if nwk_whole bytes
     then Some (record { is_command = nat_eq (byte_at 0 bytes % 4) 1; destination = number_at 2 2 bytes; source = number_at 4 2 bytes; auxiliary = nwk_aux bytes; body = drop (nwk_front bytes) bytes })
     else None
@@ -89,7 +89,7 @@ nwk_sight bytes =
 abbrev level_at : ℕ → Bytes → Bytes
 level_at place header = set header place (8 * (byte_at place header / 8) + 5)
 
-abbrev nwk_open : Bytes → Bytes → Option Sealing
+abbrev nwk_open : Bytes → Bytes → Option Term
 nwk_open bytes key =
     let at = nwk_front bytes in
     let header = level_at at (take (at + 14) bytes) in
@@ -126,7 +126,7 @@ aps_front bytes =
     then aps_fixed bytes + 1 + (if nat_eq (byte_at (aps_fixed bytes) bytes % 4) 0 then 0 else (if is_ack bytes then 2 else 1))
     else aps_fixed bytes
 
-abbrev label_of : ℕ → Purpose
+abbrev label_of : ℕ → Label
 label_of control = if nat_eq ((control / 8) % 4) 2 then ForTransport else (if nat_eq ((control / 8) % 4) 3 then ForLoad else ForData)
 
 abbrev aps_secured : Bytes → Bool
@@ -153,15 +153,15 @@ aps_aux bytes =
     then Some (record { label = label_of (byte_at (aps_front bytes) bytes); counter = number_at (aps_front bytes + 1) 4 bytes; source = source_of bytes })
     else None
 
-abbrev aps_sight : Bytes → Option ApsSight
-aps_sight bytes =
+abbrev aps_shown : Bytes → Option ApsShown
+aps_shown bytes =
     if aps_whole bytes then Some (record { is_command = is_command bytes; auxiliary = aps_aux bytes; body = drop (aps_front bytes) bytes }) else None
 
 abbrev source_or : ℕ → Option ℕ → ℕ
 source_or other None = other
 source_or other (Some n) = n
 
-abbrev aps_open : Bytes → Bytes → ℕ → Option Sealing
+abbrev aps_open : Bytes → Bytes → ℕ → Option Term
 aps_open bytes key source =
     let at = aps_front bytes in
     let end_ = aps_start bytes in
@@ -181,7 +181,7 @@ aps_open bytes key source =
     else None
 
 -- commands
-abbrev spell : Order → Bytes
+abbrev spell : Command → Bytes
 spell (TransportNet key sequence destination source) = 0x05 ∷ 0x01 ∷ key ++ (sequence ∷ eight_bytes destination ++ eight_bytes source)
 spell (TransportApp key partner initiator) = 0x05 ∷ 0x03 ∷ key ++ (eight_bytes partner ++ initiator ∷ [])
 spell (TransportLink key destination source) = 0x05 ∷ 0x04 ∷ key ++ (eight_bytes destination ++ eight_bytes source)
@@ -194,11 +194,11 @@ spell (Tunnel destination inner) = 0x0e ∷ eight_bytes destination ++ inner
 spell (VerifyKey kind source hash) = 0x0f ∷ kind ∷ eight_bytes source ++ hash
 spell (ConfirmKey status kind destination) = 0x10 ∷ status ∷ kind ∷ eight_bytes destination
 
-abbrev of_length : ℕ → Bytes → Order → OrderSight
-of_length n bytes order = if nat_eq (length bytes) n then Known order else Broken
+abbrev of_length : ℕ → Bytes → Command → CommandShown
+of_length n bytes command = if nat_eq (length bytes) n then Known command else Broken
 
-abbrev order_of : ℕ → ℕ → Bytes → OrderSight
-order_of id kind b =
+abbrev command_of : ℕ → ℕ → Bytes → CommandShown
+command_of id kind b =
     if nat_eq id 5 then (
     if nat_eq kind 1 then of_length 35 b (TransportNet (take 16 (drop 2 b)) (byte_at 18 b) (number_at 19 8 b) (number_at 27 8 b))
     else if nat_eq kind 3 then of_length 27 b (TransportApp (take 16 (drop 2 b)) (number_at 18 8 b) (byte_at 26 b))
@@ -216,23 +216,23 @@ order_of id kind b =
     else if nat_eq id 16 then of_length 11 b (ConfirmKey kind (byte_at 2 b) (number_at 3 8 b))
     else Unknown
 
-abbrev order_sight : Bytes → OrderSight
-order_sight [] = Broken
-order_sight (id ∷ rest) = order_of id (get_or rest 0 0) (id ∷ rest)
+abbrev command_shown : Bytes → CommandShown
+command_shown [] = Broken
+command_shown (id ∷ rest) = command_of id (get_or rest 0 0) (id ∷ rest)
 
-abbrev leave_sight : Bytes → LeaveSight
-leave_sight [] = NoCommand
-leave_sight (id ∷ rest) = if nat_eq id 4 then (if nat_eq (length rest) 1 then Leave (get_or rest 0 0) else NoCommand) else Other
+abbrev leave_shown : Bytes → LeaveShown
+leave_shown [] = NoCommand
+leave_shown (id ∷ rest) = if nat_eq id 4 then (if nat_eq (length rest) 1 then Leave (get_or rest 0 0) else NoCommand) else Other
 
 unfoldable pub toy : Tools
 toy = record {
   wire = wire_of;
   keyed = keyed_by;
-  read_nwk = nwk_sight;
+  read_nwk = nwk_shown;
   open_nwk = nwk_open;
-  read_aps = aps_sight;
+  read_aps = aps_shown;
   open_aps = aps_open;
-  read_order = order_sight;
+  read_command = command_shown;
   spelled = spell;
-  read_leave = leave_sight;
+  read_leave = leave_shown;
 }

@@ -2,76 +2,76 @@
 -- function; where only the policy is meant, the counters are a parameter (`Counting`).
 use Rattle.std.specs.Prelude.{ℕ, ◌+◌, min, Bool, true, false, not, if◌then◌else◌, ◌&&◌, ◌||◌, List, [], ◌∷◌, ◌++◌, filter, find, Option, Some, None, nat_eq, nat_le, flat_map, option_map, option_to_list}
 use Rattle.std.specs.List.{list_any}
-use Rattle.zb_model.specs.Data.{Bytes, Tier, Nwk, Aps, ForTransport, ForData, Sealing, Move, Active, Row, Became, Edit, Reserve, Floor, Start, Moved, Spot, AtNwk, AtAps, AtEvent, Reason, Malformed, Policy, Tunnel, Task, Received}
-use Rattle.zb_model.specs.State.{most, NetKey, LinkKey, NodeState, same_key, is_link, net_of, active_row, next_counter, stored_limit, applied_all, accepted, sealed}
+use Rattle.zb_model.specs.Data.{Bytes, Layer, Nwk, Aps, ForTransport, ForData, Term, Move, Active, Row, Became, Edit, Reserve, Floor, Start, Moved, Place, AtNwk, AtAps, AtEvent, Reason, Malformed, Policy, Tunnel, Task, Received}
+use Rattle.zb_model.specs.State.{greatest_counter, NetKey, LinkKey, NodeState, same_key, is_link, net_of, active_row, next_counter, stored_limit, applied_all, accepted, sealed, same_layer, is_active_key}
 use Rattle.zb_model.specs.Fits.{net_stored, link_stored}
-use Rattle.zb_model.specs.Record.{stage_byte, trust_byte}
-use Rattle.zb_model.specs.Tools.{Tools, NwkSight, ApsSight, ApsAuxiliary, OrderSight, Known, Unknown, Broken, LeaveSight, Leave, Other, NoCommand}
+use Rattle.zb_model.specs.Record.{state_byte, attribute_byte}
+use Rattle.zb_model.specs.Tools.{Tools, NwkShown, ApsShown, ApsAuxiliary, CommandShown, Known, Unknown, Broken, LeaveShown, Leave, Other, NoCommand}
 use Rattle.zb_model.specs.Frames.{low_byte, plain_frame, secured_frame, leave_frame, nwk_header, nwk_term, aps_term, sealed_command, clear_command, data_front, data_control, sealed_data, leave_payload}
 use Rattle.zb_model.specs.Rules.{Body, Saying, Clear, Secret, Tunnelled, Telling, Leaving, Relayed, Sending, Outcome, Stop, Does, Plan, Setting, spent}
 use Rattle.zb_model.specs.OwnEvents.{own}
 use Rattle.zb_model.specs.Judging.{Verdict, Not, Good, Carrier, judge_nwk, payload_of, Unsealed, judge_aps}
-use Rattle.zb_model.specs.Commands.{Heard, take_order, take_leave}
+use Rattle.zb_model.specs.Commands.{Heard, take_command, take_leave}
 
 -- The plan of a delivered frame
 
-abbrev pub stopped_at : List Sealing → Spot → Reason → Plan
-stopped_at accepts spot reason = record { accepts = accepts; spot = spot; outcome = Stop reason }
+abbrev pub stopped_at : List Term → Place → Reason → Plan
+stopped_at accepts place reason = record { accepts = accepts; place = place; outcome = Stop reason }
 
-abbrev pub comes_to : List Sealing → Spot → Outcome → Plan
-comes_to accepts spot outcome = record { accepts = accepts; spot = spot; outcome = outcome }
+abbrev pub comes_to : List Term → Place → Outcome → Plan
+comes_to accepts place outcome = record { accepts = accepts; place = place; outcome = outcome }
 
 -- a NWK command: a Leave, or none that is taken
-abbrev pub nwk_command : Setting → Sealing → LeaveSight → Plan
+abbrev pub nwk_command : Setting → Term → LeaveShown → Plan
 nwk_command c term (Leave options) = comes_to (term ∷ []) AtNwk (take_leave c term options)
 nwk_command c term Other = stopped_at (term ∷ []) AtNwk Policy
 nwk_command c term NoCommand = stopped_at (term ∷ []) AtNwk Malformed
 
-abbrev pub source_or : ℕ → Option Sealing → ℕ
+abbrev pub source_or : ℕ → Option Term → ℕ
 source_or other None = other
 source_or other (Some t) = t.source
 
-abbrev pub heard_clear : Option Sealing → Heard
-heard_clear nwk = record { sender = source_or 18446744073709551616 nwk; label = None; row = None; nwk_source = option_map (λ (t : Sealing). t.source) nwk }
+abbrev pub heard_clear : Option Term → Heard
+heard_clear nwk = record { sender = source_or 18446744073709551616 nwk; label = None; row = None; nwk_source = option_map (λ (t : Term). t.source) nwk }
 
-abbrev pub heard_sealed : Option Sealing → ApsAuxiliary → Unsealed → Heard
-heard_sealed nwk aux u = record { sender = u.term.source; label = Some aux.label; row = Some u.row; nwk_source = option_map (λ (t : Sealing). t.source) nwk }
+abbrev pub heard_sealed : Option Term → ApsAuxiliary → Unsealed → Heard
+heard_sealed nwk aux u = record { sender = u.term.source; label = Some aux.label; row = Some u.row; nwk_source = option_map (λ (t : Term). t.source) nwk }
 
 -- an APS command: one that is known by its rule; an unknown one is not taken, and other bytes are none
-abbrev pub aps_command : Tools → Setting → NodeState → Option Bytes → List Sealing → Heard → OrderSight → Plan
-aps_command tools c s draw accepts m (Known order) = comes_to accepts AtAps (take_order tools c s draw m order)
+abbrev pub aps_command : Tools → Setting → NodeState → Option Bytes → List Term → Heard → CommandShown → Plan
+aps_command tools c s draw accepts m (Known command) = comes_to accepts AtAps (take_command tools c s draw m command)
 aps_command tools c s draw accepts m Unknown = stopped_at accepts AtAps Policy
 aps_command tools c s draw accepts m Broken = stopped_at accepts AtAps Malformed
 
 -- Data and acknowledgements are done with once they are accepted; what they say is for the application.
-abbrev pub clear_part : Tools → Setting → NodeState → Option Bytes → Option Sealing → ApsSight → Plan
+abbrev pub clear_part : Tools → Setting → NodeState → Option Bytes → Option Term → ApsShown → Plan
 clear_part tools c s draw nwk a =
-    if a.is_command then aps_command tools c s draw (option_to_list nwk) (heard_clear nwk) (tools.read_order a.body)
+    if a.is_command then aps_command tools c s draw (option_to_list nwk) (heard_clear nwk) (tools.read_command a.body)
     else comes_to (option_to_list nwk) AtAps (Does [] None)
 
-abbrev pub sealed_part : Tools → Setting → NodeState → Option Bytes → Option Sealing → ApsSight → ApsAuxiliary → Verdict Unsealed → Plan
-sealed_part tools c s draw nwk a aux (Not spot reason) = stopped_at (option_to_list nwk) spot reason
+abbrev pub sealed_part : Tools → Setting → NodeState → Option Bytes → Option Term → ApsShown → ApsAuxiliary → Verdict Unsealed → Plan
+sealed_part tools c s draw nwk a aux (Not place reason) = stopped_at (option_to_list nwk) place reason
 sealed_part tools c s draw nwk a aux (Good u) =
-    if a.is_command then aps_command tools c s draw (option_to_list nwk ++ u.term ∷ []) (heard_sealed nwk aux u) (tools.read_order u.term.content)
+    if a.is_command then aps_command tools c s draw (option_to_list nwk ++ u.term ∷ []) (heard_sealed nwk aux u) (tools.read_command u.term.content)
     else comes_to (option_to_list nwk ++ u.term ∷ []) AtAps (Does [] None)
 
-abbrev pub by_security : Tools → Setting → NodeState → Option Bytes → NwkSight → Option Sealing → ApsSight → Option ApsAuxiliary → Plan
+abbrev pub by_security : Tools → Setting → NodeState → Option Bytes → NwkShown → Option Term → ApsShown → Option ApsAuxiliary → Plan
 by_security tools c s draw f nwk a None = clear_part tools c s draw nwk a
 by_security tools c s draw f nwk a (Some aux) = sealed_part tools c s draw nwk a aux (judge_aps tools c s f (payload_of f nwk) aux)
 
-abbrev pub aps_part : Tools → Setting → NodeState → Option Bytes → NwkSight → Option Sealing → Option ApsSight → Plan
+abbrev pub aps_part : Tools → Setting → NodeState → Option Bytes → NwkShown → Option Term → Option ApsShown → Plan
 aps_part tools c s draw f nwk None = stopped_at (option_to_list nwk) AtAps Malformed
 aps_part tools c s draw f nwk (Some a) = by_security tools c s draw f nwk a a.auxiliary
 
-abbrev pub net_part : Tools → Setting → NodeState → Option Bytes → NwkSight → Option Sealing → Plan
+abbrev pub net_part : Tools → Setting → NodeState → Option Bytes → NwkShown → Option Term → Plan
 net_part tools c s draw f None = aps_part tools c s draw f None (tools.read_aps f.body)
 net_part tools c s draw f (Some term) =
     if f.is_command then nwk_command c term (tools.read_leave term.content)
     else aps_part tools c s draw f (Some term) (tools.read_aps term.content)
 
 abbrev pub received_as : Tools → Setting → NodeState → Option Bytes → Verdict Carrier → Plan
-received_as tools c s draw (Not spot reason) = stopped_at [] spot reason
-received_as tools c s draw (Good k) = net_part tools c s draw k.sight k.term
+received_as tools c s draw (Not place reason) = stopped_at [] place reason
+received_as tools c s draw (Good k) = net_part tools c s draw k.frame k.term
 
 unfoldable pub plan_of : Tools → Setting → NodeState → Task → Plan
 plan_of tools c s (Received bytes draw) = received_as tools c s draw (judge_nwk tools c s bytes)
@@ -80,21 +80,21 @@ plan_of tools c s task = comes_to [] AtEvent (own tools c s task)
 -- Which counters an answer takes: those of its frames; a limit that is reserved, at a layer; the floor stored for the term
 -- accepted at a layer; the first counter of the key that becomes active.
 pub record Counting : Type 0 where
-  pub counter : Tier → ℕ
-  pub reserve : Tier → Option ℕ
-  pub floor : Tier → Option ℕ
+  pub counter : Layer → ℕ
+  pub reserve : Layer → Option ℕ
+  pub floor : Layer → Option ℕ
   pub start : Option ℕ
 
 -- What goes out
 
 abbrev pub has_aps_seal : Body → Bool
-has_aps_seal (Secret label key order) = true
-has_aps_seal (Tunnelled device key order) = true
+has_aps_seal (Secret label key command) = true
+has_aps_seal (Tunnelled device key command) = true
 has_aps_seal (Telling key bytes) = true
 has_aps_seal _ = false
 
 -- The layers at which a frame is sealed.
-abbrev pub seals_at : Tier → Option Sending → Bool
+abbrev pub seals_at : Layer → Option Sending → Bool
 seals_at layer None = false
 seals_at Nwk (Some send) = send.secured
 seals_at Aps (Some send) = has_aps_seal send.body
@@ -102,29 +102,29 @@ seals_at Aps (Some send) = has_aps_seal send.body
 -- The APS part: what is sealed in it, its bytes, and the frame control that carries it.
 pub record Part : Type 0 where
   pub control : ℕ
-  pub seals : List Sealing
+  pub seals : List Term
   pub bytes : Bytes
 
-abbrev pub sealed_into : Tools → Sealing → Part
+abbrev pub sealed_into : Tools → Term → Part
 sealed_into tools t = record { control = secured_frame; seals = t ∷ []; bytes = tools.wire t }
 
 abbrev pub in_clear : Bytes → Part
 in_clear bytes = record { control = secured_frame; seals = []; bytes = bytes }
 
-abbrev pub tunnel_of : Tools → ℕ → ℕ → Sealing → Part
+abbrev pub tunnel_of : Tools → ℕ → ℕ → Term → Part
 tunnel_of tools nwk device t = record { control = secured_frame; seals = t ∷ []; bytes = clear_command ∷ low_byte nwk ∷ tools.spelled (Tunnel device (tools.wire t)) }
 
 unfoldable pub part_of : Tools → ℕ → ℕ → ℕ → ℕ → Body → Part
 part_of tools me to nwk aps (Saying bytes) = in_clear (data_front (data_control to) ++ low_byte nwk ∷ bytes)
-part_of tools me to nwk aps (Clear control order) = in_clear (control ∷ low_byte nwk ∷ tools.spelled order)
-part_of tools me to nwk aps (Secret label key order) = sealed_into tools (aps_term sealed_command label key me aps (tools.spelled order))
-part_of tools me to nwk aps (Tunnelled device key order) = tunnel_of tools nwk device (aps_term sealed_command ForTransport key me aps (tools.spelled order))
+part_of tools me to nwk aps (Clear control command) = in_clear (control ∷ low_byte nwk ∷ tools.spelled command)
+part_of tools me to nwk aps (Secret label key command) = sealed_into tools (aps_term sealed_command label key me aps (tools.spelled command))
+part_of tools me to nwk aps (Tunnelled device key command) = tunnel_of tools nwk device (aps_term sealed_command ForTransport key me aps (tools.spelled command))
 part_of tools me to nwk aps (Telling key bytes) = sealed_into tools (aps_term (data_front sealed_data) ForData key me aps bytes)
 part_of tools me to nwk aps Leaving = record { control = leave_frame; seals = []; bytes = leave_payload }
 part_of tools me to nwk aps (Relayed bytes) = in_clear bytes
 
 pub record Outgoing : Type 0 where
-  pub seals : List Sealing
+  pub seals : List Term
   pub frame : Option Bytes
 
 abbrev pub nothing_out : Outgoing
@@ -164,14 +164,10 @@ out_of tools c s k send = if may_seal s send then sent tools c s k send else not
 -- What is stored
 
 -- A change that leaves a thing as it is gives no line.
-abbrev pub is_active_key : Option Bytes → Bytes → Bool
-is_active_key None key = false
-is_active_key (Some active) key = same_key active key
-
 abbrev pub changes : NodeState → Move → Bool
-changes s (Row partner key trust) = not (list_any (λ (r : LinkKey). is_link partner key r && (r.live && nat_eq (trust_byte r.trust) (trust_byte trust))) s.links)
+changes s (Row partner key attribute) = not (list_any (λ (r : LinkKey). is_link partner key r && (r.live && nat_eq (attribute_byte r.attribute) (attribute_byte attribute))) s.links)
 changes s (Active key) = not (is_active_key s.active key)
-changes s (Became stage) = not (nat_eq (stage_byte s.stage) (stage_byte stage))
+changes s (Became state) = not (nat_eq (state_byte s.state) (state_byte state))
 changes s _ = true
 
 abbrev pub is_started_key : NodeState → Bytes → Bool
@@ -186,10 +182,10 @@ abbrev pub move_edits : Counting → Move → List Edit
 move_edits k (Active key) = Moved (Active key) ∷ start_edit key k.start
 move_edits k move = Moved move ∷ []
 
-abbrev pub reserve_edit : Counting → Tier → List Edit
+abbrev pub reserve_edit : Counting → Layer → List Edit
 reserve_edit k layer = option_to_list (option_map (Reserve layer) (k.reserve layer))
 
-abbrev pub floor_edit : Counting → Sealing → List Edit
+abbrev pub floor_edit : Counting → Term → List Edit
 floor_edit k t = option_to_list (option_map (Floor t.layer t.base t.source) (k.floor t.layer))
 
 abbrev pub moves_of : Outcome → List Move
@@ -216,17 +212,17 @@ edits_of s k p =
 -- The whole answer: the changes that are stored, the terms accepted, a refusal, the terms sealed, the frame.
 pub record Answer : Type 0 where
   pub edits : List Edit
-  pub accepts : List Sealing
-  pub spot : Spot
+  pub accepts : List Term
+  pub place : Place
   pub refusal : Option Reason
-  pub seals : List Sealing
+  pub seals : List Term
   pub frame : Option Bytes
 
 unfoldable pub answer_by : Tools → Setting → NodeState → Counting → Plan → Answer
 answer_by tools c s k p = let out = out_of tools c s k (sending_of p.outcome) in record {
   edits = edits_of s k p;
   accepts = p.accepts;
-  spot = p.spot;
+  place = p.place;
   refusal = refusal_of p;
   seals = out.seals;
   frame = out.frame;
@@ -235,31 +231,26 @@ answer_by tools c s k p = let out = out_of tools c s k (sending_of p.outcome) in
 -- The counters that a node takes
 
 -- A limit is reserved where the frame is sealed at the layer and the counter has reached its limit: a block of its own.
-unfoldable pub reserve_of : Setting → NodeState → Option Sending → Tier → Option ℕ
+unfoldable pub reserve_of : Setting → NodeState → Option Sending → Layer → Option ℕ
 reserve_of c s send layer =
     if seals_at layer send && (may_seal s send && nat_eq (next_counter layer s) (stored_limit layer s))
-    then Some (min (next_counter layer s + c.me.out_block) most) else None
+    then Some (min (next_counter layer s + c.me.out_block) greatest_counter) else None
 
 -- The stored floor of a term's sender under its key.
-abbrev pub stored_at : Tier → Sealing → NodeState → ℕ
+abbrev pub stored_at : Layer → Term → NodeState → ℕ
 stored_at Nwk t s = net_stored t.source (net_of t.base s)
 stored_at Aps t s = link_stored (find (is_link t.source t.base) s.links)
 
-unfoldable pub stored_floor : Sealing → NodeState → ℕ
+unfoldable pub stored_floor : Term → NodeState → ℕ
 stored_floor t s = stored_at t.layer t s
 
 -- A floor is stored where the accepted counter isn't below the stored one: a block above it.
-abbrev pub floor_for : Setting → NodeState → Sealing → Option ℕ
-floor_for c s t = if nat_le (stored_floor t s) t.counter then Some (min (t.counter + c.me.in_block) most) else None
+abbrev pub floor_for : Setting → NodeState → Term → Option ℕ
+floor_for c s t = if nat_le (stored_floor t s) t.counter then Some (min (t.counter + c.me.in_block) greatest_counter) else None
 
-abbrev pub same_tier : Tier → Tier → Bool
-same_tier Nwk Nwk = true
-same_tier Aps Aps = true
-same_tier _ _ = false
-
-unfoldable pub floor_of : Setting → NodeState → List Sealing → Tier → Option ℕ
+unfoldable pub floor_of : Setting → NodeState → List Term → Layer → Option ℕ
 floor_of c s [] layer = None
-floor_of c s (t ∷ ts) layer = if same_tier t.layer layer then floor_for c s t else floor_of c s ts layer
+floor_of c s (t ∷ ts) layer = if same_layer t.layer layer then floor_for c s t else floor_of c s ts layer
 
 -- A key that becomes active for the first time starts at 0 where the counter has passed half of its range, else where the
 -- counter stands.
@@ -290,11 +281,11 @@ unfoldable pub answer : Tools → Setting → NodeState → Task → Answer
 answer tools c s task = let p = plan_of tools c s task in answer_by tools c s (counting_of c s p) p
 
 -- The state after an answer that was stored and handed out.
-abbrev pub accepted_all : List Sealing → NodeState → NodeState
+abbrev pub accepted_all : List Term → NodeState → NodeState
 accepted_all [] s = s
 accepted_all (t ∷ ts) s = accepted_all ts (accepted t s)
 
-abbrev pub sealed_all : List Sealing → NodeState → NodeState
+abbrev pub sealed_all : List Term → NodeState → NodeState
 sealed_all [] s = s
 sealed_all (t ∷ ts) s = sealed_all ts (sealed t s)
 

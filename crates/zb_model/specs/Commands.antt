@@ -1,8 +1,8 @@
 -- The commands that a node receives, one rule each: which node takes it, in which form (any other form is `policy`), what
 -- it is refused for, and what it does. This project's profile of Zigbee 05-3474-21, 4.4.
 use Rattle.std.specs.Prelude.{ℕ, ◌+◌, ◌%◌, ◌/◌, Bool, true, false, not, if◌then◌else◌, ◌&&◌, ◌||◌, List, [], ◌∷◌, ◌++◌, find, Option, Some, None, nat_eq, nat_lt, nat_le, is_some, is_none}
-use Rattle.zb_model.specs.Data.{Bytes, Nwk, Stage, Joined, Offered, Confirmed, Gone, Unverified, Verified, Purpose, ForData, ForNetwork, ForTransport, ForLoad, Sealing, Move, Draw, Install, Active, Row, Pair, Became, NoKey, NotMember, WrongState, KeyOld, KeysFull, RowsFull, KeyInUse, NoDraw, CounterSpent, WrongHash, Policy, Order, TransportNet, TransportApp, TransportLink, UpdateDevice, RemoveDevice, RequestApp, RequestLink, SwitchKey, Tunnel, VerifyKey, ConfirmKey}
-use Rattle.zb_model.specs.State.{NetKey, LinkKey, PairKey, NodeState, same_key, is_centre, is_verified, is_live_of, has_net, has_link, active_row, live_of, current, offered, is_live, other_user, pair_of}
+use Rattle.zb_model.specs.Data.{Bytes, Nwk, State, Joined, Offered, Confirmed, Gone, Unverified, Verified, Label, ForData, ForNetwork, ForTransport, ForLoad, Term, Move, Draw, Install, Active, Row, Pair, Became, NoKey, NotMember, WrongState, KeyOld, KeysFull, RowsFull, KeyInUse, NoDraw, CounterSpent, WrongHash, Policy, Command, TransportNet, TransportApp, TransportLink, UpdateDevice, RemoveDevice, RequestApp, RequestLink, SwitchKey, Tunnel, VerifyKey, ConfirmKey}
+use Rattle.zb_model.specs.State.{NetKey, LinkKey, PairKey, NodeState, same_key, is_centre, is_verified, is_live_of, has_net, has_link, active_row, live_of, current, offered, is_live, other_user, pair_of, same_label}
 use Rattle.zb_model.specs.Tools.{Tools, verify_hash}
 use Rattle.zb_model.specs.Rules.{Secret, Tunnelled, Leaving, Relayed, Outcome, Stop, Does, Setting, unless, given, choose, sends, centre_of, short_of, is_declared, acts_as_router, from_centre, is_router, spent, both_spent, in_rejoining, waits_for_key, nets_full, links_full, pairs_full, unless_held, drop_row, drop_partner, drop_old}
 
@@ -10,22 +10,15 @@ use Rattle.zb_model.specs.Rules.{Secret, Tunnelled, Leaving, Relayed, Outcome, S
 -- else that of the NWK term. `sealed_with` is the label and the row that opened it; `nwk_source` that of the NWK term.
 pub record Heard : Type 0 where
   pub sender : ℕ
-  pub label : Option Purpose
+  pub label : Option Label
   pub row : Option LinkKey
   pub nwk_source : Option ℕ
 
 -- The forms in which a command may come
 
-abbrev pub same_purpose : Purpose → Purpose → Bool
-same_purpose ForData ForData = true
-same_purpose ForNetwork ForNetwork = true
-same_purpose ForTransport ForTransport = true
-same_purpose ForLoad ForLoad = true
-same_purpose _ _ = false
-
-abbrev pub labelled : Purpose → Option Purpose → Bool
+abbrev pub labelled : Label → Option Label → Bool
 labelled label None = false
-labelled label (Some found) = same_purpose label found
+labelled label (Some found) = same_label label found
 
 abbrev pub is_clear : Heard → Bool
 is_clear m = is_none m.label
@@ -37,7 +30,7 @@ abbrev pub nwk_secured : Heard → Bool
 nwk_secured m = is_some m.nwk_source
 
 abbrev pub is_member : Setting → Bool
-is_member c = not (is_centre c.me.duty)
+is_member c = not (is_centre c.me.role)
 
 abbrev pub row_is : Option LinkKey → Option LinkKey → Bool
 row_is None b = false
@@ -46,7 +39,7 @@ row_is (Some a) (Some b) = same_key a.key b.key
 
 abbrev pub is_verified_row : Option LinkKey → Bool
 is_verified_row None = false
-is_verified_row (Some r) = is_verified r.trust
+is_verified_row (Some r) = is_verified r.attribute
 
 abbrev pub names_eui : ℕ → Option ℕ → Bool
 names_eui eui None = false
@@ -65,17 +58,17 @@ unless_old s key (Some place) rest = Stop (KeyOld place)
 
 -- A network key that is taken in becomes active in a node that waits for one, and where none was active.
 abbrev pub activates : NodeState → Bool
-activates s = waits_for_key s.stage || is_none s.active
+activates s = waits_for_key s.state || is_none s.active
 
 -- in such a node the state goes on from the link rows of the centre
-abbrev pub joined_stage : Setting → NodeState → Stage
-joined_stage c s =
+abbrev pub joined_state : Setting → NodeState → State
+joined_state c s =
     if is_some (offered s (centre_of c.stations)) then Offered
     else (if is_verified_row (current s (centre_of c.stations)) then Confirmed else Joined)
 
 abbrev pub activate : Setting → NodeState → Bytes → List Move
 activate c s key =
-    (if activates s then Active key ∷ [] else []) ++ (if waits_for_key s.stage then Became (joined_stage c s) ∷ [] else [])
+    (if activates s then Active key ∷ [] else []) ++ (if waits_for_key s.state then Became (joined_state c s) ∷ [] else [])
 
 -- Transport-Key, type 1: a network key
 unfoldable pub take_net_key : Setting → NodeState → Heard → Bytes → ℕ → ℕ → ℕ → Outcome
@@ -108,7 +101,7 @@ unfoldable pub take_link_key : Setting → NodeState → Heard → Bytes → ℕ
 take_link_key c s m key destination source =
     unless (not (is_member c && (nwk_secured m && (labelled ForLoad m.label && (from_centre c m.sender
     && (nat_eq destination c.me.eui && from_centre c source)))))) Policy (
-    unless (in_rejoining s.stage) WrongState (
+    unless (in_rejoining s.state) WrongState (
     choose (has_key key (current s (centre_of c.stations)) || has_key key (offered s (centre_of c.stations)))
     (Does [] None)
     (take_row s (centre_of c.stations) key
@@ -120,7 +113,7 @@ take_app_key c s m key partner =
     unless (not (is_member c && (nwk_secured m && (labelled ForLoad m.label && (from_centre c m.sender
     && not (nat_eq partner c.me.eui || from_centre c partner)))))) Policy (
     unless (not (is_declared c partner)) NotMember (
-    unless (in_rejoining s.stage) WrongState (
+    unless (in_rejoining s.state) WrongState (
     choose (has_key key (find (is_live_of partner) s.links))
     (Does [] None)
     (take_row s partner key (drop_partner s partner ++ (Row partner key Verified ∷ []))))))
@@ -137,7 +130,7 @@ unfoldable pub take_confirm : Setting → NodeState → Heard → ℕ → ℕ �
 take_confirm c s m status kind destination =
     unless (not (is_member c && (labelled ForData m.label && (from_centre c m.sender
     && (nat_eq status 0 && (nat_eq kind 4 && nat_eq destination c.me.eui)))))) Policy (
-    unless (in_rejoining s.stage) WrongState (
+    unless (in_rejoining s.state) WrongState (
     unless (not (row_is m.row (offered s (centre_of c.stations)))) WrongState (
     given (offered s (centre_of c.stations)) WrongState (λ row.
     Does (drop_row (current s (centre_of c.stations)) ++ (Row row.partner row.key Verified ∷ Became Confirmed ∷ [])) None))))
@@ -147,7 +140,7 @@ take_confirm c s m status kind destination =
 -- Remove-Device: the target is asked to leave
 unfoldable pub take_remove : Setting → NodeState → Heard → ℕ → Outcome
 take_remove c s m target =
-    unless (not (is_router c.me.duty && (labelled ForData m.label && (from_centre c m.sender
+    unless (not (is_router c.me.role && (labelled ForData m.label && (from_centre c m.sender
     && not (nat_eq target c.me.eui || from_centre c target))))) Policy (
     unless (not (is_declared c target)) NotMember (
     unless (spent Nwk s) CounterSpent (
@@ -156,7 +149,7 @@ take_remove c s m target =
 -- Tunnel: its inner frame goes to the destination, without NWK security
 unfoldable pub take_tunnel : Setting → NodeState → Heard → ℕ → Bytes → Outcome
 take_tunnel c s m destination inner =
-    unless (not (is_router c.me.duty && (is_clear m && from_centre c m.sender))) Policy (
+    unless (not (is_router c.me.role && (is_clear m && from_centre c m.sender))) Policy (
     unless (not (is_declared c destination) || nat_eq destination c.me.eui) NotMember (
     Does [] (sends (short_of c destination) false (Relayed inner))))
 
@@ -169,7 +162,7 @@ eui_of (Some eui) = eui
 
 unfoldable pub take_update : Setting → NodeState → Heard → ℕ → ℕ → Outcome
 take_update c s m device status =
-    unless (not (is_centre c.me.duty && (clear_or_data m && (acts_as_router c m.sender && nat_le status 3)))) Policy (
+    unless (not (is_centre c.me.role && (clear_or_data m && (acts_as_router c m.sender && nat_le status 3)))) Policy (
     choose (not (nat_eq status 1 || nat_eq status 3))
     (Does [] None)
     (given (active_row s) NoKey (λ net.
@@ -198,7 +191,7 @@ answer_request c s device draw row None =
 
 unfoldable pub take_request : Setting → NodeState → Heard → Option Bytes → Outcome
 take_request c s m draw =
-    unless (not (is_centre c.me.duty && under_current s m)) Policy (
+    unless (not (is_centre c.me.role && under_current s m)) Policy (
     given (current s m.sender) Policy (λ row.
     answer_request c s m.sender draw row (offered s m.sender)))
 
@@ -225,7 +218,7 @@ answer_pair c s device partner draw row None =
 
 unfoldable pub take_app_request : Setting → NodeState → Heard → Option Bytes → ℕ → Outcome
 take_app_request c s m draw partner =
-    unless (not (is_centre c.me.duty && (under_current s m && not (nat_eq partner m.sender || nat_eq partner c.me.eui)))) Policy (
+    unless (not (is_centre c.me.role && (under_current s m && not (nat_eq partner m.sender || nat_eq partner c.me.eui)))) Policy (
     unless (not (is_live s partner)) NotMember (
     unless (not (is_verified_row (current s m.sender) && is_verified_row (current s partner))) WrongState (
     given (current s m.sender) Policy (λ row.
@@ -246,11 +239,11 @@ verified_current s device = only (current s device)
   where
     only : Option LinkKey → Option LinkKey
     only None = None
-    only (Some r) = if is_verified r.trust then Some r else None
+    only (Some r) = if is_verified r.attribute then Some r else None
 
 unfoldable pub take_verify : Tools → Setting → NodeState → Heard → ℕ → ℕ → Bytes → Outcome
 take_verify tools c s m kind device hash =
-    unless (not (is_centre c.me.duty && (is_clear m && (nat_eq kind 4 && names_eui device m.nwk_source)))) Policy (
+    unless (not (is_centre c.me.role && (is_clear m && (nat_eq kind 4 && names_eui device m.nwk_source)))) Policy (
     unless (not (is_live s device)) NotMember (
     unless (is_none (offered s device) && is_none (verified_current s device)) WrongState (
     unless (both_spent s) CounterSpent (
@@ -262,24 +255,24 @@ take_verify tools c s m kind device hash =
     (Stop WrongHash))))))
 
 -- The rule of each command.
-unfoldable pub take_order : Tools → Setting → NodeState → Option Bytes → Heard → Order → Outcome
-take_order tools c s draw m (TransportNet key sequence destination source) = take_net_key c s m key sequence destination source
-take_order tools c s draw m (TransportApp key partner initiator) = take_app_key c s m key partner
-take_order tools c s draw m (TransportLink key destination source) = take_link_key c s m key destination source
-take_order tools c s draw m (UpdateDevice device short status) = take_update c s m device status
-take_order tools c s draw m (RemoveDevice target) = take_remove c s m target
-take_order tools c s draw m (RequestApp partner) = take_app_request c s m draw partner
-take_order tools c s draw m RequestLink = take_request c s m draw
-take_order tools c s draw m (SwitchKey sequence) = take_switch c s m sequence
-take_order tools c s draw m (Tunnel destination inner) = take_tunnel c s m destination inner
-take_order tools c s draw m (VerifyKey kind source hash) = take_verify tools c s m kind source hash
-take_order tools c s draw m (ConfirmKey status kind destination) = take_confirm c s m status kind destination
+unfoldable pub take_command : Tools → Setting → NodeState → Option Bytes → Heard → Command → Outcome
+take_command tools c s draw m (TransportNet key sequence destination source) = take_net_key c s m key sequence destination source
+take_command tools c s draw m (TransportApp key partner initiator) = take_app_key c s m key partner
+take_command tools c s draw m (TransportLink key destination source) = take_link_key c s m key destination source
+take_command tools c s draw m (UpdateDevice device short status) = take_update c s m device status
+take_command tools c s draw m (RemoveDevice target) = take_remove c s m target
+take_command tools c s draw m (RequestApp partner) = take_app_request c s m draw partner
+take_command tools c s draw m RequestLink = take_request c s m draw
+take_command tools c s draw m (SwitchKey sequence) = take_switch c s m sequence
+take_command tools c s draw m (Tunnel destination inner) = take_tunnel c s m destination inner
+take_command tools c s draw m (VerifyKey kind source hash) = take_verify tools c s m kind source hash
+take_command tools c s draw m (ConfirmKey status kind destination) = take_confirm c s m status kind destination
 
 -- A NWK command: a Leave from the centre or a router, whose bit 6 asks the node itself to go.
 abbrev pub asks_to_go : ℕ → Bool
 asks_to_go options = nat_eq ((options / 64) % 2) 1
 
-unfoldable pub take_leave : Setting → Sealing → ℕ → Outcome
+unfoldable pub take_leave : Setting → Term → ℕ → Outcome
 take_leave c term options =
     unless (not (is_member c && ((from_centre c term.source || acts_as_router c term.source) && asks_to_go options))) Policy (
     Does (Became Gone ∷ []) None)

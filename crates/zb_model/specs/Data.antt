@@ -11,38 +11,38 @@ abbrev pub nobody : ℕ
 nobody = 18446744073709551616
 
 -- A node's part in the network (Zigbee 05-3474-21, chapter 4: trust centre, router, end device).
-pub data Duty : Type 0 where
-  Centre : Duty
-  Router : Duty
-  Device : Duty
+pub data Role : Type 0 where
+  Centre : Role
+  Router : Role
+  Device : Role
 
 -- The layer at which a frame is secured: network (NWK) or application support (APS).
-pub data Tier : Type 0 where
-  Nwk : Tier
-  Aps : Tier
+pub data Layer : Type 0 where
+  Nwk : Layer
+  Aps : Layer
 
 -- The key identifier of an auxiliary header (05-3474-21, 4.5.1.1.2): which key is derived from the base key.
-pub data Purpose : Type 0 where
-  ForData : Purpose
-  ForNetwork : Purpose
-  ForTransport : Purpose
-  ForLoad : Purpose
+pub data Label : Type 0 where
+  ForData : Label
+  ForNetwork : Label
+  ForTransport : Label
+  ForLoad : Label
 
 -- The state of a router or device (this project's profile). The centre stays in Fresh.
-pub data Stage : Type 0 where
-  Fresh : Stage
-  Knocked : Stage
-  Joined : Stage
-  Offered : Stage
-  Confirmed : Stage
-  Rejoining : Stage
-  Gone : Stage
+pub data State : Type 0 where
+  Fresh : State
+  Knocked : State
+  Joined : State
+  Offered : State
+  Confirmed : State
+  Rejoining : State
+  Gone : State
 
 -- The attribute of a link key (05-3474-21, 4.7.4.1: provisional, unverified, verified).
-pub data Trust : Type 0 where
-  Provisional : Trust
-  Unverified : Trust
-  Verified : Trust
+pub data Attribute : Type 0 where
+  Provisional : Attribute
+  Unverified : Attribute
+  Verified : Attribute
 
 -- A node as it is declared: its name (letters and digits), EUI, short address, part, and its blocks of outgoing
 -- and of incoming counters.
@@ -50,16 +50,16 @@ pub record Station : Type 0 where
   pub name : Bytes
   pub eui : ℕ
   pub short : ℕ
-  pub duty : Duty
+  pub role : Role
   pub out_block : ℕ
   pub in_block : ℕ
 
 -- What is sealed, and what a frame opens to: the base key and the label tell the sealing key; source, counter and
 -- control make the nonce; the header is authenticated and the content is encrypted too.
-pub record Sealing : Type 0 where
-  pub layer : Tier
+pub record Term : Type 0 where
+  pub layer : Layer
   pub base : Bytes
-  pub label : Purpose
+  pub label : Label
   pub source : ℕ
   pub counter : ℕ
   pub control : ℕ
@@ -73,9 +73,9 @@ pub data Move : Type 0 where
   DropLink : (partner : ℕ) (key : Bytes) → Move
   Install : (key : Bytes) (sequence : ℕ) → Move
   Active : (key : Bytes) → Move
-  Row : (partner : ℕ) (key : Bytes) (trust : Trust) → Move
+  Row : (partner : ℕ) (key : Bytes) (attribute : Attribute) → Move
   Pair : (first : ℕ) (second : ℕ) (key : Bytes) → Move
-  Became : (stage : Stage) → Move
+  Became : (state : State) → Move
   Live : (device : ℕ) → Move
   Removed : (device : ℕ) → Move
   Roll : (sending : Bool) → Move
@@ -85,16 +85,16 @@ pub data Move : Type 0 where
 -- A change of a node's stable state: of a counter's limit, of a floor, of a network key's first counter, or one
 -- of the policy's own.
 pub data Edit : Type 0 where
-  Reserve : (layer : Tier) (limit : ℕ) → Edit
-  Floor : (layer : Tier) (key : Bytes) (sender : ℕ) (value : ℕ) → Edit
+  Reserve : (layer : Layer) (limit : ℕ) → Edit
+  Floor : (layer : Layer) (key : Bytes) (sender : ℕ) (value : ℕ) → Edit
   Start : (key : Bytes) (value : ℕ) → Edit
   Moved : (move : Move) → Edit
 
 -- Where an event was refused: as a NWK frame, as its APS part, or before either.
-pub data Spot : Type 0 where
-  AtNwk : Spot
-  AtAps : Spot
-  AtEvent : Spot
+pub data Place : Type 0 where
+  AtNwk : Place
+  AtAps : Place
+  AtEvent : Place
 
 -- Why an event was refused, in the order in which the reasons are tried (but NoFrame, which follows Down). Stale
 -- shows the floor, KeyOld the place of the dropped row, KeyInUse whose key it is.
@@ -120,18 +120,18 @@ pub data Reason : Type 0 where
   NoFrame : Reason
 
 -- An APS command (05-3474-21, 4.4.11), with its fields in the order in which they are spelled.
-pub data Order : Type 0 where
-  TransportNet : (key : Bytes) (sequence : ℕ) (destination : ℕ) (source : ℕ) → Order
-  TransportApp : (key : Bytes) (partner : ℕ) (initiator : ℕ) → Order
-  TransportLink : (key : Bytes) (destination : ℕ) (source : ℕ) → Order
-  UpdateDevice : (device : ℕ) (short : ℕ) (status : ℕ) → Order
-  RemoveDevice : (target : ℕ) → Order
-  RequestApp : (partner : ℕ) → Order
-  RequestLink : Order
-  SwitchKey : (sequence : ℕ) → Order
-  Tunnel : (destination : ℕ) (inner : Bytes) → Order
-  VerifyKey : (kind : ℕ) (source : ℕ) (hash : Bytes) → Order
-  ConfirmKey : (status : ℕ) (kind : ℕ) (destination : ℕ) → Order
+pub data Command : Type 0 where
+  TransportNet : (key : Bytes) (sequence : ℕ) (destination : ℕ) (source : ℕ) → Command
+  TransportApp : (key : Bytes) (partner : ℕ) (initiator : ℕ) → Command
+  TransportLink : (key : Bytes) (destination : ℕ) (source : ℕ) → Command
+  UpdateDevice : (device : ℕ) (short : ℕ) (status : ℕ) → Command
+  RemoveDevice : (target : ℕ) → Command
+  RequestApp : (partner : ℕ) → Command
+  RequestLink : Command
+  SwitchKey : (sequence : ℕ) → Command
+  Tunnel : (destination : ℕ) (inner : Bytes) → Command
+  VerifyKey : (kind : ℕ) (source : ℕ) (hash : Bytes) → Command
+  ConfirmKey : (status : ℕ) (kind : ℕ) (destination : ℕ) → Command
 
 -- What an event asks of one node: its own events, and a delivered frame with the next key of the supply, which the
 -- centre may need.

@@ -2,7 +2,7 @@
 -- what a journal that is read back may not break.
 use Rattle.std.specs.Prelude.{ℕ, ◌≡◌, Bool, true, false, not, if◌then◌else◌, ◌&&◌, ◌||◌, List, [], ◌∷◌, find, length, Option, Some, None, nat_eq, nat_lt, nat_le, is_some, is_none}
 use Rattle.std.specs.List.{list_any, list_all}
-use Rattle.zb_model.specs.Data.{Bytes, Duty, Stage, Fresh, Nwk, Aps, Move, Draw, DropNet, DropLink, Install, Active, Row, Pair, Became, Live, Removed, Roll, Told, Untold, Edit, Reserve, Floor, Start, Moved}
+use Rattle.zb_model.specs.Data.{Bytes, Role, State, Fresh, Nwk, Aps, Move, Draw, DropNet, DropLink, Install, Active, Row, Pair, Became, Live, Removed, Roll, Told, Untold, Edit, Reserve, Floor, Start, Moved}
 use Rattle.zb_model.specs.State.{SenderFloor, NetKey, LinkKey, PairKey, NodeState, same_key, is_centre, is_provisional, is_unverified, has_net, is_link, net_of, active_row, live_nets, is_live, pair_of, stored_limit, sender_floor, applied}
 
 -- How many rows there may be: 256 network keys, 1,024 link keys at the centre and 64 elsewhere, 256 pairs, 64 senders
@@ -10,8 +10,8 @@ use Rattle.zb_model.specs.State.{SenderFloor, NetKey, LinkKey, PairKey, NodeStat
 abbrev pub most_nets : ℕ
 most_nets = 256
 
-abbrev pub most_links : Duty → ℕ
-most_links duty = if is_centre duty then 1024 else 64
+abbrev pub most_links : Role → ℕ
+most_links role = if is_centre role then 1024 else 64
 
 abbrev pub most_pairs : ℕ
 most_pairs = 256
@@ -25,7 +25,7 @@ all_apart alike [] = true
 all_apart alike (x ∷ xs) = not (list_any (alike x) xs) && all_apart alike xs
 
 unfoldable pub rows_have_room : NodeState → Bool
-rows_have_room s = nat_le (length s.nets) most_nets && (nat_le (length s.links) (most_links s.duty) && nat_le (length s.pairs) most_pairs)
+rows_have_room s = nat_le (length s.nets) most_nets && (nat_le (length s.links) (most_links s.role) && nat_le (length s.pairs) most_pairs)
 
 unfoldable pub keys_differ : NodeState → Bool
 keys_differ s = all_apart (λ (a b : NetKey). same_key a.key b.key) s.nets && all_apart (λ (a b : LinkKey). same_key a.key b.key) s.links
@@ -53,12 +53,12 @@ same_bool a b = if a then b else not b
 
 unfoldable pub partners_agree : NodeState → Bool
 partners_agree s =
-    all_apart (λ (a b : LinkKey). like_rows a b && same_bool (is_unverified a.trust) (is_unverified b.trust)) s.links
+    all_apart (λ (a b : LinkKey). like_rows a b && same_bool (is_unverified a.attribute) (is_unverified b.attribute)) s.links
     && all_apart (λ (a b : LinkKey). like_rows a b && not (same_bool a.told b.told)) s.links
 
 -- A told row is a live row of the centre; a row that was ever provisional is from a code.
 unfoldable pub links_are_marked : NodeState → Bool
-links_are_marked s = list_all (λ (r : LinkKey). (not r.told || (r.live && is_centre s.duty)) && (not (is_provisional r.trust) || r.code)) s.links
+links_are_marked s = list_all (λ (r : LinkKey). (not r.told || (r.live && is_centre s.role)) && (not (is_provisional r.attribute) || r.code)) s.links
 
 -- stored floors aren't 0, and stand by ascending sender
 abbrev pub senders_ascend : List SenderFloor → Bool
@@ -71,13 +71,13 @@ floors_are_kept s = list_all (λ (r : NetKey). nat_le (length r.floors) most_sen
 unfoldable pub limits_are_started : NodeState → Bool
 limits_are_started s = list_all (λ (r : NetKey). r.started || nat_eq r.limit 0) s.nets
 
-abbrev pub is_fresh : Stage → Bool
+abbrev pub is_fresh : State → Bool
 is_fresh Fresh = true
 is_fresh _ = false
 
 -- The centre has no state of a joining node; pairs and a rollover are the centre's alone.
-unfoldable pub duty_is_kept : NodeState → Bool
-duty_is_kept s = if is_centre s.duty then is_fresh s.stage else not s.sending && nat_eq (length s.pairs) 0
+unfoldable pub role_is_kept : NodeState → Bool
+role_is_kept s = if is_centre s.role then is_fresh s.state else not s.sending && nat_eq (length s.pairs) 0
 
 unfoldable pub pairs_are_kept : NodeState → Bool
 pairs_are_kept s = list_all (λ (p : PairKey). nat_lt p.first p.second) s.pairs && all_apart (λ (a b : PairKey). nat_eq a.first b.first && nat_eq a.second b.second) s.pairs
@@ -86,7 +86,7 @@ pairs_are_kept s = list_all (λ (p : PairKey). nat_lt p.first p.second) s.pairs 
 unfoldable pub keeps_rules : NodeState → Bool
 keeps_rules s =
     rows_have_room s && (keys_differ s && (at_most_two_live s && (active_is_live s && (partners_agree s && (links_are_marked s
-    && (floors_are_kept s && (limits_are_started s && (duty_is_kept s && pairs_are_kept s))))))))
+    && (floors_are_kept s && (limits_are_started s && (role_is_kept s && pairs_are_kept s))))))))
 
 -- What a change needs of the state before it
 
@@ -114,14 +114,14 @@ may_move (DropNet key) s = live_net key s
 may_move (DropLink partner key) s = live_link partner key s
 may_move (Install key sequence) s = not (has_net key s.nets)
 may_move (Active key) s = live_net key s
-may_move (Row partner key trust) s = true
+may_move (Row partner key attribute) s = true
 may_move (Pair first second key) s = is_none (pair_of s first second)
-may_move (Became stage) s = true
-may_move (Live device) s = is_centre s.duty && is_live s device
-may_move (Removed device) s = is_centre s.duty && not (is_live s device)
+may_move (Became state) s = true
+may_move (Live device) s = is_centre s.role && is_live s device
+may_move (Removed device) s = is_centre s.role && not (is_live s device)
 may_move (Roll sending) s = true
-may_move (Told device) s = is_centre s.duty && is_live s device
-may_move (Untold device) s = is_centre s.duty && is_live s device
+may_move (Told device) s = is_centre s.role && is_live s device
+may_move (Untold device) s = is_centre s.role && is_live s device
 
 -- A row that a drop, active or floor names is there and live; a limit or floor isn't below the one that it replaces;
 -- the device of a live, told or untold has a live row and that of a removed none, and these stand in the centre alone;

@@ -1,7 +1,7 @@
 -- The frames that a node sends, by their fields: headers with their auxiliary headers (05-3474-21, chapters 2 to 4), in
 -- the values that this project's profile gives them. Fields are least significant byte first.
 use Rattle.std.specs.Prelude.{ℕ, ◌%◌, if◌then◌else◌, [], ◌∷◌, ◌++◌, nat_le}
-use Rattle.zb_model.specs.Data.{Bytes, Purpose, ForData, ForNetwork, ForTransport, ForLoad, Nwk, Aps, Sealing}
+use Rattle.zb_model.specs.Data.{Bytes, Label, ForData, ForNetwork, ForTransport, ForLoad, Nwk, Aps, Term}
 use Rattle.zb_model.specs.Record.{two_bytes, four_bytes, eight_bytes}
 
 abbrev pub low_byte : ℕ → ℕ
@@ -25,24 +25,24 @@ nwk_header control to from sequence = two_bytes control ++ (two_bytes to ++ (two
 abbrev pub nwk_control : ℕ
 nwk_control = 0x2d
 
-abbrev pub aps_control : Purpose → ℕ
+abbrev pub aps_control : Label → ℕ
 aps_control ForTransport = 0x35
 aps_control ForLoad = 0x3d
 aps_control _ = 0x25
 
 -- the label that an APS term has: network keys seal at NWK alone
-abbrev pub aps_label : Purpose → Purpose
+abbrev pub aps_label : Label → Label
 aps_label ForNetwork = ForData
 aps_label label = label
 
 abbrev pub nwk_auxiliary : ℕ → ℕ → ℕ → Bytes
 nwk_auxiliary counter source sequence = nwk_control ∷ four_bytes counter ++ (eight_bytes source ++ sequence ∷ [])
 
-abbrev pub aps_auxiliary : Purpose → ℕ → ℕ → Bytes
+abbrev pub aps_auxiliary : Label → ℕ → ℕ → Bytes
 aps_auxiliary label counter source = aps_control label ∷ four_bytes counter ++ eight_bytes source
 
 -- A secured NWK frame of a node: its sequence byte is the low byte of its counter.
-abbrev pub nwk_term : ℕ → ℕ → ℕ → ℕ → Bytes → ℕ → ℕ → Bytes → Sealing
+abbrev pub nwk_term : ℕ → ℕ → ℕ → ℕ → Bytes → ℕ → ℕ → Bytes → Term
 nwk_term control to from source key sequence counter content = record {
   layer = Nwk;
   base = key;
@@ -55,7 +55,7 @@ nwk_term control to from source key sequence counter content = record {
 }
 
 -- A sealed APS frame: `front` is its header up to its APS counter, which is the low byte of the frame counter.
-abbrev pub aps_term : Bytes → Purpose → Bytes → ℕ → ℕ → Bytes → Sealing
+abbrev pub aps_term : Bytes → Label → Bytes → ℕ → ℕ → Bytes → Term
 aps_term front label key source counter content = record {
   layer = Aps;
   base = key;

@@ -1,7 +1,7 @@
 -- The events of a node's own, one rule each: what they are refused for, in order, and what they do. This project's
 -- profile of Zigbee 05-3474-21, chapter 4.
 use Rattle.std.specs.Prelude.{ℕ, ◌+◌, ◌%◌, min, Bool, true, false, not, if◌then◌else◌, ◌&&◌, ◌||◌, List, [], ◌∷◌, ◌++◌, filter, Option, Some, None, nat_eq, is_some, find, fold}
-use Rattle.zb_model.specs.Data.{Bytes, Nwk, Aps, Stage, Knocked, Joined, Offered, Rejoining, Provisional, ForData, ForTransport, ForLoad, Move, Draw, Install, Active, Row, Became, Live, Removed, Roll, Told, Untold, NoKey, NotMember, WrongState, KeysFull, RowsFull, KeyInUse, NoDraw, CounterSpent, Policy, TransportNet, TransportApp, UpdateDevice, RemoveDevice, RequestApp, RequestLink, SwitchKey, VerifyKey, Task, SayTo, TellTo, DoKnock, DoRejoin, DoTimer, AskFor, HasChild, DoProvision, DoRemove, DoRoll, DoSwitch, DoAgain, DoShare}
+use Rattle.zb_model.specs.Data.{Bytes, Nwk, Aps, State, Knocked, Joined, Offered, Rejoining, Provisional, ForData, ForTransport, ForLoad, Move, Draw, Install, Active, Row, Became, Live, Removed, Roll, Told, Untold, NoKey, NotMember, WrongState, KeysFull, RowsFull, KeyInUse, NoDraw, CounterSpent, Policy, TransportNet, TransportApp, UpdateDevice, RemoveDevice, RequestApp, RequestLink, SwitchKey, VerifyKey, Task, SayTo, TellTo, DoKnock, DoRejoin, DoTimer, AskFor, HasChild, DoProvision, DoRemove, DoRoll, DoSwitch, DoAgain, DoShare}
 use Rattle.zb_model.specs.State.{NetKey, LinkKey, NodeState, is_centre, is_live_of, has_link, active_row, usable_active, newest, current, offered, is_live, is_told, code_row, other_user, pair_of}
 use Rattle.zb_model.specs.Tools.{Tools, verify_hash}
 use Rattle.zb_model.specs.Frames.{clear_command, clear_broadcast, to_all}
@@ -13,7 +13,7 @@ use Rattle.zb_model.specs.Rules.{Saying, Clear, Secret, Telling, Leaving, Sendin
 unfoldable pub say : NodeState → ℕ → Bytes → Outcome
 say s to bytes =
     given (usable_active s) NoKey (λ net.
-    unless (in_rejoining s.stage) WrongState (
+    unless (in_rejoining s.state) WrongState (
     unless (spent Nwk s) CounterSpent (
     Does [] (sends to true (Saying bytes)))))
 
@@ -28,7 +28,7 @@ knock c s =
 -- rejoin: a member that lost the network key's changes asks again
 unfoldable pub rejoin : NodeState → Outcome
 rejoin s =
-    unless (not (has_joined s.stage)) WrongState (
+    unless (not (has_joined s.state)) WrongState (
     Does (Became Rejoining ∷ []) None)
 
 -- timer, joined: a link key of its own is asked for (Request-Key, type 4)
@@ -45,7 +45,7 @@ verify_key tools c s =
     unless (spent Nwk s) CounterSpent (
     Does [] (sends 0 true (Clear clear_command (VerifyKey 4 c.me.eui (verify_hash tools row.key))))))
 
-abbrev pub timer_in : Stage → Tools → Setting → NodeState → Outcome
+abbrev pub timer_in : State → Tools → Setting → NodeState → Outcome
 timer_in Joined tools c s = request_key c s
 timer_in Offered tools c s = verify_key tools c s
 timer_in _ tools c s = Stop WrongState
@@ -54,14 +54,14 @@ timer_in _ tools c s = Stop WrongState
 unfoldable pub member_timer : Tools → Setting → NodeState → Outcome
 member_timer tools c s =
     given (usable_active s) NoKey (λ net.
-    timer_in s.stage tools c s)
+    timer_in s.state tools c s)
 
 -- ask: the centre is asked for a key with a partner (Request-Key, type 2)
 unfoldable pub ask : Setting → NodeState → ℕ → Outcome
 ask c s partner =
     given (usable_active s) NoKey (λ net.
     given (current s (centre_of c.stations)) NoKey (λ row.
-    unless (not (in_confirmed s.stage)) WrongState (
+    unless (not (in_confirmed s.state)) WrongState (
     unless (both_spent s) CounterSpent (
     Does [] (sends 0 true (Secret ForData row.key (RequestApp partner)))))))
 
@@ -70,7 +70,7 @@ unfoldable pub tell : Setting → NodeState → ℕ → Bytes → Outcome
 tell c s partner bytes =
     given (usable_active s) NoKey (λ net.
     given (find (is_live_of partner) s.links) NoKey (λ row.
-    unless (in_rejoining s.stage) WrongState (
+    unless (in_rejoining s.state) WrongState (
     unless (both_spent s) CounterSpent (
     Does [] (sends (short_of c partner) true (Telling row.key bytes))))))
 
@@ -93,7 +93,7 @@ report_child c s child rejoin (Some row) =
 unfoldable pub child_of_router : Setting → NodeState → ℕ → Bool → Outcome
 child_of_router c s child rejoin =
     given (usable_active s) NoKey (λ net.
-    unless (in_rejoining s.stage) WrongState (
+    unless (in_rejoining s.state) WrongState (
     report_child c s child rejoin (current s (centre_of c.stations))))
 
 -- Of the centre
@@ -222,4 +222,4 @@ own_at_member tools c s (HasChild child rejoin) = child_of_router c s child rejo
 own_at_member tools c s _ = Stop Policy
 
 unfoldable pub own : Tools → Setting → NodeState → Task → Outcome
-own tools c s task = if is_centre c.me.duty then own_at_centre c s task else own_at_member tools c s task
+own tools c s task = if is_centre c.me.role then own_at_centre c s task else own_at_member tools c s task

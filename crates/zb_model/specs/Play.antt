@@ -1,10 +1,10 @@
 -- A whole run: the group of lines that each event gives, with the stops and failures of disks that cut it, and the
 -- transcript of a schedule.
 use Rattle.std.specs.Prelude.{ℕ, ◌+◌, ◌-◌, ◌%◌, Bool, true, false, not, if◌then◌else◌, ◌&&◌, ◌||◌, List, [], ◌∷◌, ◌++◌, map, filter, find, length, slice_get, Option, Some, None, nat_eq, nat_lt, nat_le, flat_map}
-use Rattle.zb_model.specs.Data.{Bytes, Duty, Tier, Nwk, Aps, Purpose, Station, Sealing, Edit, Moved, Spot, AtEvent, Reason, Down, NoFrame, WrongState, Task, SayTo, TellTo, DoKnock, DoRejoin, DoTimer, AskFor, HasChild, DoProvision, DoRemove, DoRoll, DoSwitch, DoAgain, DoShare, Received}
-use Rattle.zb_model.specs.Lines.{LogLine, Declared, GivenNet, GivenLink, Counter, Changed, Commit, Accept, Refuse, Seal, Forge, Send, Inject, Stopped, DownReset, DownDisk, Boot, Dump}
+use Rattle.zb_model.specs.Data.{Bytes, Role, Layer, Nwk, Aps, Label, Station, Term, Edit, Moved, Place, AtEvent, Reason, Down, NoFrame, WrongState, Task, SayTo, TellTo, DoKnock, DoRejoin, DoTimer, AskFor, HasChild, DoProvision, DoRemove, DoRoll, DoSwitch, DoAgain, DoShare, Received}
+use Rattle.zb_model.specs.Lines.{Line, Declared, GivenNet, GivenLink, Counter, Changed, Commit, Accept, Refuse, Seal, Forge, Send, Inject, Stopped, DownReset, DownDisk, Boot, Dump}
 use Rattle.zb_model.specs.Record.{record_of}
-use Rattle.zb_model.specs.Tools.{Tools, LeaveSight, Leave, Other, NoCommand}
+use Rattle.zb_model.specs.Tools.{Tools, LeaveShown, Leave, Other, NoCommand}
 use Rattle.zb_model.specs.Frames.{plain_frame, secured_frame, leave_frame, nwk_header, nwk_term, aps_term, sealed_command}
 use Rattle.zb_model.specs.Rules.{Setting, Plan, centre_of, station_of}
 use Rattle.zb_model.specs.State.{NodeState}
@@ -15,7 +15,7 @@ use Rattle.zb_model.specs.Readings.{state_of, is_up, air, draws_used, commits_of
 
 -- A node with what it holds at the start: the link key of its install code, a network key with its sequence, and the
 -- stored outgoing limits.
-pub record Member : Type 0 where
+pub record Node : Type 0 where
   pub station : Station
   pub code : Option Bytes
   pub network : Option (Bytes × ℕ)
@@ -25,47 +25,47 @@ pub record Member : Type 0 where
 -- An event. Those of one node: what it does itself, and what happens to it; `Deliver` names the frame by its number. The
 -- others are the outside's: bytes that are put on the air, and frames that are forged under known keys: a NWK frame, one
 -- with an APS command sealed in it, and an unsecured NWK frame with such a command.
-pub data Act : Type 0 where
-  Own : (node : ℕ) (task : Task) → Act
-  RollOver : (node : ℕ) → Act
-  Deliver : (frame : ℕ) (node : ℕ) → Act
-  Reset : (node : ℕ) → Act
-  PowerOn : (node : ℕ) → Act
-  ShowRecord : (node : ℕ) → Act
-  ArmStop : (node : ℕ) (calls : ℕ) (torn : Bytes) → Act
-  ArmFail : (node : ℕ) (call : ℕ) → Act
-  InjectBytes : (bytes : Bytes) → Act
-  ForgeNet : (to : ℕ) (from : ℕ) (source : ℕ) (key : Bytes) (sequence : ℕ) (counter : ℕ) (content : Bytes) → Act
-  ForgeNetAps : (to : ℕ) (from : ℕ) (source : ℕ) (key : Bytes) (sequence : ℕ) (counter : ℕ) (label : Purpose) (base : Bytes) (aps_counter : ℕ) (command : Bytes) → Act
-  ForgeOpen : (to : ℕ) (from : ℕ) (source : ℕ) (label : Purpose) (base : Bytes) (aps_counter : ℕ) (command : Bytes) → Act
+pub data Event : Type 0 where
+  Own : (node : ℕ) (task : Task) → Event
+  RollOver : (node : ℕ) → Event
+  Deliver : (frame : ℕ) (node : ℕ) → Event
+  Reset : (node : ℕ) → Event
+  PowerOn : (node : ℕ) → Event
+  ShowRecord : (node : ℕ) → Event
+  ArmStop : (node : ℕ) (calls : ℕ) (torn : Bytes) → Event
+  ArmFail : (node : ℕ) (call : ℕ) → Event
+  InjectBytes : (bytes : Bytes) → Event
+  ForgeNet : (to : ℕ) (from : ℕ) (source : ℕ) (key : Bytes) (sequence : ℕ) (counter : ℕ) (content : Bytes) → Event
+  ForgeNetAps : (to : ℕ) (from : ℕ) (source : ℕ) (key : Bytes) (sequence : ℕ) (counter : ℕ) (label : Label) (base : Bytes) (aps_counter : ℕ) (command : Bytes) → Event
+  ForgeOpen : (to : ℕ) (from : ℕ) (source : ℕ) (label : Label) (base : Bytes) (aps_counter : ℕ) (command : Bytes) → Event
 
-pub record World : Type 0 where
-  pub members : List Member
+pub record Schedule : Type 0 where
+  pub nodes : List Node
   pub draws : List Bytes
-  pub acts : List Act
+  pub events : List Event
 
-abbrev pub stations : World → List Station
-stations w = map (λ (m : Member). m.station) w.members
+abbrev pub stations : Schedule → List Station
+stations w = map (λ (m : Node). m.station) w.nodes
 
 -- The start lines: the nodes, then their network keys, link keys and stored limits, each kind in the order of the nodes.
 
-abbrev pub net_line : ℕ → Option (Bytes × ℕ) → List LogLine
+abbrev pub net_line : ℕ → Option (Bytes × ℕ) → List Line
 net_line n None = []
 net_line n (Some given) = GivenNet n given.0 given.1 ∷ []
 
-abbrev pub link_line : ℕ → ℕ → Option Bytes → List LogLine
+abbrev pub link_line : ℕ → ℕ → Option Bytes → List Line
 link_line centre n None = []
 link_line centre n (Some key) = GivenLink n centre key ∷ []
 
-abbrev pub limit_line : ℕ → Tier → ℕ → List LogLine
+abbrev pub limit_line : ℕ → Layer → ℕ → List Line
 limit_line n layer limit = if nat_eq limit 0 then [] else Counter n layer limit ∷ []
 
-unfoldable pub start : World → List LogLine
+unfoldable pub start : Schedule → List Line
 start w =
     map Declared (stations w)
-    ++ (flat_map (λ (m : Member). net_line m.station.eui m.network) w.members
-    ++ (flat_map (λ (m : Member). link_line (centre_of (stations w)) m.station.eui m.code) w.members
-    ++ flat_map (λ (m : Member). limit_line m.station.eui Nwk m.start_nwk ++ limit_line m.station.eui Aps m.start_aps) w.members))
+    ++ (flat_map (λ (m : Node). net_line m.station.eui m.network) w.nodes
+    ++ (flat_map (λ (m : Node). link_line (centre_of (stations w)) m.station.eui m.code) w.nodes
+    ++ flat_map (λ (m : Node). limit_line m.station.eui Nwk m.start_nwk ++ limit_line m.station.eui Aps m.start_aps) w.nodes))
 
 -- The disks: what is armed, and whether both slots of the store stand open. A node's entry is added when it is needed.
 
@@ -145,54 +145,54 @@ leaves_both (StopAfter n torn) (BootCalls both) = both && (nat_le n 1 || is_gate
 leaves_both (FailAt n) (BootCalls both) = both && nat_le n 2
 leaves_both _ _ = false
 
-abbrev pub fallen_line : Armed → ℕ → ℕ → List LogLine
+abbrev pub fallen_line : Armed → ℕ → ℕ → List Line
 fallen_line NotArmed number n = []
 fallen_line (StopAfter calls torn) number n = Stopped number n ∷ []
 fallen_line (FailAt call) number n = DownDisk number n ∷ []
 
 -- One event: its lines, and the disks after it.
 pub record Step : Type 0 where
-  pub lines : List LogLine
+  pub lines : List Line
   pub disks : List Disk
 
 -- The lines of an answer, in their order: changes, commit, accepts, a refusal, seals, the frame. A group that is cut has the
 -- first two alone.
 
-abbrev pub change_lines : ℕ → ℕ → List Edit → List LogLine
+abbrev pub change_lines : ℕ → ℕ → List Edit → List Line
 change_lines number n edits = map (Changed number n) edits
 
-abbrev pub commit_lines : ℕ → ℕ → List Edit → List LogLine
+abbrev pub commit_lines : ℕ → ℕ → List Edit → List Line
 commit_lines number n [] = []
 commit_lines number n (e ∷ es) = Commit number n ∷ []
 
-abbrev pub refuse_lines : ℕ → ℕ → Spot → Option Reason → List LogLine
-refuse_lines number n spot None = []
-refuse_lines number n spot (Some reason) = Refuse number n spot reason ∷ []
+abbrev pub refuse_lines : ℕ → ℕ → Place → Option Reason → List Line
+refuse_lines number n place None = []
+refuse_lines number n place (Some reason) = Refuse number n place reason ∷ []
 
-abbrev pub send_lines : ℕ → Option ℕ → ℕ → Option Bytes → List LogLine
+abbrev pub send_lines : ℕ → Option ℕ → ℕ → Option Bytes → List Line
 send_lines number n frame None = []
 send_lines number n frame (Some bytes) = Send number n frame bytes ∷ []
 
-unfoldable pub stored_lines : ℕ → ℕ → Answer → List LogLine
+unfoldable pub stored_lines : ℕ → ℕ → Answer → List Line
 stored_lines number n a = change_lines number n a.edits ++ commit_lines number n a.edits
 
-unfoldable pub told_lines : ℕ → ℕ → ℕ → Answer → List LogLine
+unfoldable pub told_lines : ℕ → ℕ → ℕ → Answer → List Line
 told_lines number n frame a =
     map (Accept number n) a.accepts
-    ++ (refuse_lines number n a.spot a.refusal ++ (map (Seal number n) a.seals ++ send_lines number (Some n) frame a.frame))
+    ++ (refuse_lines number n a.place a.refusal ++ (map (Seal number n) a.seals ++ send_lines number (Some n) frame a.frame))
 
-abbrev pub calls_for : List LogLine → ℕ → List Edit → Calls
+abbrev pub calls_for : List Line → ℕ → List Edit → Calls
 calls_for h n [] = NoCalls
 calls_for h n (e ∷ es) = commit_calls (commits_of h n)
 
-unfoldable pub group_of : List LogLine → ℕ → ℕ → Answer → List LogLine
+unfoldable pub group_of : List Line → ℕ → ℕ → Answer → List Line
 group_of h number n a = stored_lines number n a ++ told_lines number n (length (air h) + 1) a
 
 -- what stands of the group where a stop or a failure falls on its commit
-unfoldable pub cut_of : Armed → Calls → ℕ → ℕ → Answer → List LogLine
+unfoldable pub cut_of : Armed → Calls → ℕ → ℕ → Answer → List Line
 cut_of armed calls number n a = (if stands armed calls then stored_lines number n a else []) ++ fallen_line armed number n
 
-abbrev pub answer_step : List LogLine → List Disk → ℕ → ℕ → Answer → Step
+abbrev pub answer_step : List Line → List Disk → ℕ → ℕ → Answer → Step
 answer_step h disks number n a =
     let d = disk_of disks n in
     let calls = calls_for h n a.edits in
@@ -213,17 +213,17 @@ refused_step disks number n reason = record { lines = Refuse number n AtEvent re
 
 -- the setting of a node: itself and the declared nodes
 abbrev pub no_station : Station
-no_station = record { name = []; eui = Rattle.zb_model.specs.Data.nobody; short = 0xffff; duty = Rattle.zb_model.specs.Data.Duty.Device; out_block = 0; in_block = 0 }
+no_station = record { name = []; eui = Rattle.zb_model.specs.Data.nobody; short = 0xffff; role = Rattle.zb_model.specs.Data.Role.Device; out_block = 0; in_block = 0 }
 
 abbrev pub station_or : Option Station → Station
 station_or None = no_station
 station_or (Some p) = p
 
-unfoldable pub setting_of : World → ℕ → Setting
+unfoldable pub setting_of : Schedule → ℕ → Setting
 setting_of w n = record { me = station_or (station_of (stations w) n); stations = stations w }
 
 -- the next key of the supply
-unfoldable pub supply : World → List LogLine → Option Bytes
+unfoldable pub supply : Schedule → List Line → Option Bytes
 supply w h = slice_get w.draws (draws_used h)
 
 -- How the counters of an answer are chosen: `counting_of` in a transcript.
@@ -233,42 +233,42 @@ Counts = Setting → NodeState → Plan → Counting
 abbrev pub answer_counted : Tools → Counts → Setting → NodeState → Plan → Answer
 answer_counted tools counts c s p = answer_by tools c s (counts c s p) p
 
-unfoldable pub task_step : Tools → Counts → World → List LogLine → List Disk → ℕ → ℕ → Task → Step
+unfoldable pub task_step : Tools → Counts → Schedule → List Line → List Disk → ℕ → ℕ → Task → Step
 task_step tools counts w h disks number n task =
     if is_up h n
     then answer_step h disks number n (answer_counted tools counts (setting_of w n) (state_of h n) (plan_of tools (setting_of w n) (state_of h n) task))
     else refused_step disks number n Down
 
-abbrev pub deliver_step : Tools → Counts → World → List LogLine → List Disk → ℕ → ℕ → Option Bytes → Step
+abbrev pub deliver_step : Tools → Counts → Schedule → List Line → List Disk → ℕ → ℕ → Option Bytes → Step
 deliver_step tools counts w h disks number n None = refused_step disks number n (if is_up h n then NoFrame else Down)
 deliver_step tools counts w h disks number n (Some bytes) = task_step tools counts w h disks number n (Received bytes (supply w h))
 
 -- the frame of a number from 1
-abbrev pub frame_at : List LogLine → ℕ → Option Bytes
+abbrev pub frame_at : List Line → ℕ → Option Bytes
 frame_at h frame = if nat_eq frame 0 then None else slice_get (air h) (frame - 1)
 
 -- Forged frames have the fields of a node's own frames; one whose content is a Leave is a NWK command.
 abbrev pub forged_control : Tools → Bytes → ℕ
 forged_control tools content = by_sight (tools.read_leave content)
   where
-    by_sight : LeaveSight → ℕ
+    by_sight : LeaveShown → ℕ
     by_sight (Leave options) = leave_frame
     by_sight Other = secured_frame
     by_sight NoCommand = secured_frame
 
-abbrev pub forged : List LogLine → ℕ → List Sealing → Bytes → List LogLine
+abbrev pub forged : List Line → ℕ → List Term → Bytes → List Line
 forged h number terms bytes = map (Forge number) terms ++ Send number None (length (air h) + 1) bytes ∷ []
 
-unfoldable pub forged_net : Tools → List LogLine → ℕ → Sealing → List LogLine
+unfoldable pub forged_net : Tools → List Line → ℕ → Term → List Line
 forged_net tools h number t = forged h number (t ∷ []) (tools.wire t)
 
-unfoldable pub forged_both : Tools → List LogLine → ℕ → Sealing → Sealing → List LogLine
+unfoldable pub forged_both : Tools → List Line → ℕ → Term → Term → List Line
 forged_both tools h number inner t = forged h number (inner ∷ t ∷ []) (tools.wire t)
 
-unfoldable pub forged_open : Tools → List LogLine → ℕ → ℕ → ℕ → Sealing → List LogLine
+unfoldable pub forged_open : Tools → List Line → ℕ → ℕ → ℕ → Term → List Line
 forged_open tools h number to from inner = forged h number (inner ∷ []) (nwk_header plain_frame to from 0 ++ tools.wire inner)
 
-unfoldable pub step_by : Tools → Counts → World → List LogLine → List Disk → ℕ → Act → Step
+unfoldable pub step_by : Tools → Counts → Schedule → List Line → List Disk → ℕ → Event → Step
 step_by tools counts w h disks number (Own n task) = task_step tools counts w h disks number n task
 step_by tools counts w h disks number (RollOver n) = task_step tools counts w h disks number n (DoRoll (supply w h))
 step_by tools counts w h disks number (Deliver frame n) = deliver_step tools counts w h disks number n (frame_at h frame)
@@ -289,12 +289,12 @@ step_by tools counts w h disks number (ForgeNetAps to from source key sequence c
 step_by tools counts w h disks number (ForgeOpen to from source label base aps_counter command) =
     record { lines = forged_open tools h number to from (aps_term sealed_command label base source aps_counter command); disks = disks }
 
-unfoldable pub step : Tools → World → List LogLine → List Disk → ℕ → Act → Step
-step tools w h disks number act = step_by tools counting_of w h disks number act
+unfoldable pub step : Tools → Schedule → List Line → List Disk → ℕ → Event → Step
+step tools w h disks number event = step_by tools counting_of w h disks number event
 
 -- All groups of a schedule's events, from an event's number on.
-unfoldable pub groups : Tools → World → List LogLine → List Disk → ℕ → List Act → List LogLine
+unfoldable pub groups : Tools → Schedule → List Line → List Disk → ℕ → List Event → List Line
 groups tools w h disks number [] = []
-groups tools w h disks number (act ∷ acts) =
-    let g = step tools w h disks number act in
-    g.lines ++ groups tools w (h ++ g.lines) g.disks (number + 1) acts
+groups tools w h disks number (event ∷ events) =
+    let g = step tools w h disks number event in
+    g.lines ++ groups tools w (h ++ g.lines) g.disks (number + 1) events

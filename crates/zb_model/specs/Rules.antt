@@ -2,17 +2,17 @@
 -- which is the changes that it makes and what it sends.
 use Rattle.std.specs.Prelude.{ℕ, Bool, true, false, not, if◌then◌else◌, ◌&&◌, ◌||◌, List, [], ◌∷◌, map, filter, find, length, Option, Some, None, nat_eq, nat_le, is_some}
 use Rattle.std.specs.List.{list_any}
-use Rattle.zb_model.specs.Data.{Bytes, Duty, Router, Tier, Nwk, Aps, Stage, Knocked, Joined, Offered, Confirmed, Rejoining, Purpose, Station, Sealing, Move, DropNet, DropLink, Spot, Reason, Order}
-use Rattle.zb_model.specs.State.{most, NetKey, LinkKey, NodeState, same_key, is_centre, is_live_of, has_net, next_counter, live_nets}
+use Rattle.zb_model.specs.Data.{Bytes, Role, Router, Layer, Nwk, Aps, State, Knocked, Joined, Offered, Confirmed, Rejoining, Label, Station, Term, Move, DropNet, DropLink, Place, Reason, Command}
+use Rattle.zb_model.specs.State.{greatest_counter, NetKey, LinkKey, NodeState, same_key, is_centre, is_live_of, has_net, next_counter, live_nets, is_active_key}
 use Rattle.zb_model.specs.Fits.{most_nets, most_links, most_pairs}
 
 -- What a node sends: application data, not sealed at APS; an APS command that isn't sealed, sealed under a link key, or
 -- sealed inside a Tunnel to a device; application data under a key of two devices; a Leave; the frame of a Tunnel.
 pub data Body : Type 0 where
   Saying : (bytes : Bytes) → Body
-  Clear : (control : ℕ) (order : Order) → Body
-  Secret : (label : Purpose) (key : Bytes) (order : Order) → Body
-  Tunnelled : (device : ℕ) (key : Bytes) (order : Order) → Body
+  Clear : (control : ℕ) (command : Command) → Body
+  Secret : (label : Label) (key : Bytes) (command : Command) → Body
+  Tunnelled : (device : ℕ) (key : Bytes) (command : Command) → Body
   Telling : (key : Bytes) (bytes : Bytes) → Body
   Leaving : Body
   Relayed : (bytes : Bytes) → Body
@@ -26,10 +26,10 @@ pub data Outcome : Type 0 where
   Stop : (reason : Reason) → Outcome
   Does : (moves : List Move) (sending : Option Sending) → Outcome
 
--- What an event comes to: the terms that were accepted, NWK before APS, and an outcome; a refusal is shown at `spot`.
+-- What an event comes to: the terms that were accepted, NWK before APS, and an outcome; a refusal is shown at `place`.
 pub record Plan : Type 0 where
-  pub accepts : List Sealing
-  pub spot : Spot
+  pub accepts : List Term
+  pub place : Place
   pub outcome : Outcome
 
 -- What a node knows of the network: itself, and the declared nodes.
@@ -53,10 +53,10 @@ sends to secured body = Some (record { to = to; secured = secured; body = body }
 
 -- Who is declared
 
-abbrev pub is_device_or_router : Duty → Bool
-is_device_or_router duty = not (is_centre duty)
+abbrev pub is_device_or_router : Role → Bool
+is_device_or_router role = not (is_centre role)
 
-abbrev pub is_router : Duty → Bool
+abbrev pub is_router : Role → Bool
 is_router Router = true
 is_router _ = false
 
@@ -76,7 +76,7 @@ short_or other None = other
 short_or other (Some p) = p.short
 
 unfoldable pub centre_of : List Station → ℕ
-centre_of stations = eui_or 18446744073709551616 (find (λ (p : Station). is_centre p.duty) stations)
+centre_of stations = eui_or 18446744073709551616 (find (λ (p : Station). is_centre p.role) stations)
 
 -- the declared short of a node that is declared
 unfoldable pub short_of : Setting → ℕ → ℕ
@@ -85,12 +85,12 @@ short_of c eui = short_or 0xffff (station_of c.stations eui)
 abbrev pub is_declared : Setting → ℕ → Bool
 is_declared c eui = is_some (station_of c.stations eui)
 
-abbrev pub duty_or : Duty → Option Station → Duty
-duty_or other None = other
-duty_or other (Some p) = p.duty
+abbrev pub role_or : Role → Option Station → Role
+role_or other None = other
+role_or other (Some p) = p.role
 
 abbrev pub acts_as_router : Setting → ℕ → Bool
-acts_as_router c eui = is_some (find (λ (p : Station). nat_eq p.eui eui && is_router p.duty) c.stations)
+acts_as_router c eui = is_some (find (λ (p : Station). nat_eq p.eui eui && is_router p.role) c.stations)
 
 abbrev pub from_centre : Setting → ℕ → Bool
 from_centre c source = nat_eq source (centre_of c.stations)
@@ -98,28 +98,28 @@ from_centre c source = nat_eq source (centre_of c.stations)
 -- Tests on the state
 
 -- the counter of the layer stands at its end
-unfoldable pub spent : Tier → NodeState → Bool
-spent layer s = nat_le most (next_counter layer s)
+unfoldable pub spent : Layer → NodeState → Bool
+spent layer s = nat_le greatest_counter (next_counter layer s)
 
 unfoldable pub both_spent : NodeState → Bool
 both_spent s = spent Nwk s || spent Aps s
 
-abbrev pub in_rejoining : Stage → Bool
+abbrev pub in_rejoining : State → Bool
 in_rejoining Rejoining = true
 in_rejoining _ = false
 
-abbrev pub in_confirmed : Stage → Bool
+abbrev pub in_confirmed : State → Bool
 in_confirmed Confirmed = true
 in_confirmed _ = false
 
-abbrev pub has_joined : Stage → Bool
+abbrev pub has_joined : State → Bool
 has_joined Joined = true
 has_joined Offered = true
 has_joined Confirmed = true
 has_joined _ = false
 
 -- a network key that is taken now becomes active at once
-abbrev pub waits_for_key : Stage → Bool
+abbrev pub waits_for_key : State → Bool
 waits_for_key Knocked = true
 waits_for_key Rejoining = true
 waits_for_key _ = false
@@ -128,7 +128,7 @@ abbrev pub nets_full : NodeState → Bool
 nets_full s = nat_le most_nets (length s.nets)
 
 abbrev pub links_full : NodeState → Bool
-links_full s = nat_le (most_links s.duty) (length s.links)
+links_full s = nat_le (most_links s.role) (length s.links)
 
 abbrev pub pairs_full : NodeState → Bool
 pairs_full s = nat_le most_pairs (length s.pairs)
@@ -157,13 +157,9 @@ drop_row (Some r) = drop_link r ∷ []
 
 -- Two network keys are live at most: before a third comes, the one that isn't active is dropped, or the first of them
 -- where none is.
-abbrev pub is_active : Option Bytes → NetKey → Bool
-is_active None r = false
-is_active (Some key) r = same_key r.key key
-
 abbrev pub first_drop : List NetKey → List Move
 first_drop [] = []
 first_drop (r ∷ rs) = DropNet r.key ∷ []
 
 unfoldable pub drop_old : NodeState → List Move
-drop_old s = if nat_le 2 (length (live_nets s)) then first_drop (filter (λ (r : NetKey). not (is_active s.active r)) (live_nets s)) else []
+drop_old s = if nat_le 2 (length (live_nets s)) then first_drop (filter (λ (r : NetKey). not (is_active_key s.active r.key)) (live_nets s)) else []

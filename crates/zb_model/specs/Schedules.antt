@@ -1,23 +1,23 @@
 -- What every schedule keeps that is read from a text: the premises of the laws about runs.
 use Rattle.std.specs.Prelude.{ℕ, ◌≡◌, ◌<◌, ◌≤◌, ◌^◌, true, is_some, ⊤}
 use Rattle.std.specs.List.{AllByRecursion}
-use Rattle.zb_model.specs.State.{most}
+use Rattle.zb_model.specs.State.{greatest_counter}
 use Rattle.zb_model.specs.Rules.{station_of}
-use Rattle.zb_model.specs.Play.{World, Member, Act, Own, RollOver, Deliver, Reset, PowerOn, ShowRecord, ArmStop, ArmFail, stations}
+use Rattle.zb_model.specs.Play.{Schedule, Node, Event, Own, RollOver, Deliver, Reset, PowerOn, ShowRecord, ArmStop, ArmFail, stations}
 
 -- a declared node: its EUI has 64 bits, its blocks aren't empty, and its stored limits at the start are counters
-pub record IsMember (m : Member) : Type 0 where
+pub record IsMember (m : Node) : Type 0 where
   pub eui : m.station.eui < 2 ^ 64
   pub out_block : 0 < m.station.out_block
   pub in_block : 0 < m.station.in_block
-  pub start_nwk : m.start_nwk ≤ most
-  pub start_aps : m.start_aps ≤ most
+  pub start_nwk : m.start_nwk ≤ greatest_counter
+  pub start_aps : m.start_aps ≤ greatest_counter
 
-abbrev pub Names : World → ℕ → Type 0
+abbrev pub Names : Schedule → ℕ → Type 0
 Names w n = is_some (station_of (stations w) n) ≡ true
 
 -- an event's node is declared
-abbrev pub NamesNode : World → Act → Type 0
+abbrev pub NamesNode : Schedule → Event → Type 0
 NamesNode w (Own n task) = Names w n
 NamesNode w (RollOver n) = Names w n
 NamesNode w (Deliver frame n) = Names w n
@@ -28,6 +28,6 @@ NamesNode w (ArmStop n calls torn) = Names w n
 NamesNode w (ArmFail n call) = Names w n
 NamesNode w _ = ⊤
 
-pub record IsSchedule (w : World) : Type 0 where
-  pub members : AllByRecursion IsMember w.members
-  pub events : AllByRecursion (NamesNode w) w.acts
+pub record IsSchedule (w : Schedule) : Type 0 where
+  pub nodes : AllByRecursion IsMember w.nodes
+  pub events : AllByRecursion (NamesNode w) w.events

@@ -3,11 +3,11 @@
 -- fall, a key that has a row gets no second one. Where a change fits the state (`Fits`), it does just what it says.
 use Rattle.std.specs.Prelude.{ℕ, ◌+◌, min, max, Bool, true, false, not, if◌then◌else◌, ◌&&◌, ◌||◌, List, [], ◌∷◌, ◌++◌, map, filter, find, reverse, Option, Some, None, nat_eq, nat_lt, bytes_eq}
 use Rattle.std.specs.List.{list_any}
-use Rattle.zb_model.specs.Data.{Bytes, Duty, Centre, Router, Device, Tier, Nwk, Aps, Stage, Fresh, Knocked, Joined, Gone, Trust, Provisional, Unverified, Verified, Sealing, Move, Draw, DropNet, DropLink, Install, Active, Row, Pair, Became, Live, Removed, Roll, Told, Untold, Edit, Reserve, Floor, Start, Moved}
+use Rattle.zb_model.specs.Data.{Bytes, Role, Centre, Router, Device, Layer, Nwk, Aps, Label, ForData, ForNetwork, ForTransport, ForLoad, State, Fresh, Knocked, Joined, Gone, Attribute, Provisional, Unverified, Verified, Term, Move, Draw, DropNet, DropLink, Install, Active, Row, Pair, Became, Live, Removed, Roll, Told, Untold, Edit, Reserve, Floor, Start, Moved}
 
 -- The greatest counter. A frame with it is never sealed nor accepted.
-abbrev pub most : ℕ
-most = 4294967295
+abbrev pub greatest_counter : ℕ
+greatest_counter = 4294967295
 
 -- What a row keeps of one sender: its frames below `kept` are stale; `stored` is what a reset leaves of it.
 pub record SenderFloor : Type 0 where
@@ -32,7 +32,7 @@ pub record NetKey : Type 0 where
 pub record LinkKey : Type 0 where
   pub partner : ℕ
   pub key : Bytes
-  pub trust : Trust
+  pub attribute : Attribute
   pub live : Bool
   pub code : Bool
   pub told : Bool
@@ -48,8 +48,8 @@ pub record PairKey : Type 0 where
 -- `declared` is the NWK counter from which the first active network key starts. `active` is the key of the active
 -- row. Rows are only added, revived or dropped, and keep their order.
 pub record NodeState : Type 0 where
-  pub duty : Duty
-  pub stage : Stage
+  pub role : Role
+  pub state : State
   pub declared : ℕ
   pub aps_limit : ℕ
   pub aps_next : ℕ
@@ -60,30 +60,47 @@ pub record NodeState : Type 0 where
   pub pairs : List PairKey
 
 -- A node before its first line.
-abbrev pub new_node : Duty → NodeState
-new_node duty = record { duty = duty; stage = Fresh; declared = 0; aps_limit = 0; aps_next = 0; sending = false; nets = []; active = None; links = []; pairs = [] }
+abbrev pub new_node : Role → NodeState
+new_node role = record { role = role; state = Fresh; declared = 0; aps_limit = 0; aps_next = 0; sending = false; nets = []; active = None; links = []; pairs = [] }
 
 -- Tests
 
 abbrev pub same_key : Bytes → Bytes → Bool
 same_key a b = bytes_eq a b
 
-abbrev pub is_centre : Duty → Bool
+-- whether a key is that of the active row
+abbrev pub is_active_key : Option Bytes → Bytes → Bool
+is_active_key None key = false
+is_active_key (Some active) key = same_key key active
+
+abbrev pub same_layer : Layer → Layer → Bool
+same_layer Nwk Nwk = true
+same_layer Aps Aps = true
+same_layer _ _ = false
+
+abbrev pub same_label : Label → Label → Bool
+same_label ForData ForData = true
+same_label ForNetwork ForNetwork = true
+same_label ForTransport ForTransport = true
+same_label ForLoad ForLoad = true
+same_label _ _ = false
+
+abbrev pub is_centre : Role → Bool
 is_centre Centre = true
 is_centre Router = false
 is_centre Device = false
 
-abbrev pub is_provisional : Trust → Bool
+abbrev pub is_provisional : Attribute → Bool
 is_provisional Provisional = true
 is_provisional Unverified = false
 is_provisional Verified = false
 
-abbrev pub is_unverified : Trust → Bool
+abbrev pub is_unverified : Attribute → Bool
 is_unverified Provisional = false
 is_unverified Unverified = true
 is_unverified Verified = false
 
-abbrev pub is_verified : Trust → Bool
+abbrev pub is_verified : Attribute → Bool
 is_verified Provisional = false
 is_verified Unverified = false
 is_verified Verified = true
@@ -122,13 +139,13 @@ active_row s = net_of_active s.active s
 -- The network rows that a node may use: its live ones, but none in a router or device that has left, or that
 -- knocks and so waits for the network key.
 abbrev pub may_use : NodeState → Bool
-may_use s = stage_may_use s.stage
+may_use s = state_may_use s.state
   where
-    stage_may_use : Stage → Bool
-    stage_may_use Fresh = is_centre s.duty
-    stage_may_use Knocked = is_centre s.duty
-    stage_may_use Gone = is_centre s.duty
-    stage_may_use _ = true
+    state_may_use : State → Bool
+    state_may_use Fresh = is_centre s.role
+    state_may_use Knocked = is_centre s.role
+    state_may_use Gone = is_centre s.role
+    state_may_use _ = true
 
 abbrev pub live_nets : NodeState → List NetKey
 live_nets s = filter (λ (r : NetKey). r.live) s.nets
@@ -156,10 +173,10 @@ live_of s sequence = last_where (λ (r : NetKey). r.live && nat_eq r.sequence se
 
 -- The current link row of a partner: its live row that isn't unverified. The offered one: its live unverified row.
 unfoldable pub current : NodeState → ℕ → Option LinkKey
-current s partner = find (λ (r : LinkKey). is_live_of partner r && not (is_unverified r.trust)) s.links
+current s partner = find (λ (r : LinkKey). is_live_of partner r && not (is_unverified r.attribute)) s.links
 
 unfoldable pub offered : NodeState → ℕ → Option LinkKey
-offered s partner = find (λ (r : LinkKey). is_live_of partner r && is_unverified r.trust) s.links
+offered s partner = find (λ (r : LinkKey). is_live_of partner r && is_unverified r.attribute) s.links
 
 -- A device is live at the centre where the centre has a live row for it.
 unfoldable pub is_live : NodeState → ℕ → Bool
@@ -191,11 +208,11 @@ abbrev pub limit_of : ℕ → Option NetKey → ℕ
 limit_of declared None = declared
 limit_of declared (Some r) = r.limit
 
-unfoldable pub next_counter : Tier → NodeState → ℕ
+unfoldable pub next_counter : Layer → NodeState → ℕ
 next_counter Nwk s = next_of s.declared (active_row s)
 next_counter Aps s = s.aps_next
 
-unfoldable pub stored_limit : Tier → NodeState → ℕ
+unfoldable pub stored_limit : Layer → NodeState → ℕ
 stored_limit Nwk s = limit_of s.declared (active_row s)
 stored_limit Aps s = s.aps_limit
 
@@ -224,11 +241,11 @@ new_net key sequence = record { key = key; sequence = sequence; live = true; sta
 
 -- A limit is never lowered, nor is it more than the greatest counter; a row that reserves counts as started.
 abbrev pub reserved : ℕ → NetKey → NetKey
-reserved limit r = record r { started = true; limit = max r.limit (min limit most) }
+reserved limit r = record r { started = true; limit = max r.limit (min limit greatest_counter) }
 
 -- The first counter of a key that becomes active.
 abbrev pub started_at : ℕ → NetKey → NetKey
-started_at value r = record r { started = true; limit = max r.limit (min value most); next = max r.next (min value most) }
+started_at value r = record r { started = true; limit = max r.limit (min value greatest_counter); next = max r.next (min value greatest_counter) }
 
 abbrev pub dropped_net : NetKey → NetKey
 dropped_net r = record r { live = false }
@@ -253,16 +270,16 @@ abbrev pub told_as : Bool → LinkKey → LinkKey
 told_as told r = record r { told = told }
 
 -- A link key is new, revived or gets another attribute. Whether its partner was told stays as it is.
-abbrev pub revived : Trust → Bool → LinkKey → LinkKey
-revived trust told r = record r { trust = trust; live = true; code = r.code || is_provisional trust; told = told }
+abbrev pub revived : Attribute → Bool → LinkKey → LinkKey
+revived attribute told r = record r { attribute = attribute; live = true; code = r.code || is_provisional attribute; told = told }
 
-abbrev pub new_link : ℕ → Bytes → Trust → Bool → LinkKey
-new_link partner key trust told = record { partner = partner; key = key; trust = trust; live = true; code = is_provisional trust; told = told; kept = 0; stored = 0 }
+abbrev pub new_link : ℕ → Bytes → Attribute → Bool → LinkKey
+new_link partner key attribute told = record { partner = partner; key = key; attribute = attribute; live = true; code = is_provisional attribute; told = told; kept = 0; stored = 0 }
 
-abbrev pub with_link : ℕ → Bytes → Trust → Bool → List LinkKey → List LinkKey
-with_link partner key trust told links =
-    if has_link partner key links then at_link partner key (revived trust told) links
-    else links ++ new_link partner key trust told ∷ []
+abbrev pub with_link : ℕ → Bytes → Attribute → Bool → List LinkKey → List LinkKey
+with_link partner key attribute told links =
+    if has_link partner key links then at_link partner key (revived attribute told) links
+    else links ++ new_link partner key attribute told ∷ []
 
 abbrev pub with_told : ℕ → Bool → List LinkKey → List LinkKey
 with_told partner told links = map (λ (r : LinkKey). if is_live_of partner r then told_as told r else r) links
@@ -277,9 +294,9 @@ moved (DropNet key) s = record s { nets = at_net key dropped_net s.nets }
 moved (DropLink partner key) s = record s { links = at_link partner key dropped_link s.links }
 moved (Install key sequence) s = record s { nets = if has_net key s.nets then s.nets else s.nets ++ new_net key sequence ∷ [] }
 moved (Active key) s = record s { active = Some key }
-moved (Row partner key trust) s = record s { links = with_link partner key trust (is_told s partner) s.links }
+moved (Row partner key attribute) s = record s { links = with_link partner key attribute (is_told s partner) s.links }
 moved (Pair first second key) s = record s { pairs = with_pair first second key s.pairs }
-moved (Became stage) s = record s { stage = stage }
+moved (Became state) s = record s { state = state }
 moved (Live device) s = record s { links = with_told device false s.links }
 moved (Removed device) s = record s { pairs = filter (λ (p : PairKey). not (names device p)) s.pairs }
 moved (Roll sending) s = record s { sending = sending; links = if sending then map (told_as false) s.links else s.links }
@@ -288,7 +305,7 @@ moved (Untold device) s = record s { links = with_told device false s.links }
 
 unfoldable pub applied : Edit → NodeState → NodeState
 applied (Reserve Nwk limit) s = record s { nets = of_active (reserved limit) s.active s.nets }
-applied (Reserve Aps limit) s = record s { aps_limit = max s.aps_limit (min limit most) }
+applied (Reserve Aps limit) s = record s { aps_limit = max s.aps_limit (min limit greatest_counter) }
 applied (Floor Nwk key sender value) s = record s { nets = at_net key (net_floor sender value) s.nets }
 applied (Floor Aps key sender value) s = record s { links = at_link sender key (link_floor value) s.links }
 applied (Start key value) s = record s { nets = at_net key (started_at value) s.nets }
@@ -305,15 +322,15 @@ abbrev pub next_at : ℕ → NetKey → NetKey
 next_at next r = record r { next = next }
 
 -- a term was sealed: the counter goes on from it
-abbrev pub sealed_at : Tier → Sealing → NodeState → NodeState
+abbrev pub sealed_at : Layer → Term → NodeState → NodeState
 sealed_at Nwk t s = record s { nets = at_net t.base (next_at (t.counter + 1)) s.nets }
 sealed_at Aps t s = record s { aps_next = t.counter + 1 }
 
-unfoldable pub sealed : Sealing → NodeState → NodeState
+unfoldable pub sealed : Term → NodeState → NodeState
 sealed t s = sealed_at t.layer t s
 
 -- the next counter of the layer is used
-unfoldable pub counted : Tier → NodeState → NodeState
+unfoldable pub counted : Layer → NodeState → NodeState
 counted Nwk s = record s { nets = of_active (λ r. next_at (r.next + 1) r) s.active s.nets }
 counted Aps s = record s { aps_next = s.aps_next + 1 }
 
@@ -327,11 +344,11 @@ abbrev pub link_kept : ℕ → LinkKey → LinkKey
 link_kept kept r = record r { kept = kept }
 
 -- a sender's counter was accepted under a key of the layer
-unfoldable pub heard : Tier → Bytes → ℕ → ℕ → NodeState → NodeState
+unfoldable pub heard : Layer → Bytes → ℕ → ℕ → NodeState → NodeState
 heard Nwk key sender counter s = record s { nets = at_net key (net_kept sender (counter + 1)) s.nets }
 heard Aps key sender counter s = record s { links = at_link sender key (link_kept (counter + 1)) s.links }
 
-unfoldable pub accepted : Sealing → NodeState → NodeState
+unfoldable pub accepted : Term → NodeState → NodeState
 accepted t s = heard t.layer t.base t.source t.counter s
 
 -- After a boot the counters go on from their limits, and the floors are those that were stored.
@@ -364,7 +381,7 @@ unfoldable pub with_given_net : Bytes → ℕ → NodeState → NodeState
 with_given_net key sequence s = record s {
   nets = if has_net key s.nets then s.nets else s.nets ++ given_net s.declared key sequence ∷ [];
   active = Some key;
-  stage = if is_centre s.duty then Fresh else Joined;
+  state = if is_centre s.role then Fresh else Joined;
 }
 
 -- the link key of an install code
@@ -375,6 +392,6 @@ abbrev pub declared_at : ℕ → NetKey → NetKey
 declared_at value r = if r.started then record r { limit = max r.limit value; next = max r.next value } else r
 
 -- the stored outgoing limit at the start
-unfoldable pub with_declared : Tier → ℕ → NodeState → NodeState
+unfoldable pub with_declared : Layer → ℕ → NodeState → NodeState
 with_declared Nwk value s = record s { declared = value; nets = map (declared_at value) s.nets }
 with_declared Aps value s = record s { aps_limit = max s.aps_limit value; aps_next = max s.aps_next value }

@@ -1,7 +1,7 @@
 -- What the policy takes from below, as one record: sealing and opening, hashing, and how frames and commands are read and
 -- spelled. The rules use these as they are; no law looks inside.
 use Rattle.std.specs.Prelude.{ℕ, Bool, Option}
-use Rattle.zb_model.specs.Data.{Bytes, Purpose, ForData, ForNetwork, ForTransport, ForLoad, Sealing, Order}
+use Rattle.zb_model.specs.Data.{Bytes, Label, ForData, ForNetwork, ForTransport, ForLoad, Term, Command}
 
 -- What a NWK frame shows before it is opened: whether it is a command, its short addresses, its auxiliary header where
 -- it is secured (frame counter, source EUI, key sequence), and its payload where it isn't.
@@ -10,7 +10,7 @@ pub record NwkAuxiliary : Type 0 where
   pub source : ℕ
   pub sequence : ℕ
 
-pub record NwkSight : Type 0 where
+pub record NwkShown : Type 0 where
   pub is_command : Bool
   pub destination : ℕ
   pub source : ℕ
@@ -20,44 +20,44 @@ pub record NwkSight : Type 0 where
 -- What an APS frame shows: whether it is a command (else data or an acknowledgement), its auxiliary header where it is
 -- secured (label, frame counter, source EUI if it stands there), and its payload where it isn't.
 pub record ApsAuxiliary : Type 0 where
-  pub label : Purpose
+  pub label : Label
   pub counter : ℕ
   pub source : Option ℕ
 
-pub record ApsSight : Type 0 where
+pub record ApsShown : Type 0 where
   pub is_command : Bool
   pub auxiliary : Option ApsAuxiliary
   pub body : Bytes
 
 -- What bytes are as an APS command: one that is known; one whose identifier or key type isn't; or none.
-pub data OrderSight : Type 0 where
-  Known : (order : Order) → OrderSight
-  Unknown : OrderSight
-  Broken : OrderSight
+pub data CommandShown : Type 0 where
+  Known : (command : Command) → CommandShown
+  Unknown : CommandShown
+  Broken : CommandShown
 
 -- What bytes are as a NWK command: a Leave with its options; a command of another identifier; or none.
-pub data LeaveSight : Type 0 where
-  Leave : (options : ℕ) → LeaveSight
-  Other : LeaveSight
-  NoCommand : LeaveSight
+pub data LeaveShown : Type 0 where
+  Leave : (options : ℕ) → LeaveShown
+  Other : LeaveShown
+  NoCommand : LeaveShown
 
 pub record Tools : Type 0 where
   -- the frame of a sealed term
-  pub wire : Sealing → Bytes
+  pub wire : Term → Bytes
   -- the keyed hash of a key over one byte: 00 gives its transport key, 02 its load key, 03 what Verify-Key shows of it
   pub keyed : Bytes → ℕ → Bytes
   -- a NWK frame, and what it opens to under a base key
-  pub read_nwk : Bytes → Option NwkSight
-  pub open_nwk : Bytes → Bytes → Option Sealing
+  pub read_nwk : Bytes → Option NwkShown
+  pub open_nwk : Bytes → Bytes → Option Term
   -- an APS frame, and what it opens to under a base key, with the source that it may leave out
-  pub read_aps : Bytes → Option ApsSight
-  pub open_aps : Bytes → Bytes → ℕ → Option Sealing
-  pub read_order : Bytes → OrderSight
-  pub spelled : Order → Bytes
-  pub read_leave : Bytes → LeaveSight
+  pub read_aps : Bytes → Option ApsShown
+  pub open_aps : Bytes → Bytes → ℕ → Option Term
+  pub read_command : Bytes → CommandShown
+  pub spelled : Command → Bytes
+  pub read_leave : Bytes → LeaveShown
 
 -- The key under which a base key seals with a label (05-3474-21, 4.5.3): itself for data and network, else derived.
-unfoldable pub sealing_key : Tools → Purpose → Bytes → Bytes
+unfoldable pub sealing_key : Tools → Label → Bytes → Bytes
 sealing_key tools ForData key = key
 sealing_key tools ForNetwork key = key
 sealing_key tools ForTransport key = tools.keyed key 0

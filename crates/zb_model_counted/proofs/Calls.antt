@@ -2,14 +2,14 @@
 use Rattle.std.proofs.Common.{◌≡◌, ℕ, ◌+◌, min, Bool, true, false, cond, ◌&&◌, List, [], ◌∷◌, ◌++◌, map, filter, Option, Some, None, option_map, option_to_list, nat_eq, nat_le, flat_map, refl, sym, ap, ◌∙◌}
 use Rattle.std.proofs.lemmas.Bool.{false≢true}
 use Rattle.std.specs.List.{AllByRecursion}
-use Rattle.zb_model.specs.Data.{Bytes, Tier, Nwk, Aps, Sealing, Edit, Reserve, Floor, Start, Moved, Move, Draw, DropNet, DropLink, Install, Active, Row, Pair, Became, Live, Removed, Roll, Told, Untold}
-use Rattle.zb_model.specs.Lines.{LogLine, Changed, Accept, Seal}
-use Rattle.zb_model.specs.State.{most, NetKey, NodeState, at_net, has_net, new_net, dropped_net, active_row, next_counter, stored_limit}
+use Rattle.zb_model.specs.Data.{Bytes, Layer, Nwk, Aps, Term, Edit, Reserve, Floor, Start, Moved, Move, Draw, DropNet, DropLink, Install, Active, Row, Pair, Became, Live, Removed, Roll, Told, Untold}
+use Rattle.zb_model.specs.Lines.{Line, Changed, Accept, Seal}
+use Rattle.zb_model.specs.State.{greatest_counter, NetKey, NodeState, at_net, has_net, new_net, dropped_net, active_row, next_counter, stored_limit, same_layer}
 use Rattle.zb_model.specs.Tools.{Tools}
 use Rattle.zb_model.specs.Rules.{Body, Saying, Clear, Secret, Tunnelled, Telling, Leaving, Relayed, Sending, Setting}
-use Rattle.zb_model.specs.Answer.{Counting, has_aps_seal, seals_at, part_of, framed, sent, may_seal, out_of, nothing_out, row_is_started, reserve_of, same_tier, stored_floor, floor_for, floor_of, start_edit, move_edits, changes, is_started_key, activated, start_for}
+use Rattle.zb_model.specs.Answer.{Counting, has_aps_seal, seals_at, part_of, framed, sent, may_seal, out_of, nothing_out, row_is_started, reserve_of, stored_floor, floor_for, floor_of, start_edit, move_edits, changes, is_started_key, activated, start_for}
 use Rattle.zb_model.specs.Readings.{state_of}
-use Rattle.zb_model.specs.Play.{World, setting_of}
+use Rattle.zb_model.specs.Play.{Schedule, setting_of}
 use Rattle.zb_model_laws.proofs.Basics.{append-nil', flat_map-append}
 use Rattle.zb_model_laws.proofs.Groups.{may-seal}
 use Rattle.zb_model_laws.proofs.Judged.{AcceptsFit}
@@ -20,38 +20,38 @@ use Rattle.zb_model_counted.proofs.Sections.{map-append, flat-none, reserve_list
 -- Reserves
 
 -- what a sealed term calls for at a layer, whatever its counter: `due`, where it is of the layer
-abbrev Calls : Tier → List LogLine → Sealing → List LogLine
-Calls layer due t = cond (same_tier t.layer layer) due []
+abbrev Calls : Layer → List Line → Term → List Line
+Calls layer due t = cond (same_layer t.layer layer) due []
 
-body-calls-net : (due : List LogLine) (tools : Tools) (me to nwk aps : ℕ) (body : Body) → flat_map (Calls Nwk due) (part_of tools me to nwk aps body).seals ≡ []
+body-calls-net : (due : List Line) (tools : Tools) (me to nwk aps : ℕ) (body : Body) → flat_map (Calls Nwk due) (part_of tools me to nwk aps body).seals ≡ []
 unfolding part_of
 body-calls-net due tools me to nwk aps (Saying bytes) = refl
-body-calls-net due tools me to nwk aps (Clear control order) = refl
-body-calls-net due tools me to nwk aps (Secret label key order) = refl
-body-calls-net due tools me to nwk aps (Tunnelled device key order) = refl
+body-calls-net due tools me to nwk aps (Clear control command) = refl
+body-calls-net due tools me to nwk aps (Secret label key command) = refl
+body-calls-net due tools me to nwk aps (Tunnelled device key command) = refl
 body-calls-net due tools me to nwk aps (Telling key bytes) = refl
 body-calls-net due tools me to nwk aps Leaving = refl
 body-calls-net due tools me to nwk aps (Relayed bytes) = refl
 
-body-calls-aps : (due : List LogLine) (tools : Tools) (me to nwk aps : ℕ) (body : Body) → flat_map (Calls Aps due) (part_of tools me to nwk aps body).seals ≡ cond (has_aps_seal body) due []
+body-calls-aps : (due : List Line) (tools : Tools) (me to nwk aps : ℕ) (body : Body) → flat_map (Calls Aps due) (part_of tools me to nwk aps body).seals ≡ cond (has_aps_seal body) due []
 unfolding part_of
 body-calls-aps due tools me to nwk aps (Saying bytes) = refl
-body-calls-aps due tools me to nwk aps (Clear control order) = refl
-body-calls-aps due tools me to nwk aps (Secret label key order) = append-nil' due
-body-calls-aps due tools me to nwk aps (Tunnelled device key order) = append-nil' due
+body-calls-aps due tools me to nwk aps (Clear control command) = refl
+body-calls-aps due tools me to nwk aps (Secret label key command) = append-nil' due
+body-calls-aps due tools me to nwk aps (Tunnelled device key command) = append-nil' due
 body-calls-aps due tools me to nwk aps (Telling key bytes) = append-nil' due
 body-calls-aps due tools me to nwk aps Leaving = refl
 body-calls-aps due tools me to nwk aps (Relayed bytes) = refl
 
 -- the layers at which a body is sealed in a frame
-abbrev sealed_at_layer : Tier → Bool → Body → Bool
+abbrev sealed_at_layer : Layer → Bool → Body → Bool
 sealed_at_layer Nwk secured body = secured
 sealed_at_layer Aps secured body = has_aps_seal body
 
 no-row : row_is_started None ≡ true → ⊥
 no-row e = false≢true e
 
-framed-calls : (layer : Tier) (due : List LogLine) (tools : Tools) (c : Setting) (to nwk aps : ℕ) (secured : Bool) (row : Option NetKey) (body : Body) → (secured ≡ true → row_is_started row ≡ true)
+framed-calls : (layer : Layer) (due : List Line) (tools : Tools) (c : Setting) (to nwk aps : ℕ) (secured : Bool) (row : Option NetKey) (body : Body) → (secured ≡ true → row_is_started row ≡ true)
     → flat_map (Calls layer due) (framed tools c to nwk secured row (part_of tools c.me.eui to nwk aps body)).seals ≡ cond (sealed_at_layer layer secured body) due []
 framed-calls Nwk due tools c to nwk aps false row body k = body-calls-net due tools c.me.eui to nwk aps body
 framed-calls Aps due tools c to nwk aps false row body k = body-calls-aps due tools c.me.eui to nwk aps body
@@ -65,14 +65,14 @@ framed-calls Aps due tools c to nwk aps true (Some r) body k =
     ∙ append-nil' (flat_map (Calls Aps due) (part_of tools c.me.eui to nwk aps body).seals)
     ∙ body-calls-aps due tools c.me.eui to nwk aps body
 
-sent-calls : (layer : Tier) (due : List LogLine) (tools : Tools) (c : Setting) (s : NodeState) (k : Counting) (send : Option Sending) → (seals_at Nwk send ≡ true → row_is_started (active_row s) ≡ true)
+sent-calls : (layer : Layer) (due : List Line) (tools : Tools) (c : Setting) (s : NodeState) (k : Counting) (send : Option Sending) → (seals_at Nwk send ≡ true → row_is_started (active_row s) ≡ true)
     → flat_map (Calls layer due) (sent tools c s k send).seals ≡ cond (seals_at layer send) due []
 sent-calls Nwk due tools c s k None g = refl
 sent-calls Aps due tools c s k None g = refl
 sent-calls Nwk due tools c s k (Some send) g = framed-calls Nwk due tools c send.to (k.counter Nwk) (k.counter Aps) send.secured (active_row s) send.body g
 sent-calls Aps due tools c s k (Some send) g = framed-calls Aps due tools c send.to (k.counter Nwk) (k.counter Aps) send.secured (active_row s) send.body g
 
-out-calls : (layer : Tier) (due : List LogLine) (tools : Tools) (c : Setting) (s : NodeState) (k : Counting) (send : Option Sending) (b : Bool) → may_seal s send ≡ b
+out-calls : (layer : Layer) (due : List Line) (tools : Tools) (c : Setting) (s : NodeState) (k : Counting) (send : Option Sending) (b : Bool) → may_seal s send ≡ b
     → flat_map (Calls layer due) (cond b (sent tools c s k send) nothing_out).seals ≡ cond (seals_at layer send && b) due []
 out-calls layer due tools c s k send true e =
     sent-calls layer due tools c s k send (λ a. (may-seal s send e).started a) ∙ ap (λ b. cond b due []) (sym (and-true (seals_at layer send)))
@@ -86,38 +86,38 @@ out-calls layer due tools c s k send false e = ap (λ b. cond b due []) (sym (an
     and-false true = refl
     and-false false = refl
 
-listed : (number n : ℕ) (layer : Tier) (v : ℕ) (a b e : Bool) → cond (a && b) (cond e (Changed number n (Reserve layer v) ∷ []) []) [] ≡ map (Changed number n) (reserve_list layer (cond (a && (b && e)) (Some v) None))
+listed : (number n : ℕ) (layer : Layer) (v : ℕ) (a b e : Bool) → cond (a && b) (cond e (Changed number n (Reserve layer v) ∷ []) []) [] ≡ map (Changed number n) (reserve_list layer (cond (a && (b && e)) (Some v) None))
 listed number n layer v true true true = refl
 listed number n layer v true true false = refl
 listed number n layer v true false e = refl
 listed number n layer v false b e = refl
 
 -- the reserves that seals call for are those of `reserve_of`, with whatever counters they are sealed
-pub seals-call : (tools : Tools) (w : World) (h : List LogLine) (number n : ℕ) (k : Counting) (send : Option Sending) (layer : Tier)
+pub seals-call : (tools : Tools) (w : Schedule) (h : List Line) (number n : ℕ) (k : Counting) (send : Option Sending) (layer : Layer)
     → flat_map (λ t. reserve_called w h layer (Seal number n t)) (out_of tools (setting_of w n) (state_of h n) k send).seals
     ≡ map (Changed number n) (reserve_list layer (reserve_of (setting_of w n) (state_of h n) send layer))
 unfolding out_of reserve_of
 seals-call tools w h number n k send layer =
     out-calls layer (reserve_line w (state_of h n) number n layer) tools (setting_of w n) (state_of h n) k send (may_seal (state_of h n) send) refl
-    ∙ listed number n layer (min (next_counter layer (state_of h n) + (setting_of w n).me.out_block) most) (seals_at layer send) (may_seal (state_of h n) send) (nat_eq (next_counter layer (state_of h n)) (stored_limit layer (state_of h n)))
+    ∙ listed number n layer (min (next_counter layer (state_of h n) + (setting_of w n).me.out_block) greatest_counter) (seals_at layer send) (may_seal (state_of h n) send) (nat_eq (next_counter layer (state_of h n)) (stored_limit layer (state_of h n)))
 
 -- Floors
 
-abbrev pub floor_list : Sealing → Option ℕ → List Edit
+abbrev pub floor_list : Term → Option ℕ → List Edit
 floor_list t o = option_to_list (option_map (Floor t.layer t.base t.source) o)
 
 -- the floors that accepted terms ask for, each its own
-abbrev pub own_floors : Setting → NodeState → List Sealing → List Edit
+abbrev pub own_floors : Setting → NodeState → List Term → List Edit
 own_floors c s ts = flat_map (λ t. floor_list t (floor_for c s t)) ts
 
-one-called : (number n : ℕ) (t : Sealing) (v : ℕ) (b : Bool) → cond b (Changed number n (Floor t.layer t.base t.source v) ∷ []) [] ≡ map (Changed number n) (floor_list t (cond b (Some v) None))
+one-called : (number n : ℕ) (t : Term) (v : ℕ) (b : Bool) → cond b (Changed number n (Floor t.layer t.base t.source v) ∷ []) [] ≡ map (Changed number n) (floor_list t (cond b (Some v) None))
 one-called number n t v true = refl
 one-called number n t v false = refl
 
-pub accepts-call : (w : World) (h : List LogLine) (number n : ℕ) (ts : List Sealing) → flat_map (λ t. floor_called w h (Accept number n t)) ts ≡ map (Changed number n) (own_floors (setting_of w n) (state_of h n) ts)
+pub accepts-call : (w : Schedule) (h : List Line) (number n : ℕ) (ts : List Term) → flat_map (λ t. floor_called w h (Accept number n t)) ts ≡ map (Changed number n) (own_floors (setting_of w n) (state_of h n) ts)
 accepts-call w h number n [] = refl
 accepts-call w h number n (t ∷ ts) =
-    ap (λ l. l ++ flat_map (λ t. floor_called w h (Accept number n t)) ts) (one-called number n t (min (t.counter + (setting_of w n).me.in_block) most) (nat_le (stored_floor t (state_of h n)) t.counter))
+    ap (λ l. l ++ flat_map (λ t. floor_called w h (Accept number n t)) ts) (one-called number n t (min (t.counter + (setting_of w n).me.in_block) greatest_counter) (nat_le (stored_floor t (state_of h n)) t.counter))
     ∙ ap (λ l. map (Changed number n) own ++ l) (accepts-call w h number n ts)
     ∙ sym (map-append (Changed number n) own (own_floors (setting_of w n) (state_of h n) ts))
   where
@@ -125,25 +125,25 @@ accepts-call w h number n (t ∷ ts) =
     own = floor_list t (floor_for (setting_of w n) (state_of h n) t)
 
 -- of at most one term a layer, each floor is its own
-tier-same : (l : Tier) → same_tier l l ≡ true
-tier-same Nwk = refl
-tier-same Aps = refl
+layer-same : (l : Layer) → same_layer l l ≡ true
+layer-same Nwk = refl
+layer-same Aps = refl
 
-first-own : (c : Setting) (s : NodeState) (t : Sealing) (ts : List Sealing) → floor_of c s (t ∷ ts) t.layer ≡ floor_for c s t
+first-own : (c : Setting) (s : NodeState) (t : Term) (ts : List Term) → floor_of c s (t ∷ ts) t.layer ≡ floor_for c s t
 unfolding floor_of
-first-own c s t ts = ap (λ b. cond b (floor_for c s t) (floor_of c s ts t.layer)) (tier-same t.layer)
+first-own c s t ts = ap (λ b. cond b (floor_for c s t) (floor_of c s ts t.layer)) (layer-same t.layer)
 
-second-own : (c : Setting) (s : NodeState) (t u : Sealing) → t.layer ≡ Nwk → u.layer ≡ Aps → floor_of c s (t ∷ u ∷ []) u.layer ≡ floor_for c s u
+second-own : (c : Setting) (s : NodeState) (t u : Term) → t.layer ≡ Nwk → u.layer ≡ Aps → floor_of c s (t ∷ u ∷ []) u.layer ≡ floor_for c s u
 unfolding floor_of
 second-own c s t u a b =
-    ap (λ l. cond (same_tier l u.layer) (floor_for c s t) (floor_of c s (u ∷ []) u.layer)) a
-    ∙ ap (λ l. cond (same_tier Nwk l) (floor_for c s t) (cond (same_tier u.layer l) (floor_for c s u) None)) b
-    ∙ ap (λ l. cond (same_tier l Aps) (floor_for c s u) None) b
+    ap (λ l. cond (same_layer l u.layer) (floor_for c s t) (floor_of c s (u ∷ []) u.layer)) a
+    ∙ ap (λ l. cond (same_layer Nwk l) (floor_for c s t) (cond (same_layer u.layer l) (floor_for c s u) None)) b
+    ∙ ap (λ l. cond (same_layer l Aps) (floor_for c s u) None) b
 
-abbrev floors_by : Setting → NodeState → List Sealing → List Sealing → List Edit
+abbrev floors_by : Setting → NodeState → List Term → List Term → List Edit
 floors_by c s ts us = flat_map (λ t. floor_list t (floor_of c s ts t.layer)) us
 
-pub floors-own : (c : Setting) (s s0 : NodeState) (ts : List Sealing) → AcceptsFit s0 ts → floors_by c s ts ts ≡ own_floors c s ts
+pub floors-own : (c : Setting) (s s0 : NodeState) (ts : List Term) → AcceptsFit s0 ts → floors_by c s ts ts ≡ own_floors c s ts
 floors-own c s s0 [] f = refl
 floors-own c s s0 (t ∷ []) f = ap (λ o. floor_list t o ++ []) (first-own c s t [])
 floors-own c s s0 (t ∷ u ∷ []) f =
@@ -153,10 +153,10 @@ floors-own c s s0 (t ∷ u ∷ v ∷ ts) f = absurd f
 
 -- Starts
 
-abbrev pub there : ℕ → ℕ → Edit → List LogLine
+abbrev pub there : ℕ → ℕ → Edit → List Line
 there number n e = start_there (Changed number n e)
 
-abbrev pub called : List LogLine → ℕ → ℕ → Edit → List LogLine
+abbrev pub called : List Line → ℕ → ℕ → Edit → List Line
 called h number n e = start_called h (Changed number n e)
 
 abbrev pub edits_by : Counting → List Move → List Edit
@@ -179,7 +179,7 @@ none-there number n k (Roll b ∷ ms) a = none-there number n k ms a.1
 none-there number n k (Told d ∷ ms) a = none-there number n k ms a.1
 none-there number n k (Untold d ∷ ms) a = none-there number n k ms a.1
 
-pub none-called : (h : List LogLine) (number n : ℕ) (k : Counting) (ms : List Move) → AllByRecursion NoActive ms → flat_map (called h number n) (edits_by k ms) ≡ []
+pub none-called : (h : List Line) (number n : ℕ) (k : Counting) (ms : List Move) → AllByRecursion NoActive ms → flat_map (called h number n) (edits_by k ms) ≡ []
 none-called h number n k [] a = refl
 none-called h number n k (Active key ∷ ms) a = absurd a.0
 none-called h number n k (Draw key ∷ ms) a = none-called h number n k ms a.1
@@ -196,14 +196,14 @@ none-called h number n k (Told d ∷ ms) a = none-called h number n k ms a.1
 none-called h number n k (Untold d ∷ ms) a = none-called h number n k ms a.1
 
 -- the start of a key that becomes active, and what it calls for
-abbrev start_due : List LogLine → ℕ → ℕ → Bytes → List LogLine
+abbrev start_due : List Line → ℕ → ℕ → Bytes → List Line
 start_due h number n key = cond (has_started h n key) [] (Changed number n (Start key (start_value (state_of h n))) ∷ [])
 
 start-there : (number n : ℕ) (key : Bytes) (o : Option ℕ) (rest : List Edit) → flat_map (there number n) rest ≡ [] → flat_map (there number n) (start_edit key o ++ rest) ≡ map (Changed number n) (start_edit key o)
 start-there number n key None rest e = e
 start-there number n key (Some v) rest e = ap (λ l. Changed number n (Start key v) ∷ l) e
 
-start-called : (h : List LogLine) (number n : ℕ) (key : Bytes) (o : Option ℕ) (rest : List Edit) → flat_map (called h number n) rest ≡ [] → flat_map (called h number n) (start_edit key o ++ rest) ≡ []
+start-called : (h : List Line) (number n : ℕ) (key : Bytes) (o : Option ℕ) (rest : List Edit) → flat_map (called h number n) rest ≡ [] → flat_map (called h number n) (start_edit key o ++ rest) ≡ []
 start-called h number n key None rest e = e
 start-called h number n key (Some v) rest e = e
 
@@ -211,7 +211,7 @@ start-called h number n key (Some v) rest e = e
 pub active-there : (number n : ℕ) (k : Counting) (key : Bytes) (ms : List Move) → AllByRecursion NoActive ms → flat_map (there number n) (edits_by k (Active key ∷ ms)) ≡ map (Changed number n) (start_edit key k.start)
 active-there number n k key ms a = start-there number n key k.start (edits_by k ms) (none-there number n k ms a)
 
-pub active-called : (h : List LogLine) (number n : ℕ) (k : Counting) (key : Bytes) (ms : List Move) → AllByRecursion NoActive ms → flat_map (called h number n) (edits_by k (Active key ∷ ms)) ≡ start_due h number n key
+pub active-called : (h : List Line) (number n : ℕ) (k : Counting) (key : Bytes) (ms : List Move) → AllByRecursion NoActive ms → flat_map (called h number n) (edits_by k (Active key ∷ ms)) ≡ start_due h number n key
 active-called h number n k key ms a = ap (λ l. start_due h number n key ++ l) (start-called h number n key k.start (edits_by k ms) (none-called h number n k ms a)) ∙ append-nil' (start_due h number n key)
 
 due-listed : (number n : ℕ) (key : Bytes) (v : ℕ) (b : Bool) → map (Changed number n) (start_edit key (cond b None (Some v))) ≡ cond b [] (Changed number n (Start key v) ∷ [])
@@ -219,7 +219,7 @@ due-listed number n key v true = refl
 due-listed number n key v false = refl
 
 -- in a transcript each start that is there is called for
-pub starts-counted : (h : List LogLine) (number n : ℕ) (k : Counting) → ((key : Bytes) → is_started_key (state_of h n) key ≡ has_started h n key) → (nets : List NetKey) (ms : List Move) → MovesFit nets ms → k.start ≡ start_for (state_of h n) (activated (state_of h n) ms)
+pub starts-counted : (h : List Line) (number n : ℕ) (k : Counting) → ((key : Bytes) → is_started_key (state_of h n) key ≡ has_started h n key) → (nets : List NetKey) (ms : List Move) → MovesFit nets ms → k.start ≡ start_for (state_of h n) (activated (state_of h n) ms)
     → flat_map (there number n) (edits_by k ms) ≡ flat_map (called h number n) (edits_by k ms)
 starts-counted h number n k r nets [] f e = refl
 starts-counted h number n k r nets (Active key ∷ ms) f e =
@@ -257,10 +257,10 @@ none-same k j (Roll b ∷ ms) a = ap (λ l. Moved (Roll b) ∷ l) (none-same k j
 none-same k j (Told d ∷ ms) a = ap (λ l. Moved (Told d) ∷ l) (none-same k j ms a.1)
 none-same k j (Untold d ∷ ms) a = ap (λ l. Moved (Untold d) ∷ l) (none-same k j ms a.1)
 
-abbrev pub StartsCalled : List LogLine → ℕ → ℕ → Counting → List Move → Type 0
+abbrev pub StartsCalled : List Line → ℕ → ℕ → Counting → List Move → Type 0
 StartsCalled h number n k ms = flat_map (there number n) (edits_by k ms) ≡ flat_map (called h number n) (edits_by k ms)
 
-pub moves-same : (h : List LogLine) (number n : ℕ) (k j : Counting) (nets : List NetKey) (ms : List Move) → MovesFit nets ms → StartsCalled h number n k ms → StartsCalled h number n j ms → edits_by k ms ≡ edits_by j ms
+pub moves-same : (h : List Line) (number n : ℕ) (k j : Counting) (nets : List NetKey) (ms : List Move) → MovesFit nets ms → StartsCalled h number n k ms → StartsCalled h number n j ms → edits_by k ms ≡ edits_by j ms
 moves-same h number n k j nets [] f a b = refl
 moves-same h number n k j nets (Active key ∷ ms) f a b =
     ap (λ l. Moved (Active key) ∷ (l ++ edits_by k ms)) (Rattle.zb_model_counted.proofs.Sections.same-edits number n (start_edit key k.start) (start_edit key j.start) (sym (active-there number n k key ms f.1) ∙ a ∙ active-called h number n k key ms f.1 ∙ sym (active-called h number n j key ms f.1) ∙ sym b ∙ active-there number n j key ms f.1))

@@ -2,14 +2,14 @@
 use Rattle.std.proofs.Common.{◌≡◌, ℕ, suc, zero-lt-suc, suc-le-suc, ◌+◌, min, Bool, true, false, cond, List, [], ◌∷◌, ◌++◌, map, filter, length, Option, Some, None, option_map, option_to_list, nat_le, flat_map, refl, sym, subst, arith, append_assoc}
 use Rattle.std.proofs.lemmas.Bool.{false≢true}
 use Rattle.std.specs.List.{AllByRecursion, Any}
-use Rattle.zb_model.specs.Data.{Bytes, Tier, Nwk, Aps, Sealing, Move, Active, Edit, Reserve, Floor, Spot, Reason, Down, WrongState, Task, Received, DoRoll}
-use Rattle.zb_model.specs.Lines.{LogLine, Declared, GivenNet, GivenLink, Counter, Changed, Accept, Seal, Stopped, DownReset, DownDisk, Boot}
-use Rattle.zb_model.specs.State.{most, NodeState}
+use Rattle.zb_model.specs.Data.{Bytes, Layer, Nwk, Aps, Term, Move, Active, Edit, Reserve, Floor, Place, Reason, Down, WrongState, Task, Received, DoRoll}
+use Rattle.zb_model.specs.Lines.{Line, Declared, GivenNet, GivenLink, Counter, Changed, Accept, Seal, Stopped, DownReset, DownDisk, Boot}
+use Rattle.zb_model.specs.State.{greatest_counter, NodeState}
 use Rattle.zb_model.specs.Tools.{Tools}
 use Rattle.zb_model.specs.Rules.{Plan}
 use Rattle.zb_model.specs.Answer.{Answer, Counting, answer_by, plan_of, counting_of, edits_of, reserve_edit, floor_edit, start_edit, move_edits, changes, moves_of, stored_floor, floor_for}
 use Rattle.zb_model.specs.Readings.{state_of, is_up, air}
-use Rattle.zb_model.specs.Play.{World, Act, Own, RollOver, Deliver, Reset, PowerOn, ShowRecord, ArmStop, ArmFail, InjectBytes, ForgeNet, ForgeNetAps, ForgeOpen, Step, Disk, Armed, NotArmed, StopAfter, FailAt, Calls, BootCalls, setting_of, start, disk_of, with_disk, falls, stands, calls_for, leaves_both, commit_lines, refuse_lines, send_lines, stored_lines, told_lines, group_of, cut_of, fallen_line, answer_step, boot_step, refused_step, task_step, deliver_step, frame_at, supply, forged_net, forged_both, forged_open, step_by, step, groups}
+use Rattle.zb_model.specs.Play.{Schedule, Event, Own, RollOver, Deliver, Reset, PowerOn, ShowRecord, ArmStop, ArmFail, InjectBytes, ForgeNet, ForgeNetAps, ForgeOpen, Step, Disk, Armed, NotArmed, StopAfter, FailAt, Calls, BootCalls, setting_of, start, disk_of, with_disk, falls, stands, calls_for, leaves_both, commit_lines, refuse_lines, send_lines, stored_lines, told_lines, group_of, cut_of, fallen_line, answer_step, boot_step, refused_step, task_step, deliver_step, frame_at, supply, forged_net, forged_both, forged_open, step_by, step, groups}
 use Rattle.zb_model.specs.Transcript.{run_lines, transcript, end_line}
 use Rattle.zb_model_laws.specs.Opening.{Opens}
 use Rattle.zb_model_laws.proofs.FreshLines.{all-append, all-map}
@@ -31,39 +31,39 @@ any-behind : {X : Type 0} (P : X → Type 0) (ys rest : List X) → Any P rest �
 any-behind P [] rest a = a
 any-behind P (y ∷ ys) rest a = any-later P y (ys ++ rest) (any-behind P ys rest a)
 
-behind : (w : World) (l : LogLine) (ys rest : List LogLine) → FloorLine w l rest → FloorLine w l (ys ++ rest)
+behind : (w : Schedule) (l : Line) (ys rest : List Line) → FloorLine w l rest → FloorLine w l (ys ++ rest)
 behind w (Changed e n (Floor layer base source value)) ys rest a = any-behind (IsFor w e n layer base source value) ys rest a
 behind w _ ys rest a = tt
 
-before : (w : World) (xs rest : List LogLine) → AllByRecursion (λ l. FloorLine w l rest) xs → FloorsAreFor w rest → FloorsAreFor w (xs ++ rest)
+before : (w : Schedule) (xs rest : List Line) → AllByRecursion (λ l. FloorLine w l rest) xs → FloorsAreFor w rest → FloorsAreFor w (xs ++ rest)
 before w [] rest a b = b
 before w (x ∷ xs) rest a b = (behind w x xs rest a.0, before w xs rest a.1 b)
 
 -- Lines that are no floor
 
-unfoldable NoFloor : LogLine → Type 0
+unfoldable NoFloor : Line → Type 0
 NoFloor (Changed e n (Floor layer base source value)) = ⊥
 NoFloor _ = Unit {0}
 
-plain-line : (w : World) (rest : List LogLine) (l : LogLine) → NoFloor l → FloorLine w l rest
+plain-line : (w : Schedule) (rest : List Line) (l : Line) → NoFloor l → FloorLine w l rest
 unfolding NoFloor
 plain-line w rest (Changed e n (Floor layer base source value)) k = absurd k
 plain-line w rest _ k = tt
 
-plain : (w : World) (xs rest : List LogLine) → AllByRecursion NoFloor xs → FloorsAreFor w rest → FloorsAreFor w (xs ++ rest)
+plain : (w : Schedule) (xs rest : List Line) → AllByRecursion NoFloor xs → FloorsAreFor w rest → FloorsAreFor w (xs ++ rest)
 plain w xs rest a b = before w xs rest (all-map NoFloor (λ l. FloorLine w l rest) (plain-line w rest) xs a) b
 
-accepts-plain : (number n : ℕ) (ts : List Sealing) → AllByRecursion NoFloor (map (Accept number n) ts)
+accepts-plain : (number n : ℕ) (ts : List Term) → AllByRecursion NoFloor (map (Accept number n) ts)
 unfolding NoFloor
 accepts-plain number n [] = tt
 accepts-plain number n (t ∷ ts) = (tt, accepts-plain number n ts)
 
-refuse-plain : (number n : ℕ) (spot : Spot) (r : Option Reason) → AllByRecursion NoFloor (refuse_lines number n spot r)
+refuse-plain : (number n : ℕ) (place : Place) (r : Option Reason) → AllByRecursion NoFloor (refuse_lines number n place r)
 unfolding NoFloor
-refuse-plain number n spot None = tt
-refuse-plain number n spot (Some r) = (tt, tt)
+refuse-plain number n place None = tt
+refuse-plain number n place (Some r) = (tt, tt)
 
-seals-plain : (number n : ℕ) (ts : List Sealing) → AllByRecursion NoFloor (map (Seal number n) ts)
+seals-plain : (number n : ℕ) (ts : List Term) → AllByRecursion NoFloor (map (Seal number n) ts)
 unfolding NoFloor
 seals-plain number n [] = tt
 seals-plain number n (t ∷ ts) = (tt, seals-plain number n ts)
@@ -79,7 +79,7 @@ fallen-plain NotArmed number n = tt
 fallen-plain (StopAfter calls torn) number n = (tt, tt)
 fallen-plain (FailAt call) number n = (tt, tt)
 
-starts-plain : (l : LogLine) → IsStart l → NoFloor l
+starts-plain : (l : Line) → IsStart l → NoFloor l
 unfolding IsStart NoFloor
 starts-plain (Declared p) b = tt
 starts-plain (GivenNet n key q) b = tt
@@ -89,46 +89,46 @@ starts-plain _ b = absurd b
 
 -- The changes of an answer
 
-abbrev EditIsFor : World → ℕ → ℕ → List LogLine → Edit → Type 0
+abbrev EditIsFor : Schedule → ℕ → ℕ → List Line → Edit → Type 0
 EditIsFor w number n rest e = FloorLine w (Changed number n e) rest
 
-change-lines : (w : World) (number n : ℕ) (rest : List LogLine) (es : List Edit) → AllByRecursion (EditIsFor w number n rest) es → AllByRecursion (λ l. FloorLine w l rest) (map (Changed number n) es)
+change-lines : (w : Schedule) (number n : ℕ) (rest : List Line) (es : List Edit) → AllByRecursion (EditIsFor w number n rest) es → AllByRecursion (λ l. FloorLine w l rest) (map (Changed number n) es)
 change-lines w number n rest [] a = tt
 change-lines w number n rest (e ∷ es) a = (a.0, change-lines w number n rest es a.1)
 
-commit-line : (w : World) (number n : ℕ) (rest : List LogLine) (es : List Edit) → AllByRecursion (λ l. FloorLine w l rest) (commit_lines number n es)
+commit-line : (w : Schedule) (number n : ℕ) (rest : List Line) (es : List Edit) → AllByRecursion (λ l. FloorLine w l rest) (commit_lines number n es)
 commit-line w number n rest [] = tt
 commit-line w number n rest (e ∷ es) = (tt, tt)
 
-stored : (w : World) (number n : ℕ) (rest : List LogLine) (a : Answer) → AllByRecursion (EditIsFor w number n rest) a.edits → AllByRecursion (λ l. FloorLine w l rest) (stored_lines number n a)
+stored : (w : Schedule) (number n : ℕ) (rest : List Line) (a : Answer) → AllByRecursion (EditIsFor w number n rest) a.edits → AllByRecursion (λ l. FloorLine w l rest) (stored_lines number n a)
 unfolding stored_lines
 stored w number n rest a k = all-append (λ l. FloorLine w l rest) (map (Changed number n) a.edits) (commit_lines number n a.edits) (change-lines w number n rest a.edits k) (commit-line w number n rest a.edits)
 
-reserve-edits : (w : World) (number n : ℕ) (rest : List LogLine) (layer : Tier) (o : Option ℕ) → AllByRecursion (EditIsFor w number n rest) (option_to_list (option_map (Reserve layer) o))
+reserve-edits : (w : Schedule) (number n : ℕ) (rest : List Line) (layer : Layer) (o : Option ℕ) → AllByRecursion (EditIsFor w number n rest) (option_to_list (option_map (Reserve layer) o))
 reserve-edits w number n rest layer None = tt
 reserve-edits w number n rest layer (Some v) = (tt, tt)
 
-start-edits : (w : World) (number n : ℕ) (rest : List LogLine) (key : Bytes) (o : Option ℕ) → AllByRecursion (EditIsFor w number n rest) (start_edit key o)
+start-edits : (w : Schedule) (number n : ℕ) (rest : List Line) (key : Bytes) (o : Option ℕ) → AllByRecursion (EditIsFor w number n rest) (start_edit key o)
 start-edits w number n rest key None = tt
 start-edits w number n rest key (Some v) = (tt, tt)
 
-one-move : (w : World) (number n : ℕ) (rest : List LogLine) (k : Counting) (m : Move) → AllByRecursion (EditIsFor w number n rest) (move_edits k m)
+one-move : (w : Schedule) (number n : ℕ) (rest : List Line) (k : Counting) (m : Move) → AllByRecursion (EditIsFor w number n rest) (move_edits k m)
 one-move w number n rest k (Active key) = (tt, start-edits w number n rest key k.start)
 one-move w number n rest k _ = (tt, tt)
 
-all-moves : (w : World) (number n : ℕ) (rest : List LogLine) (k : Counting) (ms : List Move) → AllByRecursion (EditIsFor w number n rest) (flat_map (move_edits k) ms)
+all-moves : (w : Schedule) (number n : ℕ) (rest : List Line) (k : Counting) (ms : List Move) → AllByRecursion (EditIsFor w number n rest) (flat_map (move_edits k) ms)
 all-moves w number n rest k [] = tt
 all-moves w number n rest k (m ∷ ms) = all-append (EditIsFor w number n rest) (move_edits k m) (flat_map (move_edits k) ms) (one-move w number n rest k m) (all-moves w number n rest k ms)
 
 -- each term's own floor, before the accept lines of all
-own-floor : (w : World) (number n : ℕ) (rest : List LogLine) (t : Sealing) (b : Bool) → AllByRecursion (EditIsFor w number n (Accept number n t ∷ rest)) (floor_list t (cond b (Some (min (t.counter + (setting_of w n).me.in_block) most)) None))
+own-floor : (w : Schedule) (number n : ℕ) (rest : List Line) (t : Term) (b : Bool) → AllByRecursion (EditIsFor w number n (Accept number n t ∷ rest)) (floor_list t (cond b (Some (min (t.counter + (setting_of w n).me.in_block) greatest_counter)) None))
 own-floor w number n rest t false = tt
 own-floor w number n rest t true = (
-  any-first (IsFor w number n t.layer t.base t.source (min (t.counter + (setting_of w n).me.in_block) most)) (Accept number n t) rest (refl, refl, refl, refl, refl, omega arith),
+  any-first (IsFor w number n t.layer t.base t.source (min (t.counter + (setting_of w n).me.in_block) greatest_counter)) (Accept number n t) rest (refl, refl, refl, refl, refl, omega arith),
   tt,
 )
 
-own : (w : World) (number n : ℕ) (s : NodeState) (rest : List LogLine) (ts : List Sealing) → AllByRecursion (EditIsFor w number n (map (Accept number n) ts ++ rest)) (own_floors (setting_of w n) s ts)
+own : (w : Schedule) (number n : ℕ) (s : NodeState) (rest : List Line) (ts : List Term) → AllByRecursion (EditIsFor w number n (map (Accept number n) ts ++ rest)) (own_floors (setting_of w n) s ts)
 own w number n s rest [] = tt
 own w number n s rest (t ∷ ts) =
     all-append (EditIsFor w number n (Accept number n t ∷ (map (Accept number n) ts ++ rest))) (floor_list t (floor_for (setting_of w n) s t)) (own_floors (setting_of w n) s ts)
@@ -136,7 +136,7 @@ own w number n s rest (t ∷ ts) =
     (all-map (EditIsFor w number n (map (Accept number n) ts ++ rest)) (EditIsFor w number n (Accept number n t ∷ (map (Accept number n) ts ++ rest)))
     (λ e k. behind w (Changed number n e) (Accept number n t ∷ []) (map (Accept number n) ts ++ rest) k) (own_floors (setting_of w n) s ts) (own w number n s rest ts))
 
-all-edits : (w : World) (number n : ℕ) (s : NodeState) (p : Plan) (rest : List LogLine) → AcceptsFit s p.accepts → AllByRecursion (EditIsFor w number n (map (Accept number n) p.accepts ++ rest)) (edits_of s (counting_of (setting_of w n) s p) p)
+all-edits : (w : Schedule) (number n : ℕ) (s : NodeState) (p : Plan) (rest : List Line) → AcceptsFit s p.accepts → AllByRecursion (EditIsFor w number n (map (Accept number n) p.accepts ++ rest)) (edits_of s (counting_of (setting_of w n) s p) p)
 unfolding edits_of counting_of
 all-edits w number n s p rest f =
     all-append E (reserve_edit k Nwk ++ reserve_edit k Aps) (flat_map (floor_edit k) p.accepts ++ flat_map (move_edits k) (filter (changes s) (moves_of p.outcome)))
@@ -148,7 +148,7 @@ all-edits w number n s p rest f =
     k : Counting
     k = counting_of (setting_of w n) s p
 
-    later : List LogLine
+    later : List Line
     later = map (Accept number n) p.accepts ++ rest
 
     E : Edit → Type 0
@@ -156,7 +156,7 @@ all-edits w number n s p rest f =
 
 -- A group
 
-whole : (tools : Tools) (w : World) (h : List LogLine) (number n : ℕ) (p : Plan) (more : List LogLine) → AcceptsFit (state_of h n) p.accepts → FloorsAreFor w more
+whole : (tools : Tools) (w : Schedule) (h : List Line) (number n : ℕ) (p : Plan) (more : List Line) → AcceptsFit (state_of h n) p.accepts → FloorsAreFor w more
     → FloorsAreFor w (group_of h number n (answer_by tools (setting_of w n) (state_of h n) (counting_of (setting_of w n) (state_of h n) p) p) ++ more)
 unfolding group_of told_lines answer_by
 whole tools w h number n p more f g =
@@ -165,41 +165,41 @@ whole tools w h number n p more f g =
     (before w (stored_lines number n a) (accepts ++ (tail ++ more)) (stored w number n (accepts ++ (tail ++ more)) a (all-edits w number n (state_of h n) p (tail ++ more) f))
     (plain w accepts (tail ++ more) (accepts-plain number n p.accepts)
     (plain w tail more
-    (all-append NoFloor (refuse_lines number n a.spot a.refusal) _ (refuse-plain number n a.spot a.refusal)
+    (all-append NoFloor (refuse_lines number n a.place a.refusal) _ (refuse-plain number n a.place a.refusal)
     (all-append NoFloor (map (Seal number n) a.seals) _ (seals-plain number n a.seals) (send-plain number (Some n) (length (air h) + 1) a.frame))) g))))
   where
     a : Answer
     a = answer_by tools (setting_of w n) (state_of h n) (counting_of (setting_of w n) (state_of h n) p) p
 
-    accepts : List LogLine
+    accepts : List Line
     accepts = map (Accept number n) p.accepts
 
-    tail : List LogLine
-    tail = refuse_lines number n a.spot a.refusal ++ (map (Seal number n) a.seals ++ send_lines number (Some n) (length (air h) + 1) a.frame)
+    tail : List Line
+    tail = refuse_lines number n a.place a.refusal ++ (map (Seal number n) a.seals ++ send_lines number (Some n) (length (air h) + 1) a.frame)
 
 -- a group that is cut
 
-abbrev AllFor : World → ℕ → ℕ → List LogLine → Type 0
-AllFor w number n rest = (layer : Tier) (base : Bytes) (source value : ℕ) → Any (IsFor w number n layer base source value) rest
+abbrev AllFor : Schedule → ℕ → ℕ → List Line → Type 0
+AllFor w number n rest = (layer : Layer) (base : Bytes) (source value : ℕ) → Any (IsFor w number n layer base source value) rest
 
-any-edit : (w : World) (number n : ℕ) (rest : List LogLine) → AllFor w number n rest → (e : Edit) → EditIsFor w number n rest e
+any-edit : (w : Schedule) (number n : ℕ) (rest : List Line) → AllFor w number n rest → (e : Edit) → EditIsFor w number n rest e
 any-edit w number n rest k (Floor layer base source value) = k layer base source value
 any-edit w number n rest k _ = tt
 
-any-edits : (w : World) (number n : ℕ) (rest : List LogLine) → AllFor w number n rest → (es : List Edit) → AllByRecursion (EditIsFor w number n rest) es
+any-edits : (w : Schedule) (number n : ℕ) (rest : List Line) → AllFor w number n rest → (es : List Edit) → AllByRecursion (EditIsFor w number n rest) es
 any-edits w number n rest k [] = tt
 any-edits w number n rest k (e ∷ es) = (any-edit w number n rest k e, any-edits w number n rest k es)
 
-some-stored : (w : World) (number n : ℕ) (rest : List LogLine) (a : Answer) → AllFor w number n rest → (b : Bool) → AllByRecursion (λ l. FloorLine w l rest) (cond b (stored_lines number n a) [])
+some-stored : (w : Schedule) (number n : ℕ) (rest : List Line) (a : Answer) → AllFor w number n rest → (b : Bool) → AllByRecursion (λ l. FloorLine w l rest) (cond b (stored_lines number n a) [])
 some-stored w number n rest a k true = stored w number n rest a (any-edits w number n rest k a.edits)
 some-stored w number n rest a k false = tt
 
-fallen : (w : World) (armed : Armed) (calls : Calls) (number n : ℕ) (more : List LogLine) → falls armed calls ≡ true → AllFor w number n (fallen_line armed number n ++ more)
+fallen : (w : Schedule) (armed : Armed) (calls : Calls) (number n : ℕ) (more : List Line) → falls armed calls ≡ true → AllFor w number n (fallen_line armed number n ++ more)
 fallen w NotArmed calls number n more e = absurd (false≢true e)
 fallen w (StopAfter count torn) calls number n more e = λ layer base source value. any-first (IsFor w number n layer base source value) (Stopped number n) more (refl, refl)
 fallen w (FailAt call) calls number n more e = λ layer base source value. any-first (IsFor w number n layer base source value) (DownDisk number n) more (refl, refl)
 
-cut : (w : World) (armed : Armed) (calls : Calls) (number n : ℕ) (a : Answer) (more : List LogLine) → falls armed calls ≡ true → FloorsAreFor w more → FloorsAreFor w (cut_of armed calls number n a ++ more)
+cut : (w : Schedule) (armed : Armed) (calls : Calls) (number n : ℕ) (a : Answer) (more : List Line) → falls armed calls ≡ true → FloorsAreFor w more → FloorsAreFor w (cut_of armed calls number n a ++ more)
 unfolding cut_of
 cut w armed calls number n a more e g =
     subst (λ ls. FloorsAreFor w ls) (sym (append_assoc (cond (stands armed calls) (stored_lines number n a) []) (fallen_line armed number n) more))
@@ -209,11 +209,11 @@ cut w armed calls number n a more e g =
 
 -- A step
 
-by-test : (w : World) (more : List LogLine) (b : Bool) (x y : Step) → (b ≡ true → FloorsAreFor w (x.lines ++ more)) → FloorsAreFor w (y.lines ++ more) → FloorsAreFor w ((cond b x y).lines ++ more)
+by-test : (w : Schedule) (more : List Line) (b : Bool) (x y : Step) → (b ≡ true → FloorsAreFor w (x.lines ++ more)) → FloorsAreFor w (y.lines ++ more) → FloorsAreFor w ((cond b x y).lines ++ more)
 by-test w more true x y p q = p refl
 by-test w more false x y p q = q
 
-of-task : (tools : Tools) → Opens tools → (w : World) (h : List LogLine) (disks : List Disk) (number n : ℕ) (task : Task) (more : List LogLine) → FloorsAreFor w more → FloorsAreFor w ((task_step tools counting_of w h disks number n task).lines ++ more)
+of-task : (tools : Tools) → Opens tools → (w : Schedule) (h : List Line) (disks : List Disk) (number n : ℕ) (task : Task) (more : List Line) → FloorsAreFor w more → FloorsAreFor w ((task_step tools counting_of w h disks number n task).lines ++ more)
 unfolding task_step
 of-task tools opens w h disks number n task more g =
     by-test w more (is_up h n) (answer_step h disks number n a) (refused_step disks number n Down)
@@ -234,18 +234,18 @@ of-task tools opens w h disks number n task more g =
     calls : Calls
     calls = calls_for h n a.edits
 
-of-frame : (tools : Tools) → Opens tools → (w : World) (h : List LogLine) (disks : List Disk) (number n : ℕ) (o : Option Bytes) (more : List LogLine) → FloorsAreFor w more → FloorsAreFor w ((deliver_step tools counting_of w h disks number n o).lines ++ more)
+of-frame : (tools : Tools) → Opens tools → (w : Schedule) (h : List Line) (disks : List Disk) (number n : ℕ) (o : Option Bytes) (more : List Line) → FloorsAreFor w more → FloorsAreFor w ((deliver_step tools counting_of w h disks number n o).lines ++ more)
 of-frame tools opens w h disks number n None more g = (tt, g)
 of-frame tools opens w h disks number n (Some bytes) more g = of-task tools opens w h disks number n (Received bytes (supply w h)) more g
 
-of-boot : (w : World) (disks : List Disk) (number n : ℕ) (more : List LogLine) → FloorsAreFor w more → FloorsAreFor w ((boot_step disks number n).lines ++ more)
+of-boot : (w : Schedule) (disks : List Disk) (number n : ℕ) (more : List Line) → FloorsAreFor w more → FloorsAreFor w ((boot_step disks number n).lines ++ more)
 of-boot w disks number n more g =
     by-test w more (falls (disk_of disks n).armed (BootCalls (disk_of disks n).both_open))
     (record { lines = fallen_line (disk_of disks n).armed number n; disks = with_disk disks n (record { armed = NotArmed; both_open = leaves_both (disk_of disks n).armed (BootCalls (disk_of disks n).both_open) }) })
     (record { lines = Boot number n ∷ []; disks = with_disk disks n (record { armed = (disk_of disks n).armed; both_open = false }) })
     (λ e. plain w (fallen_line (disk_of disks n).armed number n) more (fallen-plain (disk_of disks n).armed number n) g) (tt, g)
 
-of-step : (tools : Tools) → Opens tools → (w : World) (h : List LogLine) (disks : List Disk) (number : ℕ) (act : Act) (more : List LogLine) → FloorsAreFor w more → FloorsAreFor w ((step tools w h disks number act).lines ++ more)
+of-step : (tools : Tools) → Opens tools → (w : Schedule) (h : List Line) (disks : List Disk) (number : ℕ) (event : Event) (more : List Line) → FloorsAreFor w more → FloorsAreFor w ((step tools w h disks number event).lines ++ more)
 unfolding step step_by forged_net forged_both forged_open
 of-step tools opens w h disks number (Own n task) more g = of-task tools opens w h disks number n task more g
 of-step tools opens w h disks number (RollOver n) more g = of-task tools opens w h disks number n (DoRoll (supply w h)) more g
@@ -260,28 +260,28 @@ of-step tools opens w h disks number (ForgeNet to from source key sequence count
 of-step tools opens w h disks number (ForgeNetAps to from source key sequence counter label base aps_counter command) more g = (tt, (tt, (tt, g)))
 of-step tools opens w h disks number (ForgeOpen to from source label base aps_counter command) more g = (tt, (tt, g))
 
-of-groups : (tools : Tools) → Opens tools → (w : World) (h : List LogLine) (disks : List Disk) (number : ℕ) (acts : List Act) (more : List LogLine) → FloorsAreFor w more → FloorsAreFor w (groups tools w h disks number acts ++ more)
+of-groups : (tools : Tools) → Opens tools → (w : Schedule) (h : List Line) (disks : List Disk) (number : ℕ) (events : List Event) (more : List Line) → FloorsAreFor w more → FloorsAreFor w (groups tools w h disks number events ++ more)
 unfolding groups
 of-groups tools opens w h disks number [] more g = g
-of-groups tools opens w h disks number (act ∷ acts) more g =
+of-groups tools opens w h disks number (event ∷ events) more g =
     subst (λ ls. FloorsAreFor w ls) (sym (append_assoc s.lines later more))
-    (of-step tools opens w h disks number act (later ++ more) (of-groups tools opens w (h ++ s.lines) s.disks (number + 1) acts more g))
+    (of-step tools opens w h disks number event (later ++ more) (of-groups tools opens w (h ++ s.lines) s.disks (number + 1) events more g))
   where
     s : Step
-    s = step tools w h disks number act
+    s = step tools w h disks number event
 
-    later : List LogLine
-    later = groups tools w (h ++ s.lines) s.disks (number + 1) acts
+    later : List Line
+    later = groups tools w (h ++ s.lines) s.disks (number + 1) events
 
-pub floors-are-for : (tools : Tools) → Opens tools → (w : World) → FloorsAreFor w (transcript tools w)
+pub floors-are-for : (tools : Tools) → Opens tools → (w : Schedule) → FloorsAreFor w (transcript tools w)
 unfolding transcript run_lines end_line
 floors-are-for tools opens w =
     subst (λ ls. FloorsAreFor w ls) (sym (append_assoc (start w) gs (last ∷ [])))
     (plain w (start w) (gs ++ last ∷ []) (all-map IsStart NoFloor starts-plain (start w) (start-are w))
-    (of-groups tools opens w (start w) [] 1 w.acts (last ∷ []) (tt, tt)))
+    (of-groups tools opens w (start w) [] 1 w.events (last ∷ []) (tt, tt)))
   where
-    gs : List LogLine
-    gs = groups tools w (start w) [] 1 w.acts
+    gs : List Line
+    gs = groups tools w (start w) [] 1 w.events
 
-    last : LogLine
-    last = end_line tools (length w.acts) (start w ++ gs)
+    last : Line
+    last = end_line tools (length w.events) (start w ++ gs)

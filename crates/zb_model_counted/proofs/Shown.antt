@@ -1,13 +1,13 @@
 -- What every rule keeps: a frame without NWK security takes no NWK counter, and at most one key becomes active, which has a row.
 use Rattle.std.proofs.Common.{◌≡◌, ℕ, Bool, true, false, cond, not, ◌&&◌, ◌||◌, List, [], ◌∷◌, ◌++◌, map, filter, reverse, Option, Some, None, is_some, nat_eq, refl, ap, ◌∙◌, inl, inr}
 use Rattle.std.specs.List.{AllByRecursion, list_any}
-use Rattle.zb_model.specs.Data.{Bytes, Nwk, ForData, Stage, Joined, Offered, Sealing, Move, Draw, DropNet, DropLink, Install, Active, Row, Pair, Became, Live, Removed, Roll, Told, Untold, Reason, Task, SayTo, TellTo, DoKnock, DoRejoin, DoTimer, AskFor, HasChild, DoProvision, DoRemove, DoRoll, DoSwitch, DoAgain, DoShare, Received, Order, TransportNet, TransportApp, TransportLink, UpdateDevice, RemoveDevice, RequestApp, RequestLink, SwitchKey, Tunnel, VerifyKey, ConfirmKey}
-use Rattle.zb_model.specs.State.{NetKey, LinkKey, PairKey, NodeState, same_key, has_net, at_net, new_net, dropped_net, live_nets, active_row, newest, live_of, is_centre, is_live_of, current, offered, other_user, pair_of}
-use Rattle.zb_model.specs.Tools.{Tools, OrderSight, Known, Unknown, Broken, LeaveSight, Leave, Other, NoCommand, NwkSight, ApsSight, ApsAuxiliary}
-use Rattle.zb_model.specs.Rules.{Body, Saying, Clear, Secret, Tunnelled, Telling, Leaving, Relayed, Sending, Outcome, Stop, Does, Plan, Setting, unless, given, choose, sends, short_of, spent, both_spent, drop_link, drop_partner, drop_others, drop_row, drop_old, first_drop, is_active, waits_for_key}
+use Rattle.zb_model.specs.Data.{Bytes, Nwk, ForData, State, Joined, Offered, Term, Move, Draw, DropNet, DropLink, Install, Active, Row, Pair, Became, Live, Removed, Roll, Told, Untold, Reason, Task, SayTo, TellTo, DoKnock, DoRejoin, DoTimer, AskFor, HasChild, DoProvision, DoRemove, DoRoll, DoSwitch, DoAgain, DoShare, Received, Command, TransportNet, TransportApp, TransportLink, UpdateDevice, RemoveDevice, RequestApp, RequestLink, SwitchKey, Tunnel, VerifyKey, ConfirmKey}
+use Rattle.zb_model.specs.State.{NetKey, LinkKey, PairKey, NodeState, same_key, has_net, at_net, new_net, dropped_net, live_nets, active_row, newest, live_of, is_centre, is_live_of, current, offered, other_user, pair_of, is_active_key}
+use Rattle.zb_model.specs.Tools.{Tools, CommandShown, Known, Unknown, Broken, LeaveShown, Leave, Other, NoCommand, NwkShown, ApsShown, ApsAuxiliary}
+use Rattle.zb_model.specs.Rules.{Body, Saying, Clear, Secret, Tunnelled, Telling, Leaving, Relayed, Sending, Outcome, Stop, Does, Plan, Setting, unless, given, choose, sends, short_of, spent, both_spent, drop_link, drop_partner, drop_others, drop_row, drop_old, first_drop, waits_for_key}
 use Rattle.zb_model.specs.OwnEvents.{say, knock, rejoin, request_key, verify_key, timer_in, member_timer, ask, tell, report_child, child_of_router, child_of_centre, centre_timer, provision_new, provision, tell_leave, tell_parent, remove_device, roll, switch_over, again, share, own_at_centre, own_at_member, own}
 use Rattle.zb_model.specs.Judging.{Verdict, Not, Good, Carrier, Unsealed}
-use Rattle.zb_model.specs.Commands.{Heard, unless_old, activates, activate, joined_stage, dropped_at, take_net_key, unless_used, take_row, take_link_key, take_app_key, take_switch, take_confirm, take_remove, take_tunnel, take_update, answer_request, take_request, answer_pair, take_app_request, take_verify, take_order, take_leave}
+use Rattle.zb_model.specs.Commands.{Heard, unless_old, activates, activate, joined_state, dropped_at, take_net_key, unless_used, take_row, take_link_key, take_app_key, take_switch, take_confirm, take_remove, take_tunnel, take_update, answer_request, take_request, answer_pair, take_app_request, take_verify, take_command, take_leave}
 use Rattle.zb_model.specs.Answer.{plan_of, received_as, net_part, aps_part, by_security, sealed_part, clear_part, aps_command, nwk_command, heard_clear, heard_sealed}
 use Rattle.zb_model_laws.proofs.Basics.{same_key-refl}
 use Rattle.zb_model_laws.proofs.FreshLines.{all-append}
@@ -70,7 +70,7 @@ either-none false ms a = tt
 
 old-drops : (s : NodeState) → AllByRecursion NoActive (drop_old s)
 unfolding drop_old
-old-drops s = either-none (Rattle.std.specs.Prelude.nat_le 2 (Rattle.std.specs.Prelude.length (live_nets s))) (first_drop (filter (λ (r : NetKey). not (is_active s.active r)) (live_nets s))) (first-drops (filter (λ (r : NetKey). not (is_active s.active r)) (live_nets s)))
+old-drops s = either-none (Rattle.std.specs.Prelude.nat_le 2 (Rattle.std.specs.Prelude.length (live_nets s))) (first_drop (filter (λ (r : NetKey). not (is_active_key s.active r.key)) (live_nets s))) (first-drops (filter (λ (r : NetKey). not (is_active_key s.active r.key)) (live_nets s)))
 
 -- a network key that is installed, and perhaps activated
 
@@ -90,14 +90,14 @@ install-has false key q nets e = last key q nets
     last key q [] = ap (λ b. b || false) (same_key-refl key)
     last key q (r ∷ rs) = or-later (same_key r.key key) (has_net key (rs ++ new_net key q ∷ [])) (last key q rs)
 
-activate-by : (nets : List NetKey) (key : Bytes) (a b : Bool) (g : Stage) → has_net key nets ≡ true → MovesFit nets (cond a (Active key ∷ []) [] ++ cond b (Became g ∷ []) [])
+activate-by : (nets : List NetKey) (key : Bytes) (a b : Bool) (g : State) → has_net key nets ≡ true → MovesFit nets (cond a (Active key ∷ []) [] ++ cond b (Became g ∷ []) [])
 activate-by nets key true true g e = (e, (tt, tt))
 activate-by nets key true false g e = (e, tt)
 activate-by nets key false true g e = tt
 activate-by nets key false false g e = tt
 
 activate-fits : (c : Setting) (s : NodeState) (key : Bytes) (nets : List NetKey) → has_net key nets ≡ true → MovesFit nets (activate c s key)
-activate-fits c s key nets e = activate-by nets key (activates s) (waits_for_key s.stage) (joined_stage c s) e
+activate-fits c s key nets e = activate-by nets key (activates s) (waits_for_key s.state) (joined_state c s) e
 
 install-fits : (c : Setting) (s : NodeState) (key : Bytes) (q : ℕ) (nets : List NetKey) → MovesFit nets (Install key q ∷ activate c s key)
 install-fits c s key q nets = activate-fits c s key (cond (has_net key nets) nets (nets ++ new_net key q ∷ [])) (install-has (has_net key nets) key q nets refl)
@@ -112,7 +112,7 @@ old-by false rs ms k nets = k nets
 
 old-fits : (s : NodeState) (ms : List Move) → ((nets : List NetKey) → MovesFit nets ms) → (nets : List NetKey) → MovesFit nets (drop_old s ++ ms)
 unfolding drop_old
-old-fits s ms k nets = old-by (Rattle.std.specs.Prelude.nat_le 2 (Rattle.std.specs.Prelude.length (live_nets s))) (filter (λ (r : NetKey). not (is_active s.active r)) (live_nets s)) ms k nets
+old-fits s ms k nets = old-by (Rattle.std.specs.Prelude.nat_le 2 (Rattle.std.specs.Prelude.length (live_nets s))) (filter (λ (r : NetKey). not (is_active_key s.active r.key)) (live_nets s)) ms k nets
 
 -- a row that is there is found by its key
 in-has : (r : NetKey) (nets : List NetKey) → In r nets → has_net r.key nets ≡ true
@@ -136,13 +136,13 @@ live-has s q r e = in-has r s.nets (in-reverse r s.nets (found-element (λ (r : 
 -- What is sent without NWK security
 
 abbrev pub NeedsNoNwk : Body → Type 0
-NeedsNoNwk (Secret label key order) = Unit {0}
+NeedsNoNwk (Secret label key command) = Unit {0}
 NeedsNoNwk (Telling key bytes) = Unit {0}
 NeedsNoNwk Leaving = Unit {0}
 NeedsNoNwk (Relayed bytes) = Unit {0}
 NeedsNoNwk (Saying bytes) = ⊥
-NeedsNoNwk (Clear control order) = ⊥
-NeedsNoNwk (Tunnelled device key order) = ⊥
+NeedsNoNwk (Clear control command) = ⊥
+NeedsNoNwk (Tunnelled device key command) = ⊥
 
 abbrev pub ShownBy : Bool → Body → Type 0
 ShownBy true body = Unit {0}
@@ -185,7 +185,7 @@ rejoin-fits : (s : NodeState) → Fits s (rejoin s)
 unfolding rejoin
 rejoin-fits s = un s _ _ _ (tt, tt)
 
-timer-in-fits : (g : Stage) (tools : Tools) (c : Setting) (s : NodeState) → Fits s (timer_in g tools c s)
+timer-in-fits : (g : State) (tools : Tools) (c : Setting) (s : NodeState) → Fits s (timer_in g tools c s)
 unfolding request_key verify_key
 timer-in-fits Joined tools c s = gi s _ _ _ (λ row e. un s _ _ _ (tt, tt))
 timer-in-fits Offered tools c s = gi s _ _ _ (λ row e. un s _ _ _ (tt, tt))
@@ -193,7 +193,7 @@ timer-in-fits _ tools c s = tt
 
 member-timer-fits : (tools : Tools) (c : Setting) (s : NodeState) → Fits s (member_timer tools c s)
 unfolding member_timer
-member-timer-fits tools c s = gi s _ _ _ (λ net e. timer-in-fits s.stage tools c s)
+member-timer-fits tools c s = gi s _ _ _ (λ net e. timer-in-fits s.state tools c s)
 
 ask-fits : (c : Setting) (s : NodeState) (partner : ℕ) → Fits s (ask c s partner)
 unfolding ask
@@ -289,7 +289,7 @@ either-fits s false x y f g = g
 
 own-fits : (tools : Tools) (c : Setting) (s : NodeState) (task : Task) → Fits s (own tools c s task)
 unfolding own
-own-fits tools c s task = either-fits s (is_centre c.me.duty) (own_at_centre c s task) (own_at_member tools c s task) (at-centre-fits c s task) (at-member-fits tools c s task)
+own-fits tools c s task = either-fits s (is_centre c.me.role) (own_at_centre c s task) (own_at_member tools c s task) (at-centre-fits c s task) (at-member-fits tools c s task)
 
 -- Commands
 
@@ -361,21 +361,21 @@ verify-fits tools c s m kind device hash = un s _ _ _ (un s _ _ _ (un s _ _ _ (u
     (λ e. gi s _ _ _ (λ row f. (none-fits s.nets (drop_row (current s device) ++ (Row device row.key _ ∷ [])) (all-append NoActive (drop_row (current s device)) _ (row-drops (current s device)) (tt, tt)), tt)))
     (λ e. ch s _ _ _ (λ f. gi s _ _ _ (λ row g. (tt, tt))) (λ f. tt))))))
 
-order-fits : (tools : Tools) (c : Setting) (s : NodeState) (draw : Option Bytes) (m : Heard) (o : Order) → Fits s (take_order tools c s draw m o)
-unfolding take_order
-order-fits tools c s draw m (TransportNet key q destination source) = net-key-fits c s m key q destination source
-order-fits tools c s draw m (TransportApp key partner initiator) = app-key-fits c s m key partner
-order-fits tools c s draw m (TransportLink key destination source) = link-key-fits c s m key destination source
-order-fits tools c s draw m (UpdateDevice device short status) = update-fits c s m device status
-order-fits tools c s draw m (RemoveDevice target) = take-remove-fits c s m target
-order-fits tools c s draw m (RequestApp partner) = app-request-fits c s m draw partner
-order-fits tools c s draw m RequestLink = request-fits c s m draw
-order-fits tools c s draw m (SwitchKey q) = take-switch-fits c s m q
-order-fits tools c s draw m (Tunnel destination inner) = tunnel-fits c s m destination inner
-order-fits tools c s draw m (VerifyKey kind source hash) = verify-fits tools c s m kind source hash
-order-fits tools c s draw m (ConfirmKey status kind destination) = confirm-fits c s m status kind destination
+command-fits : (tools : Tools) (c : Setting) (s : NodeState) (draw : Option Bytes) (m : Heard) (o : Command) → Fits s (take_command tools c s draw m o)
+unfolding take_command
+command-fits tools c s draw m (TransportNet key q destination source) = net-key-fits c s m key q destination source
+command-fits tools c s draw m (TransportApp key partner initiator) = app-key-fits c s m key partner
+command-fits tools c s draw m (TransportLink key destination source) = link-key-fits c s m key destination source
+command-fits tools c s draw m (UpdateDevice device short status) = update-fits c s m device status
+command-fits tools c s draw m (RemoveDevice target) = take-remove-fits c s m target
+command-fits tools c s draw m (RequestApp partner) = app-request-fits c s m draw partner
+command-fits tools c s draw m RequestLink = request-fits c s m draw
+command-fits tools c s draw m (SwitchKey q) = take-switch-fits c s m q
+command-fits tools c s draw m (Tunnel destination inner) = tunnel-fits c s m destination inner
+command-fits tools c s draw m (VerifyKey kind source hash) = verify-fits tools c s m kind source hash
+command-fits tools c s draw m (ConfirmKey status kind destination) = confirm-fits c s m status kind destination
 
-leave-fits : (c : Setting) (s : NodeState) (t : Sealing) (options : ℕ) → Fits s (take_leave c t options)
+leave-fits : (c : Setting) (s : NodeState) (t : Term) (options : ℕ) → Fits s (take_leave c t options)
 unfolding take_leave
 leave-fits c s t options = un s _ _ _ (tt, tt)
 
@@ -388,38 +388,38 @@ either-plan : (s : NodeState) (b : Bool) (p q : Plan) → PlanFits s p → PlanF
 either-plan s true p q f g = f
 either-plan s false p q f g = g
 
-command-fits : (tools : Tools) (c : Setting) (s : NodeState) (draw : Option Bytes) (ts : List Sealing) (m : Heard) (o : OrderSight) → PlanFits s (aps_command tools c s draw ts m o)
-command-fits tools c s draw ts m (Known order) = order-fits tools c s draw m order
+command-fits : (tools : Tools) (c : Setting) (s : NodeState) (draw : Option Bytes) (ts : List Term) (m : Heard) (o : CommandShown) → PlanFits s (aps_command tools c s draw ts m o)
+command-fits tools c s draw ts m (Known command) = command-fits tools c s draw m command
 command-fits tools c s draw ts m Unknown = tt
 command-fits tools c s draw ts m Broken = tt
 
-clear-fits : (tools : Tools) (c : Setting) (s : NodeState) (draw : Option Bytes) (nwk : Option Sealing) (a : ApsSight) → PlanFits s (clear_part tools c s draw nwk a)
-clear-fits tools c s draw nwk a = either-plan s a.is_command (aps_command tools c s draw _ (heard_clear nwk) (tools.read_order a.body)) _ (command-fits tools c s draw _ (heard_clear nwk) (tools.read_order a.body)) (tt, tt)
+clear-fits : (tools : Tools) (c : Setting) (s : NodeState) (draw : Option Bytes) (nwk : Option Term) (a : ApsShown) → PlanFits s (clear_part tools c s draw nwk a)
+clear-fits tools c s draw nwk a = either-plan s a.is_command (aps_command tools c s draw _ (heard_clear nwk) (tools.read_command a.body)) _ (command-fits tools c s draw _ (heard_clear nwk) (tools.read_command a.body)) (tt, tt)
 
-sealed-fits : (tools : Tools) (c : Setting) (s : NodeState) (draw : Option Bytes) (nwk : Option Sealing) (a : ApsSight) (aux : ApsAuxiliary) (v : Verdict Unsealed) → PlanFits s (sealed_part tools c s draw nwk a aux v)
-sealed-fits tools c s draw nwk a aux (Not spot reason) = tt
-sealed-fits tools c s draw nwk a aux (Good u) = either-plan s a.is_command (aps_command tools c s draw _ (heard_sealed nwk aux u) (tools.read_order u.term.content)) _ (command-fits tools c s draw _ (heard_sealed nwk aux u) (tools.read_order u.term.content)) (tt, tt)
+sealed-fits : (tools : Tools) (c : Setting) (s : NodeState) (draw : Option Bytes) (nwk : Option Term) (a : ApsShown) (aux : ApsAuxiliary) (v : Verdict Unsealed) → PlanFits s (sealed_part tools c s draw nwk a aux v)
+sealed-fits tools c s draw nwk a aux (Not model_place reason) = tt
+sealed-fits tools c s draw nwk a aux (Good u) = either-plan s a.is_command (aps_command tools c s draw _ (heard_sealed nwk aux u) (tools.read_command u.term.content)) _ (command-fits tools c s draw _ (heard_sealed nwk aux u) (tools.read_command u.term.content)) (tt, tt)
 
-security-fits : (tools : Tools) (c : Setting) (s : NodeState) (draw : Option Bytes) (f : NwkSight) (nwk : Option Sealing) (a : ApsSight) (x : Option ApsAuxiliary) → PlanFits s (by_security tools c s draw f nwk a x)
+security-fits : (tools : Tools) (c : Setting) (s : NodeState) (draw : Option Bytes) (f : NwkShown) (nwk : Option Term) (a : ApsShown) (x : Option ApsAuxiliary) → PlanFits s (by_security tools c s draw f nwk a x)
 security-fits tools c s draw f nwk a None = clear-fits tools c s draw nwk a
 security-fits tools c s draw f nwk a (Some aux) = sealed-fits tools c s draw nwk a aux _
 
-aps-fits : (tools : Tools) (c : Setting) (s : NodeState) (draw : Option Bytes) (f : NwkSight) (nwk : Option Sealing) (x : Option ApsSight) → PlanFits s (aps_part tools c s draw f nwk x)
+aps-fits : (tools : Tools) (c : Setting) (s : NodeState) (draw : Option Bytes) (f : NwkShown) (nwk : Option Term) (x : Option ApsShown) → PlanFits s (aps_part tools c s draw f nwk x)
 aps-fits tools c s draw f nwk None = tt
 aps-fits tools c s draw f nwk (Some a) = security-fits tools c s draw f nwk a a.auxiliary
 
-nwk-command-fits : (c : Setting) (s : NodeState) (t : Sealing) (l : LeaveSight) → PlanFits s (nwk_command c t l)
+nwk-command-fits : (c : Setting) (s : NodeState) (t : Term) (l : LeaveShown) → PlanFits s (nwk_command c t l)
 nwk-command-fits c s t (Leave options) = leave-fits c s t options
 nwk-command-fits c s t Other = tt
 nwk-command-fits c s t NoCommand = tt
 
-net-fits : (tools : Tools) (c : Setting) (s : NodeState) (draw : Option Bytes) (f : NwkSight) (nwk : Option Sealing) → PlanFits s (net_part tools c s draw f nwk)
+net-fits : (tools : Tools) (c : Setting) (s : NodeState) (draw : Option Bytes) (f : NwkShown) (nwk : Option Term) → PlanFits s (net_part tools c s draw f nwk)
 net-fits tools c s draw f None = aps-fits tools c s draw f None (tools.read_aps f.body)
 net-fits tools c s draw f (Some t) = either-plan s f.is_command (nwk_command c t (tools.read_leave t.content)) (aps_part tools c s draw f (Some t) (tools.read_aps t.content)) (nwk-command-fits c s t (tools.read_leave t.content)) (aps-fits tools c s draw f (Some t) (tools.read_aps t.content))
 
 received-fits : (tools : Tools) (c : Setting) (s : NodeState) (draw : Option Bytes) (v : Verdict Carrier) → PlanFits s (received_as tools c s draw v)
-received-fits tools c s draw (Not spot reason) = tt
-received-fits tools c s draw (Good k) = net-fits tools c s draw k.sight k.term
+received-fits tools c s draw (Not model_place reason) = tt
+received-fits tools c s draw (Good k) = net-fits tools c s draw k.frame k.term
 
 pub plan-fits : (tools : Tools) (c : Setting) (s : NodeState) (task : Task) → Fits s (plan_of tools c s task).outcome
 unfolding plan_of

@@ -2,8 +2,8 @@
 use Rattle.std.proofs.Common.{◌≡◌, ℕ, ◌+◌, max, Bool, true, false, cond, ◌&&◌, ◌||◌, List, [], ◌∷◌, ◌++◌, map, Option, Some, None, option_map, find, nat_eq, flat_map, refl, sym, ap, ◌∙◌, subst, append_assoc, ⊎_elim, ◌⊎◌, inl, inr, eqb-true}
 use Rattle.std.proofs.lemmas.Bool.{false≢true, and_parts}
 use Rattle.std.specs.List.{AllByRecursion, list_any}
-use Rattle.zb_model.specs.Data.{Bytes, Tier, Nwk, Aps, Sealing, Edit, Reserve, Floor, Start, Moved, Move, Draw, DropNet, DropLink, Install, Active, Row, Pair, Became, Live, Removed, Roll, Told, Untold}
-use Rattle.zb_model.specs.Lines.{LogLine, Declared, GivenNet, GivenLink, Counter, Changed, Commit, Accept, Refuse, Seal, Forge, Send, Inject, Stopped, DownReset, DownDisk, Boot, Dump, End}
+use Rattle.zb_model.specs.Data.{Bytes, Layer, Nwk, Aps, Term, Edit, Reserve, Floor, Start, Moved, Move, Draw, DropNet, DropLink, Install, Active, Row, Pair, Became, Live, Removed, Roll, Told, Untold}
+use Rattle.zb_model.specs.Lines.{Line, Declared, GivenNet, GivenLink, Counter, Changed, Commit, Accept, Refuse, Seal, Forge, Send, Inject, Stopped, DownReset, DownDisk, Boot, Dump, End}
 use Rattle.zb_model.specs.State.{NetKey, NodeState, same_key, has_net, at_net, of_active, net_of_active, active_row, new_net, given_net, reserved, started_at, dropped_net, net_floor, net_kept, next_at, booted_net, declared_at, applied, moved, applied_all, sealed, sealed_at, after_boot, heard, accepted, with_given_net, with_given_link, with_declared}
 use Rattle.zb_model.specs.Rules.{Sending, Plan, Setting}
 use Rattle.zb_model.specs.Answer.{Answer, Counting, row_is_started, is_started_key, seals_at, may_seal, reserve_of, reserve_edit, floor_edit, start_edit, edits_of}
@@ -177,17 +177,17 @@ start-at v k key nets h = ap row_is_started (found-at (started_at v) (λ r. refl
 
 -- What a line needs of its node's state
 
-unfoldable pub StartFits : LogLine → NodeState → Type 0
+unfoldable pub StartFits : Line → NodeState → Type 0
 StartFits (GivenNet n k q) s = has_net k s.nets ≡ true → started k s.nets ≡ true
 StartFits (Changed e n (Reserve Nwk v)) s = (a : Bytes) → s.active ≡ Some a → started a s.nets ≡ true
 StartFits (Changed e n (Start k v)) s = has_net k s.nets ≡ true
 StartFits _ s = Unit {0}
 
-abbrev pub LineStarts : List LogLine → LogLine → Type 0
+abbrev pub LineStarts : List Line → Line → Type 0
 LineStarts h l = StartFits l (state_of h (speaker l))
 
 -- the key that a line starts
-abbrev starting : Bytes → LogLine → Bool
+abbrev starting : Bytes → Line → Bool
 starting key (GivenNet n k q) = same_key k key
 starting key (Changed e n (Start k v)) = same_key k key
 starting key _ = false
@@ -222,19 +222,19 @@ started-applied key number n (Floor Aps k p v) s f = or-nothing (started key s.n
 started-applied key number n (Start k v) s f = start-at v k key s.nets f
 started-applied key number n (Moved m) s f = stays _ (started key s.nets) (started-moved key m s)
 
-started-heard : (key : Bytes) (layer : Tier) (k : Bytes) (sender counter : ℕ) (s : NodeState) → started key (heard layer k sender counter s).nets ≡ started key s.nets
+started-heard : (key : Bytes) (layer : Layer) (k : Bytes) (sender counter : ℕ) (s : NodeState) → started key (heard layer k sender counter s).nets ≡ started key s.nets
 unfolding heard
 started-heard key Nwk k sender counter s = started-at (net_kept sender (counter + 1)) (plain-row (net_kept sender (counter + 1)) (λ r. refl) (λ r. refl)) key k s.nets
 started-heard key Aps k sender counter s = refl
 
-started-sealed : (key : Bytes) (layer : Tier) (t : Sealing) (s : NodeState) → started key (sealed_at layer t s).nets ≡ started key s.nets
+started-sealed : (key : Bytes) (layer : Layer) (t : Term) (s : NodeState) → started key (sealed_at layer t s).nets ≡ started key s.nets
 started-sealed key Nwk t s = started-at (next_at (t.counter + 1)) (plain-row (next_at (t.counter + 1)) (λ r. refl) (λ r. refl)) key t.base s.nets
 started-sealed key Aps t s = refl
 
 pub declared-row : (v : ℕ) → KeepsRow (declared_at v)
 declared-row v = only-row (λ r. record r { limit = max r.limit v; next = max r.next v }) (λ r. r.started) (plain-row (λ r. record r { limit = max r.limit v; next = max r.next v }) (λ r. refl) (λ r. refl))
 
-started-after : (key : Bytes) (l : LogLine) (s : NodeState) → StartFits l s → started key (after l s).nets ≡ (started key s.nets || starting key l)
+started-after : (key : Bytes) (l : Line) (s : NodeState) → StartFits l s → started key (after l s).nets ≡ (started key s.nets || starting key l)
 unfolding after with_given_net with_given_link with_declared sealed accepted after_boot StartFits
 started-after key (GivenNet n k q) s f = given-by (has_net k s.nets) (given_net s.declared k q) key s.nets refl refl f
 started-after key (Counter n Nwk v) s f = stays _ (started key s.nets) (started-map (declared_at v) (declared-row v) key s.nets)
@@ -247,10 +247,10 @@ started-after key _ s f = or-nothing (started key s.nets)
 
 -- Over lines
 
-abbrev pub Bridged : List LogLine → Type 0
+abbrev pub Bridged : List Line → Type 0
 Bridged h = (n : ℕ) (key : Bytes) → is_started_key (state_of h n) key ≡ has_started h n key
 
-any-last : (test : LogLine → Bool) (h : List LogLine) (l : LogLine) → list_any test (h ++ l ∷ []) ≡ (list_any test h || test l)
+any-last : (test : Line → Bool) (h : List Line) (l : Line) → list_any test (h ++ l ∷ []) ≡ (list_any test h || test l)
 any-last test [] l = sym (or-nothing (test l))
 any-last test (x ∷ h) l = ap (λ b. test x || b) (any-last test h l) ∙ or-assoc (test x) (list_any test h) (test l)
   where
@@ -258,7 +258,7 @@ any-last test (x ∷ h) l = ap (λ b. test x || b) (any-last test h l) ∙ or-as
     or-assoc true b c = refl
     or-assoc false b c = refl
 
-own-starting : (n : ℕ) (key : Bytes) (l : LogLine) (b : Bool) → nat_eq (speaker l) n ≡ b → starts_key n key l ≡ (b && starting key l)
+own-starting : (n : ℕ) (key : Bytes) (l : Line) (b : Bool) → nat_eq (speaker l) n ≡ b → starts_key n key l ≡ (b && starting key l)
 unfolding speaker
 own-starting n key (GivenNet m k q) b e = ap (λ x. x && same_key k key) e
 own-starting n key (Changed ev m (Start k v)) b e = ap (λ x. x && same_key k key) e
@@ -270,7 +270,7 @@ own-starting n key (GivenLink m p k) b e = and-none b
 own-starting n key (Counter m layer v) b e = and-none b
 own-starting n key (Commit ev m) b e = and-none b
 own-starting n key (Accept ev m t) b e = and-none b
-own-starting n key (Refuse ev m spot reason) b e = and-none b
+own-starting n key (Refuse ev m place reason) b e = and-none b
 own-starting n key (Seal ev m t) b e = and-none b
 own-starting n key (Forge ev t) b e = and-none b
 own-starting n key (Send ev m frame bytes) b e = and-none b
@@ -282,11 +282,11 @@ own-starting n key (Boot ev m) b e = and-none b
 own-starting n key (Dump ev m bytes) b e = and-none b
 own-starting n key (End events seals accepts refusals ideal private) b e = and-none b
 
-heard-started : (n : ℕ) (key : Bytes) (l : LogLine) (s : NodeState) (b : Bool) → (b ≡ true → StartFits l s) → started key (cond b (after l s) s).nets ≡ (started key s.nets || (b && starting key l))
+heard-started : (n : ℕ) (key : Bytes) (l : Line) (s : NodeState) (b : Bool) → (b ≡ true → StartFits l s) → started key (cond b (after l s) s).nets ≡ (started key s.nets || (b && starting key l))
 heard-started n key l s true f = started-after key l s (f refl)
 heard-started n key l s false f = or-nothing (started key s.nets)
 
-pub bridged-snoc : (h : List LogLine) (l : LogLine) → LineStarts h l → Bridged h → Bridged (h ++ l ∷ [])
+pub bridged-snoc : (h : List Line) (l : Line) → LineStarts h l → Bridged h → Bridged (h ++ l ∷ [])
 unfolding has_started heard_line
 bridged-snoc h l f b n key =
     ap (λ s. is_started_key s key) (state-snoc h l n)
@@ -295,24 +295,24 @@ bridged-snoc h l f b n key =
     ∙ ap (λ x. list_any (starts_key n key) h || x) (sym (own-starting n key l (nat_eq (speaker l) n) refl))
     ∙ sym (any-last (starts_key n key) h l)
 
-pub bridged-lines : (h ls : List LogLine) → Each LineStarts h ls → Bridged h → Bridged (h ++ ls)
+pub bridged-lines : (h ls : List Line) → Each LineStarts h ls → Bridged h → Bridged (h ++ ls)
 bridged-lines h [] f b = subst Bridged (sym (append-nil' h)) b
 bridged-lines h (l ∷ ls) f b = subst Bridged (append_assoc h (l ∷ []) ls) (bridged-lines (h ++ l ∷ []) ls f.1 (bridged-snoc h l f.0 b))
 
 -- Lines that start nothing
 
-unfoldable pub Quiet : LogLine → Type 0
+unfoldable pub Quiet : Line → Type 0
 Quiet (GivenNet n k q) = ⊥
 Quiet (Changed e n edit) = ⊥
 Quiet _ = Unit {0}
 
-quiet-starts : (l : LogLine) → Quiet l → (s : NodeState) → StartFits l s
+quiet-starts : (l : Line) → Quiet l → (s : NodeState) → StartFits l s
 unfolding Quiet StartFits
 quiet-starts (GivenNet n k q) f s = absurd f
 quiet-starts (Changed e n edit) f s = absurd f
 quiet-starts _ f s = tt
 
-pub quiet-lines : (h ls : List LogLine) → AllByRecursion Quiet ls → Each LineStarts h ls
+pub quiet-lines : (h ls : List Line) → AllByRecursion Quiet ls → Each LineStarts h ls
 quiet-lines h [] a = tt
 quiet-lines h (l ∷ ls) a = (quiet-starts l a.0 (state_of h (speaker l)), quiet-lines (h ++ l ∷ []) ls a.1)
 
@@ -322,7 +322,7 @@ abbrev pub EditsStart : ℕ → ℕ → NodeState → List Edit → Type 0
 EditsStart number n s [] = Unit {0}
 EditsStart number n s (e ∷ es) = StartFits (Changed number n e) s × EditsStart number n (applied e s) es
 
-pub edit-lines : (number n : ℕ) (h : List LogLine) (es : List Edit) → EditsStart number n (state_of h n) es → Each LineStarts h (map (Changed number n) es)
+pub edit-lines : (number n : ℕ) (h : List Line) (es : List Edit) → EditsStart number n (state_of h n) es → Each LineStarts h (map (Changed number n) es)
 unfolding speaker
 edit-lines number n h [] f = tt
 edit-lines number n h (e ∷ es) f = (f.0, edit-lines number n (h ++ Changed number n e ∷ []) es (subst (λ s. EditsStart number n s es) (sym (state-snoc h (Changed number n e) n ∙ changed-line number n e (state_of h n))) f.1))

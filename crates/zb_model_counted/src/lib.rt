@@ -7,26 +7,26 @@ ghost use Rattle.zb_model_counted.specs.Counted.{Counted};
 ghost use Rattle.zb_model_counted.specs.Floors.{FloorsAreFor};
 ghost use Rattle.zb_model_laws.specs.Opening.{Opens};
 ghost use Rattle.zb_model.specs.Claims.{Lawful};
-ghost use Rattle.zb_model.specs.Lines.{LogLine};
-ghost use Rattle.zb_model.specs.Play.{World};
+ghost use Rattle.zb_model.specs.Lines.{Line};
+ghost use Rattle.zb_model.specs.Play.{Schedule};
 ghost use Rattle.zb_model.specs.Tools.{Tools};
 ghost use Rattle.zb_model.specs.Transcript.{transcript};
 
 /// In the transcript of each schedule every counter is the next, and reserves, floors and starts stand exactly where they
 /// must, with the values that they must have; where a stop or failure cuts a group short, in the group that it cuts.
 pub fn transcripts_are_counted()
-    ensures { (tools : Tools) → Opens tools → (w : World) → Counted tools w (transcript tools w) }
+    ensures { (tools : Tools) → Opens tools → (w : Schedule) → Counted tools w (transcript tools w) }
 {}
 
 /// Lines that are lawful and counted for a schedule are its transcript: the policy and the counters together leave nothing
 /// open, to the last byte.
 pub fn lawful_and_counted_lines_are_the_transcript()
-    ensures { (tools : Tools) → Opens tools → (w : World) (lines : List LogLine) → Lawful tools w lines → Counted tools w lines
+    ensures { (tools : Tools) → Opens tools → (w : Schedule) (lines : List Line) → Lawful tools w lines → Counted tools w lines
         → lines ≡ transcript tools w }
 {}
 
 /// No floor is more than the node's incoming block above the counter for which it was stored: behind each floor line, in its
 /// event, stands the accept line of that counter, or the stop or failure that cut the event short.
 pub fn a_floor_is_at_most_one_block_above_its_counter()
-    ensures { (tools : Tools) → Opens tools → (w : World) → FloorsAreFor w (transcript tools w) }
+    ensures { (tools : Tools) → Opens tools → (w : Schedule) → FloorsAreFor w (transcript tools w) }
 {}

@@ -7,9 +7,8 @@ use Rattle.std.proofs.lemmas.List.{length-map}
 use Rattle.std.proofs.lemmas.List.Elements.{filter-append}
 use Rattle.std.proofs.lemmas.List.Folds.{list_all-append}
 use Rattle.zb_model.specs.Data.{Bytes}
-use Rattle.zb_model.specs.State.{NodeState, SenderFloor, NetKey, same_key, live_nets, at_net, has_net, reserved, started_at, dropped_net, new_net, of_active}
+use Rattle.zb_model.specs.State.{NodeState, SenderFloor, NetKey, same_key, live_nets, at_net, has_net, reserved, started_at, dropped_net, new_net, of_active, is_active_key}
 use Rattle.zb_model.specs.Fits.{keeps_rules, active_is_live, duty_is_kept, row_is_live, live_net, most_nets, all_apart}
-use Rattle.zb_model.specs.Answer.{is_active_key}
 use Rattle.zb_model_fits.proofs.Tests.{both, never, same_both, all_map, fewer, apart_map, apart_snoc}
 use Rattle.zb_model_fits.proofs.Parts.{Rules, rules_of, rules_back, floors_rule, limit_rule, nets_alike, same_key_is}
 

@@ -5,9 +5,9 @@ use Rattle.std.specs.List.{list_all}
 use Rattle.std.proofs.lemmas.Bool.{leb-true, le-leb}
 use Rattle.std.proofs.lemmas.Bool.Decides.{same_from_decides}
 use Rattle.std.proofs.lemmas.Slice.Eq.{bytes_eq-Decides}
-use Rattle.zb_model.specs.Data.{Bytes, Duty}
+use Rattle.zb_model.specs.Data.{Bytes, Role}
 use Rattle.zb_model.specs.State.{NodeState, SenderFloor, NetKey, LinkKey, PairKey, same_key, is_centre, is_provisional, is_unverified, live_nets}
-use Rattle.zb_model.specs.Fits.{keeps_rules, rows_have_room, keys_differ, at_most_two_live, active_is_live, partners_agree, links_are_marked, floors_are_kept, limits_are_started, duty_is_kept, pairs_are_kept, senders_ascend, most_senders, most_nets, most_links, most_pairs, all_apart, like_rows, same_bool}
+use Rattle.zb_model.specs.Fits.{keeps_rules, rows_have_room, keys_differ, at_most_two_live, active_is_live, partners_agree, links_are_marked, floors_are_kept, limits_are_started, role_is_kept, pairs_are_kept, senders_ascend, most_senders, most_nets, most_links, most_pairs, all_apart, like_rows, same_bool}
 use Rattle.zb_model_fits.proofs.Tests.{both}
 
 -- what the rules ask of one row, and of two
@@ -25,13 +25,13 @@ abbrev pub links_alike : LinkKey → LinkKey → Bool
 links_alike a b = same_key a.key b.key
 
 abbrev pub kinds_alike : LinkKey → LinkKey → Bool
-kinds_alike a b = like_rows a b && same_bool (is_unverified a.trust) (is_unverified b.trust)
+kinds_alike a b = like_rows a b && same_bool (is_unverified a.attribute) (is_unverified b.attribute)
 
 abbrev pub told_apart : LinkKey → LinkKey → Bool
 told_apart a b = like_rows a b && not (same_bool a.told b.told)
 
-abbrev pub link_rule : Duty → LinkKey → Bool
-link_rule duty r = (not r.told || (r.live && is_centre duty)) && (not (is_provisional r.trust) || r.code)
+abbrev pub link_rule : Role → LinkKey → Bool
+link_rule role r = (not r.told || (r.live && is_centre role)) && (not (is_provisional r.attribute) || r.code)
 
 abbrev pub pairs_alike : PairKey → PairKey → Bool
 pairs_alike a b = nat_eq a.first b.first && nat_eq a.second b.second
@@ -41,7 +41,7 @@ pair_rule p = nat_lt p.first p.second
 
 pub record Rules (s : NodeState) : Type 0 where
   pub nets_room : length s.nets ≤ most_nets
-  pub links_room : length s.links ≤ most_links s.duty
+  pub links_room : length s.links ≤ most_links s.role
   pub pairs_room : length s.pairs ≤ most_pairs
   pub net_keys : all_apart nets_alike s.nets ≡ true
   pub link_keys : all_apart links_alike s.links ≡ true
@@ -49,10 +49,10 @@ pub record Rules (s : NodeState) : Type 0 where
   pub active : active_is_live s ≡ true
   pub kinds : all_apart kinds_alike s.links ≡ true
   pub told : all_apart told_apart s.links ≡ true
-  pub marks : list_all (link_rule s.duty) s.links ≡ true
+  pub marks : list_all (link_rule s.role) s.links ≡ true
   pub floors : list_all floors_rule s.nets ≡ true
   pub limits : list_all limit_rule s.nets ≡ true
-  pub duty_kept : duty_is_kept s ≡ true
+  pub role_kept : role_is_kept s ≡ true
   pub pairs : list_all pair_rule s.pairs ≡ true
   pub pair_names : all_apart pairs_alike s.pairs ≡ true
 
@@ -67,9 +67,9 @@ rules_of s kept =
     let r6 = both (links_are_marked s) _ r5.1 in
     let r7 = both (floors_are_kept s) _ r6.1 in
     let r8 = both (limits_are_started s) _ r7.1 in
-    let r9 = both (duty_is_kept s) _ r8.1 in
+    let r9 = both (role_is_kept s) _ r8.1 in
     let rooms = both (nat_le (length s.nets) most_nets) _ r1.0 in
-    let more = both (nat_le (length s.links) (most_links s.duty)) _ rooms.1 in
+    let more = both (nat_le (length s.links) (most_links s.role)) _ rooms.1 in
     let keys = both (all_apart nets_alike s.nets) _ r2.0 in
     let agree = both (all_apart kinds_alike s.links) _ r5.0 in
     let pairs = both (list_all pair_rule s.pairs) _ r9.1 in
@@ -86,7 +86,7 @@ rules_of s kept =
       marks = r6.0;
       floors = r7.0;
       limits = r8.0;
-      duty_kept = r9.0;
+      role_kept = r9.0;
       pairs = pairs.0;
       pair_names = pairs.1;
     }
@@ -95,10 +95,10 @@ pub rules_back : (s : NodeState) → Rules s → keeps_rules s ≡ true
 unfolding keeps_rules rows_have_room keys_differ at_most_two_live partners_agree links_are_marked floors_are_kept limits_are_started pairs_are_kept
 rules_back s r =
     let nets : nat_le (length s.nets) most_nets ≡ true = le-leb _ _ r.nets_room in
-    let links : nat_le (length s.links) (most_links s.duty) ≡ true = le-leb _ _ r.links_room in
+    let links : nat_le (length s.links) (most_links s.role) ≡ true = le-leb _ _ r.links_room in
     let pairs : nat_le (length s.pairs) most_pairs ≡ true = le-leb _ _ r.pairs_room in
     let two : nat_le (length (live_nets s)) 2 ≡ true = le-leb _ _ r.two in
-    rw (nets, links, pairs, r.net_keys, r.link_keys, two, r.active, r.kinds, r.told, r.marks, r.floors, r.limits, r.duty_kept, r.pairs, r.pair_names) refl
+    rw (nets, links, pairs, r.net_keys, r.link_keys, two, r.active, r.kinds, r.told, r.marks, r.floors, r.limits, r.role_kept, r.pairs, r.pair_names) refl
 
 -- keys
 

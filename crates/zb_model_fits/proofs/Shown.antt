@@ -3,7 +3,7 @@ use Rattle.std.proofs.Common.{◌≡◌, ℕ, List, [], ◌∷◌, length, map, 
 use Rattle.std.specs.Prelude.{find, nat_le, nat_lt, option_map, is_some, nat_eq}
 use Rattle.std.specs.List.{list_any}
 use Rattle.std.proofs.lemmas.List.{length-map}
-use Rattle.zb_model.specs.Data.{Bytes, Duty, Nwk, Aps, Move, Draw, DropNet, DropLink, Install, Active, Row, Pair, Became, Live, Removed, Roll, Told, Untold, Edit, Reserve, Floor, Start, Moved}
+use Rattle.zb_model.specs.Data.{Bytes, Role, Nwk, Aps, Move, Draw, DropNet, DropLink, Install, Active, Row, Pair, Became, Live, Removed, Roll, Told, Untold, Edit, Reserve, Floor, Start, Moved}
 use Rattle.zb_model.specs.State.{NodeState, NetKey, same_key, shown, shown_net, net_of, net_of_active, active_row, has_net, live_nets, stored_limit, limit_of, is_live, pair_of}
 use Rattle.zb_model.specs.Fits.{keeps_rules, may_change, may_move, fits, live_net, row_is_live, net_stored, net_limit}
 use Rattle.zb_model_fits.specs.Fitting.{leaves_rules, move_leaves, floor_has_room}
@@ -73,9 +73,9 @@ move_shown (Install key sequence) s =
     ∙ ap (λ n. not (has_net key s.nets) && (nat_lt n 256 && nat_lt (length (filter (λ (r : NetKey). r.live) (map shown_net s.nets))) 2)) (length-map s.nets shown_net)
     ∙ ap (λ n. not (has_net key s.nets) && (nat_lt (length s.nets) 256 && nat_lt n 2)) (lives_shown s.nets)
 move_shown (Active key) s = ap (λ b. b && true) (ap row_is_live (found_shown key s.nets) ∙ live_shown (net_of key s))
-move_shown (Row partner key trust) s = refl
+move_shown (Row partner key attribute) s = refl
 move_shown (Pair first second key) s = refl
-move_shown (Became stage) s = refl
+move_shown (Became state) s = refl
 move_shown (Live device) s = refl
 move_shown (Removed device) s = refl
 move_shown (Roll sending) s = refl

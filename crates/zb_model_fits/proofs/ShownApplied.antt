@@ -3,7 +3,7 @@ use Rattle.std.proofs.Common.{◌≡◌, ℕ, List, [], ◌∷◌, ◌++◌, map
 use Rattle.std.specs.List.{list_any}
 use Rattle.std.proofs.lemmas.List.{map-append}
 use Rattle.zb_model.specs.Data.{Bytes, Nwk, Aps, Draw, DropNet, DropLink, Install, Active, Row, Pair, Became, Live, Removed, Roll, Told, Untold, Edit, Reserve, Floor, Start, Moved}
-use Rattle.zb_model.specs.State.{NodeState, NetKey, same_key, shown, shown_net, applied, at_net, has_net, reserved, started_at, dropped_net, net_floor, new_net, of_active, is_told, most}
+use Rattle.zb_model.specs.State.{NodeState, NetKey, same_key, shown, shown_net, applied, at_net, has_net, reserved, started_at, dropped_net, net_floor, new_net, of_active, is_told, greatest_counter}
 use Rattle.zb_model_fits.proofs.Tests.{any_map}
 
 pub shown_twice : (nets : List NetKey) → map shown_net (map shown_net nets) ≡ map shown_net nets
@@ -69,7 +69,7 @@ active_again limit (Some key) nets = again_at key (reserved limit) (reserved_aga
 pub shown_applied : (e : Edit) (s : NodeState) → shown (applied e (shown s)) ≡ shown (applied e s)
 unfolding shown applied is_told
 shown_applied (Reserve Nwk limit) s = ap (λ l. record s { nets = l }) (active_again limit s.active s.nets)
-shown_applied (Reserve Aps limit) s = ap (λ l. record s { nets = l; aps_limit = max s.aps_limit (min limit most) }) (shown_twice s.nets)
+shown_applied (Reserve Aps limit) s = ap (λ l. record s { nets = l; aps_limit = max s.aps_limit (min limit greatest_counter) }) (shown_twice s.nets)
 shown_applied (Floor Nwk key sender value) s = ap (λ l. record s { nets = l }) (again_at key (net_floor sender value) (floor_again sender value) s.nets)
 shown_applied (Floor Aps key sender value) s = ap (λ l. record (applied (Floor Aps key sender value) s) { nets = l }) (shown_twice s.nets)
 shown_applied (Start key value) s = ap (λ l. record s { nets = l }) (again_at key (started_at value) (started_again value) s.nets)
@@ -78,9 +78,9 @@ shown_applied (Moved (DropNet key)) s = ap (λ l. record s { nets = l }) (again_
 shown_applied (Moved (DropLink partner key)) s = ap (λ l. record (applied (Moved (DropLink partner key)) s) { nets = l }) (shown_twice s.nets)
 shown_applied (Moved (Install key sequence)) s = ap (λ l. record s { nets = l }) (installed_again key sequence s.nets)
 shown_applied (Moved (Active key)) s = ap (λ l. record (applied (Moved (Active key)) s) { nets = l }) (shown_twice s.nets)
-shown_applied (Moved (Row partner key trust)) s = ap (λ l. record (applied (Moved (Row partner key trust)) s) { nets = l }) (shown_twice s.nets)
+shown_applied (Moved (Row partner key attribute)) s = ap (λ l. record (applied (Moved (Row partner key attribute)) s) { nets = l }) (shown_twice s.nets)
 shown_applied (Moved (Pair first second key)) s = ap (λ l. record (applied (Moved (Pair first second key)) s) { nets = l }) (shown_twice s.nets)
-shown_applied (Moved (Became stage)) s = ap (λ l. record (applied (Moved (Became stage)) s) { nets = l }) (shown_twice s.nets)
+shown_applied (Moved (Became state)) s = ap (λ l. record (applied (Moved (Became state)) s) { nets = l }) (shown_twice s.nets)
 shown_applied (Moved (Live device)) s = ap (λ l. record (applied (Moved (Live device)) s) { nets = l }) (shown_twice s.nets)
 shown_applied (Moved (Removed device)) s = ap (λ l. record (applied (Moved (Removed device)) s) { nets = l }) (shown_twice s.nets)
 shown_applied (Moved (Roll sending)) s = ap (λ l. record (applied (Moved (Roll sending)) s) { nets = l }) (shown_twice s.nets)

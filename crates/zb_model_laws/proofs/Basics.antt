@@ -3,7 +3,7 @@ use Rattle.std.proofs.Common.{◌≡◌, ℕ, Bool, true, false, cond, List, [],
 use Rattle.std.proofs.lemmas.Slice.Eq.{bytes_eq-Decides}
 use Rattle.std.proofs.lemmas.List.Sums.{fold-append}
 use Rattle.zb_model.specs.Data.{Bytes}
-use Rattle.zb_model.specs.Lines.{LogLine}
+use Rattle.zb_model.specs.Lines.{Line}
 use Rattle.zb_model.specs.State.{new_node, same_key}
 use Rattle.zb_model.specs.Readings.{state_of, heard_line}
 use Rattle.zb_model.specs.Claims.{Each}
@@ -35,14 +35,14 @@ flat_map-append f [] ys = refl
 flat_map-append f (x ∷ xs) ys = ap (λ l. f x ++ l) (flat_map-append f xs ys) ∙ sym (append_assoc (f x) (flat_map f xs) (flat_map f ys))
 
 -- reading goes on
-pub state-append : (h g : List LogLine) (n : ℕ) → state_of (h ++ g) n ≡ fold (heard_line n) (state_of h n) g
+pub state-append : (h g : List Line) (n : ℕ) → state_of (h ++ g) n ≡ fold (heard_line n) (state_of h n) g
 unfolding state_of
-state-append h g n = fold-append (heard_line n) (new_node Rattle.zb_model.specs.Data.Duty.Device) h g
+state-append h g n = fold-append (heard_line n) (new_node Rattle.zb_model.specs.Data.Role.Device) h g
 
-pub state-snoc : (h : List LogLine) (l : LogLine) (n : ℕ) → state_of (h ++ l ∷ []) n ≡ heard_line n (state_of h n) l
+pub state-snoc : (h : List Line) (l : Line) (n : ℕ) → state_of (h ++ l ∷ []) n ≡ heard_line n (state_of h n) l
 state-snoc h l n = state-append h (l ∷ []) n
 
 -- claims on each line, over lists joined
-pub each-append : (P : List LogLine → LogLine → Type 0) (h xs ys : List LogLine) → Each P h xs → Each P (h ++ xs) ys → Each P h (xs ++ ys)
+pub each-append : (P : List Line → Line → Type 0) (h xs ys : List Line) → Each P h xs → Each P (h ++ xs) ys → Each P h (xs ++ ys)
 each-append P h [] ys a b = subst (λ l. Each P l ys) (append-nil' h) b
 each-append P h (x ∷ xs) ys a b = (a.0, each-append P (h ++ x ∷ []) xs ys a.1 (subst (λ l. Each P l ys) (sym (append_assoc h (x ∷ []) xs)) b))

@@ -1,29 +1,29 @@
 -- Counters over lines: no limit is behind its counter, and what was sealed stays below.
 use Rattle.std.proofs.Common.{◌≡◌, ℕ, ◌<◌, ◌≤◌, ◌+◌, ◌^◌, max, Bool, true, false, cond, List, [], ◌∷◌, ◌++◌, map, Option, Some, None, option_map, find, refl, sym, ap, ◌∙◌, subst, arith, le_refl}
-use Rattle.zb_model.specs.Data.{Bytes, Tier, Nwk, Aps, ForNetwork, Sealing, Move, Draw, DropNet, DropLink, Install, Active, Row, Pair, Became, Live, Removed, Roll, Told, Untold, Edit, Reserve, Floor, Start, Moved}
-use Rattle.zb_model.specs.Lines.{LogLine, Declared, GivenNet, GivenLink, Counter, Changed, Accept, Seal, Boot}
-use Rattle.zb_model.specs.State.{most, NetKey, NodeState, same_key, has_net, at_net, of_active, new_net, given_net, reserved, started_at, dropped_net, net_floor, net_kept, next_at, booted_net, declared_at, applied, moved, sealed, sealed_at, after_boot, heard, accepted, with_given_net, with_given_link, with_declared}
+use Rattle.zb_model.specs.Data.{Bytes, Layer, Nwk, Aps, ForNetwork, Term, Move, Draw, DropNet, DropLink, Install, Active, Row, Pair, Became, Live, Removed, Roll, Told, Untold, Edit, Reserve, Floor, Start, Moved}
+use Rattle.zb_model.specs.Lines.{Line, Declared, GivenNet, GivenLink, Counter, Changed, Accept, Seal, Boot}
+use Rattle.zb_model.specs.State.{greatest_counter, NetKey, NodeState, same_key, has_net, at_net, of_active, new_net, given_net, reserved, started_at, dropped_net, net_floor, net_kept, next_at, booted_net, declared_at, applied, moved, sealed, sealed_at, after_boot, heard, accepted, with_given_net, with_given_link, with_declared}
 use Rattle.zb_model.specs.Frames.{nwk_control}
 use Rattle.zb_model.specs.Readings.{state_of, after, speaker}
 use Rattle.zb_model_laws.proofs.Basics.{same_key-eq, find-map}
 use Rattle.zb_model_laws.proofs.Nets.{Holds, On, at_key, Keeps, Mild, Covers, Gives, covers-closed, covers-heard, covers-started, covers-booted, on-map, on-add, on-applied, on-accepted, on-booted}
 
 -- What a seal needs of the state before it: its counter comes next and is below the stored limit.
-unfoldable pub SealFitsAt : Tier → Sealing → NodeState → Type 0
+unfoldable pub SealFitsAt : Layer → Term → NodeState → Type 0
 SealFitsAt Nwk t s = (t.label ≡ ForNetwork) × (t.control ≡ nwk_control) × On (Gives t.counter) t.base s.nets
 SealFitsAt Aps t s = (t.control ≡ nwk_control → ⊥) × (t.counter ≡ s.aps_next) × (t.counter < s.aps_limit)
 
-pub record SealFits (n : ℕ) (t : Sealing) (s : NodeState) : Type 0 where
+pub record SealFits (n : ℕ) (t : Term) (s : NodeState) : Type 0 where
   pub source : t.source ≡ n
-  pub small : t.counter < most
+  pub small : t.counter < greatest_counter
   pub eui : n < 2 ^ 64
   pub fits : SealFitsAt t.layer t s
 
-abbrev pub StateFits : LogLine → NodeState → Type 0
+abbrev pub StateFits : Line → NodeState → Type 0
 StateFits (Seal e n t) s = SealFits n t s
 StateFits _ s = Unit {0}
 
-abbrev pub LineFits : List LogLine → LogLine → Type 0
+abbrev pub LineFits : List Line → Line → Type 0
 LineFits h l = StateFits l (state_of h (speaker l))
 
 -- The row that is found has the key.
@@ -96,13 +96,13 @@ covers-declared c value = record { key = λ r. key (r.started) r; kept = λ r h.
     kept true r h = (h.0, omega (arith, h.1), omega (arith, h.2))
     kept false r h = h
 
-covers-sealed : (layer : Tier) (c : ℕ) (key : Bytes) (t : Sealing) (s : NodeState) → SealFitsAt layer t s → On (Covers c) key s.nets → On (Covers c) key (sealed_at layer t s).nets
+covers-sealed : (layer : Layer) (c : ℕ) (key : Bytes) (t : Term) (s : NodeState) → SealFitsAt layer t s → On (Covers c) key s.nets → On (Covers c) key (sealed_at layer t s).nets
 unfolding SealFitsAt
 covers-sealed Nwk c key t s m h =
     on-sealed (Covers c) (Gives t.counter) (next_at (t.counter + 1)) key t.base s.nets (λ r. refl) (λ r p q. (p.0, omega (arith, p.1, q.1), p.2)) h m.2
 covers-sealed Aps c key t s m h = h
 
-pub covers-after : (c : ℕ) (key : Bytes) (l : LogLine) (s : NodeState) → StateFits l s → On (Covers c) key s.nets → On (Covers c) key (after l s).nets
+pub covers-after : (c : ℕ) (key : Bytes) (l : Line) (s : NodeState) → StateFits l s → On (Covers c) key s.nets → On (Covers c) key (after l s).nets
 unfolding after with_given_net with_given_link with_declared sealed
 covers-after c key (GivenNet n k q) s m h = on-add (Covers c) (has_net k s.nets) key s.nets (given_net s.declared k q ∷ []) h
 covers-after c key (Counter n Nwk v) s m h = on-map (Covers c) (declared_at v) (covers-declared c v) key s.nets h
@@ -140,17 +140,17 @@ aps-applied c (Floor Aps k p v) s h = h
 aps-applied c (Start k v) s h = h
 aps-applied c (Moved m) s h = aps-moved c m s h
 
-aps-heard : (c : ℕ) (layer : Tier) (k : Bytes) (sender counter : ℕ) (s : NodeState) → ApsCovers c s → ApsCovers c (heard layer k sender counter s)
+aps-heard : (c : ℕ) (layer : Layer) (k : Bytes) (sender counter : ℕ) (s : NodeState) → ApsCovers c s → ApsCovers c (heard layer k sender counter s)
 unfolding heard
 aps-heard c Nwk k sender counter s h = h
 aps-heard c Aps k sender counter s h = h
 
-aps-sealed : (layer : Tier) (c : ℕ) (t : Sealing) (s : NodeState) → SealFitsAt layer t s → ApsCovers c s → ApsCovers c (sealed_at layer t s)
+aps-sealed : (layer : Layer) (c : ℕ) (t : Term) (s : NodeState) → SealFitsAt layer t s → ApsCovers c s → ApsCovers c (sealed_at layer t s)
 unfolding SealFitsAt
 aps-sealed Nwk c t s m h = h
 aps-sealed Aps c t s m h = (omega (arith, m.1, h.0), h.1)
 
-pub aps-after : (c : ℕ) (l : LogLine) (s : NodeState) → StateFits l s → ApsCovers c s → ApsCovers c (after l s)
+pub aps-after : (c : ℕ) (l : Line) (s : NodeState) → StateFits l s → ApsCovers c s → ApsCovers c (after l s)
 unfolding after with_given_net with_given_link with_declared sealed accepted after_boot
 aps-after c (GivenNet n k q) s m h = h
 aps-after c (Counter n Nwk v) s m h = h
@@ -170,7 +170,7 @@ IfHolds P (Some r) = P r
 unfoldable pub Behind : NetKey → Type 0
 Behind r = r.next ≤ r.limit
 
-pub record Ordered (s : NodeState) : Type 0 where
+pub record Commanded (s : NodeState) : Type 0 where
   pub nets : (key : Bytes) → IfHolds Behind (find (at_key key) s.nets)
   pub aps : s.aps_next ≤ s.aps_limit
 
@@ -207,44 +207,44 @@ if-add : (b : Bool) (x : NetKey) → Behind x → (nets : List NetKey) → ((key
 if-add true x p nets h key = h key
 if-add false x p nets h key = if-new x p nets key (h key)
 
-ordered-moved : (m : Move) (s : NodeState) → Ordered s → Ordered (moved m s)
+commanded-moved : (m : Move) (s : NodeState) → Commanded s → Commanded (moved m s)
 unfolding Behind
-ordered-moved (Draw k) s o = o
-ordered-moved (DropNet k) s o = record { nets = if-at dropped_net k (λ r. refl) (λ r p. p) s.nets o.nets; aps = o.aps }
-ordered-moved (DropLink p k) s o = record { nets = o.nets; aps = o.aps }
-ordered-moved (Install k q) s o = record { nets = if-add (has_net k s.nets) (new_net k q) (le_refl 0) s.nets o.nets; aps = o.aps }
-ordered-moved (Active k) s o = record { nets = o.nets; aps = o.aps }
-ordered-moved (Row p k t) s o = record { nets = o.nets; aps = o.aps }
-ordered-moved (Pair a b k) s o = record { nets = o.nets; aps = o.aps }
-ordered-moved (Became g) s o = record { nets = o.nets; aps = o.aps }
-ordered-moved (Live d) s o = record { nets = o.nets; aps = o.aps }
-ordered-moved (Removed d) s o = record { nets = o.nets; aps = o.aps }
-ordered-moved (Roll b) s o = record { nets = o.nets; aps = o.aps }
-ordered-moved (Told d) s o = record { nets = o.nets; aps = o.aps }
-ordered-moved (Untold d) s o = record { nets = o.nets; aps = o.aps }
+commanded-moved (Draw k) s o = o
+commanded-moved (DropNet k) s o = record { nets = if-at dropped_net k (λ r. refl) (λ r p. p) s.nets o.nets; aps = o.aps }
+commanded-moved (DropLink p k) s o = record { nets = o.nets; aps = o.aps }
+commanded-moved (Install k q) s o = record { nets = if-add (has_net k s.nets) (new_net k q) (le_refl 0) s.nets o.nets; aps = o.aps }
+commanded-moved (Active k) s o = record { nets = o.nets; aps = o.aps }
+commanded-moved (Row p k t) s o = record { nets = o.nets; aps = o.aps }
+commanded-moved (Pair a b k) s o = record { nets = o.nets; aps = o.aps }
+commanded-moved (Became g) s o = record { nets = o.nets; aps = o.aps }
+commanded-moved (Live d) s o = record { nets = o.nets; aps = o.aps }
+commanded-moved (Removed d) s o = record { nets = o.nets; aps = o.aps }
+commanded-moved (Roll b) s o = record { nets = o.nets; aps = o.aps }
+commanded-moved (Told d) s o = record { nets = o.nets; aps = o.aps }
+commanded-moved (Untold d) s o = record { nets = o.nets; aps = o.aps }
 
 if-active : (active : Option Bytes) (v : ℕ) (nets : List NetKey) → ((key : Bytes) → IfHolds Behind (find (at_key key) nets)) → (key : Bytes) → IfHolds Behind (find (at_key key) (of_active (reserved v) active nets))
 unfolding Behind
 if-active None v nets h key = h key
 if-active (Some a) v nets h key = if-at (reserved v) a (λ r. refl) (λ r p. omega (arith, p)) nets h key
 
-pub ordered-applied : (e : Edit) (s : NodeState) → Ordered s → Ordered (applied e s)
+pub commanded-applied : (e : Edit) (s : NodeState) → Commanded s → Commanded (applied e s)
 unfolding applied Behind
-ordered-applied (Reserve Nwk v) s o = record { nets = if-active s.active v s.nets o.nets; aps = o.aps }
-ordered-applied (Reserve Aps v) s o = record { nets = o.nets; aps = omega (arith, o.aps) }
-ordered-applied (Floor Nwk k p v) s o = record { nets = if-at (net_floor p v) k (λ r. refl) (λ r p. p) s.nets o.nets; aps = o.aps }
-ordered-applied (Floor Aps k p v) s o = record { nets = o.nets; aps = o.aps }
-ordered-applied (Start k v) s o = record { nets = if-at (started_at v) k (λ r. refl) (λ r p. omega (arith, p)) s.nets o.nets; aps = o.aps }
-ordered-applied (Moved m) s o = ordered-moved m s o
+commanded-applied (Reserve Nwk v) s o = record { nets = if-active s.active v s.nets o.nets; aps = o.aps }
+commanded-applied (Reserve Aps v) s o = record { nets = o.nets; aps = omega (arith, o.aps) }
+commanded-applied (Floor Nwk k p v) s o = record { nets = if-at (net_floor p v) k (λ r. refl) (λ r p. p) s.nets o.nets; aps = o.aps }
+commanded-applied (Floor Aps k p v) s o = record { nets = o.nets; aps = o.aps }
+commanded-applied (Start k v) s o = record { nets = if-at (started_at v) k (λ r. refl) (λ r p. omega (arith, p)) s.nets o.nets; aps = o.aps }
+commanded-applied (Moved m) s o = commanded-moved m s o
 
-ordered-heard : (layer : Tier) (k : Bytes) (sender counter : ℕ) (s : NodeState) → Ordered s → Ordered (heard layer k sender counter s)
+commanded-heard : (layer : Layer) (k : Bytes) (sender counter : ℕ) (s : NodeState) → Commanded s → Commanded (heard layer k sender counter s)
 unfolding heard Behind
-ordered-heard Nwk k sender counter s o = record { nets = if-at (net_kept sender (counter + 1)) k (λ r. refl) (λ r p. p) s.nets o.nets; aps = o.aps }
-ordered-heard Aps k sender counter s o = record { nets = o.nets; aps = o.aps }
+commanded-heard Nwk k sender counter s o = record { nets = if-at (net_kept sender (counter + 1)) k (λ r. refl) (λ r p. p) s.nets o.nets; aps = o.aps }
+commanded-heard Aps k sender counter s o = record { nets = o.nets; aps = o.aps }
 
-pub ordered-accepted : (t : Sealing) (s : NodeState) → Ordered s → Ordered (accepted t s)
+pub commanded-accepted : (t : Term) (s : NodeState) → Commanded s → Commanded (accepted t s)
 unfolding accepted
-ordered-accepted t s o = ordered-heard t.layer t.base t.source t.counter s o
+commanded-accepted t s o = commanded-heard t.layer t.base t.source t.counter s o
 
 if-moved : (c : ℕ) (key base : Bytes) (nets : List NetKey) (o : Option NetKey) → find (at_key key) nets ≡ o → IfHolds Behind o → On (Gives c) base nets → IfHolds Behind (option_map (λ r. cond (same_key r.key base) (next_at (c + 1) r) r) o)
 unfolding Holds Behind
@@ -264,14 +264,14 @@ if-moved c key base nets (Some r) e h q = by-test (same_key r.key base) refl
     by-test true b = limit (there b)
     by-test false b = h
 
-ordered-sealed : (layer : Tier) (t : Sealing) (s : NodeState) → SealFitsAt layer t s → Ordered s → Ordered (sealed_at layer t s)
+commanded-sealed : (layer : Layer) (t : Term) (s : NodeState) → SealFitsAt layer t s → Commanded s → Commanded (sealed_at layer t s)
 unfolding SealFitsAt
-ordered-sealed Nwk t s m o = record {
+commanded-sealed Nwk t s m o = record {
   nets = λ key. subst (λ x. IfHolds Behind x) (sym (find-map (at_key key) (λ r. cond (same_key r.key t.base) (next_at (t.counter + 1) r) r) (at-key-kept (next_at (t.counter + 1)) t.base key (λ r. refl)) s.nets))
       (if-moved t.counter key t.base s.nets (find (at_key key) s.nets) refl (o.nets key) m.2);
   aps = o.aps;
 }
-ordered-sealed Aps t s m o = record { nets = o.nets; aps = omega (arith, m.2) }
+commanded-sealed Aps t s m o = record { nets = o.nets; aps = omega (arith, m.2) }
 
 behind-declared : (v : ℕ) (b : Bool) (r : NetKey) → Behind r → Behind (cond b (record r { limit = max r.limit v; next = max r.next v }) r)
 unfolding Behind
@@ -282,15 +282,15 @@ key-declared : (v : ℕ) (b : Bool) (r : NetKey) → (cond b (record r { limit =
 key-declared v true r = refl
 key-declared v false r = refl
 
-pub ordered-after : (l : LogLine) (s : NodeState) → StateFits l s → Ordered s → Ordered (after l s)
+pub commanded-after : (l : Line) (s : NodeState) → StateFits l s → Commanded s → Commanded (after l s)
 unfolding after with_given_net with_given_link with_declared sealed after_boot Behind
-ordered-after (Declared p) s m o = record { nets = o.nets; aps = o.aps }
-ordered-after (GivenNet n k q) s m o = record { nets = if-add (has_net k s.nets) (given_net s.declared k q) (le_refl s.declared) s.nets o.nets; aps = o.aps }
-ordered-after (GivenLink n p k) s m o = record { nets = o.nets; aps = o.aps }
-ordered-after (Counter n Nwk v) s m o = record { nets = if-all (declared_at v) (λ r. key-declared v r.started r) (λ r p. behind-declared v r.started r p) s.nets o.nets; aps = o.aps }
-ordered-after (Counter n Aps v) s m o = record { nets = o.nets; aps = omega (arith, o.aps) }
-ordered-after (Changed e n edit) s m o = ordered-applied edit s o
-ordered-after (Accept e n t) s m o = ordered-accepted t s o
-ordered-after (Seal e n t) s m o = ordered-sealed t.layer t s m.fits o
-ordered-after (Boot e n) s m o = record { nets = if-all booted_net (λ r. refl) (λ r p. le_refl r.limit) s.nets o.nets; aps = le_refl s.aps_limit }
-ordered-after _ s m o = o
+commanded-after (Declared p) s m o = record { nets = o.nets; aps = o.aps }
+commanded-after (GivenNet n k q) s m o = record { nets = if-add (has_net k s.nets) (given_net s.declared k q) (le_refl s.declared) s.nets o.nets; aps = o.aps }
+commanded-after (GivenLink n p k) s m o = record { nets = o.nets; aps = o.aps }
+commanded-after (Counter n Nwk v) s m o = record { nets = if-all (declared_at v) (λ r. key-declared v r.started r) (λ r p. behind-declared v r.started r p) s.nets o.nets; aps = o.aps }
+commanded-after (Counter n Aps v) s m o = record { nets = o.nets; aps = omega (arith, o.aps) }
+commanded-after (Changed e n edit) s m o = commanded-applied edit s o
+commanded-after (Accept e n t) s m o = commanded-accepted t s o
+commanded-after (Seal e n t) s m o = commanded-sealed t.layer t s m.fits o
+commanded-after (Boot e n) s m o = record { nets = if-all booted_net (λ r. refl) (λ r p. le_refl r.limit) s.nets o.nets; aps = le_refl s.aps_limit }
+commanded-after _ s m o = o

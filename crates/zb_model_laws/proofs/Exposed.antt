@@ -2,8 +2,8 @@
 use Rattle.std.proofs.Common.{◌≡◌, ℕ, zero, suc, ◌≤◌, Bool, true, false, cond, ◌||◌, List, [], ◌∷◌, ◌++◌, length, Option, Some, None, option_to_list, fold, flat_map, refl, sym, ap, ◌∙◌, subst, append_assoc, le_of_suc-le-suc, not-suc-le-zero, length-append, le-add_right, ◌⊎◌, inl, inr, ⊎_elim}
 use Rattle.std.proofs.lemmas.Bool.{false≢true, or_cases}
 use Rattle.std.proofs.lemmas.List.Sums.{fold-append}
-use Rattle.zb_model.specs.Data.{Bytes, Station, Sealing}
-use Rattle.zb_model.specs.Lines.{LogLine}
+use Rattle.zb_model.specs.Data.{Bytes, Station, Term}
+use Rattle.zb_model.specs.Lines.{Line}
 use Rattle.zb_model.specs.State.{same_key}
 use Rattle.zb_model.specs.Tools.{Tools}
 use Rattle.zb_model.specs.Readings.{station_line}
@@ -82,7 +82,7 @@ opened-grows-by : (b : Bool) (keys : List Bytes) (o : Option Bytes) → Within k
 opened-grows-by true keys o k e = added-grows keys o k e
 opened-grows-by false keys o k e = e
 
-opened-grows : (tools : Tools) (keys : List Bytes) (t : Sealing) → Within keys (opened_by tools keys t)
+opened-grows : (tools : Tools) (keys : List Bytes) (t : Term) → Within keys (opened_by tools keys t)
 opened-grows tools keys t = opened-grows-by (holds keys t.base) keys (carried tools t)
 
 opened-mono-by : (b c : Bool) (xs ys : List Bytes) (o : Option Bytes) → (b ≡ true → c ≡ true) → Within xs ys → Within (cond b (added xs o) xs) (cond c (added ys o) ys)
@@ -90,50 +90,50 @@ opened-mono-by true true xs ys o k w j e = added-mono xs ys o w j e
 opened-mono-by true false xs ys o k w j e = absurd (false≢true (k refl))
 opened-mono-by false c xs ys o k w j e = opened-grows-by c ys o j (w j e)
 
-opened-mono : (tools : Tools) (xs ys : List Bytes) (t : Sealing) → Within xs ys → Within (opened_by tools xs t) (opened_by tools ys t)
+opened-mono : (tools : Tools) (xs ys : List Bytes) (t : Term) → Within xs ys → Within (opened_by tools xs t) (opened_by tools ys t)
 opened-mono tools xs ys t w = opened-mono-by (holds xs t.base) (holds ys t.base) xs ys (carried tools t) (w t.base) w
 
 -- a round, and several
 
-round-grows : (tools : Tools) (ts : List Sealing) (keys : List Bytes) → Within keys (fold (opened_by tools) keys ts)
+round-grows : (tools : Tools) (ts : List Term) (keys : List Bytes) → Within keys (fold (opened_by tools) keys ts)
 round-grows tools [] keys k e = e
 round-grows tools (t ∷ ts) keys k e = round-grows tools ts (opened_by tools keys t) k (opened-grows tools keys t k e)
 
-round-mono : (tools : Tools) (ts : List Sealing) (xs ys : List Bytes) → Within xs ys → Within (fold (opened_by tools) xs ts) (fold (opened_by tools) ys ts)
+round-mono : (tools : Tools) (ts : List Term) (xs ys : List Bytes) → Within xs ys → Within (fold (opened_by tools) xs ts) (fold (opened_by tools) ys ts)
 round-mono tools [] xs ys w = w
 round-mono tools (t ∷ ts) xs ys w = round-mono tools ts (opened_by tools xs t) (opened_by tools ys t) (opened-mono tools xs ys t w)
 
-round-more : (tools : Tools) (ts us : List Sealing) (xs ys : List Bytes) → Within xs ys → Within (a_round tools ts xs) (a_round tools (ts ++ us) ys)
+round-more : (tools : Tools) (ts us : List Term) (xs ys : List Bytes) → Within xs ys → Within (a_round tools ts xs) (a_round tools (ts ++ us) ys)
 unfolding a_round
 round-more tools ts us xs ys w k e =
     subst (λ l. holds l k ≡ true) (sym (fold-append (opened_by tools) ys ts us)) (round-grows tools us (fold (opened_by tools) ys ts) k (round-mono tools ts xs ys w k e))
 
-round-keeps : (tools : Tools) (ts : List Sealing) (keys : List Bytes) → Within keys (a_round tools ts keys)
+round-keeps : (tools : Tools) (ts : List Term) (keys : List Bytes) → Within keys (a_round tools ts keys)
 unfolding a_round
 round-keeps tools ts keys = round-grows tools ts keys
 
-rounds-grow : (n : ℕ) (tools : Tools) (ts : List Sealing) (keys : List Bytes) → Within keys (rounds n tools ts keys)
+rounds-grow : (n : ℕ) (tools : Tools) (ts : List Term) (keys : List Bytes) → Within keys (rounds n tools ts keys)
 unfolding rounds
 rounds-grow zero tools ts keys k e = e
 rounds-grow (suc n) tools ts keys k e = rounds-grow n tools ts (a_round tools ts keys) k (round-keeps tools ts keys k e)
 
-rounds-mono : (n m : ℕ) (tools : Tools) (ts us : List Sealing) (xs ys : List Bytes) → n ≤ m → Within xs ys → Within (rounds n tools ts xs) (rounds m tools (ts ++ us) ys)
+rounds-mono : (n m : ℕ) (tools : Tools) (ts us : List Term) (xs ys : List Bytes) → n ≤ m → Within xs ys → Within (rounds n tools ts xs) (rounds m tools (ts ++ us) ys)
 unfolding rounds
 rounds-mono zero m tools ts us xs ys le w k e = rounds-grow m tools (ts ++ us) ys k (w k e)
 rounds-mono (suc n) zero tools ts us xs ys le w k e = absurd (not-suc-le-zero le)
 rounds-mono (suc n) (suc m) tools ts us xs ys le w k e = rounds-mono n m tools ts us (a_round tools ts xs) (a_round tools (ts ++ us) ys) (le_of_suc-le-suc le) (round-more tools ts us xs ys w) k e
 
-pub terms-append : (h g : List LogLine) → terms_of (h ++ g) ≡ terms_of h ++ terms_of g
+pub terms-append : (h g : List Line) → terms_of (h ++ g) ≡ terms_of h ++ terms_of g
 unfolding terms_of
 terms-append h g = flat_map-append terms_in h g
 
-pub exposed-mono : (tools : Tools) (h g : List LogLine) (xs ys : List Bytes) → Within xs ys → Within (exposed tools h xs) (exposed tools (h ++ g) ys)
+pub exposed-mono : (tools : Tools) (h g : List Line) (xs ys : List Bytes) → Within xs ys → Within (exposed tools h xs) (exposed tools (h ++ g) ys)
 unfolding exposed
 exposed-mono tools h g xs ys w k e =
     subst (λ ts. holds (rounds (length (h ++ g)) tools ts ys) k ≡ true) (sym (terms-append h g))
     (rounds-mono (length h) (length (h ++ g)) tools (terms_of h) (terms_of g) xs ys (subst (λ n. length h ≤ n) (sym (length-append h g)) (le-add_right (length h) (length g))) w k e)
 
-pub exposed-start : (tools : Tools) (h : List LogLine) (xs : List Bytes) → Within xs (exposed tools h xs)
+pub exposed-start : (tools : Tools) (h : List Line) (xs : List Bytes) → Within xs (exposed tools h xs)
 unfolding exposed
 exposed-start tools h xs = rounds-grow (length h) tools (terms_of h) xs
 
@@ -150,21 +150,21 @@ flat-mono f g [] ys w k e = absurd (false≢true e)
 flat-mono f g (x ∷ xs) ys w k e =
     ⊎_elim (λ a. holds-left (g x) (flat_map g (xs ++ ys)) k (w x k a)) (λ a. holds-right (g x) (flat_map g (xs ++ ys)) k (flat-mono f g xs ys w k a)) (holds-cases (f x) (flat_map f xs) k e)
 
-pub ever-append : (known : List Station) (d : ℕ) (h g : List LogLine) → ever_from known d (h ++ g) ≡ ever_from known d h ++ ever_from (fold station_line known h) d g
+pub ever-append : (known : List Station) (d : ℕ) (h g : List Line) → ever_from known d (h ++ g) ≡ ever_from known d h ++ ever_from (fold station_line known h) d g
 ever-append known d [] g = refl
 ever-append known d (l ∷ ls) g =
     ap (λ x. ever_in known d l ++ x) (ever-append (station_line known l) d ls g)
     ∙ sym (append_assoc (ever_in known d l) (ever_from (station_line known l) d ls) (ever_from (fold station_line (station_line known l) ls) d g))
 
-pub ever-mono : (h g : List LogLine) (d : ℕ) → Within (ever h d) (ever (h ++ g) d)
+pub ever-mono : (h g : List Line) (d : ℕ) → Within (ever h d) (ever (h ++ g) d)
 unfolding ever
 ever-mono h g d k e = subst (λ l. holds l k ≡ true) (sym (ever-append [] d h g)) (holds-left (ever_from [] d h) (ever_from (fold station_line [] h) d g) k e)
 
-removed-append : (h g : List LogLine) → removed_devices (h ++ g) ≡ removed_devices h ++ removed_devices g
+removed-append : (h g : List Line) → removed_devices (h ++ g) ≡ removed_devices h ++ removed_devices g
 unfolding removed_devices
 removed-append h g = flat_map-append removed_in h g
 
-pub outside-mono : (h g : List LogLine) → Within (outside h) (outside (h ++ g))
+pub outside-mono : (h g : List Line) → Within (outside h) (outside (h ++ g))
 unfolding outside
 outside-mono h g k e = ⊎_elim (λ a. or-left (same_key k well_known) later a) (λ a. or-right (same_key k well_known) later (more a)) (or_cases (same_key k well_known) (holds (flat_map (ever h) (removed_devices h)) k) e)
   where
@@ -175,11 +175,11 @@ outside-mono h g k e = ⊎_elim (λ a. or-left (same_key k well_known) later a) 
     more a = subst (λ ds. holds (flat_map (ever (h ++ g)) ds) k ≡ true) (sym (removed-append h g))
         (flat-mono (ever h) (ever (h ++ g)) (removed_devices h) (removed_devices g) (λ d. ever-mono h g d) k a)
 
-pub known-mono : (tools : Tools) (h g : List LogLine) → Within (exposed tools h (outside h)) (exposed tools (h ++ g) (outside (h ++ g)))
+pub known-mono : (tools : Tools) (h g : List Line) → Within (exposed tools h (outside h)) (exposed tools (h ++ g) (outside (h ++ g)))
 known-mono tools h g = exposed-mono tools h g (outside h) (outside (h ++ g)) (outside-mono h g)
 
 -- what a removed device ever held is known outside
-pub ever-outside : (tools : Tools) (h : List LogLine) (d : ℕ) → In d (removed_devices h) → Within (ever h d) (exposed tools h (outside h))
+pub ever-outside : (tools : Tools) (h : List Line) (d : ℕ) → In d (removed_devices h) → Within (ever h d) (exposed tools h (outside h))
 unfolding outside
 ever-outside tools h d i k e = exposed-start tools h (outside h) k (or-right (same_key k well_known) (holds (flat_map (ever h) (removed_devices h)) k) (flat-in (ever h) d (removed_devices h) i k e))
 

@@ -2,9 +2,9 @@
 use Rattle.std.proofs.Common.{◌≡◌, ℕ, ◌<◌, ◌≤◌, ◌+◌, min, Bool, true, false, cond, not, ◌&&◌, ◌||◌, List, [], ◌∷◌, ◌++◌, map, Option, Some, None, option_map, option_to_list, find, nat_eq, nat_le, refl, sym, ap, ◌∙◌, subst, arith, append_assoc, leb-false}
 use Rattle.std.proofs.lemmas.Bool.{and_parts, not-true, false≢true, eqb-false}
 use Rattle.std.specs.List.{AllByRecursion}
-use Rattle.zb_model.specs.Data.{Bytes, Tier, Nwk, Aps, Sealing, Move, Draw, DropNet, DropLink, Install, Active, Row, Pair, Became, Live, Removed, Roll, Told, Untold, Edit, Reserve, Floor, Start, Moved, Spot, Reason}
-use Rattle.zb_model.specs.Lines.{LogLine, Changed, Accept, Seal}
-use Rattle.zb_model.specs.State.{most, NetKey, NodeState, same_key, at_net, of_active, net_of_active, active_row, next_of, limit_of, next_counter, stored_limit, reserved, started_at, applied, applied_all, accepted, sealed, sealed_at}
+use Rattle.zb_model.specs.Data.{Bytes, Layer, Nwk, Aps, Term, Move, Draw, DropNet, DropLink, Install, Active, Row, Pair, Became, Live, Removed, Roll, Told, Untold, Edit, Reserve, Floor, Start, Moved, Place, Reason}
+use Rattle.zb_model.specs.Lines.{Line, Changed, Accept, Seal}
+use Rattle.zb_model.specs.State.{greatest_counter, NetKey, NodeState, same_key, at_net, of_active, net_of_active, active_row, next_of, limit_of, next_counter, stored_limit, reserved, started_at, applied, applied_all, accepted, sealed, sealed_at}
 use Rattle.zb_model.specs.Rules.{Sending, Setting, spent}
 use Rattle.zb_model.specs.Answer.{Answer, seals_at, may_seal, row_is_started, reserve_of}
 use Rattle.zb_model.specs.Readings.{state_of, heard_line, after, speaker}
@@ -12,21 +12,21 @@ use Rattle.zb_model.specs.Play.{commit_lines, refuse_lines, send_lines, stored_l
 use Rattle.zb_model.specs.Claims.{Each}
 use Rattle.zb_model_laws.proofs.Basics.{same_key-eq, nat_eq-refl, state-snoc, append-nil'}
 use Rattle.zb_model_laws.proofs.Nets.{Holds, On, at_key, Mild, Gives, gives-closed, gives-heard, gives-started, on-applied, on-accepted, on-map-found}
-use Rattle.zb_model_laws.proofs.Counters.{SealFitsAt, SealFits, StateFits, LineFits, Ordered, IfHolds, Behind, found-key}
+use Rattle.zb_model_laws.proofs.Counters.{SealFitsAt, SealFits, StateFits, LineFits, Commanded, IfHolds, Behind, found-key}
 use Rattle.zb_model_laws.proofs.FreshLines.{heard-keeps, all-append}
 
 -- Lines without a seal
 
-unfoldable pub NoSeal : LogLine → Type 0
+unfoldable pub NoSeal : Line → Type 0
 NoSeal (Seal e n t) = ⊥
 NoSeal _ = Unit {0}
 
-no-seal-fits : (l : LogLine) → NoSeal l → (s : NodeState) → StateFits l s
+no-seal-fits : (l : Line) → NoSeal l → (s : NodeState) → StateFits l s
 unfolding NoSeal
 no-seal-fits (Seal e n t) k s = absurd k
 no-seal-fits _ k s = tt
 
-pub plain : (h ls : List LogLine) → AllByRecursion NoSeal ls → Each LineFits h ls
+pub plain : (h ls : List Line) → AllByRecursion NoSeal ls → Each LineFits h ls
 plain h [] a = tt
 plain h (l ∷ ls) a = (no-seal-fits l a.0 (state_of h (speaker l)), plain (h ++ l ∷ []) ls a.1)
 
@@ -40,15 +40,15 @@ unfolding NoSeal
 commit-plain number n [] = tt
 commit-plain number n (e ∷ es) = (tt, tt)
 
-pub accepts-plain : (number n : ℕ) (ts : List Sealing) → AllByRecursion NoSeal (map (Accept number n) ts)
+pub accepts-plain : (number n : ℕ) (ts : List Term) → AllByRecursion NoSeal (map (Accept number n) ts)
 unfolding NoSeal
 accepts-plain number n [] = tt
 accepts-plain number n (t ∷ ts) = (tt, accepts-plain number n ts)
 
-pub refuse-plain : (number n : ℕ) (spot : Spot) (r : Option Reason) → AllByRecursion NoSeal (refuse_lines number n spot r)
+pub refuse-plain : (number n : ℕ) (place : Place) (r : Option Reason) → AllByRecursion NoSeal (refuse_lines number n place r)
 unfolding NoSeal
-refuse-plain number n spot None = tt
-refuse-plain number n spot (Some r) = (tt, tt)
+refuse-plain number n place None = tt
+refuse-plain number n place (Some r) = (tt, tt)
 
 pub send-plain : (number : ℕ) (n : Option ℕ) (frame : ℕ) (bytes : Option Bytes) → AllByRecursion NoSeal (send_lines number n frame bytes)
 unfolding NoSeal
@@ -61,7 +61,7 @@ stored-plain number n a = all-append NoSeal (map (Changed number n) a.edits) (co
 
 -- What a node's lines keep
 
-pub lines-keep : (Φ : NodeState → Type 0) (n : ℕ) (h ls : List LogLine) → AllByRecursion (λ l. (s : NodeState) → Φ s → Φ (after l s)) ls → Φ (state_of h n) → Φ (state_of (h ++ ls) n)
+pub lines-keep : (Φ : NodeState → Type 0) (n : ℕ) (h ls : List Line) → AllByRecursion (λ l. (s : NodeState) → Φ s → Φ (after l s)) ls → Φ (state_of h n) → Φ (state_of (h ++ ls) n)
 lines-keep Φ n h [] a p = subst (λ x. Φ (state_of x n)) (sym (append-nil' h)) p
 lines-keep Φ n h (l ∷ ls) a p =
     subst (λ x. Φ (state_of x n)) (append_assoc h (l ∷ []) ls)
@@ -71,7 +71,7 @@ pub changed-line : (number n : ℕ) (e : Edit) (s : NodeState) → heard_line n 
 unfolding heard_line speaker after
 changed-line number n e s = ap (λ b. cond b (applied e s) s) (nat_eq-refl n)
 
-pub changed-state : (number n : ℕ) (h : List LogLine) (es : List Edit) → state_of (h ++ map (Changed number n) es) n ≡ applied_all es (state_of h n)
+pub changed-state : (number n : ℕ) (h : List Line) (es : List Edit) → state_of (h ++ map (Changed number n) es) n ≡ applied_all es (state_of h n)
 unfolding applied_all
 changed-state number n h [] = ap (λ x. state_of x n) (append-nil' h)
 changed-state number n h (e ∷ es) =
@@ -130,16 +130,16 @@ ready-applied s0 send e g s r = record {
   aps = λ a. aps-gives-applied (next_counter Aps s0) e s (r.aps a);
 }
 
-aps-gives-heard : (c : ℕ) (layer : Tier) (k : Bytes) (sender counter : ℕ) (s : NodeState) → ApsGives c s → ApsGives c (Rattle.zb_model.specs.State.heard layer k sender counter s)
+aps-gives-heard : (c : ℕ) (layer : Layer) (k : Bytes) (sender counter : ℕ) (s : NodeState) → ApsGives c s → ApsGives c (Rattle.zb_model.specs.State.heard layer k sender counter s)
 unfolding Rattle.zb_model.specs.State.heard
 aps-gives-heard c Nwk k sender counter s h = h
 aps-gives-heard c Aps k sender counter s h = h
 
-aps-gives-accepted : (c : ℕ) (t : Sealing) (s : NodeState) → ApsGives c s → ApsGives c (accepted t s)
+aps-gives-accepted : (c : ℕ) (t : Term) (s : NodeState) → ApsGives c s → ApsGives c (accepted t s)
 unfolding accepted
 aps-gives-accepted c t s h = aps-gives-heard c t.layer t.base t.source t.counter s h
 
-pub ready-accepted : (s0 : NodeState) (send : Option Sending) (t : Sealing) (s : NodeState) → Ready s0 send s → Ready s0 send (accepted t s)
+pub ready-accepted : (s0 : NodeState) (send : Option Sending) (t : Term) (s : NodeState) → Ready s0 send s → Ready s0 send (accepted t s)
 ready-accepted s0 send t s r = record {
   net = λ a row found. on-accepted (Gives (next_counter Nwk s0)) (gives-heard (next_counter Nwk s0)) row.key t s (r.net a row found);
   aps = λ a. aps-gives-accepted (next_counter Aps s0) t s (r.aps a);
@@ -177,7 +177,7 @@ unfolding Holds
 holds-some P o r e p = subst (λ x. Holds P x) (sym e) p
 
 -- the reserve makes room
-reserve-gives : (o : Option Bytes) (s : NodeState) (r : NetKey) (c v : ℕ) → net_of_active o s ≡ Some r → r.started ≡ true → r.next ≡ c → c < min v most → On (Gives c) r.key (of_active (reserved v) o s.nets)
+reserve-gives : (o : Option Bytes) (s : NodeState) (r : NetKey) (c v : ℕ) → net_of_active o s ≡ Some r → r.started ≡ true → r.next ≡ c → c < min v greatest_counter → On (Gives c) r.key (of_active (reserved v) o s.nets)
 reserve-gives None s r c v e started next room = absurd (Rattle.zb_model_laws.proofs.Counters.none-some r e)
 reserve-gives (Some key) s r c v e started next room =
     subst (λ k. On (Gives c) k (at_net key (reserved v) s.nets)) (sym (same_key-eq r.key key (found-key key s.nets r e)))
@@ -189,14 +189,14 @@ reserve-test true true e v p q = refl
 reserve-test false m e v p q = absurd (false≢true p)
 reserve-test true false e v p q = absurd (false≢true q)
 
-abbrev pub reserve_list : Tier → Option ℕ → List Edit
+abbrev pub reserve_list : Layer → Option ℕ → List Edit
 reserve_list layer o = option_to_list (option_map (Reserve layer) o)
 
 behind-found : (o : Option NetKey) (r : NetKey) → o ≡ Some r → IfHolds Behind o → r.next ≤ r.limit
 unfolding Behind
 behind-found o r e h = subst (λ x. IfHolds Behind x) e h
 
-net-ready-by : (s : NodeState) (r : NetKey) (v : ℕ) (b : Bool) → nat_eq (next_counter Nwk s) (stored_limit Nwk s) ≡ b → active_row s ≡ Some r → r.started ≡ true → Ordered s → next_counter Nwk s < min v most
+net-ready-by : (s : NodeState) (r : NetKey) (v : ℕ) (b : Bool) → nat_eq (next_counter Nwk s) (stored_limit Nwk s) ≡ b → active_row s ≡ Some r → r.started ≡ true → Commanded s → next_counter Nwk s < min v greatest_counter
     → On (Gives (next_counter Nwk s)) r.key (applied_all (reserve_list Nwk (cond b (Some v) None)) s).nets
 unfolding applied_all applied active_row
 net-ready-by s r v true e found started o room = reserve-gives s.active s r (next_counter Nwk s) v found started (sym (next-is s r found)) room
@@ -204,7 +204,7 @@ net-ready-by s r v false e found started o room =
     holds-some (Gives (next_counter Nwk s)) (find (at_key r.key) s.nets) r (active-found s r found)
     (started, sym (next-is s r found), omega (arith, behind-found (find (at_key r.key) s.nets) r (active-found s r found) (o.nets r.key), next-is s r found, limit-is s r found, eqb-false (next_counter Nwk s) (stored_limit Nwk s) e))
 
-aps-ready-by : (s0 s : NodeState) (v : ℕ) (b : Bool) → nat_eq (next_counter Aps s0) (stored_limit Aps s0) ≡ b → s.aps_next ≡ s0.aps_next → s.aps_limit ≡ s0.aps_limit → Ordered s0 → next_counter Aps s0 < min v most
+aps-ready-by : (s0 s : NodeState) (v : ℕ) (b : Bool) → nat_eq (next_counter Aps s0) (stored_limit Aps s0) ≡ b → s.aps_next ≡ s0.aps_next → s.aps_limit ≡ s0.aps_limit → Commanded s0 → next_counter Aps s0 < min v greatest_counter
     → ApsGives (next_counter Aps s0) (applied_all (reserve_list Aps (cond b (Some v) None)) s)
 unfolding applied_all applied next_counter stored_limit
 aps-ready-by s0 s v true e next limit o room = (next, omega (arith, room))
@@ -233,16 +233,16 @@ aps-reserve-nets (Some v) s = refl
 -- what `may_seal` says
 pub record MaySeal (s : NodeState) (send : Option Sending) : Type 0 where
   pub started : seals_at Nwk send ≡ true → row_is_started (active_row s) ≡ true
-  pub net : seals_at Nwk send ≡ true → next_counter Nwk s < most
-  pub aps : seals_at Aps send ≡ true → next_counter Aps s < most
+  pub net : seals_at Nwk send ≡ true → next_counter Nwk s < greatest_counter
+  pub aps : seals_at Aps send ≡ true → next_counter Aps s < greatest_counter
 
 when-sealed : (a b : Bool) → (not a || b) ≡ true → a ≡ true → b ≡ true
 when-sealed true b h e = h
 when-sealed false b h e = absurd (false≢true e)
 
-unspent : (layer : Tier) (s : NodeState) → not (spent layer s) ≡ true → next_counter layer s < most
+unspent : (layer : Layer) (s : NodeState) → not (spent layer s) ≡ true → next_counter layer s < greatest_counter
 unfolding spent
-unspent layer s h = leb-false most (next_counter layer s) (not-true (nat_le most (next_counter layer s)) h)
+unspent layer s h = leb-false greatest_counter (next_counter layer s) (not-true (nat_le greatest_counter (next_counter layer s)) h)
 
 pub may-seal : (s : NodeState) (send : Option Sending) → may_seal s send ≡ true → MaySeal s send
 unfolding may_seal
@@ -256,9 +256,9 @@ may-seal s send h = record {
     parts = and_parts (not (seals_at Nwk send) || (row_is_started (active_row s) && not (spent Nwk s))) (not (seals_at Aps send) || not (spent Aps s)) h
 
 abbrev block_end : Setting → ℕ → ℕ
-block_end c n = min (n + c.me.out_block) most
+block_end c n = min (n + c.me.out_block) greatest_counter
 
-reserve-is : (c : Setting) (s : NodeState) (send : Option Sending) (layer : Tier) → seals_at layer send ≡ true → may_seal s send ≡ true
+reserve-is : (c : Setting) (s : NodeState) (send : Option Sending) (layer : Layer) → seals_at layer send ≡ true → may_seal s send ≡ true
     → reserve_of c s send layer ≡ cond (nat_eq (next_counter layer s) (stored_limit layer s)) (Some (block_end c (next_counter layer s))) None
 unfolding reserve_of
 reserve-is c s send layer a m = reserve-test (seals_at layer send) (may_seal s send) (nat_eq (next_counter layer s) (stored_limit layer s)) (block_end c (next_counter layer s)) a m
@@ -266,7 +266,7 @@ reserve-is c s send layer a m = reserve-test (seals_at layer send) (may_seal s s
 abbrev pub reserves : Setting → NodeState → Option Sending → List Edit
 reserves c s send = reserve_list Nwk (reserve_of c s send Nwk) ++ reserve_list Aps (reserve_of c s send Aps)
 
-pub ready : (c : Setting) (s : NodeState) (send : Option Sending) → 0 < c.me.out_block → Ordered s → may_seal s send ≡ true → Ready s send (applied_all (reserves c s send) s)
+pub ready : (c : Setting) (s : NodeState) (send : Option Sending) → 0 < c.me.out_block → Commanded s → may_seal s send ≡ true → Ready s send (applied_all (reserves c s send) s)
 ready c s send block o m = record {
   net = λ a r found. subst (λ x. On (Gives (next_counter Nwk s)) r.key x.nets) (sym (applied-all-append first second s))
       (subst (λ x. On (Gives (next_counter Nwk s)) r.key x) (sym (aps-reserve-nets (reserve_of c s send Aps) (applied_all first s)))

@@ -3,9 +3,9 @@ use Rattle.std.proofs.Common.{◌≡◌, ℕ, ◌<◌, ◌≤◌, Bool, true, fa
 use Rattle.std.proofs.lemmas.Bool.{and_parts}
 use Rattle.std.specs.List.{AllByRecursion}
 use mathlib.Core.List.{reverse_aux}
-use Rattle.zb_model.specs.Data.{Bytes, Tier, Nwk, Aps, Sealing, Spot, Reason, Task, Received}
-use Rattle.zb_model.specs.State.{most, SenderFloor, NetKey, LinkKey, NodeState, is_link, is_live_of, sender_floor, floor_of_sender, usable_of, usable_nets, live_nets, may_use}
-use Rattle.zb_model.specs.Tools.{Tools, NwkSight, NwkAuxiliary, ApsSight, ApsAuxiliary, OrderSight, Known, Unknown, Broken, LeaveSight, Leave, Other, NoCommand}
+use Rattle.zb_model.specs.Data.{Bytes, Layer, Nwk, Aps, Term, Place, Reason, Task, Received}
+use Rattle.zb_model.specs.State.{greatest_counter, SenderFloor, NetKey, LinkKey, NodeState, is_link, is_live_of, sender_floor, floor_of_sender, usable_of, usable_nets, live_nets, may_use}
+use Rattle.zb_model.specs.Tools.{Tools, NwkShown, NwkAuxiliary, ApsShown, ApsAuxiliary, CommandShown, Known, Unknown, Broken, LeaveShown, Leave, Other, NoCommand}
 use Rattle.zb_model_laws.specs.Opening.{Opens, shown_source}
 use Rattle.zb_model.specs.Rules.{Setting, Plan, Does}
 use Rattle.zb_model.specs.Judging.{Verdict, Not, Good, reject, need, judge_net, Carrier, carrier, judge_security, judge_nwk, payload_of, candidates, opens_with, chosen, chosen_row, aps_source, Unsealed, judge_aps}
@@ -75,18 +75,18 @@ all-in P (y ∷ ys) a x (inr i) = all-in P ys a.1 x i
 -- What a verdict finds
 
 abbrev pub OnGood : {A : Type 0} → (A → Type 0) → Verdict A → Type 0
-OnGood P (Not spot reason) = Unit {0}
+OnGood P (Not place reason) = Unit {0}
 OnGood P (Good it) = P it
 
-pub reject-good : {A : Type 0} (P : A → Type 0) (bad : Bool) (spot : Spot) (reason : Reason) (rest : Verdict A) → (bad ≡ false → OnGood P rest) → OnGood P (reject bad spot reason rest)
+pub reject-good : {A : Type 0} (P : A → Type 0) (bad : Bool) (place : Place) (reason : Reason) (rest : Verdict A) → (bad ≡ false → OnGood P rest) → OnGood P (reject bad place reason rest)
 unfolding reject
-reject-good P true spot reason rest k = tt
-reject-good P false spot reason rest k = k refl
+reject-good P true place reason rest k = tt
+reject-good P false place reason rest k = k refl
 
-pub need-good : {A B : Type 0} (P : B → Type 0) (o : Option A) (spot : Spot) (reason : Reason) (rest : A → Verdict B) → ((a : A) → o ≡ Some a → OnGood P (rest a)) → OnGood P (need o spot reason rest)
+pub need-good : {A B : Type 0} (P : B → Type 0) (o : Option A) (place : Place) (reason : Reason) (rest : A → Verdict B) → ((a : A) → o ≡ Some a → OnGood P (rest a)) → OnGood P (need o place reason rest)
 unfolding need
-need-good P None spot reason rest k = tt
-need-good P (Some a) spot reason rest k = k a refl
+need-good P None place reason rest k = tt
+need-good P (Some a) place reason rest k = k a refl
 
 -- An accepted term before its floor is stored: a row has its base key, and its counter isn't stale.
 abbrev pub RowPre : ℕ → ℕ → NetKey → Type 0
@@ -95,19 +95,19 @@ RowPre c source r = Sorted r.floors × IfOf (NotStale c) (find (of_sender source
 abbrev pub LinkPre : ℕ → LinkKey → Type 0
 LinkPre c r = r.kept ≤ c
 
-unfoldable pub PreAt : Tier → ℕ → Bytes → ℕ → NodeState → Type 0
+unfoldable pub PreAt : Layer → ℕ → Bytes → ℕ → NodeState → Type 0
 PreAt Nwk c base source s = On (RowPre c source) base s.nets
 PreAt Aps c base source s = Finds (LinkPre c) (is_link source base) s.links
 
 -- the base key of a NWK term is a live network key of the node
-unfoldable pub LiveAt : Tier → Sealing → NodeState → Type 0
+unfoldable pub LiveAt : Layer → Term → NodeState → Type 0
 LiveAt Nwk t s = (r : NetKey) × In r (live_nets s) × (r.key ≡ t.base)
 LiveAt Aps t s = Unit {0}
 
-pub record Judged (layer : Tier) (s : NodeState) (t : Sealing) : Type 0 where
+pub record Judged (layer : Layer) (s : NodeState) (t : Term) : Type 0 where
   pub live : LiveAt layer t s
   pub at : t.layer ≡ layer
-  pub small : t.counter < most
+  pub small : t.counter < greatest_counter
   pub pre : PreAt layer t.counter t.base t.source s
 
 -- the NWK layer
@@ -143,13 +143,13 @@ row-pre s o r i c source e =
     holds-some (RowPre c source) (find (at_key r.key) s.nets) r (all-in (λ x. find (net_test x) s.nets ≡ Some x) s.nets o.nets r i)
     (all-in (λ (x : NetKey). Sorted x.floors) s.nets o.floors r i, not-stale c source (find (of_sender source) r.floors) e)
 
-net-term : (tools : Tools) → Opens tools → (s : NodeState) → Sound s → (bytes : Bytes) (f : NwkSight) (aux : NwkAuxiliary) → tools.read_nwk bytes ≡ Some f → f.auxiliary ≡ Some aux
-    → (r : NetKey) → In r s.nets → In r (live_nets s) → nat_le most aux.counter ≡ false → nat_lt aux.counter (sender_floor aux.source r).kept ≡ false → (t : Sealing) → tools.open_nwk bytes r.key ≡ Some t → Judged Nwk s t
+net-term : (tools : Tools) → Opens tools → (s : NodeState) → Sound s → (bytes : Bytes) (f : NwkShown) (aux : NwkAuxiliary) → tools.read_nwk bytes ≡ Some f → f.auxiliary ≡ Some aux
+    → (r : NetKey) → In r s.nets → In r (live_nets s) → nat_le greatest_counter aux.counter ≡ false → nat_lt aux.counter (sender_floor aux.source r).kept ≡ false → (t : Term) → tools.open_nwk bytes r.key ≡ Some t → Judged Nwk s t
 unfolding PreAt LiveAt
 net-term tools opens s o bytes f aux read shown r i alive most-ok fresh t opened = record {
   live = (r, alive, sym facts.1);
   at = facts.0;
-  small = subst (λ c. c < most) (sym facts.3) (leb-false most aux.counter most-ok);
+  small = subst (λ c. c < greatest_counter) (sym facts.3) (leb-false greatest_counter aux.counter most-ok);
   pre = subst (λ c. On (RowPre c t.source) t.base s.nets) (sym facts.3)
       (subst (λ n. On (RowPre aux.counter n) t.base s.nets) (sym facts.2) (subst (λ k. On (RowPre aux.counter aux.source) k s.nets) (sym facts.1) (row-pre s o r i aux.counter aux.source fresh)));
 }
@@ -157,11 +157,11 @@ net-term tools opens s o bytes f aux read shown r i alive most-ok fresh t opened
     facts : (t.layer ≡ Nwk) × (t.base ≡ r.key) × (t.source ≡ aux.source) × (t.counter ≡ aux.counter)
     facts = opens.nwk bytes r.key f aux t read shown opened
 
-pub net-good : (tools : Tools) → Opens tools → (c : Setting) (s : NodeState) → Sound s → (bytes : Bytes) (f : NwkSight) (aux : NwkAuxiliary) → tools.read_nwk bytes ≡ Some f → f.auxiliary ≡ Some aux → OnGood (Judged Nwk s) (judge_net tools c s bytes aux)
+pub net-good : (tools : Tools) → Opens tools → (c : Setting) (s : NodeState) → Sound s → (bytes : Bytes) (f : NwkShown) (aux : NwkAuxiliary) → tools.read_nwk bytes ≡ Some f → f.auxiliary ≡ Some aux → OnGood (Judged Nwk s) (judge_net tools c s bytes aux)
 unfolding judge_net
 net-good tools opens c s o bytes f aux read shown =
     need-good (Judged Nwk s) (usable_of s aux.sequence) _ _ _ (λ row found.
-    reject-good (Judged Nwk s) (nat_le most aux.counter) _ _ _ (λ a.
+    reject-good (Judged Nwk s) (nat_le greatest_counter aux.counter) _ _ _ (λ a.
     reject-good (Judged Nwk s) (nat_lt aux.counter (sender_floor aux.source row).kept) _ _ _ (λ b.
     need-good (Judged Nwk s) (tools.open_nwk bytes row.key) _ _ _ (λ t opened.
     reject-good (Judged Nwk s) _ _ _ _ (λ x.
@@ -170,15 +170,15 @@ net-good tools opens c s o bytes f aux read shown =
     net-term tools opens s o bytes f aux read shown row (usable-row s aux.sequence row found) (live-row s aux.sequence row found) a b t opened)))))))
 
 -- a carrier: its term is judged
-abbrev pub IfTerm : NodeState → Option Sealing → Type 0
+abbrev pub IfTerm : NodeState → Option Term → Type 0
 IfTerm s None = Unit {0}
 IfTerm s (Some t) = Judged Nwk s t
 
-carrier-good : (s : NodeState) (f : NwkSight) (v : Verdict Sealing) → OnGood (Judged Nwk s) v → OnGood (λ (k : Carrier). IfTerm s k.term) (carrier f v)
-carrier-good s f (Not spot reason) g = tt
+carrier-good : (s : NodeState) (f : NwkShown) (v : Verdict Term) → OnGood (Judged Nwk s) v → OnGood (λ (k : Carrier). IfTerm s k.term) (carrier f v)
+carrier-good s f (Not place reason) g = tt
 carrier-good s f (Good t) g = g
 
-security-good : (tools : Tools) → Opens tools → (c : Setting) (s : NodeState) → Sound s → (bytes : Bytes) (f : NwkSight) (x : Option NwkAuxiliary) → tools.read_nwk bytes ≡ Some f → f.auxiliary ≡ x → OnGood (λ (k : Carrier). IfTerm s k.term) (judge_security tools c s bytes f x)
+security-good : (tools : Tools) → Opens tools → (c : Setting) (s : NodeState) → Sound s → (bytes : Bytes) (f : NwkShown) (x : Option NwkAuxiliary) → tools.read_nwk bytes ≡ Some f → f.auxiliary ≡ x → OnGood (λ (k : Carrier). IfTerm s k.term) (judge_security tools c s bytes f x)
 security-good tools opens c s o bytes f None read shown = reject-good (λ (k : Carrier). IfTerm s k.term) _ _ _ _ (λ e. tt)
 security-good tools opens c s o bytes f (Some aux) read shown = carrier-good s f (judge_net tools c s bytes aux) (net-good tools opens c s o bytes f aux read shown)
 
@@ -242,11 +242,11 @@ some-same : (n m : ℕ) → Some n ≡ Some m → n ≡ m
 unfolding SameNumber
 some-same n m e = subst (SameNumber n) e refl
 
-shown-by : (c : Setting) (f : NwkSight) (label : Rattle.zb_model.specs.Data.Purpose) (counter : ℕ) (x : Option ℕ) (source : ℕ) → aps_source c f (record { label = label; counter = counter; source = x }) ≡ Some source → shown_source source x ≡ source
+shown-by : (c : Setting) (f : NwkShown) (label : Rattle.zb_model.specs.Data.Label) (counter : ℕ) (x : Option ℕ) (source : ℕ) → aps_source c f (record { label = label; counter = counter; source = x }) ≡ Some source → shown_source source x ≡ source
 shown-by c f label counter None source e = refl
 shown-by c f label counter (Some n) source e = some-same n source e
 
-aps-shown : (c : Setting) (f : NwkSight) (aux : ApsAuxiliary) (source : ℕ) → aps_source c f aux ≡ Some source → shown_source source aux.source ≡ source
+aps-shown : (c : Setting) (f : NwkShown) (aux : ApsAuxiliary) (source : ℕ) → aps_source c f aux ≡ Some source → shown_source source aux.source ≡ source
 aps-shown c f aux source e = shown-by c f aux.label aux.counter aux.source source e
 
 chosen-row-in : (tools : Tools) (bytes : Bytes) (source : ℕ) (rows : List LinkKey) (r : LinkKey) → chosen_row tools bytes source rows ≡ Some r → In r rows
@@ -258,13 +258,13 @@ link-pre s o r source i c e =
     subst (λ n. Finds (LinkPre c) (is_link n r.key) s.links) (candidate-of s source r i)
     (finds-some (LinkPre c) (is_link r.partner r.key) s.links r (all-in (λ x. find (link_test x) s.links ≡ Some x) s.links o.links r (candidate-in s source r i)) (ltb-false c r.kept e))
 
-aps-term : (tools : Tools) → Opens tools → (c : Setting) (s : NodeState) → Sound s → (f : NwkSight) (bytes : Bytes) (a : ApsSight) (aux : ApsAuxiliary) → tools.read_aps bytes ≡ Some a → a.auxiliary ≡ Some aux
-    → (source : ℕ) → aps_source c f aux ≡ Some source → (r : LinkKey) → In r (candidates s source) → nat_le most aux.counter ≡ false → nat_lt aux.counter r.kept ≡ false → (t : Sealing) → tools.open_aps bytes r.key source ≡ Some t → Judged Aps s t
+aps-term : (tools : Tools) → Opens tools → (c : Setting) (s : NodeState) → Sound s → (f : NwkShown) (bytes : Bytes) (a : ApsShown) (aux : ApsAuxiliary) → tools.read_aps bytes ≡ Some a → a.auxiliary ≡ Some aux
+    → (source : ℕ) → aps_source c f aux ≡ Some source → (r : LinkKey) → In r (candidates s source) → nat_le greatest_counter aux.counter ≡ false → nat_lt aux.counter r.kept ≡ false → (t : Term) → tools.open_aps bytes r.key source ≡ Some t → Judged Aps s t
 unfolding PreAt LiveAt
 aps-term tools opens c s o f bytes a aux read shown source from r i most-ok fresh t opened = record {
   live = tt;
   at = facts.0;
-  small = subst (λ c. c < most) (sym facts.3) (leb-false most aux.counter most-ok);
+  small = subst (λ c. c < greatest_counter) (sym facts.3) (leb-false greatest_counter aux.counter most-ok);
   pre = subst (λ c. Finds (LinkPre c) (is_link t.source t.base) s.links) (sym facts.3)
       (subst (λ n. Finds (LinkPre aux.counter) (is_link n t.base) s.links) (sym (facts.2 ∙ aps-shown c f aux source from))
       (subst (λ k. Finds (LinkPre aux.counter) (is_link source k) s.links) (sym facts.1) (link-pre s o r source i aux.counter fresh)));
@@ -273,13 +273,13 @@ aps-term tools opens c s o f bytes a aux read shown source from r i most-ok fres
     facts : (t.layer ≡ Aps) × (t.base ≡ r.key) × (t.source ≡ shown_source source aux.source) × (t.counter ≡ aux.counter)
     facts = opens.aps bytes r.key source a aux t read shown opened
 
-pub aps-good : (tools : Tools) → Opens tools → (c : Setting) (s : NodeState) → Sound s → (f : NwkSight) (bytes : Bytes) (a : ApsSight) (aux : ApsAuxiliary) → tools.read_aps bytes ≡ Some a → a.auxiliary ≡ Some aux
+pub aps-good : (tools : Tools) → Opens tools → (c : Setting) (s : NodeState) → Sound s → (f : NwkShown) (bytes : Bytes) (a : ApsShown) (aux : ApsAuxiliary) → tools.read_aps bytes ≡ Some a → a.auxiliary ≡ Some aux
     → OnGood (λ (u : Unsealed). Judged Aps s u.term) (judge_aps tools c s f bytes aux)
 unfolding judge_aps
 aps-good tools opens c s o f bytes a aux read shown =
     need-good P (aps_source c f aux) _ _ _ (λ source from.
     need-good P (chosen_row tools bytes source (candidates s source)) _ _ _ (λ row found.
-    reject-good P (nat_le most aux.counter) _ _ _ (λ x.
+    reject-good P (nat_le greatest_counter aux.counter) _ _ _ (λ x.
     reject-good P (nat_lt aux.counter row.kept) _ _ _ (λ y.
     need-good P (tools.open_aps bytes row.key source) _ _ _ (λ t opened.
     aps-term tools opens c s o f bytes a aux read shown source from row (chosen-row-in tools bytes source (candidates s source) row found) x y t opened)))))
@@ -289,23 +289,23 @@ aps-good tools opens c s o f bytes a aux read shown =
 
 -- What a plan accepts: nothing, a term, or a NWK term and then an APS term, each judged.
 
-abbrev pub AcceptsFit : NodeState → List Sealing → Type 0
+abbrev pub AcceptsFit : NodeState → List Term → Type 0
 AcceptsFit s [] = Unit {0}
 AcceptsFit s (t ∷ []) = Judged Nwk s t ⊎ Judged Aps s t
 AcceptsFit s (t ∷ u ∷ []) = Judged Nwk s t × Judged Aps s u
 AcceptsFit s (t ∷ u ∷ v ∷ ts) = ⊥
 
-of-nwk : (s : NodeState) (o : Option Sealing) → IfTerm s o → AcceptsFit s (option_to_list o)
+of-nwk : (s : NodeState) (o : Option Term) → IfTerm s o → AcceptsFit s (option_to_list o)
 of-nwk s None g = tt
 of-nwk s (Some t) g = inl g
 
-of-both : (s : NodeState) (o : Option Sealing) (u : Sealing) → IfTerm s o → Judged Aps s u → AcceptsFit s (option_to_list o ++ u ∷ [])
+of-both : (s : NodeState) (o : Option Term) (u : Term) → IfTerm s o → Judged Aps s u → AcceptsFit s (option_to_list o ++ u ∷ [])
 of-both s None u g h = inr h
 of-both s (Some t) u g h = (g, h)
 
 -- the rules leave what was accepted
-command-accepts : (tools : Tools) (c : Setting) (s : NodeState) (draw : Option Bytes) (ts : List Sealing) (m : Rattle.zb_model.specs.Commands.Heard) (o : OrderSight) → AcceptsFit s ts → AcceptsFit s (aps_command tools c s draw ts m o).accepts
-command-accepts tools c s draw ts m (Known order) g = g
+command-accepts : (tools : Tools) (c : Setting) (s : NodeState) (draw : Option Bytes) (ts : List Term) (m : Rattle.zb_model.specs.Commands.Heard) (o : CommandShown) → AcceptsFit s ts → AcceptsFit s (aps_command tools c s draw ts m o).accepts
+command-accepts tools c s draw ts m (Known command) g = g
 command-accepts tools c s draw ts m Unknown g = g
 command-accepts tools c s draw ts m Broken g = g
 
@@ -313,40 +313,40 @@ either-plan : (s : NodeState) (b : Bool) (p q : Plan) → AcceptsFit s p.accepts
 either-plan s true p q a b = a
 either-plan s false p q a b = b
 
-clear-accepts : (tools : Tools) (c : Setting) (s : NodeState) (draw : Option Bytes) (nwk : Option Sealing) (a : ApsSight) → IfTerm s nwk → AcceptsFit s (clear_part tools c s draw nwk a).accepts
+clear-accepts : (tools : Tools) (c : Setting) (s : NodeState) (draw : Option Bytes) (nwk : Option Term) (a : ApsShown) → IfTerm s nwk → AcceptsFit s (clear_part tools c s draw nwk a).accepts
 clear-accepts tools c s draw nwk a g =
-    either-plan s a.is_command (aps_command tools c s draw (option_to_list nwk) (Rattle.zb_model.specs.Answer.heard_clear nwk) (tools.read_order a.body)) (comes_to (option_to_list nwk) Spot.AtAps (Does [] None))
-    (command-accepts tools c s draw (option_to_list nwk) (Rattle.zb_model.specs.Answer.heard_clear nwk) (tools.read_order a.body) (of-nwk s nwk g)) (of-nwk s nwk g)
+    either-plan s a.is_command (aps_command tools c s draw (option_to_list nwk) (Rattle.zb_model.specs.Answer.heard_clear nwk) (tools.read_command a.body)) (comes_to (option_to_list nwk) Place.AtAps (Does [] None))
+    (command-accepts tools c s draw (option_to_list nwk) (Rattle.zb_model.specs.Answer.heard_clear nwk) (tools.read_command a.body) (of-nwk s nwk g)) (of-nwk s nwk g)
 
-sealed-accepts : (tools : Tools) (c : Setting) (s : NodeState) (draw : Option Bytes) (nwk : Option Sealing) (a : ApsSight) (aux : ApsAuxiliary) (v : Verdict Unsealed) → IfTerm s nwk → OnGood (λ (u : Unsealed). Judged Aps s u.term) v → AcceptsFit s (sealed_part tools c s draw nwk a aux v).accepts
-sealed-accepts tools c s draw nwk a aux (Not spot reason) g h = of-nwk s nwk g
+sealed-accepts : (tools : Tools) (c : Setting) (s : NodeState) (draw : Option Bytes) (nwk : Option Term) (a : ApsShown) (aux : ApsAuxiliary) (v : Verdict Unsealed) → IfTerm s nwk → OnGood (λ (u : Unsealed). Judged Aps s u.term) v → AcceptsFit s (sealed_part tools c s draw nwk a aux v).accepts
+sealed-accepts tools c s draw nwk a aux (Not place reason) g h = of-nwk s nwk g
 sealed-accepts tools c s draw nwk a aux (Good u) g h =
-    either-plan s a.is_command (aps_command tools c s draw (option_to_list nwk ++ u.term ∷ []) (Rattle.zb_model.specs.Answer.heard_sealed nwk aux u) (tools.read_order u.term.content)) (comes_to (option_to_list nwk ++ u.term ∷ []) Spot.AtAps (Does [] None))
-    (command-accepts tools c s draw (option_to_list nwk ++ u.term ∷ []) (Rattle.zb_model.specs.Answer.heard_sealed nwk aux u) (tools.read_order u.term.content) (of-both s nwk u.term g h)) (of-both s nwk u.term g h)
+    either-plan s a.is_command (aps_command tools c s draw (option_to_list nwk ++ u.term ∷ []) (Rattle.zb_model.specs.Answer.heard_sealed nwk aux u) (tools.read_command u.term.content)) (comes_to (option_to_list nwk ++ u.term ∷ []) Place.AtAps (Does [] None))
+    (command-accepts tools c s draw (option_to_list nwk ++ u.term ∷ []) (Rattle.zb_model.specs.Answer.heard_sealed nwk aux u) (tools.read_command u.term.content) (of-both s nwk u.term g h)) (of-both s nwk u.term g h)
 
-security-accepts : (tools : Tools) → Opens tools → (c : Setting) (s : NodeState) → Sound s → (draw : Option Bytes) (f : NwkSight) (nwk : Option Sealing) (a : ApsSight) (x : Option ApsAuxiliary) → tools.read_aps (payload_of f nwk) ≡ Some a → a.auxiliary ≡ x → IfTerm s nwk
+security-accepts : (tools : Tools) → Opens tools → (c : Setting) (s : NodeState) → Sound s → (draw : Option Bytes) (f : NwkShown) (nwk : Option Term) (a : ApsShown) (x : Option ApsAuxiliary) → tools.read_aps (payload_of f nwk) ≡ Some a → a.auxiliary ≡ x → IfTerm s nwk
     → AcceptsFit s (by_security tools c s draw f nwk a x).accepts
 security-accepts tools opens c s o draw f nwk a None read shown g = clear-accepts tools c s draw nwk a g
 security-accepts tools opens c s o draw f nwk a (Some aux) read shown g = sealed-accepts tools c s draw nwk a aux (judge_aps tools c s f (payload_of f nwk) aux) g (aps-good tools opens c s o f (payload_of f nwk) a aux read shown)
 
-aps-accepts : (tools : Tools) → Opens tools → (c : Setting) (s : NodeState) → Sound s → (draw : Option Bytes) (f : NwkSight) (nwk : Option Sealing) (x : Option ApsSight) → tools.read_aps (payload_of f nwk) ≡ x → IfTerm s nwk → AcceptsFit s (aps_part tools c s draw f nwk x).accepts
+aps-accepts : (tools : Tools) → Opens tools → (c : Setting) (s : NodeState) → Sound s → (draw : Option Bytes) (f : NwkShown) (nwk : Option Term) (x : Option ApsShown) → tools.read_aps (payload_of f nwk) ≡ x → IfTerm s nwk → AcceptsFit s (aps_part tools c s draw f nwk x).accepts
 aps-accepts tools opens c s o draw f nwk None read g = of-nwk s nwk g
 aps-accepts tools opens c s o draw f nwk (Some a) read g = security-accepts tools opens c s o draw f nwk a a.auxiliary read refl g
 
-leave-accepts : (c : Setting) (s : NodeState) (t : Sealing) (l : LeaveSight) → Judged Nwk s t → AcceptsFit s (nwk_command c t l).accepts
+leave-accepts : (c : Setting) (s : NodeState) (t : Term) (l : LeaveShown) → Judged Nwk s t → AcceptsFit s (nwk_command c t l).accepts
 leave-accepts c s t (Leave options) g = inl g
 leave-accepts c s t Other g = inl g
 leave-accepts c s t NoCommand g = inl g
 
-net-accepts : (tools : Tools) → Opens tools → (c : Setting) (s : NodeState) → Sound s → (draw : Option Bytes) (f : NwkSight) (nwk : Option Sealing) → IfTerm s nwk → AcceptsFit s (net_part tools c s draw f nwk).accepts
+net-accepts : (tools : Tools) → Opens tools → (c : Setting) (s : NodeState) → Sound s → (draw : Option Bytes) (f : NwkShown) (nwk : Option Term) → IfTerm s nwk → AcceptsFit s (net_part tools c s draw f nwk).accepts
 net-accepts tools opens c s o draw f None g = aps-accepts tools opens c s o draw f None (tools.read_aps f.body) refl tt
 net-accepts tools opens c s o draw f (Some t) g =
     either-plan s f.is_command (nwk_command c t (tools.read_leave t.content)) (aps_part tools c s draw f (Some t) (tools.read_aps t.content))
     (leave-accepts c s t (tools.read_leave t.content) g) (aps-accepts tools opens c s o draw f (Some t) (tools.read_aps t.content) refl g)
 
 received-accepts : (tools : Tools) → Opens tools → (c : Setting) (s : NodeState) → Sound s → (draw : Option Bytes) (v : Verdict Carrier) → OnGood (λ (k : Carrier). IfTerm s k.term) v → AcceptsFit s (received_as tools c s draw v).accepts
-received-accepts tools opens c s o draw (Not spot reason) g = tt
-received-accepts tools opens c s o draw (Good k) g = net-accepts tools opens c s o draw k.sight k.term g
+received-accepts tools opens c s o draw (Not place reason) g = tt
+received-accepts tools opens c s o draw (Good k) g = net-accepts tools opens c s o draw k.frame k.term g
 
 pub plan-accepts : (tools : Tools) → Opens tools → (c : Setting) (s : NodeState) → Sound s → (task : Task) → AcceptsFit s (plan_of tools c s task).accepts
 unfolding plan_of

@@ -2,17 +2,17 @@
 use Rattle.std.proofs.Common.{◌≡◌, ℕ, Bool, true, false, cond, not, ◌&&◌, ◌||◌, List, [], ◌∷◌, ◌++◌, map, filter, Option, Some, None, option_map, option_to_list, find, is_some, nat_eq, refl, sym, ap, ◌∙◌, subst, eqb-true, ◌⊎◌, inl, inr, ⊎_elim}
 use Rattle.std.proofs.lemmas.Bool.{false≢true, and_parts}
 use Rattle.std.specs.List.{AllByRecursion, list_any}
-use Rattle.zb_model.specs.Data.{Bytes, Duty, Centre, Router, Device, Nwk, Aps, Purpose, Trust, Provisional, Unverified, Verified, Stage, Joined, Offered, Move, Draw, DropNet, DropLink, Install, Active, Row, Pair, Became, Live, Removed, Roll, Told, Untold, Order, TransportNet, TransportApp, TransportLink, UpdateDevice, RemoveDevice, RequestApp, RequestLink, SwitchKey, Tunnel, VerifyKey, ConfirmKey, Spot, AtAps, Task, SayTo, TellTo, DoKnock, DoRejoin, DoTimer, AskFor, HasChild, DoProvision, DoRemove, DoRoll, DoSwitch, DoAgain, DoShare, Received, Sealing}
-use Rattle.zb_model.specs.State.{NetKey, LinkKey, PairKey, NodeState, same_key, is_centre, is_verified, is_unverified, is_live_of, names_two, has_net, active_row, usable_active, usable_of, net_of, net_of_active, newest, last_where, current, offered, is_live, other_user, pair_of, may_use}
-use Rattle.zb_model.specs.Tools.{Tools, NwkSight, NwkAuxiliary, ApsSight, ApsAuxiliary, OrderSight, Known, Unknown, Broken, LeaveSight, Leave, Other, NoCommand, verify_hash}
+use Rattle.zb_model.specs.Data.{Bytes, Role, Centre, Router, Device, Nwk, Aps, Label, Attribute, Provisional, Unverified, Verified, State, Joined, Offered, Move, Draw, DropNet, DropLink, Install, Active, Row, Pair, Became, Live, Removed, Roll, Told, Untold, Command, TransportNet, TransportApp, TransportLink, UpdateDevice, RemoveDevice, RequestApp, RequestLink, SwitchKey, Tunnel, VerifyKey, ConfirmKey, Place, AtAps, Task, SayTo, TellTo, DoKnock, DoRejoin, DoTimer, AskFor, HasChild, DoProvision, DoRemove, DoRoll, DoSwitch, DoAgain, DoShare, Received, Term}
+use Rattle.zb_model.specs.State.{NetKey, LinkKey, PairKey, NodeState, same_key, is_centre, is_verified, is_unverified, is_live_of, names_two, has_net, active_row, usable_active, usable_of, net_of, net_of_active, newest, last_where, current, offered, is_live, other_user, pair_of, may_use, is_active_key}
+use Rattle.zb_model.specs.Tools.{Tools, NwkShown, NwkAuxiliary, ApsShown, ApsAuxiliary, CommandShown, Known, Unknown, Broken, LeaveShown, Leave, Other, NoCommand, verify_hash}
 use Rattle.zb_model.specs.Judging.{Verdict, Not, Good, judge_net, Carrier, carrier, judge_security, judge_nwk, payload_of, Unsealed, judge_aps}
 use Rattle.zb_model.specs.Answer.{comes_to, heard_clear, heard_sealed, nwk_command, aps_command, clear_part, sealed_part, by_security, aps_part, net_part, received_as, plan_of}
 use Rattle.zb_model_laws.specs.Opening.{Opens}
 use Rattle.zb_model.specs.Secrets.{key_in}
 use Rattle.zb_model.specs.Frames.{clear_command, clear_broadcast}
-use Rattle.zb_model.specs.Rules.{Body, Saying, Clear, Secret, Tunnelled, Telling, Leaving, Relayed, Sending, Outcome, Stop, Does, Setting, Plan, unless, given, choose, sends, centre_of, short_of, is_declared, is_router, spent, both_spent, waits_for_key, unless_held, drop_link, drop_row, drop_partner, drop_others, drop_old, first_drop, is_active}
+use Rattle.zb_model.specs.Rules.{Body, Saying, Clear, Secret, Tunnelled, Telling, Leaving, Relayed, Sending, Outcome, Stop, Does, Setting, Plan, unless, given, choose, sends, centre_of, short_of, is_declared, is_router, spent, both_spent, waits_for_key, unless_held, drop_link, drop_row, drop_partner, drop_others, drop_old, first_drop}
 use Rattle.zb_model.specs.OwnEvents.{say, knock, rejoin, request_key, verify_key, timer_in, member_timer, ask, tell, report_child, child_of_router, child_of_centre, next_member, centre_timer, provision_new, provision, tell_leave, tell_parent, remove_device, roll, switch_over, again, share, own_at_centre, own_at_member, own}
-use Rattle.zb_model.specs.Commands.{Heard, is_clear, names_eui, is_member, take_net_key, unless_old, dropped_at, activates, activate, joined_stage, unless_used, take_row, take_link_key, take_app_key, take_switch, take_confirm, take_remove, take_tunnel, take_update, answer_request, take_request, answer_pair, lesser, greater, take_app_request, verified_current, take_verify, take_order, take_leave}
+use Rattle.zb_model.specs.Commands.{Heard, is_clear, names_eui, is_member, take_net_key, unless_old, dropped_at, activates, activate, joined_state, unless_used, take_row, take_link_key, take_app_key, take_switch, take_confirm, take_remove, take_tunnel, take_update, answer_request, take_request, answer_pair, lesser, greater, take_app_request, verified_current, take_verify, take_command, take_leave}
 use Rattle.zb_model_laws.proofs.Judged.{OnGood, reject-good, need-good, In, found-element, in-reverse}
 
 -- Rows
@@ -34,7 +34,7 @@ pub record VerifiedRow (s : NodeState) (p : ℕ) (k : Bytes) : Type 0 where
   pub row : LinkKey
   pub among : In row s.links
   pub live : row.live ≡ true
-  pub trust : row.trust ≡ Verified
+  pub attribute : row.attribute ≡ Verified
   pub partner : row.partner ≡ p
   pub key : row.key ≡ k
 
@@ -80,20 +80,20 @@ BringsNoRow (Row p k t) = ⊥
 BringsNoRow _ = Unit {0}
 
 -- A command sealed under a base key: a network key, an offered key or a key of two goes to a live device under a key of its own.
-abbrev pub OrderFits : Setting → NodeState → Option Bytes → List Move → Bytes → Order → Type 0
-OrderFits c s draw moves base (TransportNet k q d o) = (is_centre c.me.duty ≡ true) × ((p : ℕ) × LiveRow s p base) × HasNet s k × AllByRecursion Stays moves
-OrderFits c s draw moves base (TransportLink k d o) =
-    (is_centre c.me.duty ≡ true) × ((p : ℕ) × LiveRow s p base × (HasRow s p k ⊎ (IsNew s draw k × (moves ≡ Draw k ∷ Row p k Unverified ∷ [])))) × AllByRecursion Stays moves
-OrderFits c s draw moves base (TransportApp k q i) =
-    (is_centre c.me.duty ≡ true) × ((p : ℕ) × LiveRow s p base) × (HasPair s k ⊎ (IsNew s draw k × ((a b : ℕ) × (moves ≡ Draw k ∷ Pair a b k ∷ [])))) × AllByRecursion Stays moves × AllByRecursion BringsNoRow moves
-OrderFits c s draw moves base (ConfirmKey status kind d) = (is_centre c.me.duty ≡ true) × (is_declared c d ≡ true) × (Stands s moves d base ⊎ Proves s moves d base)
-OrderFits c s draw moves base _ = Unit {0}
+abbrev pub CommandFits : Setting → NodeState → Option Bytes → List Move → Bytes → Command → Type 0
+CommandFits c s draw moves base (TransportNet k q d o) = (is_centre c.me.role ≡ true) × ((p : ℕ) × LiveRow s p base) × HasNet s k × AllByRecursion Stays moves
+CommandFits c s draw moves base (TransportLink k d o) =
+    (is_centre c.me.role ≡ true) × ((p : ℕ) × LiveRow s p base × (HasRow s p k ⊎ (IsNew s draw k × (moves ≡ Draw k ∷ Row p k Unverified ∷ [])))) × AllByRecursion Stays moves
+CommandFits c s draw moves base (TransportApp k q i) =
+    (is_centre c.me.role ≡ true) × ((p : ℕ) × LiveRow s p base) × (HasPair s k ⊎ (IsNew s draw k × ((a b : ℕ) × (moves ≡ Draw k ∷ Pair a b k ∷ [])))) × AllByRecursion Stays moves × AllByRecursion BringsNoRow moves
+CommandFits c s draw moves base (ConfirmKey status kind d) = (is_centre c.me.role ≡ true) × (is_declared c d ≡ true) × (Stands s moves d base ⊎ Proves s moves d base)
+CommandFits c s draw moves base _ = Unit {0}
 
 abbrev pub BodyFits : Setting → NodeState → Option Bytes → List Move → Bool → Body → Type 0
 BodyFits c s draw moves secured (Saying bytes) = Unit {0}
-BodyFits c s draw moves secured (Clear control order) = ((control ≡ clear_command) ⊎ (control ≡ clear_broadcast)) × (key_in order ≡ None)
-BodyFits c s draw moves secured (Secret label key order) = OrderFits c s draw moves key order
-BodyFits c s draw moves secured (Tunnelled device key order) = OrderFits c s draw moves key order
+BodyFits c s draw moves secured (Clear control command) = ((control ≡ clear_command) ⊎ (control ≡ clear_broadcast)) × (key_in command ≡ None)
+BodyFits c s draw moves secured (Secret label key command) = CommandFits c s draw moves key command
+BodyFits c s draw moves secured (Tunnelled device key command) = CommandFits c s draw moves key command
 BodyFits c s draw moves secured (Telling key bytes) = Unit {0}
 BodyFits c s draw moves secured Leaving = Unit {0}
 BodyFits c s draw moves secured (Relayed bytes) = secured ≡ false
@@ -133,15 +133,15 @@ IdleMove (Removed d) = ⊥
 IdleMove _ = Unit {0}
 
 pub data Deed (c : Setting) (s : NodeState) (task : Task) (moves : List Move) : Type 0 where
-  member : is_centre c.me.duty ≡ false → AllByRecursion OfMember moves → Deed c s task moves
+  member : is_centre c.me.role ≡ false → AllByRecursion OfMember moves → Deed c s task moves
   nothing : moves ≡ [] → Deed c s task moves
-  quiet : is_centre c.me.duty ≡ true → AllByRecursion (Quiet s) moves → Deed c s task moves
-  rolls : is_centre c.me.duty ≡ true → (k : Bytes) (q : ℕ) (drops : List Move) → IsNew s (draw_of task) k → AllByRecursion IdleMove drops
+  quiet : is_centre c.me.role ≡ true → AllByRecursion (Quiet s) moves → Deed c s task moves
+  rolls : is_centre c.me.role ≡ true → (k : Bytes) (q : ℕ) (drops : List Move) → IsNew s (draw_of task) k → AllByRecursion IdleMove drops
       → moves ≡ Draw k ∷ drops ++ (Install k q ∷ Roll true ∷ []) → Deed c s task moves
-  offers : is_centre c.me.duty ≡ true → (p : ℕ) (k : Bytes) → IsNew s (draw_of task) k → is_live s p ≡ true → moves ≡ Draw k ∷ Row p k Unverified ∷ [] → Deed c s task moves
-  pairs : is_centre c.me.duty ≡ true → (a b : ℕ) (k : Bytes) → IsNew s (draw_of task) k → is_live s a ≡ true → is_live s b ≡ true → moves ≡ Draw k ∷ Pair a b k ∷ [] → Deed c s task moves
-  enters : is_centre c.me.duty ≡ true → (p : ℕ) (k : Bytes) → EnteredBy task p k → is_live s p ≡ false → other_user s p k ≡ None → moves ≡ Row p k Provisional ∷ Live p ∷ [] → Deed c s task moves
-  removes : is_centre c.me.duty ≡ true → (p : ℕ) → is_live s p ≡ true → moves ≡ drop_partner s p ++ (Removed p ∷ []) → Deed c s task moves
+  offers : is_centre c.me.role ≡ true → (p : ℕ) (k : Bytes) → IsNew s (draw_of task) k → is_live s p ≡ true → moves ≡ Draw k ∷ Row p k Unverified ∷ [] → Deed c s task moves
+  pairs : is_centre c.me.role ≡ true → (a b : ℕ) (k : Bytes) → IsNew s (draw_of task) k → is_live s a ≡ true → is_live s b ≡ true → moves ≡ Draw k ∷ Pair a b k ∷ [] → Deed c s task moves
+  enters : is_centre c.me.role ≡ true → (p : ℕ) (k : Bytes) → EnteredBy task p k → is_live s p ≡ false → other_user s p k ≡ None → moves ≡ Row p k Provisional ∷ Live p ∷ [] → Deed c s task moves
+  removes : is_centre c.me.role ≡ true → (p : ℕ) → is_live s p ≡ true → moves ≡ drop_partner s p ++ (Removed p ∷ []) → Deed c s task moves
 
 pub record Done (c : Setting) (s : NodeState) (task : Task) (moves : List Move) (sending : Option Sending) : Type 0 where
   pub deed : Deed c s task moves
@@ -175,7 +175,7 @@ only-sends c s task sending f = record { deed = nothing refl; send = f }
 does-nothing : (c : Setting) (s : NodeState) (task : Task) → Done c s task [] None
 does-nothing c s task = record { deed = nothing refl; send = tt }
 
-by-member : (c : Setting) (s : NodeState) (task : Task) (moves : List Move) → is_centre c.me.duty ≡ false → AllByRecursion OfMember moves → Done c s task moves None
+by-member : (c : Setting) (s : NodeState) (task : Task) (moves : List Move) → is_centre c.me.role ≡ false → AllByRecursion OfMember moves → Done c s task moves None
 by-member c s task moves m a = record { deed = member m a; send = tt }
 
 -- Tests
@@ -192,19 +192,19 @@ not-true false e = refl
 needs : (a b : Bool) → not (a && b) ≡ false → (a ≡ true) × (b ≡ true)
 needs a b e = and_parts a b (not-false (a && b) e)
 
-of-member : (c : Setting) (b : Bool) → not (is_member c && b) ≡ false → is_centre c.me.duty ≡ false
-of-member c b e = not-true (is_centre c.me.duty) (needs (is_member c) b e).0
+of-member : (c : Setting) (b : Bool) → not (is_member c && b) ≡ false → is_centre c.me.role ≡ false
+of-member c b e = not-true (is_centre c.me.role) (needs (is_member c) b e).0
 
-of-centre : (c : Setting) (b : Bool) → not (is_centre c.me.duty && b) ≡ false → is_centre c.me.duty ≡ true
-of-centre c b e = (needs (is_centre c.me.duty) b e).0
+of-centre : (c : Setting) (b : Bool) → not (is_centre c.me.role && b) ≡ false → is_centre c.me.role ≡ true
+of-centre c b e = (needs (is_centre c.me.role) b e).0
 
-router-member : (d : Duty) → is_router d ≡ true → is_centre d ≡ false
+router-member : (d : Role) → is_router d ≡ true → is_centre d ≡ false
 router-member Centre e = absurd (false≢true e)
 router-member Router e = refl
 router-member Device e = refl
 
-of-router : (c : Setting) (b : Bool) → not (is_router c.me.duty && b) ≡ false → is_centre c.me.duty ≡ false
-of-router c b e = router-member c.me.duty (needs (is_router c.me.duty) b e).0
+of-router : (c : Setting) (b : Bool) → not (is_router c.me.role && b) ≡ false → is_centre c.me.role ≡ false
+of-router c b e = router-member c.me.role (needs (is_router c.me.role) b e).0
 
 -- Rows that are found
 
@@ -220,17 +220,17 @@ row-live s p b r e = record { row = r; among = found.0; live = (live-of p r test
     test : is_live_of p r ≡ true
     test = (and_parts (is_live_of p r) (b r) found.1).0
 
-pub current-found : (s : NodeState) (p : ℕ) (r : LinkKey) → current s p ≡ Some r → In r s.links × ((is_live_of p r && not (is_unverified r.trust)) ≡ true)
+pub current-found : (s : NodeState) (p : ℕ) (r : LinkKey) → current s p ≡ Some r → In r s.links × ((is_live_of p r && not (is_unverified r.attribute)) ≡ true)
 unfolding current
-current-found s p r e = found-element (λ (r : LinkKey). is_live_of p r && not (is_unverified r.trust)) s.links r e
+current-found s p r e = found-element (λ (r : LinkKey). is_live_of p r && not (is_unverified r.attribute)) s.links r e
 
 pub current-live : (s : NodeState) (p : ℕ) (r : LinkKey) → current s p ≡ Some r → LiveRow s p r.key
 unfolding current
-current-live s p r e = row-live s p (λ (r : LinkKey). not (is_unverified r.trust)) r e
+current-live s p r e = row-live s p (λ (r : LinkKey). not (is_unverified r.attribute)) r e
 
 pub offered-live : (s : NodeState) (p : ℕ) (r : LinkKey) → offered s p ≡ Some r → LiveRow s p r.key
 unfolding offered
-offered-live s p r e = row-live s p (λ (r : LinkKey). is_unverified r.trust) r e
+offered-live s p r e = row-live s p (λ (r : LinkKey). is_unverified r.attribute) r e
 
 pub has-row : (s : NodeState) (p : ℕ) (k : Bytes) → LiveRow s p k → HasRow s p k
 has-row s p k l = record { row = l.row; among = l.among; partner = l.partner; key = l.key }
@@ -283,36 +283,36 @@ others-of-member : (s : NodeState) (rows : List LinkKey) (more : List Move) → 
 others-of-member s [] more a = a
 others-of-member s (r ∷ rs) more a = (tt, others-of-member s rs more a)
 
-knock-fits : (c : Setting) (s : NodeState) (task : Task) → is_centre c.me.duty ≡ false → OutcomeFits c s task (knock c s)
+knock-fits : (c : Setting) (s : NodeState) (task : Task) → is_centre c.me.role ≡ false → OutcomeFits c s task (knock c s)
 unfolding knock drop_others
 knock-fits c s task m = by-given c s task _ _ _ (λ row e. by-member c s task _ m (others-of-member s (filter (λ (r : LinkKey). is_live_of row.partner r && not (same_key r.key row.key)) s.links) _ (tt, (tt, tt))))
 
-rejoin-fits : (c : Setting) (s : NodeState) (task : Task) → is_centre c.me.duty ≡ false → OutcomeFits c s task (rejoin s)
+rejoin-fits : (c : Setting) (s : NodeState) (task : Task) → is_centre c.me.role ≡ false → OutcomeFits c s task (rejoin s)
 unfolding rejoin
 rejoin-fits c s task m = by-unless c s task _ _ _ (λ a. by-member c s task _ m (tt, tt))
 
 request-fits : (c : Setting) (s : NodeState) (task : Task) → OutcomeFits c s task (request_key c s)
 unfolding request_key
-request-fits c s task = by-given c s task (current s (centre_of c.stations)) _ _ (λ row e. by-unless c s task _ _ _ (λ a. only-sends c s task (sends 0 true (Secret Rattle.zb_model.specs.Data.Purpose.ForData row.key RequestLink)) tt))
+request-fits c s task = by-given c s task (current s (centre_of c.stations)) _ _ (λ row e. by-unless c s task _ _ _ (λ a. only-sends c s task (sends 0 true (Secret Rattle.zb_model.specs.Data.Label.ForData row.key RequestLink)) tt))
 
 verify-fits : (tools : Tools) (c : Setting) (s : NodeState) (task : Task) → OutcomeFits c s task (verify_key tools c s)
 unfolding verify_key
 verify-fits tools c s task = by-given c s task (offered s (centre_of c.stations)) _ _ (λ row e. by-unless c s task _ _ _ (λ a. only-sends c s task (sends 0 true (Clear clear_command (VerifyKey 4 c.me.eui (verify_hash tools row.key)))) (inl refl, refl)))
 
-timer-fits : (stage : Stage) (tools : Tools) (c : Setting) (s : NodeState) (task : Task) → OutcomeFits c s task (timer_in stage tools c s)
+timer-fits : (state : State) (tools : Tools) (c : Setting) (s : NodeState) (task : Task) → OutcomeFits c s task (timer_in state tools c s)
 timer-fits Joined tools c s task = request-fits c s task
 timer-fits Offered tools c s task = verify-fits tools c s task
 timer-fits _ tools c s task = tt
 
 member-timer-fits : (tools : Tools) (c : Setting) (s : NodeState) (task : Task) → OutcomeFits c s task (member_timer tools c s)
 unfolding member_timer
-member-timer-fits tools c s task = by-given c s task (usable_active s) _ _ (λ net e. timer-fits s.stage tools c s task)
+member-timer-fits tools c s task = by-given c s task (usable_active s) _ _ (λ net e. timer-fits s.state tools c s task)
 
 ask-fits : (c : Setting) (s : NodeState) (task : Task) (partner : ℕ) → OutcomeFits c s task (ask c s partner)
 unfolding ask
 ask-fits c s task partner =
     by-given c s task (usable_active s) _ _ (λ net e. by-given c s task (current s (centre_of c.stations)) _ _ (λ row f. by-unless c s task _ _ _ (λ a. by-unless c s task _ _ _ (λ b.
-    only-sends c s task (sends 0 true (Secret Rattle.zb_model.specs.Data.Purpose.ForData row.key (RequestApp partner))) tt))))
+    only-sends c s task (sends 0 true (Secret Rattle.zb_model.specs.Data.Label.ForData row.key (RequestApp partner))) tt))))
 
 tell-fits : (c : Setting) (s : NodeState) (task : Task) (partner : ℕ) (bytes : Bytes) → OutcomeFits c s task (tell c s partner bytes)
 unfolding tell
@@ -328,24 +328,24 @@ child-router-fits : (c : Setting) (s : NodeState) (task : Task) (child : ℕ) (r
 unfolding child_of_router
 child-router-fits c s task child returns = by-given c s task (usable_active s) _ _ (λ net e. by-unless c s task _ _ _ (λ a. report-fits c s task child returns (current s (centre_of c.stations))))
 
-child-centre-fits : (c : Setting) (s : NodeState) (task : Task) (child : ℕ) → is_centre c.me.duty ≡ true → OutcomeFits c s task (child_of_centre c s child)
+child-centre-fits : (c : Setting) (s : NodeState) (task : Task) (child : ℕ) → is_centre c.me.role ≡ true → OutcomeFits c s task (child_of_centre c s child)
 unfolding child_of_centre
 child-centre-fits c s task child m =
     by-given c s task (active_row s) _ _ (λ net e. by-given c s task (current s child) _ _ (λ row f. by-unless c s task _ _ _ (λ a.
     only-sends c s task _ (m, (child, current-live s child row f), active-net s net e, tt))))
 
-centre-timer-fits : (c : Setting) (s : NodeState) (task : Task) → is_centre c.me.duty ≡ true → OutcomeFits c s task (centre_timer c s)
+centre-timer-fits : (c : Setting) (s : NodeState) (task : Task) → is_centre c.me.role ≡ true → OutcomeFits c s task (centre_timer c s)
 unfolding centre_timer
 centre-timer-fits c s task m =
     by-given c s task (active_row s) _ _ (λ net e. by-unless c s task _ _ _ (λ a. by-given c s task (next_member s) _ _ (λ device b.
     by-given c s task (newest s) _ _ (λ new f. by-given c s task (current s device) _ _ (λ row g. by-unless c s task _ _ _ (λ h.
     record { deed = quiet m (tt, tt); send = (m, (device, current-live s device row g), newest-net s new f, (tt, tt)) }))))))
 
-provision-new-fits : (c : Setting) (s : NodeState) (device : ℕ) (key : Bytes) (o : Option LinkKey) → is_centre c.me.duty ≡ true → is_live s device ≡ false → other_user s device key ≡ o → OutcomeFits c s (DoProvision device key) (provision_new s device key o)
+provision-new-fits : (c : Setting) (s : NodeState) (device : ℕ) (key : Bytes) (o : Option LinkKey) → is_centre c.me.role ≡ true → is_live s device ≡ false → other_user s device key ≡ o → OutcomeFits c s (DoProvision device key) (provision_new s device key o)
 provision-new-fits c s device key (Some other) m a e = tt
 provision-new-fits c s device key None m a e = record { deed = enters m device key (refl, refl) a e refl; send = tt }
 
-provision-fits : (c : Setting) (s : NodeState) (device : ℕ) (key : Bytes) → is_centre c.me.duty ≡ true → OutcomeFits c s (DoProvision device key) (provision s device key)
+provision-fits : (c : Setting) (s : NodeState) (device : ℕ) (key : Bytes) → is_centre c.me.role ≡ true → OutcomeFits c s (DoProvision device key) (provision s device key)
 unfolding provision
 provision-fits c s device key m =
     by-unless c s (DoProvision device key) (is_live s device) _ _ (λ a. by-unless c s (DoProvision device key) _ _ _ (λ b. provision-new-fits c s device key (other_user s device key) m a refl))
@@ -358,7 +358,7 @@ parent-send : (c : Setting) (s : NodeState) (draw : Option Bytes) (moves : List 
 parent-send c s draw moves device via None = tt
 parent-send c s draw moves device via (Some row) = by-test (is_some (active_row s) && not (both_spent s))
   where
-    by-test : (b : Bool) → SendFits c s draw moves (cond b (sends (short_of c via) true (Secret Rattle.zb_model.specs.Data.Purpose.ForData row.key (RemoveDevice device))) None)
+    by-test : (b : Bool) → SendFits c s draw moves (cond b (sends (short_of c via) true (Secret Rattle.zb_model.specs.Data.Label.ForData row.key (RemoveDevice device))) None)
     by-test true = tt
     by-test false = tt
 
@@ -366,7 +366,7 @@ told-send : (c : Setting) (s : NodeState) (draw : Option Bytes) (moves : List Mo
 told-send c s draw moves device via true = leave-send c s draw moves device (is_some (active_row s) && not (spent Nwk s))
 told-send c s draw moves device via false = parent-send c s draw moves device via (current s via)
 
-remove-fits : (c : Setting) (s : NodeState) (task : Task) (device via : ℕ) → is_centre c.me.duty ≡ true → OutcomeFits c s task (remove_device c s device via)
+remove-fits : (c : Setting) (s : NodeState) (task : Task) (device via : ℕ) → is_centre c.me.role ≡ true → OutcomeFits c s task (remove_device c s device via)
 unfolding remove_device
 remove-fits c s task device via m =
     by-unless c s task (not (is_live s device)) _ _ (λ a.
@@ -380,34 +380,34 @@ old-idle : (s : NodeState) → AllByRecursion IdleMove (drop_old s)
 unfolding drop_old
 old-idle s = by-test (Rattle.std.specs.Prelude.nat_le 2 (Rattle.std.specs.Prelude.length (Rattle.zb_model.specs.State.live_nets s)))
   where
-    by-test : (b : Bool) → AllByRecursion IdleMove (cond b (first_drop (filter (λ (r : NetKey). not (is_active s.active r)) (Rattle.zb_model.specs.State.live_nets s))) [])
-    by-test true = first-idle (filter (λ (r : NetKey). not (is_active s.active r)) (Rattle.zb_model.specs.State.live_nets s))
+    by-test : (b : Bool) → AllByRecursion IdleMove (cond b (first_drop (filter (λ (r : NetKey). not (is_active_key s.active r.key)) (Rattle.zb_model.specs.State.live_nets s))) [])
+    by-test true = first-idle (filter (λ (r : NetKey). not (is_active_key s.active r.key)) (Rattle.zb_model.specs.State.live_nets s))
     by-test false = tt
 
-roll-fits : (c : Setting) (s : NodeState) (draw : Option Bytes) → is_centre c.me.duty ≡ true → OutcomeFits c s (DoRoll draw) (roll s draw)
+roll-fits : (c : Setting) (s : NodeState) (draw : Option Bytes) → is_centre c.me.role ≡ true → OutcomeFits c s (DoRoll draw) (roll s draw)
 unfolding roll
 roll-fits c s draw m =
     by-given c s (DoRoll draw) (active_row s) _ _ (λ net e. by-unless c s (DoRoll draw) _ _ _ (λ a. by-unless c s (DoRoll draw) _ _ _ (λ b. by-given c s (DoRoll draw) (unless_held s draw) _ _ (λ key new.
     record { deed = rolls m key _ (drop_old s) new (old-idle s) refl; send = tt }))))
 
-switch-fits : (c : Setting) (s : NodeState) (task : Task) → is_centre c.me.duty ≡ true → OutcomeFits c s task (switch_over s)
+switch-fits : (c : Setting) (s : NodeState) (task : Task) → is_centre c.me.role ≡ true → OutcomeFits c s task (switch_over s)
 unfolding switch_over
 switch-fits c s task m =
     by-given c s task (active_row s) _ _ (λ net e. by-unless c s task _ _ _ (λ a. by-unless c s task _ _ _ (λ b. by-choose c s task s.sending _ _
     (λ d. by-given c s task (newest s) _ _ (λ new f. record { deed = quiet m (tt, (tt, tt)); send = (inr refl, refl) }))
     (λ d. only-sends c s task _ (inr refl, refl)))))
 
-again-fits : (c : Setting) (s : NodeState) (task : Task) (device : ℕ) → is_centre c.me.duty ≡ true → OutcomeFits c s task (again s device)
+again-fits : (c : Setting) (s : NodeState) (task : Task) (device : ℕ) → is_centre c.me.role ≡ true → OutcomeFits c s task (again s device)
 unfolding again
 again-fits c s task device m = by-unless c s task _ _ _ (λ a. by-unless c s task _ _ _ (λ b. record { deed = quiet m (tt, tt); send = tt }))
 
-share-fits : (c : Setting) (s : NodeState) (task : Task) (device partner : ℕ) → is_centre c.me.duty ≡ true → OutcomeFits c s task (share c s device partner)
+share-fits : (c : Setting) (s : NodeState) (task : Task) (device partner : ℕ) → is_centre c.me.role ≡ true → OutcomeFits c s task (share c s device partner)
 unfolding share
 share-fits c s task device partner m =
     by-given c s task (active_row s) _ _ (λ net e. by-unless c s task _ _ _ (λ a. by-given c s task (pair_of s device partner) _ _ (λ pair f.
     by-given c s task (current s device) _ _ (λ row g. by-unless c s task _ _ _ (λ h. only-sends c s task _ (m, (device, current-live s device row g), inl (pair-found s device partner pair f), tt, tt))))))
 
-centre-own-fits : (c : Setting) (s : NodeState) (task : Task) → is_centre c.me.duty ≡ true → OutcomeFits c s task (own_at_centre c s task)
+centre-own-fits : (c : Setting) (s : NodeState) (task : Task) → is_centre c.me.role ≡ true → OutcomeFits c s task (own_at_centre c s task)
 centre-own-fits c s (SayTo to bytes) m = say-fits c s (SayTo to bytes) to bytes
 centre-own-fits c s DoTimer m = centre-timer-fits c s DoTimer m
 centre-own-fits c s (HasChild child returns) m = child-centre-fits c s (HasChild child returns) child m
@@ -419,7 +419,7 @@ centre-own-fits c s (DoAgain device) m = again-fits c s (DoAgain device) device 
 centre-own-fits c s (DoShare device partner) m = share-fits c s (DoShare device partner) device partner m
 centre-own-fits c s _ m = tt
 
-member-own-fits : (tools : Tools) (c : Setting) (s : NodeState) (task : Task) → is_centre c.me.duty ≡ false → OutcomeFits c s task (own_at_member tools c s task)
+member-own-fits : (tools : Tools) (c : Setting) (s : NodeState) (task : Task) → is_centre c.me.role ≡ false → OutcomeFits c s task (own_at_member tools c s task)
 member-own-fits tools c s (SayTo to bytes) m = say-fits c s (SayTo to bytes) to bytes
 member-own-fits tools c s (TellTo partner bytes) m = tell-fits c s (TellTo partner bytes) partner bytes
 member-own-fits tools c s DoKnock m = knock-fits c s DoKnock m
@@ -431,15 +431,15 @@ member-own-fits tools c s _ m = tt
 
 pub own-fits : (tools : Tools) (c : Setting) (s : NodeState) (task : Task) → OutcomeFits c s task (own tools c s task)
 unfolding own
-own-fits tools c s task = by-test (is_centre c.me.duty) refl
+own-fits tools c s task = by-test (is_centre c.me.role) refl
   where
-    by-test : (b : Bool) → is_centre c.me.duty ≡ b → OutcomeFits c s task (cond b (own_at_centre c s task) (own_at_member tools c s task))
+    by-test : (b : Bool) → is_centre c.me.role ≡ b → OutcomeFits c s task (cond b (own_at_centre c s task) (own_at_member tools c s task))
     by-test true e = centre-own-fits c s task e
     by-test false e = member-own-fits tools c s task e
 
 -- The rules of commands
 
-activate-by : (c : Setting) (s : NodeState) (key : Bytes) (a b : Bool) → AllByRecursion OfMember ((cond a (Active key ∷ []) []) ++ (cond b (Became (joined_stage c s) ∷ []) []))
+activate-by : (c : Setting) (s : NodeState) (key : Bytes) (a b : Bool) → AllByRecursion OfMember ((cond a (Active key ∷ []) []) ++ (cond b (Became (joined_state c s) ∷ []) []))
 activate-by c s key true true = (tt, (tt, tt))
 activate-by c s key true false = (tt, tt)
 activate-by c s key false true = (tt, tt)
@@ -453,8 +453,8 @@ old-member : (s : NodeState) (more : List Move) → AllByRecursion OfMember more
 unfolding drop_old
 old-member s more a = by-test (Rattle.std.specs.Prelude.nat_le 2 (Rattle.std.specs.Prelude.length (Rattle.zb_model.specs.State.live_nets s)))
   where
-    by-test : (b : Bool) → AllByRecursion OfMember (cond b (first_drop (filter (λ (r : NetKey). not (is_active s.active r)) (Rattle.zb_model.specs.State.live_nets s))) [] ++ more)
-    by-test true = first-member (filter (λ (r : NetKey). not (is_active s.active r)) (Rattle.zb_model.specs.State.live_nets s)) more a
+    by-test : (b : Bool) → AllByRecursion OfMember (cond b (first_drop (filter (λ (r : NetKey). not (is_active_key s.active r.key)) (Rattle.zb_model.specs.State.live_nets s))) [] ++ more)
+    by-test true = first-member (filter (λ (r : NetKey). not (is_active_key s.active r.key)) (Rattle.zb_model.specs.State.live_nets s)) more a
     by-test false = a
 
 by-old : (c : Setting) (s : NodeState) (task : Task) (key : Bytes) (o : Option ℕ) (rest : Outcome) → OutcomeFits c s task rest → OutcomeFits c s task (unless_old s key o rest)
@@ -466,14 +466,14 @@ unfolding take_net_key
 net-key-fits c s task m key sequence destination source =
     by-unless c s task _ _ _ (λ a. by-old c s task key (dropped_at 0 key s.nets) _
     (by-choose c s task (has_net key s.nets) _ _
-    (λ b. by-member c s task (activate c s key) (of-member c _ a) (activate-by c s key (activates s) (waits_for_key s.stage)))
-    (λ b. by-unless c s task _ _ _ (λ d. by-member c s task _ (of-member c _ a) (old-member s (Install key sequence ∷ activate c s key) (tt, activate-by c s key (activates s) (waits_for_key s.stage)))))))
+    (λ b. by-member c s task (activate c s key) (of-member c _ a) (activate-by c s key (activates s) (waits_for_key s.state)))
+    (λ b. by-unless c s task _ _ _ (λ d. by-member c s task _ (of-member c _ a) (old-member s (Install key sequence ∷ activate c s key) (tt, activate-by c s key (activates s) (waits_for_key s.state)))))))
 
 by-used : (c : Setting) (s : NodeState) (task : Task) (o : Option LinkKey) (rest : Outcome) → OutcomeFits c s task rest → OutcomeFits c s task (unless_used o rest)
 by-used c s task None rest f = f
 by-used c s task (Some r) rest f = tt
 
-row-fits : (c : Setting) (s : NodeState) (task : Task) (partner : ℕ) (key : Bytes) (moves : List Move) → is_centre c.me.duty ≡ false → AllByRecursion OfMember moves → OutcomeFits c s task (take_row s partner key moves)
+row-fits : (c : Setting) (s : NodeState) (task : Task) (partner : ℕ) (key : Bytes) (moves : List Move) → is_centre c.me.role ≡ false → AllByRecursion OfMember moves → OutcomeFits c s task (take_row s partner key moves)
 unfolding take_row
 row-fits c s task partner key moves m a = by-unless c s task _ _ _ (λ b. by-used c s task (other_user s partner key) _ (by-member c s task moves m a))
 
@@ -500,7 +500,7 @@ take-switch-fits c s task m sequence = by-unless c s task _ _ _ (λ a. by-given 
 take-confirm-fits : (c : Setting) (s : NodeState) (task : Task) (m : Heard) (status kind destination : ℕ) → OutcomeFits c s task (take_confirm c s m status kind destination)
 unfolding take_confirm
 take-confirm-fits c s task m status kind destination =
-    by-unless c s task _ _ _ (λ a. by-unless c s task _ _ _ (λ b. by-unless c s task _ _ _ (λ d. by-given c s task (offered s (centre_of c.stations)) _ _ (λ row e. by-member c s task (drop_row (current s (centre_of c.stations)) ++ (Row row.partner row.key Verified ∷ Became Rattle.zb_model.specs.Data.Stage.Confirmed ∷ [])) (of-member c _ a) (drop-member (current s (centre_of c.stations)) (Row row.partner row.key Verified ∷ Became Rattle.zb_model.specs.Data.Stage.Confirmed ∷ []) (tt, (tt, tt)))))))
+    by-unless c s task _ _ _ (λ a. by-unless c s task _ _ _ (λ b. by-unless c s task _ _ _ (λ d. by-given c s task (offered s (centre_of c.stations)) _ _ (λ row e. by-member c s task (drop_row (current s (centre_of c.stations)) ++ (Row row.partner row.key Verified ∷ Became Rattle.zb_model.specs.Data.State.Confirmed ∷ [])) (of-member c _ a) (drop-member (current s (centre_of c.stations)) (Row row.partner row.key Verified ∷ Became Rattle.zb_model.specs.Data.State.Confirmed ∷ []) (tt, (tt, tt)))))))
 
 take-remove-fits : (c : Setting) (s : NodeState) (task : Task) (m : Heard) (target : ℕ) → OutcomeFits c s task (take_remove c s m target)
 unfolding take_remove
@@ -517,7 +517,7 @@ take-update-fits c s task m device status =
     (λ b. by-given c s task (active_row s) _ _ (λ net e. by-given c s task (current s device) _ _ (λ row f. by-unless c s task _ _ _ (λ d.
     only-sends c s task _ (of-centre c _ a, (device, current-live s device row f), active-net s net e, tt))))))
 
-answer-fits : (c : Setting) (s : NodeState) (bytes : Bytes) (draw : Option Bytes) (device : ℕ) (row : LinkKey) (o : Option LinkKey) → is_centre c.me.duty ≡ true → current s device ≡ Some row → offered s device ≡ o
+answer-fits : (c : Setting) (s : NodeState) (bytes : Bytes) (draw : Option Bytes) (device : ℕ) (row : LinkKey) (o : Option LinkKey) → is_centre c.me.role ≡ true → current s device ≡ Some row → offered s device ≡ o
     → OutcomeFits c s (Received bytes draw) (answer_request c s device draw row o)
 answer-fits c s bytes draw device row (Some offer) m e f =
     by-unless c s (Received bytes draw) _ _ _ (λ a. only-sends c s (Received bytes draw) _ (m, (device, current-live s device row e, inl (has-row s device offer.key (offered-live s device offer f))), tt))
@@ -534,7 +534,7 @@ lesser-live : (s : NodeState) (a b : ℕ) (t : Bool) → is_live s a ≡ true �
 lesser-live s a b true e f = (e, f)
 lesser-live s a b false e f = (f, e)
 
-pair-fits : (c : Setting) (s : NodeState) (bytes : Bytes) (draw : Option Bytes) (device partner : ℕ) (row : LinkKey) (o : Option PairKey) → is_centre c.me.duty ≡ true → is_live s partner ≡ true → current s device ≡ Some row → pair_of s device partner ≡ o
+pair-fits : (c : Setting) (s : NodeState) (bytes : Bytes) (draw : Option Bytes) (device partner : ℕ) (row : LinkKey) (o : Option PairKey) → is_centre c.me.role ≡ true → is_live s partner ≡ true → current s device ≡ Some row → pair_of s device partner ≡ o
     → OutcomeFits c s (Received bytes draw) (answer_pair c s device partner draw row o)
 pair-fits c s bytes draw device partner row (Some pair) m l e f =
     by-unless c s (Received bytes draw) _ _ _ (λ a. only-sends c s (Received bytes draw) _ (m, (device, current-live s device row e), inl (pair-found s device partner pair f), tt, tt))
@@ -564,7 +564,7 @@ names-declared c device (Some n) k e = subst (λ x. is_declared c x ≡ true) (s
 
 abbrev verified_in : Option LinkKey → Option LinkKey
 verified_in None = None
-verified_in (Some r) = cond (is_verified r.trust) (Some r) None
+verified_in (Some r) = cond (is_verified r.attribute) (Some r) None
 
 verified-shape : (s : NodeState) (device : ℕ) (o : Option LinkKey) → current s device ≡ o → verified_current s device ≡ verified_in o
 verified-shape s device None f = rw f refl
@@ -578,27 +578,27 @@ abbrev SameRow : LinkKey → Option LinkKey → Type 0
 SameRow x None = Unit {0}
 SameRow x (Some r) = x ≡ r
 
-verified-trust : (t : Trust) → is_verified t ≡ true → t ≡ Verified
-verified-trust Provisional e = absurd (false≢true e)
-verified-trust Unverified e = absurd (false≢true e)
-verified-trust Verified e = refl
+verified-attribute : (t : Attribute) → is_verified t ≡ true → t ≡ Verified
+verified-attribute Provisional e = absurd (false≢true e)
+verified-attribute Unverified e = absurd (false≢true e)
+verified-attribute Verified e = refl
 
-verified-row : (s : NodeState) (device : ℕ) (x r : LinkKey) (b : Bool) → is_verified x.trust ≡ b → current s device ≡ Some x → cond b (Some x) None ≡ Some r → VerifiedRow s device r.key
-verified-row s device x r true v f e = record { row = r; among = subst (λ y. In y s.links) same (found.0); live = subst (λ y. y.live ≡ true) same (live-of device x test).0; trust = subst (λ y. y.trust ≡ Verified) same (verified-trust x.trust v); partner = subst (λ y. y.partner ≡ device) same (live-of device x test).1; key = refl }
+verified-row : (s : NodeState) (device : ℕ) (x r : LinkKey) (b : Bool) → is_verified x.attribute ≡ b → current s device ≡ Some x → cond b (Some x) None ≡ Some r → VerifiedRow s device r.key
+verified-row s device x r true v f e = record { row = r; among = subst (λ y. In y s.links) same (found.0); live = subst (λ y. y.live ≡ true) same (live-of device x test).0; attribute = subst (λ y. y.attribute ≡ Verified) same (verified-attribute x.attribute v); partner = subst (λ y. y.partner ≡ device) same (live-of device x test).1; key = refl }
   where
     same : x ≡ r
     same = subst (SameRow x) e refl
 
-    found : In x s.links × ((is_live_of device x && not (is_unverified x.trust)) ≡ true)
+    found : In x s.links × ((is_live_of device x && not (is_unverified x.attribute)) ≡ true)
     found = current-found s device x f
 
     test : is_live_of device x ≡ true
-    test = (and_parts (is_live_of device x) (not (is_unverified x.trust)) found.1).0
+    test = (and_parts (is_live_of device x) (not (is_unverified x.attribute)) found.1).0
 verified-row s device x r false v f e = absurd (subst NoRow e tt)
 
 verified-by : (s : NodeState) (device : ℕ) (r : LinkKey) (o : Option LinkKey) → current s device ≡ o → verified_in o ≡ Some r → VerifiedRow s device r.key
 verified-by s device r None f e = absurd (subst NoRow e tt)
-verified-by s device r (Some x) f e = verified-row s device x r (is_verified x.trust) refl f e
+verified-by s device r (Some x) f e = verified-row s device x r (is_verified x.attribute) refl f e
 
 verified-current : (s : NodeState) (device : ℕ) (r : LinkKey) → verified_current s device ≡ Some r → VerifiedRow s device r.key
 verified-current s device r e = verified-by s device r (current s device) refl (sym (verified-shape s device (current s device) refl) ∙ e)
@@ -606,17 +606,17 @@ verified-current s device r e = verified-by s device r (current s device) refl (
 take-verify-fits : (tools : Tools) (c : Setting) (s : NodeState) (task : Task) (m : Heard) → IsHeard c m → (kind device : ℕ) (hash : Bytes) → OutcomeFits c s task (take_verify tools c s m kind device hash)
 unfolding take_verify
 take-verify-fits tools c s task m heard kind device hash =
-    by-unless c s task (not (is_centre c.me.duty && (is_clear m && (nat_eq kind 4 && names_eui device m.nwk_source)))) _ _ (λ a. by-unless c s task (not (is_live s device)) _ _ (λ b. by-unless c s task _ _ _ (λ d. by-unless c s task _ _ _ (λ e.
+    by-unless c s task (not (is_centre c.me.role && (is_clear m && (nat_eq kind 4 && names_eui device m.nwk_source)))) _ _ (λ a. by-unless c s task (not (is_live s device)) _ _ (λ b. by-unless c s task _ _ _ (λ d. by-unless c s task _ _ _ (λ e.
     by-choose c s task _ _ _
     (λ f. by-given c s task (offered s device) _ _ (λ row g. record { deed = quiet (centre a) (replaces row g b); send = (centre a, named a, inr (row, g, refl, refl)) }))
     (λ f. by-choose c s task _ _ _ (λ g. by-given c s task (verified_current s device) _ _ (λ row h. only-sends c s task _ (centre a, named a, inl (refl, verified-current s device row h)))) (λ g. tt))))))
   where
-    centre : not (is_centre c.me.duty && (is_clear m && (nat_eq kind 4 && names_eui device m.nwk_source))) ≡ false → is_centre c.me.duty ≡ true
+    centre : not (is_centre c.me.role && (is_clear m && (nat_eq kind 4 && names_eui device m.nwk_source))) ≡ false → is_centre c.me.role ≡ true
     centre a = of-centre c (is_clear m && (nat_eq kind 4 && names_eui device m.nwk_source)) a
 
-    named : not (is_centre c.me.duty && (is_clear m && (nat_eq kind 4 && names_eui device m.nwk_source))) ≡ false → is_declared c device ≡ true
+    named : not (is_centre c.me.role && (is_clear m && (nat_eq kind 4 && names_eui device m.nwk_source))) ≡ false → is_declared c device ≡ true
     named a = names-declared c device m.nwk_source heard
-        (and_parts (nat_eq kind 4) (names_eui device m.nwk_source) (and_parts (is_clear m) (nat_eq kind 4 && names_eui device m.nwk_source) (needs (is_centre c.me.duty) (is_clear m && (nat_eq kind 4 && names_eui device m.nwk_source)) a).1).1).1
+        (and_parts (nat_eq kind 4) (names_eui device m.nwk_source) (and_parts (is_clear m) (nat_eq kind 4 && names_eui device m.nwk_source) (needs (is_centre c.me.role) (is_clear m && (nat_eq kind 4 && names_eui device m.nwk_source)) a).1).1).1
 
     drop-quiet : (o : Option LinkKey) (more : List Move) → AllByRecursion (Quiet s) more → AllByRecursion (Quiet s) (drop_row o ++ more)
     drop-quiet None more q = q
@@ -625,21 +625,21 @@ take-verify-fits tools c s task m heard kind device hash =
     replaces : (row : LinkKey) → offered s device ≡ Some row → not (is_live s device) ≡ false → AllByRecursion (Quiet s) (drop_row (current s device) ++ (Row device row.key Verified ∷ []))
     replaces row g b = drop-quiet (current s device) (Row device row.key Verified ∷ []) ((has-row s device row.key (offered-live s device row g), not-false (is_live s device) b), tt)
 
-order-fits : (tools : Tools) (c : Setting) (s : NodeState) (bytes : Bytes) (draw : Option Bytes) (m : Heard) → IsHeard c m → (o : Order) → OutcomeFits c s (Received bytes draw) (take_order tools c s draw m o)
-unfolding take_order
-order-fits tools c s bytes draw m heard (TransportNet key sequence destination source) = net-key-fits c s (Received bytes draw) m key sequence destination source
-order-fits tools c s bytes draw m heard (TransportApp key partner initiator) = app-key-fits c s (Received bytes draw) m key partner
-order-fits tools c s bytes draw m heard (TransportLink key destination source) = link-key-fits c s (Received bytes draw) m key destination source
-order-fits tools c s bytes draw m heard (UpdateDevice device short status) = take-update-fits c s (Received bytes draw) m device status
-order-fits tools c s bytes draw m heard (RemoveDevice target) = take-remove-fits c s (Received bytes draw) m target
-order-fits tools c s bytes draw m heard (RequestApp partner) = take-app-request-fits c s bytes draw m partner
-order-fits tools c s bytes draw m heard RequestLink = take-request-fits c s bytes draw m
-order-fits tools c s bytes draw m heard (SwitchKey sequence) = take-switch-fits c s (Received bytes draw) m sequence
-order-fits tools c s bytes draw m heard (Tunnel destination inner) = take-tunnel-fits c s (Received bytes draw) m destination inner
-order-fits tools c s bytes draw m heard (VerifyKey kind source hash) = take-verify-fits tools c s (Received bytes draw) m heard kind source hash
-order-fits tools c s bytes draw m heard (ConfirmKey status kind destination) = take-confirm-fits c s (Received bytes draw) m status kind destination
+command-fits : (tools : Tools) (c : Setting) (s : NodeState) (bytes : Bytes) (draw : Option Bytes) (m : Heard) → IsHeard c m → (o : Command) → OutcomeFits c s (Received bytes draw) (take_command tools c s draw m o)
+unfolding take_command
+command-fits tools c s bytes draw m heard (TransportNet key sequence destination source) = net-key-fits c s (Received bytes draw) m key sequence destination source
+command-fits tools c s bytes draw m heard (TransportApp key partner initiator) = app-key-fits c s (Received bytes draw) m key partner
+command-fits tools c s bytes draw m heard (TransportLink key destination source) = link-key-fits c s (Received bytes draw) m key destination source
+command-fits tools c s bytes draw m heard (UpdateDevice device short status) = take-update-fits c s (Received bytes draw) m device status
+command-fits tools c s bytes draw m heard (RemoveDevice target) = take-remove-fits c s (Received bytes draw) m target
+command-fits tools c s bytes draw m heard (RequestApp partner) = take-app-request-fits c s bytes draw m partner
+command-fits tools c s bytes draw m heard RequestLink = take-request-fits c s bytes draw m
+command-fits tools c s bytes draw m heard (SwitchKey sequence) = take-switch-fits c s (Received bytes draw) m sequence
+command-fits tools c s bytes draw m heard (Tunnel destination inner) = take-tunnel-fits c s (Received bytes draw) m destination inner
+command-fits tools c s bytes draw m heard (VerifyKey kind source hash) = take-verify-fits tools c s (Received bytes draw) m heard kind source hash
+command-fits tools c s bytes draw m heard (ConfirmKey status kind destination) = take-confirm-fits c s (Received bytes draw) m status kind destination
 
-leave-fits : (c : Setting) (s : NodeState) (task : Task) (term : Sealing) (options : ℕ) → OutcomeFits c s task (take_leave c term options)
+leave-fits : (c : Setting) (s : NodeState) (task : Task) (term : Term) (options : ℕ) → OutcomeFits c s task (take_leave c term options)
 unfolding take_leave
 leave-fits c s task term options = by-unless c s task _ _ _ (λ a. by-member c s task _ (of-member c _ a) (tt, tt))
 
@@ -649,7 +649,7 @@ abbrev pub PlanFits : Setting → NodeState → Task → Plan → Type 0
 PlanFits c s task p = OutcomeFits c s task p.outcome
 
 -- an accepted NWK term is of a declared node
-abbrev IfDeclared : Setting → Option Sealing → Type 0
+abbrev IfDeclared : Setting → Option Term → Type 0
 IfDeclared c None = Unit {0}
 IfDeclared c (Some t) = is_declared c t.source ≡ true
 
@@ -667,12 +667,12 @@ no-number n e = subst Missing e tt
     Missing None = Unit {0}
     Missing (Some k) = ⊥
 
-source-declared : (c : Setting) (nwk : Option Sealing) → IfDeclared c nwk → (n : ℕ) → option_map (λ (t : Sealing). t.source) nwk ≡ Some n → is_declared c n ≡ true
+source-declared : (c : Setting) (nwk : Option Term) → IfDeclared c nwk → (n : ℕ) → option_map (λ (t : Term). t.source) nwk ≡ Some n → is_declared c n ≡ true
 source-declared c None d n e = absurd (no-number n e)
 source-declared c (Some t) d n e = subst (λ x. is_declared c x ≡ true) (some-number t.source n e) d
 
-command-fits : (tools : Tools) (c : Setting) (s : NodeState) (bytes : Bytes) (draw : Option Bytes) (accepts : List Sealing) (m : Heard) → IsHeard c m → (o : OrderSight) → PlanFits c s (Received bytes draw) (aps_command tools c s draw accepts m o)
-command-fits tools c s bytes draw accepts m heard (Known order) = order-fits tools c s bytes draw m heard order
+command-fits : (tools : Tools) (c : Setting) (s : NodeState) (bytes : Bytes) (draw : Option Bytes) (accepts : List Term) (m : Heard) → IsHeard c m → (o : CommandShown) → PlanFits c s (Received bytes draw) (aps_command tools c s draw accepts m o)
+command-fits tools c s bytes draw accepts m heard (Known command) = command-fits tools c s bytes draw m heard command
 command-fits tools c s bytes draw accepts m heard Unknown = tt
 command-fits tools c s bytes draw accepts m heard Broken = tt
 
@@ -680,57 +680,57 @@ either-plan : (c : Setting) (s : NodeState) (task : Task) (b : Bool) (p q : Plan
 either-plan c s task true p q a b = a
 either-plan c s task false p q a b = b
 
-clear-fits : (tools : Tools) (c : Setting) (s : NodeState) (bytes : Bytes) (draw : Option Bytes) (nwk : Option Sealing) (a : ApsSight) → IfDeclared c nwk → PlanFits c s (Received bytes draw) (clear_part tools c s draw nwk a)
+clear-fits : (tools : Tools) (c : Setting) (s : NodeState) (bytes : Bytes) (draw : Option Bytes) (nwk : Option Term) (a : ApsShown) → IfDeclared c nwk → PlanFits c s (Received bytes draw) (clear_part tools c s draw nwk a)
 clear-fits tools c s bytes draw nwk a d =
-    either-plan c s (Received bytes draw) a.is_command (aps_command tools c s draw (option_to_list nwk) (heard_clear nwk) (tools.read_order a.body)) (comes_to (option_to_list nwk) AtAps (Does [] None))
-    (command-fits tools c s bytes draw (option_to_list nwk) (heard_clear nwk) (source-declared c nwk d) (tools.read_order a.body)) (does-nothing c s (Received bytes draw))
+    either-plan c s (Received bytes draw) a.is_command (aps_command tools c s draw (option_to_list nwk) (heard_clear nwk) (tools.read_command a.body)) (comes_to (option_to_list nwk) AtAps (Does [] None))
+    (command-fits tools c s bytes draw (option_to_list nwk) (heard_clear nwk) (source-declared c nwk d) (tools.read_command a.body)) (does-nothing c s (Received bytes draw))
 
-sealed-fits : (tools : Tools) (c : Setting) (s : NodeState) (bytes : Bytes) (draw : Option Bytes) (nwk : Option Sealing) (a : ApsSight) (aux : ApsAuxiliary) (v : Verdict Unsealed) → IfDeclared c nwk → PlanFits c s (Received bytes draw) (sealed_part tools c s draw nwk a aux v)
-sealed-fits tools c s bytes draw nwk a aux (Not spot reason) d = tt
+sealed-fits : (tools : Tools) (c : Setting) (s : NodeState) (bytes : Bytes) (draw : Option Bytes) (nwk : Option Term) (a : ApsShown) (aux : ApsAuxiliary) (v : Verdict Unsealed) → IfDeclared c nwk → PlanFits c s (Received bytes draw) (sealed_part tools c s draw nwk a aux v)
+sealed-fits tools c s bytes draw nwk a aux (Not model_place reason) d = tt
 sealed-fits tools c s bytes draw nwk a aux (Good u) d =
-    either-plan c s (Received bytes draw) a.is_command (aps_command tools c s draw (option_to_list nwk ++ u.term ∷ []) (heard_sealed nwk aux u) (tools.read_order u.term.content)) (comes_to (option_to_list nwk ++ u.term ∷ []) AtAps (Does [] None))
-    (command-fits tools c s bytes draw (option_to_list nwk ++ u.term ∷ []) (heard_sealed nwk aux u) (source-declared c nwk d) (tools.read_order u.term.content)) (does-nothing c s (Received bytes draw))
+    either-plan c s (Received bytes draw) a.is_command (aps_command tools c s draw (option_to_list nwk ++ u.term ∷ []) (heard_sealed nwk aux u) (tools.read_command u.term.content)) (comes_to (option_to_list nwk ++ u.term ∷ []) AtAps (Does [] None))
+    (command-fits tools c s bytes draw (option_to_list nwk ++ u.term ∷ []) (heard_sealed nwk aux u) (source-declared c nwk d) (tools.read_command u.term.content)) (does-nothing c s (Received bytes draw))
 
-security-fits : (tools : Tools) (c : Setting) (s : NodeState) (bytes : Bytes) (draw : Option Bytes) (f : NwkSight) (nwk : Option Sealing) (a : ApsSight) (x : Option ApsAuxiliary) → IfDeclared c nwk → PlanFits c s (Received bytes draw) (by_security tools c s draw f nwk a x)
+security-fits : (tools : Tools) (c : Setting) (s : NodeState) (bytes : Bytes) (draw : Option Bytes) (f : NwkShown) (nwk : Option Term) (a : ApsShown) (x : Option ApsAuxiliary) → IfDeclared c nwk → PlanFits c s (Received bytes draw) (by_security tools c s draw f nwk a x)
 security-fits tools c s bytes draw f nwk a None d = clear-fits tools c s bytes draw nwk a d
 security-fits tools c s bytes draw f nwk a (Some aux) d = sealed-fits tools c s bytes draw nwk a aux (judge_aps tools c s f (payload_of f nwk) aux) d
 
-part-fits : (tools : Tools) (c : Setting) (s : NodeState) (bytes : Bytes) (draw : Option Bytes) (f : NwkSight) (nwk : Option Sealing) (o : Option ApsSight) → IfDeclared c nwk → PlanFits c s (Received bytes draw) (aps_part tools c s draw f nwk o)
+part-fits : (tools : Tools) (c : Setting) (s : NodeState) (bytes : Bytes) (draw : Option Bytes) (f : NwkShown) (nwk : Option Term) (o : Option ApsShown) → IfDeclared c nwk → PlanFits c s (Received bytes draw) (aps_part tools c s draw f nwk o)
 part-fits tools c s bytes draw f nwk None d = tt
 part-fits tools c s bytes draw f nwk (Some a) d = security-fits tools c s bytes draw f nwk a a.auxiliary d
 
-nwk-command-fits : (c : Setting) (s : NodeState) (task : Task) (term : Sealing) (l : LeaveSight) → PlanFits c s task (nwk_command c term l)
+nwk-command-fits : (c : Setting) (s : NodeState) (task : Task) (term : Term) (l : LeaveShown) → PlanFits c s task (nwk_command c term l)
 nwk-command-fits c s task term (Leave options) = leave-fits c s task term options
 nwk-command-fits c s task term Other = tt
 nwk-command-fits c s task term NoCommand = tt
 
-net-fits : (tools : Tools) (c : Setting) (s : NodeState) (bytes : Bytes) (draw : Option Bytes) (f : NwkSight) (o : Option Sealing) → IfDeclared c o → PlanFits c s (Received bytes draw) (net_part tools c s draw f o)
+net-fits : (tools : Tools) (c : Setting) (s : NodeState) (bytes : Bytes) (draw : Option Bytes) (f : NwkShown) (o : Option Term) → IfDeclared c o → PlanFits c s (Received bytes draw) (net_part tools c s draw f o)
 net-fits tools c s bytes draw f None d = part-fits tools c s bytes draw f None (tools.read_aps f.body) tt
 net-fits tools c s bytes draw f (Some t) d =
     either-plan c s (Received bytes draw) f.is_command (nwk_command c t (tools.read_leave t.content)) (aps_part tools c s draw f (Some t) (tools.read_aps t.content))
     (nwk-command-fits c s (Received bytes draw) t (tools.read_leave t.content)) (part-fits tools c s bytes draw f (Some t) (tools.read_aps t.content) d)
 
 received-fits : (tools : Tools) (c : Setting) (s : NodeState) (bytes : Bytes) (draw : Option Bytes) (v : Verdict Carrier) → OnGood (λ (k : Carrier). IfDeclared c k.term) v → PlanFits c s (Received bytes draw) (received_as tools c s draw v)
-received-fits tools c s bytes draw (Not spot reason) g = tt
-received-fits tools c s bytes draw (Good k) g = net-fits tools c s bytes draw k.sight k.term g
+received-fits tools c s bytes draw (Not model_place reason) g = tt
+received-fits tools c s bytes draw (Good k) g = net-fits tools c s bytes draw k.frame k.term g
 
 -- judging tries whether the source is declared
 
-net-declared : (tools : Tools) → Opens tools → (c : Setting) (s : NodeState) (bytes : Bytes) (f : NwkSight) (aux : NwkAuxiliary) → tools.read_nwk bytes ≡ Some f → f.auxiliary ≡ Some aux → OnGood (λ (t : Sealing). is_declared c t.source ≡ true) (judge_net tools c s bytes aux)
+net-declared : (tools : Tools) → Opens tools → (c : Setting) (s : NodeState) (bytes : Bytes) (f : NwkShown) (aux : NwkAuxiliary) → tools.read_nwk bytes ≡ Some f → f.auxiliary ≡ Some aux → OnGood (λ (t : Term). is_declared c t.source ≡ true) (judge_net tools c s bytes aux)
 unfolding judge_net
 net-declared tools opens c s bytes f aux read shown =
     need-good P (usable_of s aux.sequence) _ _ _ (λ row found. reject-good P _ _ _ _ (λ a. reject-good P _ _ _ _ (λ b.
     need-good P (tools.open_nwk bytes row.key) _ _ _ (λ t opened. reject-good P (not (is_declared c aux.source)) _ _ _ (λ x. reject-good P _ _ _ _ (λ y. reject-good P _ _ _ _ (λ z.
     subst (λ n. is_declared c n ≡ true) (sym (opens.nwk bytes row.key f aux t read shown opened).2) (not-false (is_declared c aux.source) x))))))))
   where
-    P : Sealing → Type 0
+    P : Term → Type 0
     P t = is_declared c t.source ≡ true
 
-carrier-declared : (c : Setting) (f : NwkSight) (v : Verdict Sealing) → OnGood (λ (t : Sealing). is_declared c t.source ≡ true) v → OnGood (λ (k : Carrier). IfDeclared c k.term) (carrier f v)
-carrier-declared c f (Not spot reason) g = tt
+carrier-declared : (c : Setting) (f : NwkShown) (v : Verdict Term) → OnGood (λ (t : Term). is_declared c t.source ≡ true) v → OnGood (λ (k : Carrier). IfDeclared c k.term) (carrier f v)
+carrier-declared c f (Not model_place reason) g = tt
 carrier-declared c f (Good t) g = g
 
-layer-declared : (tools : Tools) → Opens tools → (c : Setting) (s : NodeState) (bytes : Bytes) (f : NwkSight) (x : Option NwkAuxiliary) → tools.read_nwk bytes ≡ Some f → f.auxiliary ≡ x → OnGood (λ (k : Carrier). IfDeclared c k.term) (judge_security tools c s bytes f x)
+layer-declared : (tools : Tools) → Opens tools → (c : Setting) (s : NodeState) (bytes : Bytes) (f : NwkShown) (x : Option NwkAuxiliary) → tools.read_nwk bytes ≡ Some f → f.auxiliary ≡ x → OnGood (λ (k : Carrier). IfDeclared c k.term) (judge_security tools c s bytes f x)
 layer-declared tools opens c s bytes f None read shown = reject-good (λ (k : Carrier). IfDeclared c k.term) _ _ _ _ (λ e. tt)
 layer-declared tools opens c s bytes f (Some aux) read shown = carrier-declared c f (judge_net tools c s bytes aux) (net-declared tools opens c s bytes f aux read shown)
 

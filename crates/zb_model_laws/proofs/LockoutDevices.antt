@@ -2,15 +2,15 @@
 use Rattle.std.proofs.Common.{◌≡◌, ℕ, Bool, true, false, cond, not, ◌&&◌, ◌||◌, List, [], ◌∷◌, ◌++◌, map, filter, Option, Some, None, option_to_list, find, flat_map, nat_eq, is_some, refl, sym, ap, ◌∙◌, subst, append_assoc, eqb-true, eq-eqb, ◌⊎◌, inl, inr, ⊎_elim}
 use Rattle.std.proofs.lemmas.Bool.{false≢true, and_parts, or_cases}
 use Rattle.std.specs.List.{AllByRecursion, list_any}
-use Rattle.zb_model.specs.Data.{Bytes, Duty, Centre, Router, Device, Provisional, Station, Sealing, DropLink, Row, Live, Removed, Edit, Moved}
-use Rattle.zb_model.specs.Lines.{LogLine, GivenLink, Changed}
+use Rattle.zb_model.specs.Data.{Bytes, Role, Centre, Router, Device, Provisional, Station, Term, DropLink, Row, Live, Removed, Edit, Moved}
+use Rattle.zb_model.specs.Lines.{Line, GivenLink, Changed}
 use Rattle.zb_model.specs.State.{LinkKey, NodeState, same_key, is_centre, has_link, is_link, is_live_of, at_link, dropped_link, is_live, other_user, applied, moved}
 use Rattle.zb_model.specs.Tools.{Tools}
 use Rattle.zb_model.specs.Rules.{centre_of, station_of, drop_link, drop_partner}
 use Rattle.zb_model.specs.Answer.{Counting, move_edits, changes}
 use Rattle.zb_model.specs.Readings.{state_of, heard_line, after, speaker, station_line, stations_of}
 use Rattle.zb_model.specs.Secrets.{holds, carried, terms_of, ever, ever_in, ever_from, is_the_centre, bases, base_in, codes_of, code_in, brings, came_by, joins}
-use Rattle.zb_model.specs.Play.{Member, stations}
+use Rattle.zb_model.specs.Play.{Node, stations}
 use Rattle.zb_model.specs.Schedules.{Names}
 use Rattle.zb_model_laws.specs.Commanding.{OneCentre}
 use Rattle.zb_model_laws.specs.KeysApart.{IsNoneOf, keys_of_others, given_keys, network_key}
@@ -63,7 +63,7 @@ none-right : (k : Bytes) (xs ys : List Bytes) → IsNoneOf (xs ++ ys) k → IsNo
 none-right k [] ys a = a
 none-right k (z ∷ xs) ys a = none-right k xs ys a.1
 
-not-given : (d p : ℕ) (k : Bytes) (m : Member) → (p ≡ d → ⊥) → IsNoneOf (keys_of_others p m) k → In k (given_to d m) → ⊥
+not-given : (d p : ℕ) (k : Bytes) (m : Node) → (p ≡ d → ⊥) → IsNoneOf (keys_of_others p m) k → In k (given_to d m) → ⊥
 unfolding In
 not-given d p k m apart none i = by-device (nat_eq m.station.eui d) refl i
   where
@@ -76,16 +76,16 @@ not-given d p k m apart none i = by-device (nat_eq m.station.eui d) refl i
     by-device false e j = j
 
 -- a key that is entered isn't drawn
-not-drawn : (x : Case) (g : List LogLine) (p : ℕ) (k : Bytes) → Entered x p k → Whole x g → In k (drawn g) → ⊥
-not-drawn x g p k e v i = none-at k x.world.draws (v.ledger.drawn_from k i).0 e.draws (v.ledger.drawn_from k i).2
+not-drawn : (x : Case) (g : List Line) (p : ℕ) (k : Bytes) → Entered x p k → Whole x g → In k (drawn g) → ⊥
+not-drawn x g p k e v i = none-at k x.schedule.draws (v.ledger.drawn_from k i).0 e.draws (v.ledger.drawn_from k i).2
 
-not-net : (x : Case) (g : List LogLine) (p : ℕ) (k : Bytes) → Entered x p k → Whole x g → HasNet (state_of g (centre x)) k → ⊥
+not-net : (x : Case) (g : List Line) (p : ℕ) (k : Bytes) → Entered x p k → Whole x g → HasNet (state_of g (centre x)) k → ⊥
 not-net x g p k e v r = ⊎_elim (λ i. not-drawn x g p k e v i)
-    (λ i. none-flat (λ (m : Member). network_key m.network) k x.world.members
-    (all-map (λ (m : Member). IsNoneOf (keys_of_others p m) k) (λ (m : Member). In k (network_key m.network) → ⊥) (λ m a j. none-in k (network_key m.network) (none-right k (cond (nat_eq m.station.eui p) [] (option_to_list m.code)) (network_key m.network) a) j) x.world.members e.others) i)
+    (λ i. none-flat (λ (m : Node). network_key m.network) k x.schedule.nodes
+    (all-map (λ (m : Node). IsNoneOf (keys_of_others p m) k) (λ (m : Node). In k (network_key m.network) → ⊥) (λ m a j. none-in k (network_key m.network) (none-right k (cond (nat_eq m.station.eui p) [] (option_to_list m.code)) (network_key m.network) a) j) x.schedule.nodes e.others) i)
     (v.ledger.net_known k r)
 
-entered-row : (x : Case) (g : List LogLine) (n p : ℕ) (k : Bytes) → n ≡ centre x → (x.device ≡ centre x → ⊥) → Entered x p k → ((q : ℕ) → HasRow (state_of g (centre x)) q k → q ≡ p) → InNet x k → Whole x g → RowComes x g n p k
+entered-row : (x : Case) (g : List Line) (n p : ℕ) (k : Bytes) → n ≡ centre x → (x.device ≡ centre x → ⊥) → Entered x p k → ((q : ℕ) → HasRow (state_of g (centre x)) q k → q ≡ p) → InNet x k → Whole x g → RowComes x g n p k
 entered-row x g n p k mine apart e one net v = record {
   at_centre = mine;
   apart = apart;
@@ -106,7 +106,7 @@ entered-row x g n p k mine apart e one net v = record {
     unknown q (inr (inr r)) = not-net x g p k e v r
 
     given : (p ≡ x.device → ⊥) → InGiven x k → ⊥
-    given d i = none-flat (given_to x.device) k x.world.members (all-map (λ (m : Member). IsNoneOf (keys_of_others p m) k) (λ (m : Member). In k (given_to x.device m) → ⊥) (λ m a j. not-given x.device p k m d a j) x.world.members e.others) i
+    given d i = none-flat (given_to x.device) k x.schedule.nodes (all-map (λ (m : Node). IsNoneOf (keys_of_others p m) k) (λ (m : Node). In k (given_to x.device m) → ⊥) (λ m a j. not-given x.device p k m d a j) x.schedule.nodes e.others) i
 
     found : IsAny (is_link p k) (state_of g (centre x)).links → HasRow (state_of g (centre x)) p k
     found a = record { row = a.0; among = a.1; partner = eqb-true a.0.partner p (and_parts (nat_eq a.0.partner p) (same_key a.0.key k) a.2).0; key = same_key-eq a.0.key k (and_parts (nat_eq a.0.partner p) (same_key a.0.key k) a.2).1 }
@@ -116,18 +116,18 @@ entered-row x g n p k mine apart e one net v = record {
     by-test d false q = inr (λ t i c. unknown q (v.kept.terms_known t i k c net), λ i. ⊎_elim (λ a. unknown q a) (λ a. given d a) (v.kept.ever_known k i net))
 
 -- and the device is admitted
-live-gone : (x : Case) (h : List LogLine) (e n p : ℕ) (b : Bool) → nat_eq p x.device ≡ b → (cond b (record { gone = false; keys = [] }) (away x.device h)).gone ≡ true → (b ≡ false) × ((away x.device h).gone ≡ true)
+live-gone : (x : Case) (h : List Line) (e n p : ℕ) (b : Bool) → nat_eq p x.device ≡ b → (cond b (record { gone = false; keys = [] }) (away x.device h)).gone ≡ true → (b ≡ false) × ((away x.device h).gone ≡ true)
 live-gone x h e n p true q g = absurd (false≢true g)
 live-gone x h e n p false q g = (refl, g)
 
-live-step : (x : Case) (h : List LogLine) (e n p : ℕ) → Whole x h → Whole x (h ++ Changed e n (Moved (Live p)) ∷ [])
+live-step : (x : Case) (h : List Line) (e n p : ℕ) → Whole x h → Whole x (h ++ Changed e n (Moved (Live p)) ∷ [])
 live-step x h e n p w = record {
   kept = (live-kept x h e n p w.kept w.ledger).0;
   ledger = (live-kept x h e n p w.kept w.ledger).1;
   dead = dead-step (centre x) x.device h (Changed e n (Moved (Live p))) w.dead (record { came = λ g q k c r. absurd r; went = λ g. inl (live-gone x h e n p (nat_eq p x.device) refl g).1 });
 }
 
-live-after : (x : Case) (h : List LogLine) (e n p : ℕ) → p ≡ x.device → IsKept x h → IsLedger x h → Whole x (h ++ Changed e n (Moved (Live p)) ∷ [])
+live-after : (x : Case) (h : List Line) (e n p : ℕ) → p ≡ x.device → IsKept x h → IsLedger x h → Whole x (h ++ Changed e n (Moved (Live p)) ∷ [])
 live-after x h e n p d k g = record {
   kept = (live-kept x h e n p k g).0;
   ledger = (live-kept x h e n p k g).1;
@@ -137,14 +137,14 @@ live-after x h e n p d k g = record {
     gone : (b : Bool) → nat_eq p x.device ≡ true → (late_line x.device (away x.device h) (Changed e n (Moved (Live p)))).gone ≡ false
     gone b e = ap (λ t. (cond t (record { gone = false; keys = [] }) (away x.device h)).gone) e
 
-pub enters-goes : (x : Case) (h : List LogLine) → (x.device ≡ centre x → ⊥) → (g : List LogLine) → Same x h g → (number n : ℕ) → n ≡ centre x → (kk : Counting) (s0 : NodeState) (p : ℕ) (k : Bytes) → Entered x p k → other_user (state_of h (centre x)) p k ≡ None
+pub enters-goes : (x : Case) (h : List Line) → (x.device ≡ centre x → ⊥) → (g : List Line) → Same x h g → (number n : ℕ) → n ≡ centre x → (kk : Counting) (s0 : NodeState) (p : ℕ) (k : Bytes) → Entered x p k → other_user (state_of h (centre x)) p k ≡ None
     → GoesOn x g (moves_lines number n s0 kk (Row p k Provisional ∷ Live p ∷ []))
 enters-goes x h apart g s number n mine kk s0 p k e none = by-test (changes s0 (Row p k Provisional))
   where
-    l1 : LogLine
+    l1 : Line
     l1 = Changed number n (Moved (Row p k Provisional))
 
-    l2 : LogLine
+    l2 : Line
     l2 = Changed number n (Moved (Live p))
 
     one : (q : ℕ) → HasRow (state_of g (centre x)) q k → q ≡ p
@@ -187,17 +187,17 @@ drop-dead p k links y i live a b = back (in-map (λ r. cond (is_link p k r) (dro
 old-of : (links : List LinkKey) (y z : LinkKey) → z.partner ≡ y.partner → z.key ≡ y.key → (y.live ≡ true → z.live ≡ true) → OldLink links z → OldLink links y
 old-of links y z p k l o = record { row = o.row; among = o.among; partner = o.partner ∙ p; key = o.key ∙ k; live = λ e. o.live (l e) }
 
-row-of-idle : (l : LogLine) → IsIdle l → (y : LinkKey) → RowOf l y → ⊥
+row-of-idle : (l : Line) → IsIdle l → (y : LinkKey) → RowOf l y → ⊥
 unfolding IsIdle
 row-of-idle (Changed e n (Moved (Row p k t))) i y r = i
 row-of-idle (GivenLink n p k) i y r = i
 row-of-idle _ i y r = r
 
-idle-old : (x : Case) (g : List LogLine) (l : LogLine) → IsIdle l → (y : LinkKey) → In y (state_of (g ++ l ∷ []) (centre x)).links → OldLink (state_of g (centre x)).links y
+idle-old : (x : Case) (g : List Line) (l : Line) → IsIdle l → (y : LinkKey) → In y (state_of (g ++ l ∷ []) (centre x)).links → OldLink (state_of g (centre x)).links y
 idle-old x g l i y j = ⊎_elim (λ o. o) (λ r. absurd (row-of-idle l i y r.1)) (link-back g l (centre x) y j)
 
 -- over several lines
-lines-old : (x : Case) (g ls : List LogLine) → AllByRecursion IsIdle ls → (y : LinkKey) → In y (state_of (g ++ ls) (centre x)).links → OldLink (state_of g (centre x)).links y
+lines-old : (x : Case) (g ls : List Line) → AllByRecursion IsIdle ls → (y : LinkKey) → In y (state_of (g ++ ls) (centre x)).links → OldLink (state_of g (centre x)).links y
 lines-old x g [] i y j = record { row = y; among = subst (λ h. In y (state_of h (centre x)).links) (append-nil' g) j; partner = refl; key = refl; live = λ e. e }
 lines-old x g (l ∷ ls) i y j = through (lines-old x (g ++ l ∷ []) ls i.1 y (subst (λ h. In y (state_of h (centre x)).links) (sym (append_assoc g (l ∷ []) ls)) j))
   where
@@ -208,17 +208,17 @@ lines-old x g (l ∷ ls) i y j = through (lines-old x (g ++ l ∷ []) ls i.1 y (
 abbrev Dropped : List LinkKey → LinkKey → Type 0
 Dropped rs y = (r : LinkKey) → In r rs → r.partner ≡ y.partner → r.key ≡ y.key → ⊥
 
-dropped-line : (g : List LogLine) (e c p : ℕ) (k : Bytes) → (state_of (g ++ Changed e c (Moved (DropLink p k)) ∷ []) c).links ≡ at_link p k dropped_link (state_of g c).links
+dropped-line : (g : List Line) (e c p : ℕ) (k : Bytes) → (state_of (g ++ Changed e c (Moved (DropLink p k)) ∷ []) c).links ≡ at_link p k dropped_link (state_of g c).links
 unfolding heard_line speaker after applied
 dropped-line g e c p k = ap (λ s. s.links) (state-snoc g (Changed e c (Moved (DropLink p k))) c ∙ ap (λ b. cond b (moved (DropLink p k) (state_of g c)) (state_of g c)) (nat_eq-refl c))
 
-drops-live : (x : Case) (number : ℕ) (s0 : NodeState) (kk : Counting) (rs : List LinkKey) (g : List LogLine) (y : LinkKey) → In y (state_of (g ++ moves_lines number (centre x) s0 kk (map drop_link rs)) (centre x)).links → y.live ≡ true
+drops-live : (x : Case) (number : ℕ) (s0 : NodeState) (kk : Counting) (rs : List LinkKey) (g : List Line) (y : LinkKey) → In y (state_of (g ++ moves_lines number (centre x) s0 kk (map drop_link rs)) (centre x)).links → y.live ≡ true
     → OldLink (state_of g (centre x)).links y × Dropped rs y
 unfolding In IsIdle
 drops-live x number s0 kk [] g y i live = (record { row = y; among = subst (λ h. In y (state_of h (centre x)).links) (append-nil' g) i; partner = refl; key = refl; live = λ e. e }, λ r j. absurd j)
 drops-live x number s0 kk (r ∷ rs) g y i live = through (drops-live x number s0 kk rs (g ++ l ∷ []) y (subst (λ h. In y (state_of h (centre x)).links) (sym (append_assoc g (l ∷ []) (moves_lines number (centre x) s0 kk (map drop_link rs)))) i) live)
   where
-    l : LogLine
+    l : Line
     l = Changed number (centre x) (Moved (DropLink r.partner r.key))
 
     through : OldLink (state_of (g ++ l ∷ []) (centre x)).links y × Dropped rs y → OldLink (state_of g (centre x)).links y × Dropped (r ∷ rs) y
@@ -246,7 +246,7 @@ drops-idle : (rs : List LinkKey) → AllByRecursion IdleMove (map drop_link rs)
 drops-idle [] = tt
 drops-idle (r ∷ rs) = (tt, drops-idle rs)
 
-pub removes-goes : (x : Case) (h : List LogLine) → Whole x h → (ms : List LogLine) → AllByRecursion IsIdle ms → (number n : ℕ) → n ≡ centre x → (kk : Counting) (p : ℕ) → is_live (state_of h (centre x)) p ≡ true
+pub removes-goes : (x : Case) (h : List Line) → Whole x h → (ms : List Line) → AllByRecursion IsIdle ms → (number n : ℕ) → n ≡ centre x → (kk : Counting) (p : ℕ) → is_live (state_of h (centre x)) p ≡ true
     → GoesOn x (h ++ ms) (moves_lines number n (state_of h n) kk (drop_partner (state_of h n) p ++ (Removed p ∷ [])))
 unfolding drop_partner
 removes-goes x h w ms idle_ number n mine kk p live =
@@ -261,7 +261,7 @@ removes-goes x h w ms idle_ number n mine kk p live =
     rs : List LinkKey
     rs = filter (is_live_of p) s.links
 
-    drops : List LogLine
+    drops : List Line
     drops = moves_lines number (centre x) s kk (map drop_link rs)
 
     dead : p ≡ x.device → NoLive (state_of ((h ++ ms) ++ drops) (centre x)) x.device
@@ -279,30 +279,30 @@ removes-goes x h w ms idle_ number n mine kk p live =
 
 -- The changes of routers and devices
 
-pub is-the-centre : (ps : List Station) (n : ℕ) (o : Option Station) → find (λ (p : Station). is_centre p.duty) ps ≡ o → is_the_centre ps n ≡ true → n ≡ centre_of ps
+pub is-the-centre : (ps : List Station) (n : ℕ) (o : Option Station) → find (λ (p : Station). is_centre p.role) ps ≡ o → is_the_centre ps n ≡ true → n ≡ centre_of ps
 unfolding centre_of
 is-the-centre ps n None e t = absurd (false≢true (sym (shape e) ∙ t))
   where
-    shape : find (λ (p : Station). is_centre p.duty) ps ≡ None → is_the_centre ps n ≡ false
+    shape : find (λ (p : Station). is_centre p.role) ps ≡ None → is_the_centre ps n ≡ false
     shape e = rw e refl
 is-the-centre ps n (Some p) e t = sym (eqb-true p.eui n (sym (shape e) ∙ t)) ∙ sym (value e)
   where
-    shape : find (λ (p : Station). is_centre p.duty) ps ≡ Some p → is_the_centre ps n ≡ nat_eq p.eui n
+    shape : find (λ (p : Station). is_centre p.role) ps ≡ Some p → is_the_centre ps n ≡ nat_eq p.eui n
     shape e = rw e refl
 
-    value : find (λ (p : Station). is_centre p.duty) ps ≡ Some p → Rattle.zb_model.specs.Rules.eui_or 18446744073709551616 (find (λ (p : Station). is_centre p.duty) ps) ≡ p.eui
+    value : find (λ (p : Station). is_centre p.role) ps ≡ Some p → Rattle.zb_model.specs.Rules.eui_or 18446744073709551616 (find (λ (p : Station). is_centre p.role) ps) ≡ p.eui
     value e = ap (λ o. Rattle.zb_model.specs.Rules.eui_or 18446744073709551616 o) e
 
 -- a node that isn't the centre joins
-joins-by : (h : List LogLine) (n : ℕ) (p : Station) (d : Duty) → station_of (stations_of h) n ≡ Some p → p.duty ≡ d → (d ≡ Centre → ⊥) → joins h n ≡ true
+joins-by : (h : List Line) (n : ℕ) (p : Station) (d : Role) → station_of (stations_of h) n ≡ Some p → p.role ≡ d → (d ≡ Centre → ⊥) → joins h n ≡ true
 joins-by h n p Centre e q k = absurd (k refl)
 joins-by h n p Router e q k = rw e (rw q refl)
 joins-by h n p Device e q k = rw e (rw q refl)
 
-named-duty : (ps : List Station) (c n : ℕ) (h : List LogLine) (o : Option Station) → station_of (stations_of h) n ≡ o → is_some o ≡ true → AllByRecursion (λ (p : Station). is_centre p.duty ≡ true → p.eui ≡ c) ps → stations_of h ≡ ps → (n ≡ c → ⊥) → joins h n ≡ true
+named-role : (ps : List Station) (c n : ℕ) (h : List Line) (o : Option Station) → station_of (stations_of h) n ≡ o → is_some o ≡ true → AllByRecursion (λ (p : Station). is_centre p.role ≡ true → p.eui ≡ c) ps → stations_of h ≡ ps → (n ≡ c → ⊥) → joins h n ≡ true
 unfolding station_of
-named-duty ps c n h None e q one same other = absurd (false≢true q)
-named-duty ps c n h (Some p) e q one same other = joins-by h n p p.duty e refl (λ d. other (sym (eqb-true p.eui n found.1) ∙ all-in (λ (y : Station). is_centre y.duty ≡ true → y.eui ≡ c) ps one p found.0 (ap is_centre d)))
+named-role ps c n h None e q one same other = absurd (false≢true q)
+named-role ps c n h (Some p) e q one same other = joins-by h n p p.role e refl (λ d. other (sym (eqb-true p.eui n found.1) ∙ all-in (λ (y : Station). is_centre y.role ≡ true → y.eui ≡ c) ps one p found.0 (ap is_centre d)))
   where
     found : In p ps × (nat_eq p.eui n ≡ true)
     found = found-element (λ (y : Station). nat_eq y.eui n) ps p (subst (λ ss. find (λ (y : Station). nat_eq y.eui n) ss ≡ Some p) same e)
@@ -317,7 +317,7 @@ flat-in f k (x ∷ xs) i = ⊎_elim (λ a. (x, inl refl, a)) (λ a. later (flat-
     later : ((y : _) × In y xs × In k (f y)) → (y : _) × In y (x ∷ xs) × In k (f y)
     later o = (o.0, inr o.1, o.2)
 
-base-ever : (known : List Station) (d : ℕ) (l : LogLine) (k : Bytes) → In k (base_in d l) → In k (ever_in known d l)
+base-ever : (known : List Station) (d : ℕ) (l : Line) (k : Bytes) → In k (base_in d l) → In k (ever_in known d l)
 base-ever known d (GivenLink m p key) k i = i
 base-ever known d (Changed e m (Moved (Row p key t))) k i = by-test (nat_eq m d) i
   where
@@ -326,38 +326,38 @@ base-ever known d (Changed e m (Moved (Row p key t))) k i = by-test (nat_eq m d)
     by-test false i = absurd (Rattle.zb_model_laws.proofs.Judged.nowhere k i)
 base-ever known d _ k i = absurd (Rattle.zb_model_laws.proofs.Judged.nowhere k i)
 
-code-ever : (known : List Station) (d : ℕ) (l : LogLine) (k : Bytes) → In k (code_in d l) → In k (ever_in known d l)
+code-ever : (known : List Station) (d : ℕ) (l : Line) (k : Bytes) → In k (code_in d l) → In k (ever_in known d l)
 code-ever known d (GivenLink m p key) k i = i
 code-ever known d _ k i = absurd (Rattle.zb_model_laws.proofs.Judged.nowhere k i)
 
-pub from-ever : (f : ℕ → LogLine → List Bytes) → ((known : List Station) (d : ℕ) (l : LogLine) (k : Bytes) → In k (f d l) → In k (ever_in known d l)) → (known : List Station) (d : ℕ) (h : List LogLine) (k : Bytes) → In k (flat_map (f d) h) → In k (ever_from known d h)
+pub from-ever : (f : ℕ → Line → List Bytes) → ((known : List Station) (d : ℕ) (l : Line) (k : Bytes) → In k (f d l) → In k (ever_in known d l)) → (known : List Station) (d : ℕ) (h : List Line) (k : Bytes) → In k (flat_map (f d) h) → In k (ever_from known d h)
 from-ever f step known d [] k i = i
 from-ever f step known d (l ∷ ls) k i = ⊎_elim (λ a. Rattle.zb_model_laws.proofs.LockoutRows.in-left k (ever_in known d l) (ever_from (station_line known l) d ls) (step known d l k a))
     (λ a. Rattle.zb_model_laws.proofs.LockoutRows.in-right k (ever_in known d l) (ever_from (station_line known l) d ls) (from-ever f step (station_line known l) d ls k a)) (in-append' k (f d l) (flat_map (f d) ls) i)
 
-bases-ever : (h : List LogLine) (d : ℕ) (k : Bytes) → In k (bases h d) → In k (ever h d)
+bases-ever : (h : List Line) (d : ℕ) (k : Bytes) → In k (bases h d) → In k (ever h d)
 unfolding bases ever
 bases-ever h d k i = from-ever base_in base-ever [] d h k i
 
-codes-ever : (h : List LogLine) (d : ℕ) (k : Bytes) → In k (codes_of h d) → In k (ever h d)
+codes-ever : (h : List Line) (d : ℕ) (k : Bytes) → In k (codes_of h d) → In k (ever h d)
 unfolding codes_of ever
 codes-ever h d k i = from-ever code_in code-ever [] d h k i
 
 -- what comes to a device is no safe key, where the run is ideal
 
-any-term : (test : Sealing → Bool) (ts : List Sealing) → list_any test ts ≡ true → (t : Sealing) × In t ts × (test t ≡ true)
+any-term : (test : Term → Bool) (ts : List Term) → list_any test ts ≡ true → (t : Term) × In t ts × (test t ≡ true)
 unfolding In
 any-term test [] e = absurd (false≢true e)
 any-term test (t ∷ ts) e = by-test (test t) refl e (any-term test ts)
   where
-    by-test : (b : Bool) → test t ≡ b → (b || list_any test ts) ≡ true → (list_any test ts ≡ true → (u : Sealing) × In u ts × (test u ≡ true)) → (u : Sealing) × In u (t ∷ ts) × (test u ≡ true)
+    by-test : (b : Bool) → test t ≡ b → (b || list_any test ts) ≡ true → (list_any test ts ≡ true → (u : Term) × In u ts × (test u ≡ true)) → (u : Term) × In u (t ∷ ts) × (test u ≡ true)
     by-test true q e k = (t, inl refl, q)
     by-test false q e k = later (k e)
       where
-        later : ((u : Sealing) × In u ts × (test u ≡ true)) → (u : Sealing) × In u (t ∷ ts) × (test u ≡ true)
+        later : ((u : Term) × In u ts × (test u ≡ true)) → (u : Term) × In u (t ∷ ts) × (test u ≡ true)
         later o = (o.0, inr o.1, o.2)
 
-brings-key : (tools : Tools) (keys : List Bytes) (k : Bytes) (t : Sealing) (o : Option Bytes) → carried tools t ≡ o → brings tools keys k t ≡ true → (holds keys t.base ≡ true) × (carried tools t ≡ Some k)
+brings-key : (tools : Tools) (keys : List Bytes) (k : Bytes) (t : Term) (o : Option Bytes) → carried tools t ≡ o → brings tools keys k t ≡ true → (holds keys t.base ≡ true) × (carried tools t ≡ Some k)
 brings-key tools keys k t None e b = absurd (false≢true (and_parts (holds keys t.base) false (subst (λ x. x ≡ true) (rw e refl) b)).1)
 brings-key tools keys k t (Some j) e b = (parts.0, e ∙ ap Some (same_key-eq j k parts.1))
   where
@@ -367,14 +367,14 @@ brings-key tools keys k t (Some j) e b = (parts.0, e ∙ ap Some (same_key-eq j 
         shape : carried tools t ≡ Some j → brings tools keys k t ≡ (holds keys t.base && same_key j k)
         shape e = rw e refl
 
-came : (x : Case) (h : List LogLine) (k : Bytes) → Whole x h → came_by x.tools h x.device k ≡ true → Comes x h k
+came : (x : Case) (h : List Line) (k : Bytes) → Whole x h → came_by x.tools h x.device k ≡ true → Comes x h k
 unfolding came_by
 came x h k w e = ⊎_elim (λ a. code (holds-in (codes_of h x.device) k a)) (λ a. term (any-term (brings x.tools (bases h x.device) k) (terms_of h) a)) (or_cases (holds (codes_of h x.device) k) (list_any (brings x.tools (bases h x.device) k) (terms_of h)) e)
   where
     code : In k (codes_of h x.device) → Comes x h k
     code i = record { safe = w.kept.out k (codes-ever h x.device k i); known = λ n. w.kept.ever_known k (codes-ever h x.device k i) n }
 
-    term : ((t : Sealing) × In t (terms_of h) × (brings x.tools (bases h x.device) k t ≡ true)) → Comes x h k
+    term : ((t : Term) × In t (terms_of h) × (brings x.tools (bases h x.device) k t ≡ true)) → Comes x h k
     term o = record {
       safe = λ s. w.kept.out o.0.base (bases-ever h x.device o.0.base (holds-in (bases h x.device) o.0.base found.0)) (inr (w.kept.closed o.0 o.1 k found.1 s));
       known = λ n. inl (w.kept.terms_known o.0 o.1 k found.1 n);
@@ -385,15 +385,15 @@ came x h k w e = ⊎_elim (λ a. code (holds-in (codes_of h x.device) k a)) (λ 
 
 -- what a run has in common for the lines of a node that isn't the centre
 pub record Elsewhere (x : Case) (n : ℕ) : Type 0 where
-  pub one : OneCentre x.world
-  pub named : Names x.world n
+  pub one : OneCentre x.schedule
+  pub named : Names x.schedule n
   pub other : n ≡ centre x → ⊥
 
-pub ideal-comes : (x : Case) (h : List LogLine) (n : ℕ) (k : Bytes) → Elsewhere x n → stations_of h ≡ stations x.world → n ≡ x.device → (not (joins h n) || came_by x.tools h n k) ≡ true → Whole x h → Comes x h k
+pub ideal-comes : (x : Case) (h : List Line) (n : ℕ) (k : Bytes) → Elsewhere x n → stations_of h ≡ stations x.schedule → n ≡ x.device → (not (joins h n) || came_by x.tools h n k) ≡ true → Whole x h → Comes x h k
 ideal-comes x h n k f same mine e w = came x h k w (subst (λ m. came_by x.tools h m k ≡ true) mine (subst (λ b. (not b || came_by x.tools h n k) ≡ true) joined e))
   where
     joined : joins h n ≡ true
-    joined = named-duty (stations x.world) (centre x) n h (station_of (stations_of h) n) refl (subst (λ ss. is_some (station_of ss n) ≡ true) (sym same) f.named) f.one same f.other
+    joined = named-role (stations x.schedule) (centre x) n h (station_of (stations_of h) n) refl (subst (λ ss. is_some (station_of ss n) ≡ true) (sym same) f.named) f.one same f.other
 
 abbrev pub OfMemberEdit : Edit → Type 0
 OfMemberEdit (Moved m) = OfMember m

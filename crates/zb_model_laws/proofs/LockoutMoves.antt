@@ -2,15 +2,15 @@
 use Rattle.std.proofs.Common.{◌≡◌, ℕ, zero, suc, ◌<◌, Bool, true, false, cond, ◌&&◌, ◌||◌, List, [], ◌∷◌, ◌++◌, map, filter, slice_get, Option, Some, None, flat_map, nat_eq, refl, sym, ap, ◌∙◌, subst, append_assoc, eqb-true, lt_irrefl, ◌⊎◌, inl, inr, ⊎_elim}
 use Rattle.std.proofs.lemmas.Bool.{false≢true, and_parts}
 use Rattle.std.specs.List.{AllByRecursion, list_any}
-use Rattle.zb_model.specs.Data.{Bytes, Trust, Unverified, Sealing, Move, Draw, DropNet, DropLink, Install, Active, Row, Pair, Became, Live, Removed, Roll, Told, Untold, Edit, Reserve, Floor, Start, Moved, Task}
-use Rattle.zb_model.specs.Lines.{LogLine, Changed}
+use Rattle.zb_model.specs.Data.{Bytes, Attribute, Unverified, Term, Move, Draw, DropNet, DropLink, Install, Active, Row, Pair, Became, Live, Removed, Roll, Told, Untold, Edit, Reserve, Floor, Start, Moved, Task}
+use Rattle.zb_model.specs.Lines.{Line, Changed}
 use Rattle.zb_model.specs.State.{NetKey, LinkKey, NodeState, same_key, has_net, is_link, is_live_of, is_live}
-use Rattle.zb_model.specs.Record.{trust_byte}
+use Rattle.zb_model.specs.Record.{attribute_byte}
 use Rattle.zb_model.specs.Rules.{unless_held}
 use Rattle.zb_model.specs.Answer.{Counting, start_edit, move_edits, changes}
 use Rattle.zb_model.specs.Readings.{state_of, draw_line, draws_used}
 use Rattle.zb_model.specs.Secrets.{carried, network_in, forged_in, ideal_line, well_known}
-use Rattle.zb_model.specs.Play.{Member, supply}
+use Rattle.zb_model.specs.Play.{Node, supply}
 use Rattle.zb_model.specs.Claims.{Each}
 use Rattle.zb_model_laws.specs.KeysApart.{IsNoneOf, AllDiffer, IsNewKey, keys_of_others, given_keys, KeysApart}
 use Rattle.zb_model_laws.proofs.Basics.{same_key-eq, same_key-refl, append-nil', flat_map-append, each-append}
@@ -26,31 +26,31 @@ use Rattle.zb_model_laws.proofs.LockoutSteps.{Case, centre, given_to, InNet, InG
 
 -- What is known of each line of the run: it is ideal, its new keys are keys of the network, and what it forges carries none.
 
-pub record Honest (x : Case) (h : List LogLine) (l : LogLine) : Type 0 where
+pub record Honest (x : Case) (h : List Line) (l : Line) : Type 0 where
   pub ideal : ideal_line x.tools h l ≡ true
   pub net : (k : Bytes) → In k (network_in l) → InNet x k
-  pub forged : (t : Sealing) → In t (forged_in l) → (k : Bytes) → carried x.tools t ≡ Some k → InNet x k → ⊥
+  pub forged : (t : Term) → In t (forged_in l) → (k : Bytes) → carried x.tools t ≡ Some k → InNet x k → ⊥
 
-abbrev pub RemovesOther : Case → LogLine → Type 0
+abbrev pub RemovesOther : Case → Line → Type 0
 RemovesOther x (Changed e n (Moved (Removed p))) = p ≡ centre x → ⊥
 RemovesOther x _ = Unit {0}
 
 -- The lines keep the invariants: two stand before each of them, and all behind them.
-abbrev pub Standing : Case → List LogLine → Type 0
+abbrev pub Standing : Case → List Line → Type 0
 Standing x g = IsKept x g × IsLedger x g
 
-pub record Goes (x : Case) (h ls : List LogLine) : Type 0 where
+pub record Goes (x : Case) (h ls : List Line) : Type 0 where
   pub before : Each (λ g l. Standing x g) h ls
   pub whole : Whole x (h ++ ls)
   pub removals : AllByRecursion (RemovesOther x) ls
 
-abbrev pub GoesOn : Case → List LogLine → List LogLine → Type 0
+abbrev pub GoesOn : Case → List Line → List Line → Type 0
 GoesOn x h ls = Each (Honest x) h ls → Whole x h → Goes x h ls
 
-pub goes-none : (x : Case) (h : List LogLine) → GoesOn x h []
+pub goes-none : (x : Case) (h : List Line) → GoesOn x h []
 goes-none x h o w = record { before = tt; whole = subst (Whole x) (sym (append-nil' h)) w; removals = tt }
 
-pub goes-append : (x : Case) (h xs ys : List LogLine) → GoesOn x h xs → GoesOn x (h ++ xs) ys → GoesOn x h (xs ++ ys)
+pub goes-append : (x : Case) (h xs ys : List Line) → GoesOn x h xs → GoesOn x (h ++ xs) ys → GoesOn x h (xs ++ ys)
 goes-append x h xs ys f g o w = record {
   before = each-append (λ g l. Standing x g) h xs ys first.before second.before;
   whole = subst (Whole x) (append_assoc h xs ys) second.whole;
@@ -63,18 +63,18 @@ goes-append x h xs ys f g o w = record {
     second : Goes x (h ++ xs) ys
     second = g (each-split (Honest x) h xs ys o).1 first.whole
 
-pub goes-line : (x : Case) (h : List LogLine) (l : LogLine) → (Honest x h l → Whole x h → Whole x (h ++ l ∷ []) × RemovesOther x l) → GoesOn x h (l ∷ [])
+pub goes-line : (x : Case) (h : List Line) (l : Line) → (Honest x h l → Whole x h → Whole x (h ++ l ∷ []) × RemovesOther x l) → GoesOn x h (l ∷ [])
 goes-line x h l f o w = record { before = ((w.kept, w.ledger), tt); whole = (f o.0 w).0; removals = ((f o.0 w).1, tt) }
 
-pub goes-cons : (x : Case) (h : List LogLine) (l : LogLine) (ls : List LogLine) → (Honest x h l → Whole x h → Whole x (h ++ l ∷ []) × RemovesOther x l) → GoesOn x (h ++ l ∷ []) ls → GoesOn x h (l ∷ ls)
+pub goes-cons : (x : Case) (h : List Line) (l : Line) (ls : List Line) → (Honest x h l → Whole x h → Whole x (h ++ l ∷ []) × RemovesOther x l) → GoesOn x (h ++ l ∷ []) ls → GoesOn x h (l ∷ ls)
 goes-cons x h l ls f g = goes-append x h (l ∷ []) ls (goes-line x h l f) g
 
-idle-removes : (x : Case) (l : LogLine) → IsIdle l → RemovesOther x l
+idle-removes : (x : Case) (l : Line) → IsIdle l → RemovesOther x l
 unfolding IsIdle
 idle-removes x (Changed e n (Moved (Removed p))) i = absurd i
 idle-removes x _ i = tt
 
-pub goes-idle : (x : Case) (h ls : List LogLine) → AllByRecursion IsIdle ls → GoesOn x h ls
+pub goes-idle : (x : Case) (h ls : List Line) → AllByRecursion IsIdle ls → GoesOn x h ls
 goes-idle x h [] i = goes-none x h
 goes-idle x h (l ∷ ls) i = goes-cons x h l ls (λ o w. (idle-one x h l i.0 w, idle-removes x l i.0)) (goes-idle x (h ++ l ∷ []) ls i.1)
 
@@ -114,7 +114,7 @@ move-idle number n k (Live d) i = absurd i
 move-idle number n k (Removed d) i = absurd i
 
 -- the lines of the policy's changes
-abbrev pub moves_lines : ℕ → ℕ → NodeState → Counting → List Move → List LogLine
+abbrev pub moves_lines : ℕ → ℕ → NodeState → Counting → List Move → List Line
 moves_lines number n s k ms = map (Changed number n) (flat_map (move_edits k) (filter (changes s) ms))
 
 pub lines-append : (number n : ℕ) (s : NodeState) (k : Counting) (xs ys : List Move) → moves_lines number n s k (xs ++ ys) ≡ moves_lines number n s k xs ++ moves_lines number n s k ys
@@ -142,22 +142,22 @@ moves-idle number n s k (m ∷ ms) a = by-test (changes s m) (moves-idle number 
 
 -- What idle lines leave as it was
 
-idle-used : (n : ℕ) (l : LogLine) → IsIdle l → draw_line n l ≡ n
+idle-used : (n : ℕ) (l : Line) → IsIdle l → draw_line n l ≡ n
 unfolding IsIdle
 idle-used n (Changed e m (Moved (Draw k))) i = absurd i
 idle-used n _ i = refl
 
-pub record Same (x : Case) (h g : List LogLine) : Type 0 where
+pub record Same (x : Case) (h g : List Line) : Type 0 where
   pub rows : (p : ℕ) (k : Bytes) → HasRow (state_of g (centre x)) p k → HasRow (state_of h (centre x)) p k
   pub more : (p : ℕ) (k : Bytes) → HasRow (state_of h (centre x)) p k → HasRow (state_of g (centre x)) p k
   pub nets : (k : Bytes) → HasNet (state_of g (centre x)) k → HasNet (state_of h (centre x)) k
   pub away_ : away x.device g ≡ away x.device h
   pub used : draws_used g ≡ draws_used h
 
-pub same-self : (x : Case) (h : List LogLine) → Same x h h
+pub same-self : (x : Case) (h : List Line) → Same x h h
 same-self x h = record { rows = λ p k r. r; more = λ p k r. r; nets = λ k r. r; away_ = refl; used = refl }
 
-pub same-idle : (x : Case) (h g : List LogLine) (l : LogLine) → IsIdle l → Same x h g → Same x h (g ++ l ∷ [])
+pub same-idle : (x : Case) (h g : List Line) (l : Line) → IsIdle l → Same x h g → Same x h (g ++ l ∷ [])
 same-idle x h g l i s = record {
   rows = λ p k r. ⊎_elim (λ a. s.rows p k a) (λ a. absurd ((idle x g l i).bare.rows p k a.0 a.1)) (row-back g l (centre x) p k r);
   more = λ p k r. row-forth g l (centre x) p k (s.more p k r);
@@ -166,12 +166,12 @@ same-idle x h g l i s = record {
   used = used-snoc g l ∙ idle-used (draws_used g) l i ∙ s.used;
 }
 
-pub same-lines : (x : Case) (h g ls : List LogLine) → AllByRecursion IsIdle ls → Same x h g → Same x h (g ++ ls)
+pub same-lines : (x : Case) (h g ls : List Line) → AllByRecursion IsIdle ls → Same x h g → Same x h (g ++ ls)
 same-lines x h g [] i s = subst (Same x h) (sym (append-nil' g)) s
 same-lines x h g (l ∷ ls) i s = subst (Same x h) (append_assoc g (l ∷ []) ls) (same-lines x h (g ++ l ∷ []) ls i.1 (same-idle x h g l i.0 s))
 
 -- a row that was there comes again
-same-row : (x : Case) (h g : List LogLine) (e n p : ℕ) (k : Bytes) (t : Trust) → HasRow (state_of h (centre x)) p k → Same x h g → Same x h (g ++ Changed e n (Moved (Row p k t)) ∷ [])
+same-row : (x : Case) (h g : List Line) (e n p : ℕ) (k : Bytes) (t : Attribute) → HasRow (state_of h (centre x)) p k → Same x h g → Same x h (g ++ Changed e n (Moved (Row p k t)) ∷ [])
 same-row x h g e n p k t r s = record {
   rows = λ q j a. ⊎_elim (λ b. s.rows q j b) (λ b. subst (λ m. HasRow (state_of h (centre x)) m j) b.1.0 (subst (λ y. HasRow (state_of h (centre x)) p y) b.1.1 r)) (row-back g (Changed e n (Moved (Row p k t))) (centre x) q j a);
   more = λ q j a. row-forth g (Changed e n (Moved (Row p k t))) (centre x) q j (s.more q j a);
@@ -189,14 +189,14 @@ live-some s p e = some (any-in (is_live_of p) s.links e)
     some : IsAny (is_live_of p) s.links → (r : LinkKey) × In r s.links × (r.live ≡ true) × (r.partner ≡ p)
     some a = (a.0, a.1, (and_parts a.0.live (nat_eq a.0.partner p) a.2).0, eqb-true a.0.partner p (and_parts a.0.live (nat_eq a.0.partner p) a.2).1)
 
-pub present : (x : Case) (h : List LogLine) → Whole x h → is_live (state_of h (centre x)) x.device ≡ true → (away x.device h).gone ≡ false
+pub present : (x : Case) (h : List Line) → Whole x h → is_live (state_of h (centre x)) x.device ≡ true → (away x.device h).gone ≡ false
 present x h w e = by-gone (away x.device h).gone refl (live-some (state_of h (centre x)) x.device e)
   where
     by-gone : (b : Bool) → (away x.device h).gone ≡ b → ((r : LinkKey) × In r (state_of h (centre x)).links × (r.live ≡ true) × (r.partner ≡ x.device)) → (away x.device h).gone ≡ false
     by-gone true q r = absurd (w.dead q r.0 r.1 r.2 r.3)
     by-gone false q r = q
 
-pub live-not-centre : (x : Case) (h : List LogLine) → Whole x h → (p : ℕ) → is_live (state_of h (centre x)) p ≡ true → p ≡ centre x → ⊥
+pub live-not-centre : (x : Case) (h : List Line) → Whole x h → (p : ℕ) → is_live (state_of h (centre x)) p ≡ true → p ≡ centre x → ⊥
 live-not-centre x h w p e = not_it (live-some (state_of h (centre x)) p e)
   where
     not_it : ((r : LinkKey) × In r (state_of h (centre x)).links × (r.live ≡ true) × (r.partner ≡ p)) → p ≡ centre x → ⊥
@@ -207,11 +207,11 @@ live-not-centre x h w p e = not_it (live-some (state_of h (centre x)) p e)
 pub record Entered (x : Case) (p : ℕ) (k : Bytes) : Type 0 where
   pub at_centre : p ≡ centre x → ⊥
   pub well : k ≡ well_known → ⊥
-  pub draws : IsNoneOf x.world.draws k
-  pub others : AllByRecursion (λ (m : Member). IsNoneOf (keys_of_others p m) k) x.world.members
+  pub draws : IsNoneOf x.schedule.draws k
+  pub others : AllByRecursion (λ (m : Node). IsNoneOf (keys_of_others p m) k) x.schedule.nodes
 
-pub record TaskFits (x : Case) (h : List LogLine) (task : Task) : Type 0 where
-  pub draw : (draw_of task ≡ None) ⊎ (draw_of task ≡ supply x.world h)
+pub record TaskFits (x : Case) (h : List Line) (task : Task) : Type 0 where
+  pub draw : (draw_of task ≡ None) ⊎ (draw_of task ≡ supply x.schedule h)
   pub entered : (p : ℕ) (k : Bytes) → EnteredBy task p k → Entered x p k
 
 -- New keys of the supply
@@ -274,7 +274,7 @@ none-in k [] a i = i
 none-in k (j ∷ keys) a (inl e) = a.0 e
 none-in k (j ∷ keys) a (inr i) = none-in k keys a.1 i
 
-pub none-flat : (f : Member → List Bytes) (k : Bytes) (ms : List Member) → AllByRecursion (λ (m : Member). In k (f m) → ⊥) ms → In k (flat_map f ms) → ⊥
+pub none-flat : (f : Node → List Bytes) (k : Bytes) (ms : List Node) → AllByRecursion (λ (m : Node). In k (f m) → ⊥) ms → In k (flat_map f ms) → ⊥
 unfolding In
 none-flat f k [] a i = i
 none-flat f k (m ∷ ms) a i = ⊎_elim (λ j. a.0 j) (λ j. none-flat f k ms a.1 j) (in-append' k (f m) (flat_map f ms) i)
@@ -285,7 +285,7 @@ in-cond true k ks i = i
 in-cond false k ks i = absurd i
 
 -- a fresh key is fresh
-pub fresh-new : (x : Case) → KeysApart x.world → (h : List LogLine) (k : Bytes) → Whole x h → ((p : ℕ) → HasRow (state_of h (centre x)) p k → ⊥) → (HasNet (state_of h (centre x)) k → ⊥) → slice_get x.world.draws (draws_used h) ≡ Some k → InNet x k → Fresh x h k
+pub fresh-new : (x : Case) → KeysApart x.schedule → (h : List Line) (k : Bytes) → Whole x h → ((p : ℕ) → HasRow (state_of h (centre x)) p k → ⊥) → (HasNet (state_of h (centre x)) k → ⊥) → slice_get x.schedule.draws (draws_used h) ≡ Some k → InNet x k → Fresh x h k
 fresh-new x apart h k w rows nets at net = record {
   rows = rows;
   nets = nets;
@@ -294,7 +294,7 @@ fresh-new x apart h k w rows nets at net = record {
 }
   where
     not_drawn : In k (drawn h) → ⊥
-    not_drawn i = lt_irrefl (draws_used h) (subst (λ m. m < draws_used h) (places-one x.world.draws (w.ledger.drawn_from k i).0 (draws_used h) k apart.draws_differ (w.ledger.drawn_from k i).2 at) (w.ledger.drawn_from k i).1)
+    not_drawn i = lt_irrefl (draws_used h) (subst (λ m. m < draws_used h) (places-one x.schedule.draws (w.ledger.drawn_from k i).0 (draws_used h) k apart.draws_differ (w.ledger.drawn_from k i).2 at) (w.ledger.drawn_from k i).1)
 
     unknown : Known (centre x) h k → ⊥
     unknown (inl i) = not_drawn i
@@ -302,32 +302,32 @@ fresh-new x apart h k w rows nets at net = record {
     unknown (inr (inr r)) = nets r
 
     given : InGiven x k → ⊥
-    given i = none-flat (given_to x.device) k x.world.members
-        (all-map (λ (m : Member). IsNoneOf (given_keys m) k) (λ (m : Member). In k (given_to x.device m) → ⊥) (λ m a j. none-in k (given_keys m) a (in-cond (nat_eq m.station.eui x.device) k (given_keys m) j)) x.world.members
-        (all-at (IsNewKey x.world) x.world.draws (draws_used h) k apart.draws_new at).1) i
+    given i = none-flat (given_to x.device) k x.schedule.nodes
+        (all-map (λ (m : Node). IsNoneOf (given_keys m) k) (λ (m : Node). In k (given_to x.device m) → ⊥) (λ m a j. none-in k (given_keys m) a (in-cond (nat_eq m.station.eui x.device) k (given_keys m) j)) x.schedule.nodes
+        (all-at (IsNewKey x.schedule) x.schedule.draws (draws_used h) k apart.draws_new at).1) i
 
-pub new-well : (x : Case) → KeysApart x.world → (i : ℕ) (k : Bytes) → slice_get x.world.draws i ≡ Some k → k ≡ well_known → ⊥
-new-well x apart i k at = (all-at (IsNewKey x.world) x.world.draws i k apart.draws_new at).0
+pub new-well : (x : Case) → KeysApart x.schedule → (i : ℕ) (k : Bytes) → slice_get x.schedule.draws i ≡ Some k → k ≡ well_known → ⊥
+new-well x apart i k at = (all-at (IsNewKey x.schedule) x.schedule.draws i k apart.draws_new at).0
 
 -- the key of a task is the next of the supply
-task-key : (x : Case) (h : List LogLine) (task : Task) → TaskFits x h task → (s : NodeState) (k : Bytes) → IsNew s (draw_of task) k → slice_get x.world.draws (draws_used h) ≡ Some k
+task-key : (x : Case) (h : List Line) (task : Task) → TaskFits x h task → (s : NodeState) (k : Bytes) → IsNew s (draw_of task) k → slice_get x.schedule.draws (draws_used h) ≡ Some k
 unfolding supply
 task-key x h task f s k new = ⊎_elim (λ e. absurd (no-key k (sym e ∙ (new-by s (draw_of task) k new).0))) (λ e. sym e ∙ (new-by s (draw_of task) k new).0) f.draw
 
 -- Each deed
 
-pub quiet-goes : (x : Case) (h : List LogLine) → Whole x h → (x.device ≡ centre x → ⊥) → (g : List LogLine) → Same x h g → (number n : ℕ) → n ≡ centre x → (k : Counting) (ms : List Move) → AllByRecursion (Quiet (state_of h (centre x))) ms → GoesOn x g (moves_lines number n (state_of h n) k ms)
+pub quiet-goes : (x : Case) (h : List Line) → Whole x h → (x.device ≡ centre x → ⊥) → (g : List Line) → Same x h g → (number n : ℕ) → n ≡ centre x → (k : Counting) (ms : List Move) → AllByRecursion (Quiet (state_of h (centre x))) ms → GoesOn x g (moves_lines number n (state_of h n) k ms)
 quiet-goes x h w apart g s number n mine k [] a = goes-none x g
 quiet-goes x h w apart g s number n mine k (m ∷ ms) a = by-test (λ y same. quiet-goes x h w apart y same number n mine k ms a.1) (changes (state_of h n) m)
   where
     Rest : Type 0
-    Rest = (y : List LogLine) → Same x h y → GoesOn x y (moves_lines number n (state_of h n) k ms)
+    Rest = (y : List Line) → Same x h y → GoesOn x y (moves_lines number n (state_of h n) k ms)
 
     idle-first : Rest → AllByRecursion IsIdle (map (Changed number n) (move_edits k m)) → GoesOn x g (map (Changed number n) (move_edits k m) ++ moves_lines number n (state_of h n) k ms)
     idle-first more i = goes-append x g (map (Changed number n) (move_edits k m)) (moves_lines number n (state_of h n) k ms) (goes-idle x g (map (Changed number n) (move_edits k m)) i)
         (more (g ++ map (Changed number n) (move_edits k m)) (same-lines x h g (map (Changed number n) (move_edits k m)) i s))
 
-    row-first : Rest → (p : ℕ) (key : Bytes) (t : Trust) → HasRow (state_of h (centre x)) p key → is_live (state_of h (centre x)) p ≡ true → GoesOn x g (Changed number n (Moved (Row p key t)) ∷ moves_lines number n (state_of h n) k ms)
+    row-first : Rest → (p : ℕ) (key : Bytes) (t : Attribute) → HasRow (state_of h (centre x)) p key → is_live (state_of h (centre x)) p ≡ true → GoesOn x g (Changed number n (Moved (Row p key t)) ∷ moves_lines number n (state_of h n) k ms)
     row-first more p key t r l = goes-cons x g (Changed number n (Moved (Row p key t))) (moves_lines number n (state_of h n) k ms)
         (λ o v. (row-step x g number n p key t (comes v) (λ d. here d) v, tt))
         (more (g ++ Changed number n (Moved (Row p key t)) ∷ []) (same-row x h g number n p key t r s))
@@ -344,7 +344,7 @@ quiet-goes x h w apart g s number n mine k (m ∷ ms) a = by-test (λ y same. qu
           others = λ d. inl (s.more p key r);
         }
 
-    first : (m : Move) → Quiet (state_of h (centre x)) m → (IdleMove m ⊎ ((p : ℕ) × (key : Bytes) × (t : Trust) × (m ≡ Row p key t) × HasRow (state_of h (centre x)) p key × (is_live (state_of h (centre x)) p ≡ true)))
+    first : (m : Move) → Quiet (state_of h (centre x)) m → (IdleMove m ⊎ ((p : ℕ) × (key : Bytes) × (t : Attribute) × (m ≡ Row p key t) × HasRow (state_of h (centre x)) p key × (is_live (state_of h (centre x)) p ≡ true)))
     first (Row p key t) q = inr (p, key, t, refl, q.0, q.1)
     first (Draw key) q = absurd q
     first (Install key i) q = absurd q
@@ -366,10 +366,10 @@ quiet-goes x h w apart g s number n mine k (m ∷ ms) a = by-test (λ y same. qu
     by-test more false = more g s
 
 -- the key that a deed draws, behind lines that leave all as it was
-drawn-fresh : (x : Case) → KeysApart x.world → (h g : List LogLine) → Same x h g → (task : Task) → TaskFits x h task → (k : Bytes) → IsNew (state_of h (centre x)) (draw_of task) k → InNet x k → Whole x g → Fresh x g k
+drawn-fresh : (x : Case) → KeysApart x.schedule → (h g : List Line) → Same x h g → (task : Task) → TaskFits x h task → (k : Bytes) → IsNew (state_of h (centre x)) (draw_of task) k → InNet x k → Whole x g → Fresh x g k
 drawn-fresh x apart h g s task f k new net v =
     fresh-new x apart g k v (λ p r. new-rows (state_of h (centre x)) k held p (s.rows p k r)) (λ r. new-nets (state_of h (centre x)) k held (s.nets k r))
-    (subst (λ m. slice_get x.world.draws m ≡ Some k) (sym s.used) (task-key x h task f (state_of h (centre x)) k new)) net
+    (subst (λ m. slice_get x.schedule.draws m ≡ Some k) (sym s.used) (task-key x h task f (state_of h (centre x)) k new)) net
   where
     held : HeldBy (state_of h (centre x)) k ≡ false
     held = (new-by (state_of h (centre x)) (draw_of task) k new).1
@@ -378,7 +378,7 @@ pub here-in : {X : Type 0} (y : X) (ys : List X) → In y (y ∷ ys)
 unfolding In
 here-in y ys = inl refl
 
-draw-first : (x : Case) → KeysApart x.world → (h g : List LogLine) → Same x h g → (task : Task) → TaskFits x h task → (k : Bytes) → IsNew (state_of h (centre x)) (draw_of task) k → (number n : ℕ) (ls : List LogLine)
+draw-first : (x : Case) → KeysApart x.schedule → (h g : List Line) → Same x h g → (task : Task) → TaskFits x h task → (k : Bytes) → IsNew (state_of h (centre x)) (draw_of task) k → (number n : ℕ) (ls : List Line)
     → ((Whole x (g ++ Changed number n (Moved (Draw k)) ∷ []) → Fresh x (g ++ Changed number n (Moved (Draw k)) ∷ []) k → InNet x k → In k (drawn (g ++ Changed number n (Moved (Draw k)) ∷ [])) → GoesOn x (g ++ Changed number n (Moved (Draw k)) ∷ []) ls))
     → GoesOn x g (Changed number n (Moved (Draw k)) ∷ ls)
 draw-first x apart h g s task f k new number n ls more o v = record {
@@ -387,7 +387,7 @@ draw-first x apart h g s task f k new number n ls more o v = record {
   removals = (tt, rest.removals);
 }
   where
-    l : LogLine
+    l : Line
     l = Changed number n (Moved (Draw k))
 
     net : InNet x k
@@ -397,24 +397,24 @@ draw-first x apart h g s task f k new number n ls more o v = record {
     fresh = drawn-fresh x apart h g s task f k new net v
 
     after_ : Whole x (g ++ l ∷ [])
-    after_ = draw-step x g number n k fresh net (subst (λ m. slice_get x.world.draws m ≡ Some k) (sym s.used) (task-key x h task f (state_of h (centre x)) k new)) v
+    after_ = draw-step x g number n k fresh net (subst (λ m. slice_get x.schedule.draws m ≡ Some k) (sym s.used) (task-key x h task f (state_of h (centre x)) k new)) v
 
     rest : Goes x (g ++ l ∷ []) ls
     rest = more after_ (fresh-bare x g l k (draw-bare x g number n k) fresh) net (drawn-new g l k (here-in k [])) o.1 after_
 
 -- a device stays present while a key is drawn
-draw-present : (x : Case) (g : List LogLine) (number n : ℕ) (k : Bytes) → (away x.device g).gone ≡ false → (away x.device (g ++ Changed number n (Moved (Draw k)) ∷ [])).gone ≡ false
+draw-present : (x : Case) (g : List Line) (number n : ℕ) (k : Bytes) → (away x.device g).gone ≡ false → (away x.device (g ++ Changed number n (Moved (Draw k)) ∷ [])).gone ≡ false
 draw-present x g number n k e = ap (λ a. a.gone) (away-snoc x.device g (Changed number n (Moved (Draw k)))) ∙ by-gone (away x.device g).gone refl e
   where
     by-gone : (b : Bool) → (away x.device g).gone ≡ b → (away x.device g).gone ≡ false → (cond b (record { gone = true; keys = k ∷ (away x.device g).keys }) (away x.device g)).gone ≡ false
     by-gone true q e = absurd (false≢true (sym e ∙ q))
     by-gone false q e = e
 
-pub row-is-new : (s : NodeState) (p : ℕ) (k : Bytes) (t : Trust) → ((q : ℕ) → HasRow s q k → ⊥) → changes s (Row p k t) ≡ true
-row-is-new s p k t none = rw (not-any (λ (r : LinkKey). is_link p k r && (r.live && nat_eq (trust_byte r.trust) (trust_byte t))) s.links
-    (λ r i e. none r.partner (record { row = r; among = i; partner = refl; key = same_key-eq r.key k (and_parts (nat_eq r.partner p) (same_key r.key k) (and_parts (is_link p k r) (r.live && nat_eq (trust_byte r.trust) (trust_byte t)) e).0).1 }))) refl
+pub row-is-new : (s : NodeState) (p : ℕ) (k : Bytes) (t : Attribute) → ((q : ℕ) → HasRow s q k → ⊥) → changes s (Row p k t) ≡ true
+row-is-new s p k t none = rw (not-any (λ (r : LinkKey). is_link p k r && (r.live && nat_eq (attribute_byte r.attribute) (attribute_byte t))) s.links
+    (λ r i e. none r.partner (record { row = r; among = i; partner = refl; key = same_key-eq r.key k (and_parts (nat_eq r.partner p) (same_key r.key k) (and_parts (is_link p k r) (r.live && nat_eq (attribute_byte r.attribute) (attribute_byte t)) e).0).1 }))) refl
 
-pub offers-goes : (x : Case) → KeysApart x.world → (h : List LogLine) → Whole x h → (x.device ≡ centre x → ⊥) → (g : List LogLine) → Same x h g → (number n : ℕ) → n ≡ centre x → (kk : Counting) (task : Task) → TaskFits x h task
+pub offers-goes : (x : Case) → KeysApart x.schedule → (h : List Line) → Whole x h → (x.device ≡ centre x → ⊥) → (g : List Line) → Same x h g → (number n : ℕ) → n ≡ centre x → (kk : Counting) (task : Task) → TaskFits x h task
     → (p : ℕ) (k : Bytes) → IsNew (state_of h (centre x)) (draw_of task) k → is_live (state_of h (centre x)) p ≡ true → GoesOn x g (moves_lines number n (state_of h n) kk (Draw k ∷ Row p k Unverified ∷ []))
 offers-goes x keys h w apart g s number n mine kk task f p k new live =
     subst (λ b. GoesOn x g (map (Changed number n) (flat_map (move_edits kk) (Draw k ∷ cond b (Row p k Unverified ∷ []) [])))) (sym changed)
@@ -447,7 +447,7 @@ offers-goes x keys h w apart g s number n mine kk task f p k new live =
       others = λ d. inr fresh.unseen;
     }
 
-pub pairs-goes : (x : Case) → KeysApart x.world → (h : List LogLine) → Whole x h → (g : List LogLine) → Same x h g → (number n : ℕ) (kk : Counting) (s0 : NodeState) (task : Task) → TaskFits x h task
+pub pairs-goes : (x : Case) → KeysApart x.schedule → (h : List Line) → Whole x h → (g : List Line) → Same x h g → (number n : ℕ) (kk : Counting) (s0 : NodeState) (task : Task) → TaskFits x h task
     → (a b : ℕ) (k : Bytes) → IsNew (state_of h (centre x)) (draw_of task) k → is_live (state_of h (centre x)) a ≡ true → is_live (state_of h (centre x)) b ≡ true → GoesOn x g (moves_lines number n s0 kk (Draw k ∷ Pair a b k ∷ []))
 pairs-goes x keys h w g s number n kk s0 task f a b k new live_a live_b =
     draw-first x keys h g s task f k new number n (Changed number n (Moved (Pair a b k)) ∷ [])
@@ -457,15 +457,15 @@ pairs-goes x keys h w g s number n kk s0 task f a b k new live_a live_b =
     here : a ≡ x.device ⊎ b ≡ x.device → (away x.device (g ++ Changed number n (Moved (Draw k)) ∷ [])).gone ≡ false
     here q = draw-present x g number n k (ap (λ y. y.gone) s.away_ ∙ present x h w (⊎_elim (λ e. subst (λ m. is_live (state_of h (centre x)) m ≡ true) e live_a) (λ e. subst (λ m. is_live (state_of h (centre x)) m ≡ true) e live_b) q))
 
-pub fresh-idle : (x : Case) (g ls : List LogLine) (k : Bytes) → AllByRecursion IsIdle ls → Fresh x g k → Fresh x (g ++ ls) k
+pub fresh-idle : (x : Case) (g ls : List Line) (k : Bytes) → AllByRecursion IsIdle ls → Fresh x g k → Fresh x (g ++ ls) k
 fresh-idle x g [] k i f = subst (λ y. Fresh x y k) (sym (append-nil' g)) f
 fresh-idle x g (l ∷ ls) k i f = subst (λ y. Fresh x y k) (append_assoc g (l ∷ []) ls) (fresh-idle x (g ++ l ∷ []) ls k i.1 (fresh-bare x g l k (idle x g l i.0).bare f))
 
-pub drawn-lines : (g ls : List LogLine) (k : Bytes) → In k (drawn g) → In k (drawn (g ++ ls))
+pub drawn-lines : (g ls : List Line) (k : Bytes) → In k (drawn g) → In k (drawn (g ++ ls))
 drawn-lines g [] k i = subst (λ y. In k (drawn y)) (sym (append-nil' g)) i
 drawn-lines g (l ∷ ls) k i = subst (λ y. In k (drawn y)) (append_assoc g (l ∷ []) ls) (drawn-lines (g ++ l ∷ []) ls k (drawn-more g l k i))
 
-pub rolls-goes : (x : Case) → KeysApart x.world → (h : List LogLine) → (x.device ≡ centre x → ⊥) → (g : List LogLine) → Same x h g → (number n : ℕ) → n ≡ centre x → (kk : Counting) (s0 : NodeState) (task : Task) → TaskFits x h task
+pub rolls-goes : (x : Case) → KeysApart x.schedule → (h : List Line) → (x.device ≡ centre x → ⊥) → (g : List Line) → Same x h g → (number n : ℕ) → n ≡ centre x → (kk : Counting) (s0 : NodeState) (task : Task) → TaskFits x h task
     → (k : Bytes) (q : ℕ) (drops : List Move) → IsNew (state_of h (centre x)) (draw_of task) k → AllByRecursion IdleMove drops → GoesOn x g (moves_lines number n s0 kk (Draw k ∷ drops ++ (Install k q ∷ Roll true ∷ [])))
 unfolding IsIdle
 rolls-goes x keys h apart g s number n mine kk s0 task f k q drops new i =
@@ -476,8 +476,8 @@ rolls-goes x keys h apart g s number n mine kk s0 task f k q drops new i =
     (λ o u. (net-step x g2 number n k q mine apart (fresh-idle x g1 (moves_lines number n s0 kk drops) k (moves-idle number n s0 kk drops i) fresh) (drawn-lines g1 (moves_lines number n s0 kk drops) k d) u, tt))
     (goes-idle x (g2 ++ Changed number n (Moved (Install k q)) ∷ []) (Changed number n (Moved (Roll true)) ∷ []) (tt, tt)))))
   where
-    g1 : List LogLine
+    g1 : List Line
     g1 = g ++ Changed number n (Moved (Draw k)) ∷ []
 
-    g2 : List LogLine
+    g2 : List Line
     g2 = g1 ++ moves_lines number n s0 kk drops

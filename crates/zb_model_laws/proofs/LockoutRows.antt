@@ -2,8 +2,8 @@
 use Rattle.std.proofs.Common.{◌≡◌, ℕ, ◌+◌, max, Bool, true, false, cond, not, List, [], ◌∷◌, ◌++◌, map, Option, Some, None, nat_eq, refl, sym, ap, ◌∙◌, subst, eqb-true, ◌⊎◌, inl, inr, ⊎_elim}
 use Rattle.std.proofs.lemmas.Bool.{false≢true, and_parts}
 use Rattle.std.specs.List.{AllByRecursion, list_any}
-use Rattle.zb_model.specs.Data.{Bytes, Tier, Nwk, Aps, Trust, Provisional, Sealing, Move, Draw, DropNet, DropLink, Install, Active, Row, Pair, Became, Live, Removed, Roll, Told, Untold, Edit, Reserve, Floor, Start, Moved}
-use Rattle.zb_model.specs.Lines.{LogLine, Declared, GivenNet, GivenLink, Counter, Changed, Commit, Accept, Refuse, Seal, Forge, Send, Inject, Stopped, DownReset, DownDisk, Boot, Dump, End}
+use Rattle.zb_model.specs.Data.{Bytes, Layer, Nwk, Aps, Attribute, Provisional, Term, Move, Draw, DropNet, DropLink, Install, Active, Row, Pair, Became, Live, Removed, Roll, Told, Untold, Edit, Reserve, Floor, Start, Moved}
+use Rattle.zb_model.specs.Lines.{Line, Declared, GivenNet, GivenLink, Counter, Changed, Commit, Accept, Refuse, Seal, Forge, Send, Inject, Stopped, DownReset, DownDisk, Boot, Dump, End}
 use Rattle.zb_model.specs.State.{NetKey, LinkKey, PairKey, NodeState, same_key, has_net, has_link, is_link, is_live_of, is_told, at_net, at_link, of_active, new_net, given_net, new_link, revived, dropped_net, dropped_link, reserved, started_at, net_floor, net_kept, next_at, booted_net, booted_link, declared_at, told_as, link_floor, link_kept, names_two, names, applied, moved, sealed, sealed_at, after_boot, heard, accepted, with_given_net, with_given_link, with_declared}
 use Rattle.zb_model.specs.Readings.{state_of, heard_line, after, speaker}
 use Rattle.zb_model_laws.proofs.Basics.{same_key-eq, state-snoc}
@@ -128,7 +128,7 @@ IsRow p k y = (p ≡ y.partner) × (k ≡ y.key)
 slot-eq : (p : ℕ) (k : Bytes) (r : LinkKey) → is_link p k r ≡ true → (r.partner ≡ p) × (r.key ≡ k)
 slot-eq p k r e = (eqb-true r.partner p (and_parts (nat_eq r.partner p) (same_key r.key k) e).0, same_key-eq r.key k (and_parts (nat_eq r.partner p) (same_key r.key k) e).1)
 
-back-row : (p : ℕ) (k : Bytes) (t : Trust) (told : Bool) (links : List LinkKey) (b : Bool) (y : LinkKey) → In y (cond b (at_link p k (revived t told) links) (links ++ new_link p k t told ∷ [])) → OldLink links y ⊎ IsRow p k y
+back-row : (p : ℕ) (k : Bytes) (t : Attribute) (told : Bool) (links : List LinkKey) (b : Bool) (y : LinkKey) → In y (cond b (at_link p k (revived t told) links) (links ++ new_link p k t told ∷ [])) → OldLink links y ⊎ IsRow p k y
 back-row p k t told links true y i = back (in-map (λ r. cond (is_link p k r) (revived t told r) r) links y i)
   where
     by-test : (r : LinkKey) → In r links → (b : Bool) → is_link p k r ≡ b → cond b (revived t told r) r ≡ y → OldLink links y ⊎ IsRow p k y
@@ -140,7 +140,7 @@ back-row p k t told links true y i = back (in-map (λ r. cond (is_link p k r) (r
 back-row p k t told links false y i =
     ⊎_elim (λ j. inl (itself links y j)) (λ j. inr (ap (λ z. z.partner) (in-one (new_link p k t told) y j), ap (λ z. z.key) (in-one (new_link p k t told) y j))) (in-append' y links (new_link p k t told ∷ []) i)
 
-forth-row : (p : ℕ) (k : Bytes) (t : Trust) (told : Bool) (links : List LinkKey) (b : Bool) (y : LinkKey) → In y links → SameLink (cond b (at_link p k (revived t told) links) (links ++ new_link p k t told ∷ [])) y
+forth-row : (p : ℕ) (k : Bytes) (t : Attribute) (told : Bool) (links : List LinkKey) (b : Bool) (y : LinkKey) → In y links → SameLink (cond b (at_link p k (revived t told) links) (links ++ new_link p k t told ∷ [])) y
 forth-row p k t told links true y i = forth-if (revived t told) (is_link p k) (λ r. refl) (λ r. refl) links y i
 forth-row p k t told links false y i = record { row = y; among = in-left y links (new_link p k t told ∷ []) i; partner = refl; key = refl }
 
@@ -160,7 +160,7 @@ any-in test (x ∷ xs) e = by-test (test x) refl e (any-in test xs)
         later a = (a.0, inr a.1, a.2)
 
 -- the row is there then
-new-row : (p : ℕ) (k : Bytes) (t : Trust) (told : Bool) (links : List LinkKey) (b : Bool) → has_link p k links ≡ b → (r : LinkKey) × In r (cond b (at_link p k (revived t told) links) (links ++ new_link p k t told ∷ [])) × (r.partner ≡ p) × (r.key ≡ k)
+new-row : (p : ℕ) (k : Bytes) (t : Attribute) (told : Bool) (links : List LinkKey) (b : Bool) → has_link p k links ≡ b → (r : LinkKey) × In r (cond b (at_link p k (revived t told) links) (links ++ new_link p k t told ∷ [])) × (r.partner ≡ p) × (r.key ≡ k)
 unfolding In
 new-row p k t told links true e = found (any-in (is_link p k) links e)
   where
@@ -180,7 +180,7 @@ rolled-forth true links y i = forth-map (told_as false) (λ r. refl) (λ r. refl
 rolled-forth false links y i = still links y i
 
 -- what a line brings its own node
-abbrev pub RowOf : LogLine → LinkKey → Type 0
+abbrev pub RowOf : Line → LinkKey → Type 0
 RowOf (Changed e n (Moved (Row p k t))) y = IsRow p k y
 RowOf (GivenLink n p k) y = IsRow p k y
 RowOf _ y = ⊥
@@ -233,35 +233,35 @@ applied-forth (Floor Aps k p v) s y i = forth-if (link_floor v) (is_link p k) (�
 applied-forth (Start k v) s y i = still s.links y i
 applied-forth (Moved m) s y i = moved-forth m s y i
 
-heard-back : (layer : Tier) (k : Bytes) (sender counter : ℕ) (s : NodeState) (y : LinkKey) → In y (heard layer k sender counter s).links → OldLink s.links y
+heard-back : (layer : Layer) (k : Bytes) (sender counter : ℕ) (s : NodeState) (y : LinkKey) → In y (heard layer k sender counter s).links → OldLink s.links y
 unfolding heard
 heard-back Nwk k sender counter s y i = itself s.links y i
 heard-back Aps k sender counter s y i = back-if (link_kept (counter + 1)) (is_link sender k) (tame-kept (counter + 1)) s.links y i
 
-heard-forth : (layer : Tier) (k : Bytes) (sender counter : ℕ) (s : NodeState) (y : LinkKey) → In y s.links → SameLink (heard layer k sender counter s).links y
+heard-forth : (layer : Layer) (k : Bytes) (sender counter : ℕ) (s : NodeState) (y : LinkKey) → In y s.links → SameLink (heard layer k sender counter s).links y
 unfolding heard
 heard-forth Nwk k sender counter s y i = still s.links y i
 heard-forth Aps k sender counter s y i = forth-if (link_kept (counter + 1)) (is_link sender k) (λ r. refl) (λ r. refl) s.links y i
 
-sealed-back : (layer : Tier) (t : Sealing) (s : NodeState) (y : LinkKey) → In y (sealed_at layer t s).links → OldLink s.links y
+sealed-back : (layer : Layer) (t : Term) (s : NodeState) (y : LinkKey) → In y (sealed_at layer t s).links → OldLink s.links y
 sealed-back Nwk t s y i = itself s.links y i
 sealed-back Aps t s y i = itself s.links y i
 
-sealed-forth : (layer : Tier) (t : Sealing) (s : NodeState) (y : LinkKey) → In y s.links → SameLink (sealed_at layer t s).links y
+sealed-forth : (layer : Layer) (t : Term) (s : NodeState) (y : LinkKey) → In y s.links → SameLink (sealed_at layer t s).links y
 sealed-forth Nwk t s y i = still s.links y i
 sealed-forth Aps t s y i = still s.links y i
 
-declared-back : (layer : Tier) (v : ℕ) (s : NodeState) (y : LinkKey) → In y (with_declared layer v s).links → OldLink s.links y
+declared-back : (layer : Layer) (v : ℕ) (s : NodeState) (y : LinkKey) → In y (with_declared layer v s).links → OldLink s.links y
 unfolding with_declared
 declared-back Nwk v s y i = itself s.links y i
 declared-back Aps v s y i = itself s.links y i
 
-declared-forth : (layer : Tier) (v : ℕ) (s : NodeState) (y : LinkKey) → In y s.links → SameLink (with_declared layer v s).links y
+declared-forth : (layer : Layer) (v : ℕ) (s : NodeState) (y : LinkKey) → In y s.links → SameLink (with_declared layer v s).links y
 unfolding with_declared
 declared-forth Nwk v s y i = still s.links y i
 declared-forth Aps v s y i = still s.links y i
 
-after-back : (l : LogLine) (s : NodeState) (y : LinkKey) → In y (after l s).links → OldLink s.links y ⊎ RowOf l y
+after-back : (l : Line) (s : NodeState) (y : LinkKey) → In y (after l s).links → OldLink s.links y ⊎ RowOf l y
 unfolding after with_given_net with_given_link sealed accepted after_boot
 after-back (Declared p) s y i = inl (itself s.links y i)
 after-back (GivenNet n k q) s y i = inl (itself s.links y i)
@@ -282,7 +282,7 @@ after-back (Boot e n) s y i = inl (back-map booted_link tame-booted s.links y i)
 after-back (Dump e n b) s y i = inl (itself s.links y i)
 after-back (End a b c d e f) s y i = inl (itself s.links y i)
 
-after-forth : (l : LogLine) (s : NodeState) (y : LinkKey) → In y s.links → SameLink (after l s).links y
+after-forth : (l : Line) (s : NodeState) (y : LinkKey) → In y s.links → SameLink (after l s).links y
 unfolding after with_given_net with_given_link sealed accepted after_boot
 after-forth (GivenLink n p k) s y i = forth-row p k Provisional false s.links (has_link p k s.links) y i
 after-forth (Counter n layer v) s y i = declared-forth layer v s y i
@@ -294,7 +294,7 @@ after-forth _ s y i = still s.links y i
 
 -- Lines
 
-pub link-back : (h : List LogLine) (l : LogLine) (c : ℕ) (y : LinkKey) → In y (state_of (h ++ l ∷ []) c).links → OldLink (state_of h c).links y ⊎ ((speaker l ≡ c) × RowOf l y)
+pub link-back : (h : List Line) (l : Line) (c : ℕ) (y : LinkKey) → In y (state_of (h ++ l ∷ []) c).links → OldLink (state_of h c).links y ⊎ ((speaker l ≡ c) × RowOf l y)
 unfolding heard_line
 link-back h l c y i = by-test (nat_eq (speaker l) c) refl (subst (λ s. In y s.links) (state-snoc h l c) i)
   where
@@ -302,7 +302,7 @@ link-back h l c y i = by-test (nat_eq (speaker l) c) refl (subst (λ s. In y s.l
     by-test true e j = ⊎_elim (λ o. inl o) (λ r. inr (eqb-true (speaker l) c e, r)) (after-back l (state_of h c) y j)
     by-test false e j = inl (itself (state_of h c).links y j)
 
-pub link-forth : (h : List LogLine) (l : LogLine) (c : ℕ) (y : LinkKey) → In y (state_of h c).links → SameLink (state_of (h ++ l ∷ []) c).links y
+pub link-forth : (h : List Line) (l : Line) (c : ℕ) (y : LinkKey) → In y (state_of h c).links → SameLink (state_of (h ++ l ∷ []) c).links y
 unfolding heard_line
 link-forth h l c y i = subst (λ s. SameLink s.links y) (sym (state-snoc h l c)) (by-test (nat_eq (speaker l) c))
   where
@@ -310,13 +310,13 @@ link-forth h l c y i = subst (λ s. SameLink s.links y) (sym (state-snoc h l c))
     by-test true = after-forth l (state_of h c) y i
     by-test false = still (state_of h c).links y i
 
-pub row-forth : (h : List LogLine) (l : LogLine) (c p : ℕ) (k : Bytes) → HasRow (state_of h c) p k → HasRow (state_of (h ++ l ∷ []) c) p k
+pub row-forth : (h : List Line) (l : Line) (c p : ℕ) (k : Bytes) → HasRow (state_of h c) p k → HasRow (state_of (h ++ l ∷ []) c) p k
 row-forth h l c p k r = place (link-forth h l c r.row r.among)
   where
     place : SameLink (state_of (h ++ l ∷ []) c).links r.row → HasRow (state_of (h ++ l ∷ []) c) p k
     place s = record { row = s.row; among = s.among; partner = s.partner ∙ r.partner; key = s.key ∙ r.key }
 
-pub row-new : (h : List LogLine) (e c p : ℕ) (k : Bytes) (t : Trust) → HasRow (state_of (h ++ Changed e c (Moved (Row p k t)) ∷ []) c) p k
+pub row-new : (h : List Line) (e c p : ℕ) (k : Bytes) (t : Attribute) → HasRow (state_of (h ++ Changed e c (Moved (Row p k t)) ∷ []) c) p k
 unfolding heard_line speaker after applied
 row-new h e c p k t = subst (λ s. HasRow s p k) (sym (state-snoc h (Changed e c (Moved (Row p k t))) c ∙ ap (λ b. cond b (moved (Row p k t) (state_of h c)) (state_of h c)) (Rattle.zb_model_laws.proofs.Basics.nat_eq-refl c))) (place (new-row p k t (is_told (state_of h c) p) (state_of h c).links (has_link p k (state_of h c).links) refl))
   where
@@ -370,7 +370,7 @@ keyed-active : (f : NetKey → NetKey) → SameKey f → (o : Option Bytes) → 
 keyed-active f k None = keyed-same
 keyed-active f k (Some key) = keyed-at key f k
 
-abbrev pub NetOf : LogLine → NetKey → Type 0
+abbrev pub NetOf : Line → NetKey → Type 0
 NetOf (Changed e n (Moved (Install k q))) y = k ≡ y.key
 NetOf (GivenNet n k q) y = k ≡ y.key
 NetOf _ y = ⊥
@@ -438,21 +438,21 @@ declared-key v false r = refl
 keyed-declared : (v : ℕ) → Keyed (λ nets. map (declared_at v) nets)
 keyed-declared v = keyed-map (declared_at v) (λ r. declared-key v r.started r)
 
-nets-declared : (layer : Tier) (v : ℕ) (s : NodeState) (y : NetKey) → (In y (with_declared layer v s).nets → SameNet s.nets y) × (In y s.nets → SameNet (with_declared layer v s).nets y)
+nets-declared : (layer : Layer) (v : ℕ) (s : NodeState) (y : NetKey) → (In y (with_declared layer v s).nets → SameNet s.nets y) × (In y s.nets → SameNet (with_declared layer v s).nets y)
 unfolding with_declared
 nets-declared Nwk v s y = ((keyed-declared v).back s.nets y, (keyed-declared v).forth s.nets y)
 nets-declared Aps v s y = (net-self s.nets y, net-self s.nets y)
 
-nets-heard : (layer : Tier) (k : Bytes) (sender counter : ℕ) (s : NodeState) (y : NetKey) → (In y (heard layer k sender counter s).nets → SameNet s.nets y) × (In y s.nets → SameNet (heard layer k sender counter s).nets y)
+nets-heard : (layer : Layer) (k : Bytes) (sender counter : ℕ) (s : NodeState) (y : NetKey) → (In y (heard layer k sender counter s).nets → SameNet s.nets y) × (In y s.nets → SameNet (heard layer k sender counter s).nets y)
 unfolding heard
 nets-heard Nwk k sender counter s y = ((keyed-at k (net_kept sender (counter + 1)) (λ r. refl)).back s.nets y, (keyed-at k (net_kept sender (counter + 1)) (λ r. refl)).forth s.nets y)
 nets-heard Aps k sender counter s y = (net-self s.nets y, net-self s.nets y)
 
-nets-sealed : (layer : Tier) (t : Sealing) (s : NodeState) (y : NetKey) → (In y (sealed_at layer t s).nets → SameNet s.nets y) × (In y s.nets → SameNet (sealed_at layer t s).nets y)
+nets-sealed : (layer : Layer) (t : Term) (s : NodeState) (y : NetKey) → (In y (sealed_at layer t s).nets → SameNet s.nets y) × (In y s.nets → SameNet (sealed_at layer t s).nets y)
 nets-sealed Nwk t s y = ((keyed-at t.base (next_at (t.counter + 1)) (λ r. refl)).back s.nets y, (keyed-at t.base (next_at (t.counter + 1)) (λ r. refl)).forth s.nets y)
 nets-sealed Aps t s y = (net-self s.nets y, net-self s.nets y)
 
-nets-after-back : (l : LogLine) (s : NodeState) (y : NetKey) → In y (after l s).nets → SameNet s.nets y ⊎ NetOf l y
+nets-after-back : (l : Line) (s : NodeState) (y : NetKey) → In y (after l s).nets → SameNet s.nets y ⊎ NetOf l y
 unfolding after with_given_net with_given_link sealed accepted after_boot
 nets-after-back (GivenNet n k q) s y i = net-add-back (has_net k s.nets) (given_net s.declared k q) s.nets y i
 nets-after-back (Changed e n x) s y i = nets-applied-back e n x s y i
@@ -473,7 +473,7 @@ nets-after-back (Boot e n) s y i = inl ((keyed-map booted_net (λ r. refl)).back
 nets-after-back (Dump e n b) s y i = inl (net-self s.nets y i)
 nets-after-back (End a b c d e f) s y i = inl (net-self s.nets y i)
 
-nets-after-forth : (l : LogLine) (s : NodeState) (y : NetKey) → In y s.nets → SameNet (after l s).nets y
+nets-after-forth : (l : Line) (s : NodeState) (y : NetKey) → In y s.nets → SameNet (after l s).nets y
 unfolding after with_given_net with_given_link sealed accepted after_boot
 nets-after-forth (GivenNet n k q) s y i = net-add-forth (has_net k s.nets) (given_net s.declared k q) s.nets y i
 nets-after-forth (Counter n layer v) s y i = (nets-declared layer v s y).1 i
@@ -483,7 +483,7 @@ nets-after-forth (Seal e n t) s y i = (nets-sealed t.layer t s y).1 i
 nets-after-forth (Boot e n) s y i = (keyed-map booted_net (λ r. refl)).forth s.nets y i
 nets-after-forth _ s y i = net-self s.nets y i
 
-pub net-back : (h : List LogLine) (l : LogLine) (c : ℕ) (y : NetKey) → In y (state_of (h ++ l ∷ []) c).nets → SameNet (state_of h c).nets y ⊎ ((speaker l ≡ c) × NetOf l y)
+pub net-back : (h : List Line) (l : Line) (c : ℕ) (y : NetKey) → In y (state_of (h ++ l ∷ []) c).nets → SameNet (state_of h c).nets y ⊎ ((speaker l ≡ c) × NetOf l y)
 unfolding heard_line
 net-back h l c y i = by-test (nat_eq (speaker l) c) refl (subst (λ s. In y s.nets) (state-snoc h l c) i)
   where
@@ -491,7 +491,7 @@ net-back h l c y i = by-test (nat_eq (speaker l) c) refl (subst (λ s. In y s.ne
     by-test true e j = ⊎_elim (λ o. inl o) (λ r. inr (eqb-true (speaker l) c e, r)) (nets-after-back l (state_of h c) y j)
     by-test false e j = inl (net-self (state_of h c).nets y j)
 
-pub net-forth : (h : List LogLine) (l : LogLine) (c : ℕ) (k : Bytes) → HasNet (state_of h c) k → HasNet (state_of (h ++ l ∷ []) c) k
+pub net-forth : (h : List Line) (l : Line) (c : ℕ) (k : Bytes) → HasNet (state_of h c) k → HasNet (state_of (h ++ l ∷ []) c) k
 unfolding heard_line
 net-forth h l c k r = place (subst (λ s. SameNet s.nets r.row) (sym (state-snoc h l c)) (by-test (nat_eq (speaker l) c)))
   where
@@ -504,7 +504,7 @@ net-forth h l c k r = place (subst (λ s. SameNet s.nets r.row) (sym (state-snoc
 
 -- Pairs
 
-abbrev pub PairOf : LogLine → PairKey → Type 0
+abbrev pub PairOf : Line → PairKey → Type 0
 PairOf (Changed e n (Moved (Pair a b k))) y = k ≡ y.key
 PairOf _ y = ⊥
 
@@ -536,21 +536,21 @@ pairs-applied e n (Floor Aps k p v) s y i = inl i
 pairs-applied e n (Start k v) s y i = inl i
 pairs-applied e n (Moved m) s y i = pairs-moved e n m s y i
 
-pairs-declared : (layer : Tier) (v : ℕ) (s : NodeState) (y : PairKey) → In y (with_declared layer v s).pairs → In y s.pairs
+pairs-declared : (layer : Layer) (v : ℕ) (s : NodeState) (y : PairKey) → In y (with_declared layer v s).pairs → In y s.pairs
 unfolding with_declared
 pairs-declared Nwk v s y i = i
 pairs-declared Aps v s y i = i
 
-pairs-heard : (layer : Tier) (k : Bytes) (sender counter : ℕ) (s : NodeState) (y : PairKey) → In y (heard layer k sender counter s).pairs → In y s.pairs
+pairs-heard : (layer : Layer) (k : Bytes) (sender counter : ℕ) (s : NodeState) (y : PairKey) → In y (heard layer k sender counter s).pairs → In y s.pairs
 unfolding heard
 pairs-heard Nwk k sender counter s y i = i
 pairs-heard Aps k sender counter s y i = i
 
-pairs-sealed : (layer : Tier) (t : Sealing) (s : NodeState) (y : PairKey) → In y (sealed_at layer t s).pairs → In y s.pairs
+pairs-sealed : (layer : Layer) (t : Term) (s : NodeState) (y : PairKey) → In y (sealed_at layer t s).pairs → In y s.pairs
 pairs-sealed Nwk t s y i = i
 pairs-sealed Aps t s y i = i
 
-pairs-after : (l : LogLine) (s : NodeState) (y : PairKey) → In y (after l s).pairs → In y s.pairs ⊎ PairOf l y
+pairs-after : (l : Line) (s : NodeState) (y : PairKey) → In y (after l s).pairs → In y s.pairs ⊎ PairOf l y
 unfolding after with_given_net with_given_link sealed accepted after_boot
 pairs-after (Changed e n x) s y i = pairs-applied e n x s y i
 pairs-after (Declared p) s y i = inl i
@@ -571,7 +571,7 @@ pairs-after (Boot e n) s y i = inl i
 pairs-after (Dump e n b) s y i = inl i
 pairs-after (End a b c d e f) s y i = inl i
 
-pub pair-back : (h : List LogLine) (l : LogLine) (c : ℕ) (y : PairKey) → In y (state_of (h ++ l ∷ []) c).pairs → In y (state_of h c).pairs ⊎ ((speaker l ≡ c) × PairOf l y)
+pub pair-back : (h : List Line) (l : Line) (c : ℕ) (y : PairKey) → In y (state_of (h ++ l ∷ []) c).pairs → In y (state_of h c).pairs ⊎ ((speaker l ≡ c) × PairOf l y)
 unfolding heard_line
 pair-back h l c y i = by-test (nat_eq (speaker l) c) refl (subst (λ s. In y s.pairs) (state-snoc h l c) i)
   where

@@ -3,8 +3,8 @@
 use Rattle.std.proofs.Common.{◌≡◌, ℕ, ◌<◌, ◌≤◌, ◌+◌, max, Bool, true, false, cond, List, [], ◌∷◌, ◌++◌, map, Option, Some, None, option_map, find, nat_eq, refl, sym, ap, ◌∙◌, subst, arith, eqb-true}
 use Rattle.std.proofs.lemmas.Bool.{and_parts}
 use Rattle.std.specs.List.{AllByRecursion}
-use Rattle.zb_model.specs.Data.{Bytes, Tier, Nwk, Aps, Trust, Sealing, Move, Draw, DropNet, DropLink, Install, Active, Row, Pair, Became, Live, Removed, Roll, Told, Untold, Edit, Reserve, Floor, Start, Moved}
-use Rattle.zb_model.specs.Lines.{LogLine, Declared, GivenNet, GivenLink, Counter, Changed, Accept, Seal, Boot}
+use Rattle.zb_model.specs.Data.{Bytes, Layer, Nwk, Aps, Attribute, Term, Move, Draw, DropNet, DropLink, Install, Active, Row, Pair, Became, Live, Removed, Roll, Told, Untold, Edit, Reserve, Floor, Start, Moved}
+use Rattle.zb_model.specs.Lines.{Line, Declared, GivenNet, GivenLink, Counter, Changed, Accept, Seal, Boot}
 use Rattle.zb_model.specs.State.{SenderFloor, NetKey, LinkKey, NodeState, same_key, has_net, has_link, is_link, is_live_of, is_told, at_link, new_link, revived, dropped_link, told_as, link_floor, link_kept, booted_link, net_kept, booted_net, declared_at, given_net, next_at, applied, moved, sealed, sealed_at, after_boot, heard, accepted, with_given_net, with_given_link, with_declared}
 use Rattle.zb_model.specs.Readings.{state_of, heard_line, after, speaker}
 use Rattle.zb_model.specs.Claims.{Each, Rises, OnceFrom, Once}
@@ -29,19 +29,19 @@ abbrev pub LinkTakes : ℕ → LinkKey → Type 0
 LinkTakes c r = (r.kept ≤ c) × (c < r.stored)
 
 -- A slot of floors in a state: a counter stays under its floors, or is taken by them.
-unfoldable pub OverAt : Tier → ℕ → Bytes → ℕ → NodeState → Type 0
+unfoldable pub OverAt : Layer → ℕ → Bytes → ℕ → NodeState → Type 0
 OverAt Nwk c base source s = On (RowOver c source) base s.nets
 OverAt Aps c base source s = Finds (LinkOver c) (is_link source base) s.links
 
-unfoldable pub TakesAt : Tier → ℕ → Bytes → ℕ → NodeState → Type 0
+unfoldable pub TakesAt : Layer → ℕ → Bytes → ℕ → NodeState → Type 0
 TakesAt Nwk c base source s = On (RowTakes c source) base s.nets
 TakesAt Aps c base source s = Finds (LinkTakes c) (is_link source base) s.links
 
-abbrev pub AcceptState : LogLine → NodeState → Type 0
+abbrev pub AcceptState : Line → NodeState → Type 0
 AcceptState (Accept e n t) s = TakesAt t.layer t.counter t.base t.source s
 AcceptState _ s = Unit {0}
 
-abbrev pub AcceptFits : List LogLine → LogLine → Type 0
+abbrev pub AcceptFits : List Line → Line → Type 0
 AcceptFits h l = AcceptState l (state_of h (speaker l))
 
 -- network rows
@@ -101,14 +101,14 @@ links-if P f test same kept p k links h = finds-map P P (is_link p k) (λ r. con
 -- P is kept by what changes do to link rows
 pub record LinkClosed (P : LinkKey → Type 0) : Type 0 where
   pub drops : (r : LinkKey) → P r → P (dropped_link r)
-  pub revives : (trust : Trust) (told : Bool) (r : LinkKey) → P r → P (revived trust told r)
+  pub revives : (attribute : Attribute) (told : Bool) (r : LinkKey) → P r → P (revived attribute told r)
   pub tells : (told : Bool) (r : LinkKey) → P r → P (told_as told r)
   pub floors : (value : ℕ) (r : LinkKey) → P r → P (link_floor value r)
 
-with-link : (P : LinkKey → Type 0) → LinkClosed P → (b : Bool) (partner : ℕ) (key : Bytes) (trust : Trust) (told : Bool) (p : ℕ) (k : Bytes) (links : List LinkKey) → Finds P (is_link p k) links
-    → Finds P (is_link p k) (cond b (at_link partner key (revived trust told) links) (links ++ new_link partner key trust told ∷ []))
-with-link P c true partner key trust told p k links h = links-if P (revived trust told) (is_link partner key) (λ p k r. refl) (c.revives trust told) p k links h
-with-link P c false partner key trust told p k links h = finds-append P (is_link p k) links (new_link partner key trust told ∷ []) h
+with-link : (P : LinkKey → Type 0) → LinkClosed P → (b : Bool) (partner : ℕ) (key : Bytes) (attribute : Attribute) (told : Bool) (p : ℕ) (k : Bytes) (links : List LinkKey) → Finds P (is_link p k) links
+    → Finds P (is_link p k) (cond b (at_link partner key (revived attribute told) links) (links ++ new_link partner key attribute told ∷ []))
+with-link P c true partner key attribute told p k links h = links-if P (revived attribute told) (is_link partner key) (λ p k r. refl) (c.revives attribute told) p k links h
+with-link P c false partner key attribute told p k links h = finds-append P (is_link p k) links (new_link partner key attribute told ∷ []) h
 
 rolled : (P : LinkKey → Type 0) → LinkClosed P → (b : Bool) (p : ℕ) (k : Bytes) (links : List LinkKey) → Finds P (is_link p k) links → Finds P (is_link p k) (cond b (map (told_as false) links) links)
 rolled P c true p k links h = finds-map P P (is_link p k) (told_as false) (λ r. refl) (c.tells false) links h
@@ -120,7 +120,7 @@ links-moved P c p k (DropNet key) s h = h
 links-moved P c p k (DropLink partner key) s h = links-if P dropped_link (is_link partner key) (λ p k r. refl) c.drops p k s.links h
 links-moved P c p k (Install key q) s h = h
 links-moved P c p k (Active key) s h = h
-links-moved P c p k (Row partner key trust) s h = with-link P c (has_link partner key s.links) partner key trust (is_told s partner) p k s.links h
+links-moved P c p k (Row partner key attribute) s h = with-link P c (has_link partner key s.links) partner key attribute (is_told s partner) p k s.links h
 links-moved P c p k (Pair a b key) s h = h
 links-moved P c p k (Became g) s h = h
 links-moved P c p k (Live d) s h = links-if P (told_as false) (is_live_of d) (λ p k r. refl) (c.tells false) p k s.links h
@@ -182,7 +182,7 @@ link-heard P Q R f same stay move p q k j links h t =
         by-test true b = move r h (there b)
         by-test false b = stay r h
 
-over-heard : (layer of : Tier) (c : ℕ) (base : Bytes) (source : ℕ) (key : Bytes) (sender counter : ℕ) (s : NodeState) → TakesAt of counter key sender s → OverAt layer c base source s → OverAt layer c base source (heard of key sender counter s)
+over-heard : (layer of : Layer) (c : ℕ) (base : Bytes) (source : ℕ) (key : Bytes) (sender counter : ℕ) (s : NodeState) → TakesAt of counter key sender s → OverAt layer c base source s → OverAt layer c base source (heard of key sender counter s)
 unfolding OverAt TakesAt heard
 over-heard Nwk Nwk c base source key sender counter s t h =
     on-sealed (RowOver c source) (RowTakes counter sender) (net_kept sender (counter + 1)) base key s.nets (λ r. refl)
@@ -192,48 +192,48 @@ over-heard Aps Nwk c base source key sender counter s t h = h
 over-heard Aps Aps c base source key sender counter s t h =
     link-heard (LinkOver c) (LinkTakes counter) (LinkOver c) (link_kept (counter + 1)) (λ p k r. refl) (λ r p. p) (λ r p q. (omega (arith, p.0, q.0), p.1)) source sender base key s.links h t
 
-over-applied : (layer : Tier) (c : ℕ) (base : Bytes) (source : ℕ) (e : Edit) (s : NodeState) → OverAt layer c base source s → OverAt layer c base source (applied e s)
+over-applied : (layer : Layer) (c : ℕ) (base : Bytes) (source : ℕ) (e : Edit) (s : NodeState) → OverAt layer c base source s → OverAt layer c base source (applied e s)
 unfolding OverAt
 over-applied Nwk c base source e s h = on-applied (RowOver c source) (over-closed c source) base e s (over-mild c source e) h
 over-applied Aps c base source e s h = links-applied (LinkOver c) (over-links c) source base e s h
 
-over-net : (layer : Tier) (c : ℕ) (base : Bytes) (source : ℕ) (key : Bytes) (q : ℕ) (s : NodeState) → OverAt layer c base source s → OverAt layer c base source (with_given_net key q s)
+over-net : (layer : Layer) (c : ℕ) (base : Bytes) (source : ℕ) (key : Bytes) (q : ℕ) (s : NodeState) → OverAt layer c base source s → OverAt layer c base source (with_given_net key q s)
 unfolding OverAt with_given_net
 over-net Nwk c base source key q s h = on-add (RowOver c source) (has_net key s.nets) base s.nets (given_net s.declared key q ∷ []) h
 over-net Aps c base source key q s h = h
 
-over-given : (layer : Tier) (c : ℕ) (base : Bytes) (source p : ℕ) (key : Bytes) (s : NodeState) → OverAt layer c base source s → OverAt layer c base source (with_given_link p key s)
+over-given : (layer : Layer) (c : ℕ) (base : Bytes) (source p : ℕ) (key : Bytes) (s : NodeState) → OverAt layer c base source s → OverAt layer c base source (with_given_link p key s)
 unfolding OverAt with_given_link
 over-given Nwk c base source p key s h = h
-over-given Aps c base source p key s h = with-link (LinkOver c) (over-links c) (has_link p key s.links) p key Rattle.zb_model.specs.Data.Trust.Provisional false source base s.links h
+over-given Aps c base source p key s h = with-link (LinkOver c) (over-links c) (has_link p key s.links) p key Rattle.zb_model.specs.Data.Attribute.Provisional false source base s.links h
 
-over-declared : (layer of : Tier) (c : ℕ) (base : Bytes) (source v : ℕ) (s : NodeState) → OverAt layer c base source s → OverAt layer c base source (with_declared of v s)
+over-declared : (layer of : Layer) (c : ℕ) (base : Bytes) (source v : ℕ) (s : NodeState) → OverAt layer c base source s → OverAt layer c base source (with_declared of v s)
 unfolding OverAt with_declared
 over-declared Nwk Nwk c base source v s h = on-map (RowOver c source) (declared_at v) (declared-keeps c source v) base s.nets h
 over-declared Nwk Aps c base source v s h = h
 over-declared Aps Nwk c base source v s h = h
 over-declared Aps Aps c base source v s h = h
 
-over-sealed : (layer of : Tier) (c : ℕ) (base : Bytes) (source : ℕ) (t : Sealing) (s : NodeState) → OverAt layer c base source s → OverAt layer c base source (sealed_at of t s)
+over-sealed : (layer of : Layer) (c : ℕ) (base : Bytes) (source : ℕ) (t : Term) (s : NodeState) → OverAt layer c base source s → OverAt layer c base source (sealed_at of t s)
 unfolding OverAt
 over-sealed Nwk Nwk c base source t s h = on-at (RowOver c source) (next_at (t.counter + 1)) (record { key = λ r. refl; kept = λ r h. h }) t.base base s.nets h
 over-sealed Nwk Aps c base source t s h = h
 over-sealed Aps Nwk c base source t s h = h
 over-sealed Aps Aps c base source t s h = h
 
-over-boot : (layer : Tier) (c : ℕ) (base : Bytes) (source : ℕ) (s : NodeState) → OverAt layer c base source s → OverAt layer c base source (after_boot s)
+over-boot : (layer : Layer) (c : ℕ) (base : Bytes) (source : ℕ) (s : NodeState) → OverAt layer c base source s → OverAt layer c base source (after_boot s)
 unfolding OverAt after_boot
 over-boot Nwk c base source s h = on-map (RowOver c source) booted_net (over-booted c source) base s.nets h
 over-boot Aps c base source s h = finds-map (LinkOver c) (LinkOver c) (is_link source base) booted_link (λ r. refl) (λ r p. (p.1, p.1)) s.links h
 
-over-same : (layer : Tier) (c : ℕ) (base : Bytes) (source : ℕ) (p : Rattle.zb_model.specs.Data.Duty) (s : NodeState) → OverAt layer c base source s → OverAt layer c base source (record s { duty = p })
+over-same : (layer : Layer) (c : ℕ) (base : Bytes) (source : ℕ) (p : Rattle.zb_model.specs.Data.Role) (s : NodeState) → OverAt layer c base source s → OverAt layer c base source (record s { role = p })
 unfolding OverAt
 over-same Nwk c base source p s h = h
 over-same Aps c base source p s h = h
 
-pub over-after : (layer : Tier) (c : ℕ) (base : Bytes) (source : ℕ) (l : LogLine) (s : NodeState) → AcceptState l s → OverAt layer c base source s → OverAt layer c base source (after l s)
+pub over-after : (layer : Layer) (c : ℕ) (base : Bytes) (source : ℕ) (l : Line) (s : NodeState) → AcceptState l s → OverAt layer c base source s → OverAt layer c base source (after l s)
 unfolding after accepted sealed
-over-after layer c base source (Declared p) s m h = over-same layer c base source p.duty s h
+over-after layer c base source (Declared p) s m h = over-same layer c base source p.role s h
 over-after layer c base source (GivenNet n key q) s m h = over-net layer c base source key q s h
 over-after layer c base source (GivenLink n p key) s m h = over-given layer c base source p key s h
 over-after layer c base source (Counter n of v) s m h = over-declared layer of c base source v s h
@@ -253,7 +253,7 @@ link-own P R f same move p k links h =
     by-found None e h = h
     by-found (Some r) e h = subst (λ b. R (cond b (f r) r)) (sym (found-link p k links r e)) (move r h)
 
-taken-over : (layer : Tier) (c : ℕ) (base : Bytes) (source : ℕ) (s : NodeState) → TakesAt layer c base source s → OverAt layer c base source (heard layer base source c s)
+taken-over : (layer : Layer) (c : ℕ) (base : Bytes) (source : ℕ) (s : NodeState) → TakesAt layer c base source s → OverAt layer c base source (heard layer base source c s)
 unfolding OverAt TakesAt heard
 taken-over Nwk c base source s t = on-map-found (RowTakes c source) (RowOver c source) (net_kept source (c + 1)) base s.nets (λ r. refl) (λ r q. (sorted-kept source (c + 1) r.floors q.0, kept-new source c r.floors q.1)) t
 taken-over Aps c base source s t = link-own (LinkTakes c) (LinkOver c) (link_kept (c + 1)) (λ p k r. refl) (λ r p. (omega arith, p.1)) source base s.links t
@@ -269,7 +269,7 @@ unfolding Holds
 holds-fact P Q C k None p q = absurd p
 holds-fact P Q C k (Some x) p q = k x p q
 
-takes-more : (layer : Tier) (c d : ℕ) (base : Bytes) (source : ℕ) (s : NodeState) → OverAt layer c base source s → TakesAt layer d base source s → c < d
+takes-more : (layer : Layer) (c d : ℕ) (base : Bytes) (source : ℕ) (s : NodeState) → OverAt layer c base source s → TakesAt layer d base source s → c < d
 unfolding OverAt TakesAt
 takes-more Nwk c d base source s o t =
     holds-fact (RowOver c source) (RowTakes d source) (c < d)
@@ -278,13 +278,13 @@ takes-more Aps c d base source s o t = finds-fact (LinkOver c) (LinkTakes d) (c 
 
 -- The law
 
-line-goes-on : (Φ : NodeState → Type 0) (h : List LogLine) (l : LogLine) (n : ℕ) → AcceptFits h l → (AcceptState l (state_of h n) → Φ (state_of h n) → Φ (after l (state_of h n))) → Φ (state_of h n) → Φ (state_of (h ++ l ∷ []) n)
+line-goes-on : (Φ : NodeState → Type 0) (h : List Line) (l : Line) (n : ℕ) → AcceptFits h l → (AcceptState l (state_of h n) → Φ (state_of h n) → Φ (after l (state_of h n))) → Φ (state_of h n) → Φ (state_of (h ++ l ∷ []) n)
 line-goes-on Φ h l n fits k p = subst Φ (sym (state-snoc h l n)) (heard-keeps Φ n l (state_of h n) (λ e. k (subst (λ m. AcceptState l (state_of h m)) e fits) p) p)
 
-abbrev Under : List LogLine → ℕ → Sealing → Type 0
+abbrev Under : List Line → ℕ → Term → Type 0
 Under h n t = OverAt t.layer t.counter t.base t.source (state_of h n)
 
-rises : (h : List LogLine) (n : ℕ) (t : Sealing) (l : LogLine) → AcceptFits h l → Under h n t → Rises n t l
+rises : (h : List Line) (n : ℕ) (t : Term) (l : Line) → AcceptFits h l → Under h n t → Rises n t l
 unfolding speaker
 rises h n t (Accept e m u) f o = λ same layer base source. takes-more t.layer t.counter u.counter t.base t.source (state_of h n) o (there same layer base source)
   where
@@ -296,24 +296,24 @@ rises h n t (Accept e m u) f o = λ same layer base source. takes-more t.layer t
         (subst (λ x. TakesAt u.layer u.counter u.base u.source (state_of h x)) (sym same) f)))
 rises h n t _ f o = tt
 
-later-rise : (h ls : List LogLine) (n : ℕ) (t : Sealing) → Each AcceptFits h ls → Under h n t → AllByRecursion (Rises n t) ls
+later-rise : (h ls : List Line) (n : ℕ) (t : Term) → Each AcceptFits h ls → Under h n t → AllByRecursion (Rises n t) ls
 later-rise h [] n t f o = tt
 later-rise h (l ∷ ls) n t f o = (
   rises h n t l f.0 o,
   later-rise (h ++ l ∷ []) ls n t f.1 (line-goes-on (λ s. OverAt t.layer t.counter t.base t.source s) h l n f.0 (λ a p. over-after t.layer t.counter t.base t.source l (state_of h n) a p) o),
 )
 
-accept-line : (e n : ℕ) (t : Sealing) (s : NodeState) → heard_line n s (Accept e n t) ≡ heard t.layer t.base t.source t.counter s
+accept-line : (e n : ℕ) (t : Term) (s : NodeState) → heard_line n s (Accept e n t) ≡ heard t.layer t.base t.source t.counter s
 unfolding heard_line speaker after accepted
 accept-line e n t s = ap (λ b. cond b (heard t.layer t.base t.source t.counter s) s) (nat_eq-refl n)
 
-once-line : (h : List LogLine) (l : LogLine) (ls : List LogLine) → AcceptFits h l → Each AcceptFits (h ++ l ∷ []) ls → OnceFrom l ls
+once-line : (h : List Line) (l : Line) (ls : List Line) → AcceptFits h l → Each AcceptFits (h ++ l ∷ []) ls → OnceFrom l ls
 unfolding speaker
 once-line h (Accept e n t) ls f fs =
     later-rise (h ++ Accept e n t ∷ []) ls n t fs
     (subst (λ s. OverAt t.layer t.counter t.base t.source s) (sym (state-snoc h (Accept e n t) n ∙ accept-line e n t (state_of h n))) (taken-over t.layer t.counter t.base t.source (state_of h n) f))
 once-line h _ ls f fs = tt
 
-pub once-lines : (h ls : List LogLine) → Each AcceptFits h ls → Once ls
+pub once-lines : (h ls : List Line) → Each AcceptFits h ls → Once ls
 once-lines h [] f = tt
 once-lines h (l ∷ ls) f = (once-line h l ls f.0 f.1, once-lines (h ++ l ∷ []) ls f.1)

@@ -5,11 +5,11 @@ use Rattle.std.proofs.lemmas.List.{take-append-drop, length-take, get_or-take, g
 use Rattle.std.proofs.lemmas.Nat.{le_bytes_2, le_bytes_4, le_bytes_8}
 use Rattle.std.specs.Int.{Width, w16, w32, w64, byte_len, from_le_bytes, to_le_bytes}
 use Rattle.std.specs.List.{AllByRecursion, list_any}
-use Rattle.zb_model.specs.Data.{Bytes, Duty, Centre, Router, Device, Stage, Fresh, Knocked, Joined, Offered, Confirmed, Rejoining, Gone, Trust, Provisional, Unverified, Verified}
+use Rattle.zb_model.specs.Data.{Bytes, Role, Centre, Router, Device, State, Fresh, Knocked, Joined, Offered, Confirmed, Rejoining, Gone, Attribute, Provisional, Unverified, Verified}
 use Rattle.zb_model.specs.State.{SenderFloor, NetKey, LinkKey, PairKey, NodeState, same_key, booted_floor, booted_net, booted_link, after_boot, shown_net, shown}
 use Rattle.zb_model.specs.Fits.{all_apart, keys_differ}
-use Rattle.zb_model.specs.Record.{duty_byte, stage_byte, trust_byte, worth, place_from, net_bytes, sender_bytes, floors_bytes, link_bytes, pair_bytes, record_of}
-use Rattle.zb_model_laws.specs.Records.{Taking, follow, chosen, a_byte, some_bytes, a_number, so_many, duty_of, stage_of, trust_of, yes_or_no, only, two_flags, three_flags, net_at, sender_at, floors_at, with_floors, link_at, pair_at, active_at, record_at, whole, state_in}
+use Rattle.zb_model.specs.Record.{role_byte, state_byte, attribute_byte, worth, place_from, net_bytes, sender_bytes, floors_bytes, link_bytes, pair_bytes, record_of}
+use Rattle.zb_model_laws.specs.Records.{Taking, follow, chosen, a_byte, some_bytes, a_number, so_many, role_of, state_of, attribute_of, yes_or_no, only, two_flags, three_flags, net_at, sender_at, floors_at, with_floors, link_at, pair_at, active_at, record_at, whole, state_in}
 use Rattle.zb_model_laws.proofs.Basics.{same_key-refl, append-nil'}
 use Rattle.zb_model_laws.proofs.RecordLaws.{bare, booted_row, place_by, spelled, record-bytes, map-map}
 
@@ -118,30 +118,30 @@ number-back : (w : Width) → Spells w → Back ℕ (a_number w) (to_le_bytes w)
 unfolding a_number
 number-back w sp bytes n rest s e = (number-by w sp bytes n rest s (nat_lt (length bytes) (byte_len w)) refl e, tt)
 
-duty-back : (b : ℕ) (d : Duty) → duty_of b ≡ Some d → b ≡ duty_byte d
-unfolding duty_of
-duty-back zero d e = ap duty_byte (some-same Duty Centre d e)
-duty-back (suc zero) d e = ap duty_byte (some-same Duty Router d e)
-duty-back (suc (suc zero)) d e = ap duty_byte (some-same Duty Device d e)
-duty-back (suc (suc (suc b))) d e = absurd (none-is Duty d e)
+role-back : (b : ℕ) (d : Role) → role_of b ≡ Some d → b ≡ role_byte d
+unfolding role_of
+role-back zero d e = ap role_byte (some-same Role Centre d e)
+role-back (suc zero) d e = ap role_byte (some-same Role Router d e)
+role-back (suc (suc zero)) d e = ap role_byte (some-same Role Device d e)
+role-back (suc (suc (suc b))) d e = absurd (none-is Role d e)
 
-stage-back : (b : ℕ) (g : Stage) → stage_of b ≡ Some g → b ≡ stage_byte g
-unfolding stage_of
-stage-back zero g e = ap stage_byte (some-same Stage Fresh g e)
-stage-back (suc zero) g e = ap stage_byte (some-same Stage Knocked g e)
-stage-back (suc (suc zero)) g e = ap stage_byte (some-same Stage Joined g e)
-stage-back (suc (suc (suc zero))) g e = ap stage_byte (some-same Stage Offered g e)
-stage-back (suc (suc (suc (suc zero)))) g e = ap stage_byte (some-same Stage Confirmed g e)
-stage-back (suc (suc (suc (suc (suc zero))))) g e = ap stage_byte (some-same Stage Rejoining g e)
-stage-back (suc (suc (suc (suc (suc (suc zero)))))) g e = ap stage_byte (some-same Stage Gone g e)
-stage-back (suc (suc (suc (suc (suc (suc (suc b))))))) g e = absurd (none-is Stage g e)
+state-back : (b : ℕ) (g : State) → state_of b ≡ Some g → b ≡ state_byte g
+unfolding state_of
+state-back zero g e = ap state_byte (some-same State Fresh g e)
+state-back (suc zero) g e = ap state_byte (some-same State Knocked g e)
+state-back (suc (suc zero)) g e = ap state_byte (some-same State Joined g e)
+state-back (suc (suc (suc zero))) g e = ap state_byte (some-same State Offered g e)
+state-back (suc (suc (suc (suc zero)))) g e = ap state_byte (some-same State Confirmed g e)
+state-back (suc (suc (suc (suc (suc zero))))) g e = ap state_byte (some-same State Rejoining g e)
+state-back (suc (suc (suc (suc (suc (suc zero)))))) g e = ap state_byte (some-same State Gone g e)
+state-back (suc (suc (suc (suc (suc (suc (suc b))))))) g e = absurd (none-is State g e)
 
-trust-back : (b : ℕ) (t : Trust) → trust_of b ≡ Some t → b ≡ trust_byte t
-unfolding trust_of
-trust-back zero t e = ap trust_byte (some-same Trust Provisional t e)
-trust-back (suc zero) t e = ap trust_byte (some-same Trust Unverified t e)
-trust-back (suc (suc zero)) t e = ap trust_byte (some-same Trust Verified t e)
-trust-back (suc (suc (suc b))) t e = absurd (none-is Trust t e)
+attribute-back : (b : ℕ) (t : Attribute) → attribute_of b ≡ Some t → b ≡ attribute_byte t
+unfolding attribute_of
+attribute-back zero t e = ap attribute_byte (some-same Attribute Provisional t e)
+attribute-back (suc zero) t e = ap attribute_byte (some-same Attribute Unverified t e)
+attribute-back (suc (suc zero)) t e = ap attribute_byte (some-same Attribute Verified t e)
+attribute-back (suc (suc (suc b))) t e = absurd (none-is Attribute t e)
 
 roll-back : (b : ℕ) (x : Bool) → yes_or_no b ≡ Some x → b ≡ worth 1 x
 unfolding yes_or_no
@@ -327,7 +327,7 @@ link-back bytes r rest s e =
             | Went k_v k_m k_t k_s k_h k_l ↦
                 elim (step ℕ LinkKey a_byte one (Any ℕ) byte-back k_m _ r rest k_s k_l) [
                   | Went a_v a_m a_t a_s a_h a_l ↦
-                      elim (pick Trust LinkKey (trust_of a_v) a_m _ r rest a_l) [
+                      elim (pick Attribute LinkKey (attribute_of a_v) a_m _ r rest a_l) [
                         | Picked t_v t_i t_l ↦
                             elim (step ℕ LinkKey a_byte one (Any ℕ) byte-back a_m _ r rest a_s t_l) [
                               | Went b_v b_m b_t b_s b_h b_l ↦
@@ -336,8 +336,8 @@ link-back bytes r rest s e =
                                         elim (step ℕ LinkKey (a_number w32) (to_le_bytes w32) (Any ℕ) (number-back w32 spells32) b_m _ r rest b_s f_l) [
                                           | Went l_v l_m l_t l_s l_h l_l ↦
                                               subst (λ (x : LinkKey × Bytes). (bytes ≡ link_bytes x.0 ++ x.1) × FixedLink x.0)
-                                              (some-same (LinkKey × Bytes) (record { partner = p_v; key = k_v; trust = t_v; live = f_v.0; code = f_v.1; told = f_v.2; kept = l_v; stored = l_v }, l_m) (r, rest) l_l)
-                                              (link-text (to_le_bytes w64 p_v) k_v (to_le_bytes w32 l_v) a_v b_v (trust_byte t_v) (three_worth f_v) bytes p_m k_m a_m b_m l_m p_t k_t a_t (trust-back a_v t_v t_i) b_t (three-back b_v f_v f_i) l_t, refl)
+                                              (some-same (LinkKey × Bytes) (record { partner = p_v; key = k_v; attribute = t_v; live = f_v.0; code = f_v.1; told = f_v.2; kept = l_v; stored = l_v }, l_m) (r, rest) l_l)
+                                              (link-text (to_le_bytes w64 p_v) k_v (to_le_bytes w32 l_v) a_v b_v (attribute_byte t_v) (three_worth f_v) bytes p_m k_m a_m b_m l_m p_t k_t a_t (attribute-back a_v t_v t_i) b_t (three-back b_v f_v f_i) l_t, refl)
                                         ]
                                   ]
                             ]
@@ -444,13 +444,13 @@ found bytes s rest small e =
             | Picked three_v three_i three_l ↦
                 elim (step ℕ NodeState a_byte one (Any ℕ) byte-back v_m _ s rest v_s three_l) [
                   | Went ro_v ro_m ro_t ro_s ro_h ro_l ↦
-                      elim (pick Duty NodeState (duty_of ro_v) ro_m _ s rest ro_l) [
-                        | Picked duty_v duty_i duty_l ↦
-                            elim (step ℕ NodeState a_byte one (Any ℕ) byte-back ro_m _ s rest ro_s duty_l) [
+                      elim (pick Role NodeState (role_of ro_v) ro_m _ s rest ro_l) [
+                        | Picked role_v role_i role_l ↦
+                            elim (step ℕ NodeState a_byte one (Any ℕ) byte-back ro_m _ s rest ro_s role_l) [
                               | Went st_v st_m st_t st_s st_h st_l ↦
-                                  elim (pick Stage NodeState (stage_of st_v) st_m _ s rest st_l) [
-                                    | Picked stage_v stage_i stage_l ↦
-                                        elim (step ℕ NodeState (a_number w32) (to_le_bytes w32) (Any ℕ) (number-back w32 spells32) st_m _ s rest st_s stage_l) [
+                                  elim (pick State NodeState (state_of st_v) st_m _ s rest st_l) [
+                                    | Picked state_v state_i state_l ↦
+                                        elim (step ℕ NodeState (a_number w32) (to_le_bytes w32) (Any ℕ) (number-back w32 spells32) st_m _ s rest st_s state_l) [
                                           | Went declared_v declared_m declared_t declared_s declared_h declared_l ↦
                                               elim (step ℕ NodeState (a_number w32) (to_le_bytes w32) (Any ℕ) (number-back w32 spells32) declared_m _ s rest declared_s declared_l) [
                                                 | Went aps_v aps_m aps_t aps_s aps_h aps_l ↦
@@ -477,17 +477,17 @@ found bytes s rest small e =
                                                                                                                 elim (step (List PairKey) NodeState (so_many pair_at pc_v) (flat_map pair_bytes) (λ ys. (length ys ≡ pc_v) × AllByRecursion (Any PairKey) ys) (many-of PairKey pair_at pair_bytes (Any PairKey) pair-back pc_v) pc_m _ s rest pc_s pc_l) [
                                                                                                                   | Went pairs_v pairs_m pairs_t pairs_s pairs_h pairs_l ↦
                                                                                                                       subst (λ (p : NodeState × Bytes). Found bytes p.0 p.1)
-                                                                                                                      (some-same (NodeState × Bytes) (record { duty = duty_v; stage = stage_v; declared = declared_v; aps_limit = aps_v; aps_next = aps_v; sending = sending_v; nets = nets_v; active = active_v; links = links_v; pairs = pairs_v }, pairs_m) (s, rest) pairs_l)
+                                                                                                                      (some-same (NodeState × Bytes) (record { role = role_v; state = state_v; declared = declared_v; aps_limit = aps_v; aps_next = aps_v; sending = sending_v; nets = nets_v; active = active_v; links = links_v; pairs = pairs_v }, pairs_m) (s, rest) pairs_l)
                                                                                                                       (record {
                                                                                                                         place = place_v;
                                                                                                                         text =
                                                                                                                             chain bytes v_m ro_m st_m declared_m aps_m roll_m nc_m place_m rows_m nets_m lc_m links_m pc_m pairs_m
                                                                                                                             (to_le_bytes w32 declared_v) (to_le_bytes w32 aps_v) (to_le_bytes w16 nc_v) (to_le_bytes w16 (length nets_v)) (to_le_bytes w16 place_v) (flat_map net_bytes rows_v) (flat_map net_bytes nets_v) (live_floors nets_v)
                                                                                                                             (to_le_bytes w16 lc_v) (to_le_bytes w16 (length links_v)) (flat_map link_bytes links_v) (to_le_bytes w16 pc_v) (to_le_bytes w16 (length pairs_v)) (flat_map pair_bytes pairs_v)
-                                                                                                                            v_v ro_v (duty_byte duty_v) st_v (stage_byte stage_v) roll_v (worth 1 sending_v)
-                                                                                                                            v_t (only-back 3 v_v three_v three_i) ro_t (duty-back ro_v duty_v duty_i) st_t (stage-back st_v stage_v stage_i) declared_t aps_t roll_t (roll-back roll_v sending_v sending_i)
+                                                                                                                            v_v ro_v (role_byte role_v) st_v (state_byte state_v) roll_v (worth 1 sending_v)
+                                                                                                                            v_t (only-back 3 v_v three_v three_i) ro_t (role-back ro_v role_v role_i) st_t (state-back st_v state_v state_i) declared_t aps_t roll_t (roll-back roll_v sending_v sending_i)
                                                                                                                             nc_t (ap (to_le_bytes w16) (sym (nets_h.count ∙ rows_h.0))) place_t rows_t (sym nets_h.rows) nets_t lc_t (ap (to_le_bytes w16) (sym links_h.0)) links_t pc_t (ap (to_le_bytes w16) (sym pairs_h.0)) pairs_t
-                                                                                                                            ∙ ap (λ x. 3 ∷ duty_byte duty_v ∷ stage_byte stage_v ∷ x) (regroup (to_le_bytes w32 declared_v) (to_le_bytes w32 aps_v) (to_le_bytes w16 (length nets_v)) (to_le_bytes w16 place_v) (flat_map net_bytes nets_v) (live_floors nets_v)
+                                                                                                                            ∙ ap (λ x. 3 ∷ role_byte role_v ∷ state_byte state_v ∷ x) (regroup (to_le_bytes w32 declared_v) (to_le_bytes w32 aps_v) (to_le_bytes w16 (length nets_v)) (to_le_bytes w16 place_v) (flat_map net_bytes nets_v) (live_floors nets_v)
                                                                                                                             (to_le_bytes w16 (length links_v)) (flat_map link_bytes links_v) (to_le_bytes w16 (length pairs_v)) (flat_map pair_bytes pairs_v) pairs_m (worth 1 sending_v));
                                                                                                                         active = active_i;
                                                                                                                         aps = refl;

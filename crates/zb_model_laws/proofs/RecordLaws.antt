@@ -5,11 +5,11 @@ use Rattle.std.proofs.lemmas.List.{take_at, drop_at}
 use Rattle.std.proofs.lemmas.Nat.{from_le_bytes-to_le_bytes_2, from_le_bytes-to_le_bytes_4, from_le_bytes-to_le_bytes_8}
 use Rattle.std.specs.Int.{Width, w16, w32, w64, byte_len, from_le_bytes, to_le_bytes}
 use Rattle.std.specs.List.{AllByRecursion}
-use Rattle.zb_model.specs.Data.{Bytes, Duty, Centre, Router, Device, Stage, Fresh, Knocked, Joined, Offered, Confirmed, Rejoining, Gone, Trust, Provisional, Unverified, Verified}
+use Rattle.zb_model.specs.Data.{Bytes, Role, Centre, Router, Device, State, Fresh, Knocked, Joined, Offered, Confirmed, Rejoining, Gone, Attribute, Provisional, Unverified, Verified}
 use Rattle.zb_model.specs.State.{SenderFloor, NetKey, LinkKey, PairKey, NodeState, same_key, live_nets, booted_floor, booted_net, booted_link, after_boot, shown_net, shown}
-use Rattle.zb_model.specs.Record.{duty_byte, stage_byte, trust_byte, worth, place_from, active_place, net_bytes, sender_bytes, floors_bytes, link_bytes, pair_bytes, four_bytes, record_of}
-use Rattle.zb_model_laws.specs.Records.{Taking, follow, chosen, some_bytes, a_number, so_many, duty_of, stage_of, trust_of, yes_or_no, two_flags, three_flags, net_at, sender_at, floors_at, with_floors, link_at, pair_at, active_at, record_at, whole, state_in, NetFits, LinkFits, PairFits, HasActive, FitsRecord}
-use Rattle.zb_model.specs.Lines.{LogLine, Boot}
+use Rattle.zb_model.specs.Record.{role_byte, state_byte, attribute_byte, worth, place_from, active_place, net_bytes, sender_bytes, floors_bytes, link_bytes, pair_bytes, four_bytes, record_of}
+use Rattle.zb_model_laws.specs.Records.{Taking, follow, chosen, some_bytes, a_number, so_many, role_of, state_of, attribute_of, yes_or_no, two_flags, three_flags, net_at, sender_at, floors_at, with_floors, link_at, pair_at, active_at, record_at, whole, state_in, NetFits, LinkFits, PairFits, HasActive, FitsRecord}
+use Rattle.zb_model.specs.Lines.{Line, Boot}
 use Rattle.zb_model.specs.Readings.{state_of, heard_line, after, speaker}
 use Rattle.zb_model_laws.proofs.Basics.{same_key-eq, append-nil', nat_eq-refl, state-snoc}
 use Rattle.zb_model_laws.proofs.Nets.{at_key}
@@ -51,27 +51,27 @@ four-again n rest lt = number-again w32 (2 ^ 32) wide32 n rest lt
 eight-again : (n : ℕ) (rest : Bytes) → n < 2 ^ 64 → a_number w64 (to_le_bytes w64 n ++ rest) ≡ Some (n, rest)
 eight-again n rest lt = number-again w64 (2 ^ 64) wide64 n rest lt
 
-duty-again : (d : Duty) → duty_of (duty_byte d) ≡ Some d
-unfolding duty_of
-duty-again Centre = refl
-duty-again Router = refl
-duty-again Device = refl
+role-again : (d : Role) → role_of (role_byte d) ≡ Some d
+unfolding role_of
+role-again Centre = refl
+role-again Router = refl
+role-again Device = refl
 
-stage-again : (g : Stage) → stage_of (stage_byte g) ≡ Some g
-unfolding stage_of
-stage-again Fresh = refl
-stage-again Knocked = refl
-stage-again Joined = refl
-stage-again Offered = refl
-stage-again Confirmed = refl
-stage-again Rejoining = refl
-stage-again Gone = refl
+state-again : (g : State) → state_of (state_byte g) ≡ Some g
+unfolding state_of
+state-again Fresh = refl
+state-again Knocked = refl
+state-again Joined = refl
+state-again Offered = refl
+state-again Confirmed = refl
+state-again Rejoining = refl
+state-again Gone = refl
 
-trust-again : (t : Trust) → trust_of (trust_byte t) ≡ Some t
-unfolding trust_of
-trust-again Provisional = refl
-trust-again Unverified = refl
-trust-again Verified = refl
+attribute-again : (t : Attribute) → attribute_of (attribute_byte t) ≡ Some t
+unfolding attribute_of
+attribute-again Provisional = refl
+attribute-again Unverified = refl
+attribute-again Verified = refl
 
 roll-again : (b : Bool) → yes_or_no (worth 1 b) ≡ Some b
 unfolding yes_or_no
@@ -151,11 +151,11 @@ floors-behind (r ∷ rs) rest a = step r.live r rs (filter (λ (r : NetKey). r.l
 link-again : (r : LinkKey) (rest : Bytes) → LinkFits r → link_at (link_bytes r ++ rest) ≡ Some (booted_link r, rest)
 unfolding link_at follow chosen
 link-again r rest f =
-    ap link_at (append_assoc (to_le_bytes w64 r.partner) _ rest ∙ ap (λ l. to_le_bytes w64 r.partner ++ l) (append_assoc r.key (trust_byte r.trust ∷ (worth 1 r.live + (worth 2 r.code + worth 4 r.told)) ∷ four_bytes r.stored) rest))
+    ap link_at (append_assoc (to_le_bytes w64 r.partner) _ rest ∙ ap (λ l. to_le_bytes w64 r.partner ++ l) (append_assoc r.key (attribute_byte r.attribute ∷ (worth 1 r.live + (worth 2 r.code + worth 4 r.told)) ∷ four_bytes r.stored) rest))
     ∙ rw (
-      eight-again r.partner (r.key ++ (trust_byte r.trust ∷ (worth 1 r.live + (worth 2 r.code + worth 4 r.told)) ∷ (to_le_bytes w32 r.stored ++ rest))) f.partner,
-      bytes-again 16 r.key (trust_byte r.trust ∷ (worth 1 r.live + (worth 2 r.code + worth 4 r.told)) ∷ (to_le_bytes w32 r.stored ++ rest)) f.key,
-      trust-again r.trust,
+      eight-again r.partner (r.key ++ (attribute_byte r.attribute ∷ (worth 1 r.live + (worth 2 r.code + worth 4 r.told)) ∷ (to_le_bytes w32 r.stored ++ rest))) f.partner,
+      bytes-again 16 r.key (attribute_byte r.attribute ∷ (worth 1 r.live + (worth 2 r.code + worth 4 r.told)) ∷ (to_le_bytes w32 r.stored ++ rest)) f.key,
+      attribute-again r.attribute,
       three-flags-again r.live r.code r.told,
       four-again r.stored rest f.stored,
     ) refl
@@ -226,7 +226,7 @@ map-same (p ∷ ps) = ap (λ l. p ∷ l) (map-same ps)
 -- The whole record
 
 booted : NodeState → List NetKey → List PairKey → NodeState
-booted s nets pairs = record { duty = s.duty; stage = s.stage; declared = s.declared; aps_limit = s.aps_limit; aps_next = s.aps_limit; sending = s.sending; nets = nets; active = s.active; links = map booted_link s.links; pairs = pairs }
+booted s nets pairs = record { role = s.role; state = s.state; declared = s.declared; aps_limit = s.aps_limit; aps_next = s.aps_limit; sending = s.sending; nets = nets; active = s.active; links = map booted_link s.links; pairs = pairs }
 
 booted-is : (s : NodeState) → booted s (map booted_row s.nets) (map (λ (p : PairKey). p) s.pairs) ≡ shown (after_boot s)
 unfolding booted shown after_boot
@@ -242,7 +242,7 @@ place-small s (Some key) has small = let p = placed 0 key s.nets has in omega (a
 -- the record with a place in it
 abbrev pub spelled : NodeState → ℕ → Bytes
 spelled s place =
-    3 ∷ duty_byte s.duty ∷ stage_byte s.stage ∷ (to_le_bytes w32 s.declared ++ (to_le_bytes w32 s.aps_limit ++ (worth 1 s.sending ∷ (to_le_bytes w16 (length s.nets) ++ (to_le_bytes w16 place
+    3 ∷ role_byte s.role ∷ state_byte s.state ∷ (to_le_bytes w32 s.declared ++ (to_le_bytes w32 s.aps_limit ++ (worth 1 s.sending ∷ (to_le_bytes w16 (length s.nets) ++ (to_le_bytes w16 place
     ++ (flat_map net_bytes s.nets ++ (flat_map floors_bytes (live_nets s) ++ (to_le_bytes w16 (length s.links) ++ (flat_map link_bytes s.links ++ (to_le_bytes w16 (length s.pairs) ++ flat_map pair_bytes s.pairs))))))))))
 
 pub record-bytes : (s : NodeState) → record_of s ≡ spelled s (place_by s.active s.nets)
@@ -253,8 +253,8 @@ spelled-again : (s : NodeState) → FitsRecord s → record_at (spelled s (place
 unfolding record_at booted follow chosen
 spelled-again s f =
     rw (
-      duty-again s.duty,
-      stage-again s.stage,
+      role-again s.role,
+      state-again s.state,
       four-again s.declared t1 f.declared,
       four-again s.aps_limit t2 f.aps_limit,
       roll-again s.sending,
@@ -306,5 +306,5 @@ boot-line : (e n : ℕ) (s : NodeState) → heard_line n s (Boot e n) ≡ after_
 unfolding heard_line speaker after
 boot-line e n s = ap (λ b. cond b (after_boot s) s) (nat_eq-refl n)
 
-pub boot-reads : (h : List LogLine) (e n : ℕ) → FitsRecord (state_of h n) → state_in (record_of (state_of h n)) ≡ Some (shown (state_of (h ++ Boot e n ∷ []) n))
+pub boot-reads : (h : List Line) (e n : ℕ) → FitsRecord (state_of h n) → state_in (record_of (state_of h n)) ≡ Some (shown (state_of (h ++ Boot e n ∷ []) n))
 boot-reads h e n f = read-back (state_of h n) f ∙ ap (λ x. Some (shown x)) (sym (state-snoc h (Boot e n) n ∙ boot-line e n (state_of h n)))

@@ -2,8 +2,8 @@
 use Rattle.std.proofs.Common.{◌≡◌, ℕ, ◌+◌, max, Bool, true, false, cond, ◌&&◌, ◌||◌, List, [], ◌∷◌, ◌++◌, map, Option, Some, None, option_map, find, nat_eq, fold, refl, sym, ap, ◌∙◌, subst}
 use Rattle.std.proofs.lemmas.Bool.{false≢true}
 use Rattle.std.specs.List.{AllByRecursion, list_any}
-use Rattle.zb_model.specs.Data.{Bytes, Duty, Tier, Nwk, Aps, Trust, Provisional, Sealing, Move, Draw, DropNet, DropLink, Install, Active, Row, Pair, Became, Live, Removed, Roll, Told, Untold, Edit, Reserve, Floor, Start, Moved}
-use Rattle.zb_model.specs.Lines.{LogLine, Declared, GivenNet, GivenLink, Counter, Changed, Accept, Seal, Boot}
+use Rattle.zb_model.specs.Data.{Bytes, Role, Layer, Nwk, Aps, Attribute, Provisional, Term, Move, Draw, DropNet, DropLink, Install, Active, Row, Pair, Became, Live, Removed, Roll, Told, Untold, Edit, Reserve, Floor, Start, Moved}
+use Rattle.zb_model.specs.Lines.{Line, Declared, GivenNet, GivenLink, Counter, Changed, Accept, Seal, Boot}
 use Rattle.zb_model.specs.State.{NetKey, LinkKey, NodeState, new_node, same_key, has_net, has_link, is_link, is_live_of, is_told, at_net, at_link, of_active, with_link, new_net, new_link, given_net, reserved, started_at, dropped_net, net_floor, net_kept, next_at, booted_net, booted_link, declared_at, revived, dropped_link, told_as, link_floor, link_kept, applied, moved, sealed, sealed_at, after_boot, heard, accepted, with_given_net, with_given_link, with_declared, with_told}
 use Rattle.zb_model.specs.Readings.{state_of, heard_line, after}
 use Rattle.zb_model_laws.proofs.Basics.{same_key-refl, nat_eq-refl}
@@ -151,10 +151,10 @@ links-all f p k links s = each-map link_test f (λ x y. ap (λ n. nat_eq (f y).p
 link-self : (r : LinkKey) → link_test r r ≡ true
 link-self r = ap (λ b. b && same_key r.key r.key) (nat_eq-refl r.partner) ∙ same_key-refl r.key
 
-links-with : (b : Bool) (partner : ℕ) (key : Bytes) (trust : Trust) (told : Bool) (links : List LinkKey) → has_link partner key links ≡ b → EachFound link_test links links
-    → EachFound link_test (cond b (at_link partner key (revived trust told) links) (links ++ new_link partner key trust told ∷ [])) (cond b (at_link partner key (revived trust told) links) (links ++ new_link partner key trust told ∷ []))
-links-with true partner key trust told links e s = links-map (revived trust told) (is_link partner key) (λ r. refl) (λ r. refl) links s
-links-with false partner key trust told links e s = each-new link_test (new_link partner key trust told) links e (link-self (new_link partner key trust told)) s
+links-with : (b : Bool) (partner : ℕ) (key : Bytes) (attribute : Attribute) (told : Bool) (links : List LinkKey) → has_link partner key links ≡ b → EachFound link_test links links
+    → EachFound link_test (cond b (at_link partner key (revived attribute told) links) (links ++ new_link partner key attribute told ∷ [])) (cond b (at_link partner key (revived attribute told) links) (links ++ new_link partner key attribute told ∷ []))
+links-with true partner key attribute told links e s = links-map (revived attribute told) (is_link partner key) (λ r. refl) (λ r. refl) links s
+links-with false partner key attribute told links e s = each-new link_test (new_link partner key attribute told) links e (link-self (new_link partner key attribute told)) s
 
 links-rolled : (b : Bool) (links : List LinkKey) → EachFound link_test links links → EachFound link_test (cond b (map (told_as false) links) links) (cond b (map (told_as false) links) links)
 links-rolled true links s = links-all (told_as false) (λ r. refl) (λ r. refl) links s
@@ -193,12 +193,12 @@ sound-applied (Floor Aps k p v) s o = with-links s (at_link p k (link_floor v) s
 sound-applied (Start k v) s o = with-nets s (at_net k (started_at v) s.nets) (nets-at (started_at v) (plain-row (started_at v) (λ r. refl) (λ r. refl)) k s.nets (of-nets s o)) o
 sound-applied (Moved m) s o = sound-moved m s o
 
-sound-heard : (layer : Tier) (k : Bytes) (sender counter : ℕ) (s : NodeState) → Sound s → Sound (heard layer k sender counter s)
+sound-heard : (layer : Layer) (k : Bytes) (sender counter : ℕ) (s : NodeState) → Sound s → Sound (heard layer k sender counter s)
 unfolding heard
 sound-heard Nwk k sender counter s o = with-nets s (at_net k (net_kept sender (counter + 1)) s.nets) (nets-at (net_kept sender (counter + 1)) (record { key = λ r. refl; floors = λ r x. sorted-kept sender (counter + 1) r.floors x }) k s.nets (of-nets s o)) o
 sound-heard Aps k sender counter s o = with-links s (at_link sender k (link_kept (counter + 1)) s.links) (links-map (link_kept (counter + 1)) (is_link sender k) (λ r. refl) (λ r. refl) s.links o.links) o
 
-sound-sealed : (layer : Tier) (t : Sealing) (s : NodeState) → Sound s → Sound (sealed_at layer t s)
+sound-sealed : (layer : Layer) (t : Term) (s : NodeState) → Sound s → Sound (sealed_at layer t s)
 sound-sealed Nwk t s o = with-nets s (at_net t.base (next_at (t.counter + 1)) s.nets) (nets-at (next_at (t.counter + 1)) (plain-row (next_at (t.counter + 1)) (λ r. refl) (λ r. refl)) t.base s.nets (of-nets s o)) o
 sound-sealed Aps t s o = record { nets = o.nets; links = o.links; floors = o.floors }
 
@@ -213,7 +213,7 @@ sound-booted s o = record {
     booted : RowMap booted_net
     booted = record { key = λ r. refl; floors = λ r x. sorted-booted r.floors x }
 
-sound-after : (l : LogLine) (s : NodeState) → Sound s → Sound (after l s)
+sound-after : (l : Line) (s : NodeState) → Sound s → Sound (after l s)
 unfolding after with_given_net with_given_link with_declared sealed accepted
 sound-after (Declared p) s o = record { nets = o.nets; links = o.links; floors = o.floors }
 sound-after (GivenNet n k q) s o = record { nets = (given k q).found; links = o.links; floors = (given k q).floors }
@@ -229,10 +229,10 @@ sound-after (Seal e n t) s o = sound-sealed t.layer t s o
 sound-after (Boot e n) s o = sound-booted s o
 sound-after _ s o = o
 
-sound-fold : (n : ℕ) (ls : List LogLine) (s : NodeState) → Sound s → Sound (fold (heard_line n) s ls)
+sound-fold : (n : ℕ) (ls : List Line) (s : NodeState) → Sound s → Sound (fold (heard_line n) s ls)
 sound-fold n [] s o = o
 sound-fold n (l ∷ ls) s o = sound-fold n ls (heard_line n s l) (heard-keeps Sound n l s (λ e. sound-after l s o) o)
 
-pub sound : (h : List LogLine) (n : ℕ) → Sound (state_of h n)
+pub sound : (h : List Line) (n : ℕ) → Sound (state_of h n)
 unfolding state_of
-sound h n = sound-fold n h (new_node Duty.Device) (record { nets = tt; links = tt; floors = tt })
+sound h n = sound-fold n h (new_node Role.Device) (record { nets = tt; links = tt; floors = tt })

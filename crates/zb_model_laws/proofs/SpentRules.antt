@@ -1,14 +1,14 @@
 -- A rule answers counter-spent only where a counter is.
 use Rattle.std.proofs.Common.{◌≡◌, ℕ, Bool, true, false, cond, List, [], ◌∷◌, ◌++◌, Option, Some, None, option_to_list, find, refl, ◌⊎◌, inl, inr}
 use Rattle.std.proofs.lemmas.Bool.{or_cases}
-use Rattle.zb_model.specs.Data.{Bytes, Nwk, Aps, Stage, Joined, Offered, Reason, CounterSpent, Spot, AtAps, Sealing, Order, TransportNet, TransportApp, TransportLink, UpdateDevice, RemoveDevice, RequestApp, RequestLink, SwitchKey, Tunnel, VerifyKey, ConfirmKey, Task, SayTo, TellTo, DoKnock, DoRejoin, DoTimer, AskFor, HasChild, DoProvision, DoRemove, DoRoll, DoSwitch, DoAgain, DoShare, Received}
+use Rattle.zb_model.specs.Data.{Bytes, Nwk, Aps, State, Joined, Offered, Reason, CounterSpent, Place, AtAps, Term, Command, TransportNet, TransportApp, TransportLink, UpdateDevice, RemoveDevice, RequestApp, RequestLink, SwitchKey, Tunnel, VerifyKey, ConfirmKey, Task, SayTo, TellTo, DoKnock, DoRejoin, DoTimer, AskFor, HasChild, DoProvision, DoRemove, DoRoll, DoSwitch, DoAgain, DoShare, Received}
 use Rattle.zb_model.specs.State.{LinkKey, PairKey, NodeState, is_centre, is_live_of, has_net, active_row, usable_active, usable_of, newest, current, offered, other_user, pair_of}
-use Rattle.zb_model.specs.Tools.{Tools, NwkSight, NwkAuxiliary, ApsSight, ApsAuxiliary, OrderSight, Known, Unknown, Broken, LeaveSight, Leave, Other, NoCommand}
+use Rattle.zb_model.specs.Tools.{Tools, NwkShown, NwkAuxiliary, ApsShown, ApsAuxiliary, CommandShown, Known, Unknown, Broken, LeaveShown, Leave, Other, NoCommand}
 use Rattle.zb_model.specs.Judging.{Verdict, Not, Good, reject, need, judge_net, Carrier, carrier, judge_security, judge_nwk, payload_of, candidates, chosen_row, aps_source, Unsealed, judge_aps}
 use Rattle.zb_model.specs.Rules.{Outcome, Stop, Does, Plan, Setting, unless, given, choose, centre_of, spent, both_spent, unless_held}
 use Rattle.zb_model.specs.Answer.{comes_to, heard_clear, heard_sealed, nwk_command, aps_command, clear_part, sealed_part, by_security, aps_part, net_part, received_as, plan_of}
 use Rattle.zb_model.specs.OwnEvents.{say, knock, rejoin, request_key, verify_key, timer_in, member_timer, ask, tell, report_child, child_of_router, child_of_centre, next_member, centre_timer, provision_new, provision, remove_device, roll, switch_over, again, share, own_at_centre, own_at_member, own}
-use Rattle.zb_model.specs.Commands.{Heard, take_net_key, unless_old, dropped_at, unless_used, take_row, take_link_key, take_app_key, take_switch, take_confirm, take_remove, take_tunnel, take_update, answer_request, take_request, answer_pair, take_app_request, verified_current, take_verify, take_order, take_leave}
+use Rattle.zb_model.specs.Commands.{Heard, take_net_key, unless_old, dropped_at, unless_used, take_row, take_link_key, take_app_key, take_switch, take_confirm, take_remove, take_tunnel, take_update, answer_request, take_request, answer_pair, take_app_request, verified_current, take_verify, take_command, take_leave}
 
 -- a counter is spent
 abbrev pub IsSpent : NodeState → Type 0
@@ -73,14 +73,14 @@ verify-fits : (tools : Tools) (c : Setting) (s : NodeState) → Fits s (verify_k
 unfolding verify_key
 verify-fits tools c s = gi s (offered s (centre_of c.stations)) _ _ tt (λ row. nwk s _ tt)
 
-timer-fits : (stage : Stage) (tools : Tools) (c : Setting) (s : NodeState) → Fits s (timer_in stage tools c s)
+timer-fits : (state : State) (tools : Tools) (c : Setting) (s : NodeState) → Fits s (timer_in state tools c s)
 timer-fits Joined tools c s = request-fits c s
 timer-fits Offered tools c s = verify-fits tools c s
 timer-fits _ tools c s = tt
 
 member-timer-fits : (tools : Tools) (c : Setting) (s : NodeState) → Fits s (member_timer tools c s)
 unfolding member_timer
-member-timer-fits tools c s = gi s (usable_active s) _ _ tt (λ net. timer-fits s.stage tools c s)
+member-timer-fits tools c s = gi s (usable_active s) _ _ tt (λ net. timer-fits s.state tools c s)
 
 ask-fits : (c : Setting) (s : NodeState) (partner : ℕ) → Fits s (ask c s partner)
 unfolding ask
@@ -158,7 +158,7 @@ member-own-fits tools c s _ = tt
 
 own-fits : (tools : Tools) (c : Setting) (s : NodeState) (task : Task) → Fits s (own tools c s task)
 unfolding own
-own-fits tools c s task = by-test (is_centre c.me.duty)
+own-fits tools c s task = by-test (is_centre c.me.role)
   where
     by-test : (b : Bool) → Fits s (cond b (own_at_centre c s task) (own_at_member tools c s task))
     by-test true = centre-own-fits c s task
@@ -231,50 +231,50 @@ unfolding take_verify
 take-verify-fits tools c s m kind device hash =
     un s _ _ _ (λ e. tt) (un s _ _ _ (λ e. tt) (un s _ _ _ (λ e. tt) (both s _ (ch s _ _ _ (gi s (offered s device) _ _ tt (λ row. tt)) (ch s _ _ _ (gi s (verified_current s device) _ _ tt (λ row. tt)) tt)))))
 
-order-fits : (tools : Tools) (c : Setting) (s : NodeState) (draw : Option Bytes) (m : Heard) (o : Order) → Fits s (take_order tools c s draw m o)
-unfolding take_order
-order-fits tools c s draw m (TransportNet key sequence destination source) = net-key-fits c s m key sequence destination source
-order-fits tools c s draw m (TransportApp key partner initiator) = app-key-fits c s m key partner
-order-fits tools c s draw m (TransportLink key destination source) = link-key-fits c s m key destination source
-order-fits tools c s draw m (UpdateDevice device short status) = take-update-fits c s m device status
-order-fits tools c s draw m (RemoveDevice target) = take-remove-fits c s m target
-order-fits tools c s draw m (RequestApp partner) = take-app-request-fits c s m draw partner
-order-fits tools c s draw m RequestLink = take-request-fits c s m draw
-order-fits tools c s draw m (SwitchKey sequence) = take-switch-fits c s m sequence
-order-fits tools c s draw m (Tunnel destination inner) = take-tunnel-fits c s m destination inner
-order-fits tools c s draw m (VerifyKey kind source hash) = take-verify-fits tools c s m kind source hash
-order-fits tools c s draw m (ConfirmKey status kind destination) = take-confirm-fits c s m status kind destination
+command-fits : (tools : Tools) (c : Setting) (s : NodeState) (draw : Option Bytes) (m : Heard) (o : Command) → Fits s (take_command tools c s draw m o)
+unfolding take_command
+command-fits tools c s draw m (TransportNet key sequence destination source) = net-key-fits c s m key sequence destination source
+command-fits tools c s draw m (TransportApp key partner initiator) = app-key-fits c s m key partner
+command-fits tools c s draw m (TransportLink key destination source) = link-key-fits c s m key destination source
+command-fits tools c s draw m (UpdateDevice device short status) = take-update-fits c s m device status
+command-fits tools c s draw m (RemoveDevice target) = take-remove-fits c s m target
+command-fits tools c s draw m (RequestApp partner) = take-app-request-fits c s m draw partner
+command-fits tools c s draw m RequestLink = take-request-fits c s m draw
+command-fits tools c s draw m (SwitchKey sequence) = take-switch-fits c s m sequence
+command-fits tools c s draw m (Tunnel destination inner) = take-tunnel-fits c s m destination inner
+command-fits tools c s draw m (VerifyKey kind source hash) = take-verify-fits tools c s m kind source hash
+command-fits tools c s draw m (ConfirmKey status kind destination) = take-confirm-fits c s m status kind destination
 
-leave-fits : (c : Setting) (s : NodeState) (term : Sealing) (options : ℕ) → Fits s (take_leave c term options)
+leave-fits : (c : Setting) (s : NodeState) (term : Term) (options : ℕ) → Fits s (take_leave c term options)
 unfolding take_leave
 leave-fits c s term options = un s _ _ _ (λ e. tt) tt
 
 -- judging
 
 abbrev VerdictFits : {A : Type 0} → NodeState → Verdict A → Type 0
-VerdictFits s (Not spot reason) = ReasonFits s reason
+VerdictFits s (Not model_place reason) = ReasonFits s reason
 VerdictFits s (Good it) = Unit {0}
 
-re : {A : Type 0} (s : NodeState) (bad : Bool) (spot : Spot) (reason : Reason) (rest : Verdict A) → ReasonFits s reason → VerdictFits s rest → VerdictFits s (reject bad spot reason rest)
+re : {A : Type 0} (s : NodeState) (bad : Bool) (model_place : Place) (reason : Reason) (rest : Verdict A) → ReasonFits s reason → VerdictFits s rest → VerdictFits s (reject bad model_place reason rest)
 unfolding reject
-re s true spot reason rest k f = k
-re s false spot reason rest k f = f
+re s true model_place reason rest k f = k
+re s false model_place reason rest k f = f
 
-ne : {A B : Type 0} (s : NodeState) (o : Option A) (spot : Spot) (reason : Reason) (rest : A → Verdict B) → ReasonFits s reason → ((a : A) → VerdictFits s (rest a)) → VerdictFits s (need o spot reason rest)
+ne : {A B : Type 0} (s : NodeState) (o : Option A) (model_place : Place) (reason : Reason) (rest : A → Verdict B) → ReasonFits s reason → ((a : A) → VerdictFits s (rest a)) → VerdictFits s (need o model_place reason rest)
 unfolding need
-ne s None spot reason rest k f = k
-ne s (Some a) spot reason rest k f = f a
+ne s None model_place reason rest k f = k
+ne s (Some a) model_place reason rest k f = f a
 
 judge-net-fits : (tools : Tools) (c : Setting) (s : NodeState) (bytes : Bytes) (aux : NwkAuxiliary) → VerdictFits s (judge_net tools c s bytes aux)
 unfolding judge_net
 judge-net-fits tools c s bytes aux =
     ne s (usable_of s aux.sequence) _ _ _ tt (λ row. re s _ _ _ _ tt (re s _ _ _ _ tt (ne s (tools.open_nwk bytes row.key) _ _ _ tt (λ t. re s _ _ _ _ tt (re s _ _ _ _ tt (re s _ _ _ _ tt tt))))))
 
-carrier-fits : (s : NodeState) (f : NwkSight) (v : Verdict Sealing) → VerdictFits s v → VerdictFits s (carrier f v)
-carrier-fits s f (Not spot reason) k = k
+carrier-fits : (s : NodeState) (f : NwkShown) (v : Verdict Term) → VerdictFits s v → VerdictFits s (carrier f v)
+carrier-fits s f (Not model_place reason) k = k
 carrier-fits s f (Good t) k = tt
 
-security-fits : (tools : Tools) (c : Setting) (s : NodeState) (bytes : Bytes) (f : NwkSight) (x : Option NwkAuxiliary) → VerdictFits s (judge_security tools c s bytes f x)
+security-fits : (tools : Tools) (c : Setting) (s : NodeState) (bytes : Bytes) (f : NwkShown) (x : Option NwkAuxiliary) → VerdictFits s (judge_security tools c s bytes f x)
 security-fits tools c s bytes f None = re s _ _ _ _ tt tt
 security-fits tools c s bytes f (Some aux) = carrier-fits s f (judge_net tools c s bytes aux) (judge-net-fits tools c s bytes aux)
 
@@ -282,7 +282,7 @@ judge-nwk-fits : (tools : Tools) (c : Setting) (s : NodeState) (bytes : Bytes) �
 unfolding judge_nwk
 judge-nwk-fits tools c s bytes = ne s (tools.read_nwk bytes) _ _ _ tt (λ f. re s _ _ _ _ tt (security-fits tools c s bytes f f.auxiliary))
 
-judge-aps-fits : (tools : Tools) (c : Setting) (s : NodeState) (f : NwkSight) (bytes : Bytes) (aux : ApsAuxiliary) → VerdictFits s (judge_aps tools c s f bytes aux)
+judge-aps-fits : (tools : Tools) (c : Setting) (s : NodeState) (f : NwkShown) (bytes : Bytes) (aux : ApsAuxiliary) → VerdictFits s (judge_aps tools c s f bytes aux)
 unfolding judge_aps
 judge-aps-fits tools c s f bytes aux =
     ne s (aps_source c f aux) _ _ _ tt (λ source. ne s (chosen_row tools bytes source (candidates s source)) _ _ _ tt (λ row. re s _ _ _ _ tt (re s _ _ _ _ tt (ne s (tools.open_aps bytes row.key source) _ _ _ tt (λ t. tt)))))
@@ -293,43 +293,43 @@ either-plan : (s : NodeState) (b : Bool) (p q : Plan) → Fits s p.outcome → F
 either-plan s true p q a b = a
 either-plan s false p q a b = b
 
-command-fits : (tools : Tools) (c : Setting) (s : NodeState) (draw : Option Bytes) (ts : List Sealing) (m : Heard) (o : OrderSight) → Fits s (aps_command tools c s draw ts m o).outcome
-command-fits tools c s draw ts m (Known order) = order-fits tools c s draw m order
+command-fits : (tools : Tools) (c : Setting) (s : NodeState) (draw : Option Bytes) (ts : List Term) (m : Heard) (o : CommandShown) → Fits s (aps_command tools c s draw ts m o).outcome
+command-fits tools c s draw ts m (Known command) = command-fits tools c s draw m command
 command-fits tools c s draw ts m Unknown = tt
 command-fits tools c s draw ts m Broken = tt
 
-clear-fits : (tools : Tools) (c : Setting) (s : NodeState) (draw : Option Bytes) (nwk : Option Sealing) (a : ApsSight) → Fits s (clear_part tools c s draw nwk a).outcome
+clear-fits : (tools : Tools) (c : Setting) (s : NodeState) (draw : Option Bytes) (nwk : Option Term) (a : ApsShown) → Fits s (clear_part tools c s draw nwk a).outcome
 clear-fits tools c s draw nwk a =
-    either-plan s a.is_command (aps_command tools c s draw (option_to_list nwk) (heard_clear nwk) (tools.read_order a.body)) (comes_to (option_to_list nwk) AtAps (Does [] None))
-    (command-fits tools c s draw (option_to_list nwk) (heard_clear nwk) (tools.read_order a.body)) tt
+    either-plan s a.is_command (aps_command tools c s draw (option_to_list nwk) (heard_clear nwk) (tools.read_command a.body)) (comes_to (option_to_list nwk) AtAps (Does [] None))
+    (command-fits tools c s draw (option_to_list nwk) (heard_clear nwk) (tools.read_command a.body)) tt
 
-sealed-fits : (tools : Tools) (c : Setting) (s : NodeState) (draw : Option Bytes) (nwk : Option Sealing) (a : ApsSight) (aux : ApsAuxiliary) (v : Verdict Unsealed) → VerdictFits s v → Fits s (sealed_part tools c s draw nwk a aux v).outcome
-sealed-fits tools c s draw nwk a aux (Not spot reason) k = k
+sealed-fits : (tools : Tools) (c : Setting) (s : NodeState) (draw : Option Bytes) (nwk : Option Term) (a : ApsShown) (aux : ApsAuxiliary) (v : Verdict Unsealed) → VerdictFits s v → Fits s (sealed_part tools c s draw nwk a aux v).outcome
+sealed-fits tools c s draw nwk a aux (Not model_place reason) k = k
 sealed-fits tools c s draw nwk a aux (Good u) k =
-    either-plan s a.is_command (aps_command tools c s draw (option_to_list nwk ++ u.term ∷ []) (heard_sealed nwk aux u) (tools.read_order u.term.content)) (comes_to (option_to_list nwk ++ u.term ∷ []) AtAps (Does [] None))
-    (command-fits tools c s draw (option_to_list nwk ++ u.term ∷ []) (heard_sealed nwk aux u) (tools.read_order u.term.content)) tt
+    either-plan s a.is_command (aps_command tools c s draw (option_to_list nwk ++ u.term ∷ []) (heard_sealed nwk aux u) (tools.read_command u.term.content)) (comes_to (option_to_list nwk ++ u.term ∷ []) AtAps (Does [] None))
+    (command-fits tools c s draw (option_to_list nwk ++ u.term ∷ []) (heard_sealed nwk aux u) (tools.read_command u.term.content)) tt
 
-by-fits : (tools : Tools) (c : Setting) (s : NodeState) (draw : Option Bytes) (f : NwkSight) (nwk : Option Sealing) (a : ApsSight) (x : Option ApsAuxiliary) → Fits s (by_security tools c s draw f nwk a x).outcome
+by-fits : (tools : Tools) (c : Setting) (s : NodeState) (draw : Option Bytes) (f : NwkShown) (nwk : Option Term) (a : ApsShown) (x : Option ApsAuxiliary) → Fits s (by_security tools c s draw f nwk a x).outcome
 by-fits tools c s draw f nwk a None = clear-fits tools c s draw nwk a
 by-fits tools c s draw f nwk a (Some aux) = sealed-fits tools c s draw nwk a aux (judge_aps tools c s f (payload_of f nwk) aux) (judge-aps-fits tools c s f (payload_of f nwk) aux)
 
-part-fits : (tools : Tools) (c : Setting) (s : NodeState) (draw : Option Bytes) (f : NwkSight) (nwk : Option Sealing) (o : Option ApsSight) → Fits s (aps_part tools c s draw f nwk o).outcome
+part-fits : (tools : Tools) (c : Setting) (s : NodeState) (draw : Option Bytes) (f : NwkShown) (nwk : Option Term) (o : Option ApsShown) → Fits s (aps_part tools c s draw f nwk o).outcome
 part-fits tools c s draw f nwk None = tt
 part-fits tools c s draw f nwk (Some a) = by-fits tools c s draw f nwk a a.auxiliary
 
-nwk-command-fits : (c : Setting) (s : NodeState) (term : Sealing) (l : LeaveSight) → Fits s (nwk_command c term l).outcome
+nwk-command-fits : (c : Setting) (s : NodeState) (term : Term) (l : LeaveShown) → Fits s (nwk_command c term l).outcome
 nwk-command-fits c s term (Leave options) = leave-fits c s term options
 nwk-command-fits c s term Other = tt
 nwk-command-fits c s term NoCommand = tt
 
-net-fits : (tools : Tools) (c : Setting) (s : NodeState) (draw : Option Bytes) (f : NwkSight) (o : Option Sealing) → Fits s (net_part tools c s draw f o).outcome
+net-fits : (tools : Tools) (c : Setting) (s : NodeState) (draw : Option Bytes) (f : NwkShown) (o : Option Term) → Fits s (net_part tools c s draw f o).outcome
 net-fits tools c s draw f None = part-fits tools c s draw f None (tools.read_aps f.body)
 net-fits tools c s draw f (Some t) =
     either-plan s f.is_command (nwk_command c t (tools.read_leave t.content)) (aps_part tools c s draw f (Some t) (tools.read_aps t.content)) (nwk-command-fits c s t (tools.read_leave t.content)) (part-fits tools c s draw f (Some t) (tools.read_aps t.content))
 
 received-fits : (tools : Tools) (c : Setting) (s : NodeState) (draw : Option Bytes) (v : Verdict Carrier) → VerdictFits s v → Fits s (received_as tools c s draw v).outcome
-received-fits tools c s draw (Not spot reason) k = k
-received-fits tools c s draw (Good x) k = net-fits tools c s draw x.sight x.term
+received-fits tools c s draw (Not model_place reason) k = k
+received-fits tools c s draw (Good x) k = net-fits tools c s draw x.frame x.term
 
 pub plan-fits : (tools : Tools) (c : Setting) (s : NodeState) (task : Task) → Fits s (plan_of tools c s task).outcome
 unfolding plan_of

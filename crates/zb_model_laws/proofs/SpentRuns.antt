@@ -1,14 +1,14 @@
 -- The groups of events: who answers counter-spent has no counter left.
 use Rattle.std.proofs.Common.{◌≡◌, ℕ, ◌≤◌, ◌+◌, ◌⊎◌, Bool, true, false, cond, List, [], ◌∷◌, ◌++◌, map, filter, length, Option, Some, None, option_map, option_to_list, find, flat_map, refl, sym, ap, ◌∙◌, subst, leb-true, inl, inr}
 use Rattle.std.specs.List.{AllByRecursion}
-use Rattle.zb_model.specs.Data.{Bytes, Tier, Nwk, Aps, Sealing, Edit, Reserve, Floor, Start, Moved, Spot, Reason, CounterSpent, Down, WrongState, Task, Received, DoRoll}
-use Rattle.zb_model.specs.Lines.{LogLine, Counter, Changed, Accept, Refuse, Seal, Boot, DownReset}
-use Rattle.zb_model.specs.State.{most, NetKey, NodeState, same_key, at_net, of_active, net_of_active, active_row, next_of, next_counter, reserved, net_floor, net_kept, applied, heard, accepted}
+use Rattle.zb_model.specs.Data.{Bytes, Layer, Nwk, Aps, Term, Edit, Reserve, Floor, Start, Moved, Place, Reason, CounterSpent, Down, WrongState, Task, Received, DoRoll}
+use Rattle.zb_model.specs.Lines.{Line, Counter, Changed, Accept, Refuse, Seal, Boot, DownReset}
+use Rattle.zb_model.specs.State.{greatest_counter, NetKey, NodeState, same_key, at_net, of_active, net_of_active, active_row, next_of, next_counter, reserved, net_floor, net_kept, applied, heard, accepted}
 use Rattle.zb_model.specs.Tools.{Tools}
 use Rattle.zb_model.specs.Rules.{Setting, Plan, Outcome, Stop, Does, spent}
 use Rattle.zb_model.specs.Answer.{Answer, Counting, answer_by, plan_of, counting_of, edits_of, reserve_edit, floor_edit, move_edits, changes, moves_of}
 use Rattle.zb_model.specs.Readings.{state_of, after, is_up, air}
-use Rattle.zb_model.specs.Play.{World, Act, Own, RollOver, Deliver, Reset, PowerOn, ShowRecord, ArmStop, ArmFail, InjectBytes, ForgeNet, ForgeNetAps, ForgeOpen, Step, Disk, Armed, NotArmed, StopAfter, FailAt, Calls, BootCalls, setting_of, disk_of, with_disk, falls, stands, calls_for, leaves_both, commit_lines, refuse_lines, send_lines, stored_lines, told_lines, group_of, cut_of, fallen_line, answer_step, boot_step, refused_step, answer_counted, task_step, deliver_step, frame_at, supply, forged_net, forged_both, forged_open, step_by, step, groups}
+use Rattle.zb_model.specs.Play.{Schedule, Event, Own, RollOver, Deliver, Reset, PowerOn, ShowRecord, ArmStop, ArmFail, InjectBytes, ForgeNet, ForgeNetAps, ForgeOpen, Step, Disk, Armed, NotArmed, StopAfter, FailAt, Calls, BootCalls, setting_of, disk_of, with_disk, falls, stands, calls_for, leaves_both, commit_lines, refuse_lines, send_lines, stored_lines, told_lines, group_of, cut_of, fallen_line, answer_step, boot_step, refused_step, answer_counted, task_step, deliver_step, frame_at, supply, forged_net, forged_both, forged_open, step_by, step, groups}
 use Rattle.zb_model.specs.Claims.{Each}
 use Rattle.zb_model_laws.proofs.Basics.{each-append, find-map}
 use Rattle.zb_model_laws.proofs.FreshLines.{all-append}
@@ -17,11 +17,11 @@ use Rattle.zb_model_laws.proofs.SpentRules.{IsSpent, Fits, plan-fits}
 
 -- the next counter has reached the greatest, at one of the layers
 abbrev pub ReachesEnd : NodeState → Type 0
-ReachesEnd s = (most ≤ next_counter Nwk s) ⊎ (most ≤ next_counter Aps s)
+ReachesEnd s = (greatest_counter ≤ next_counter Nwk s) ⊎ (greatest_counter ≤ next_counter Aps s)
 
 -- A line of a group: no limit at the start, and no refusal for a spent counter that isn't at its end.
-abbrev pub GroupLine : List LogLine → LogLine → Type 0
-GroupLine h (Refuse e n spot CounterSpent) = ReachesEnd (state_of h n)
+abbrev pub GroupLine : List Line → Line → Type 0
+GroupLine h (Refuse e n place CounterSpent) = ReachesEnd (state_of h n)
 GroupLine h (Counter n layer v) = ⊥
 GroupLine h _ = Unit {0}
 
@@ -64,7 +64,7 @@ Mild (Start k v) = ⊥
 Mild (Moved m) = ⊥
 Mild _ = Unit {0}
 
-mild-same : (e : Edit) → Mild e → (layer : Tier) (s : NodeState) → next_counter layer (applied e s) ≡ next_counter layer s
+mild-same : (e : Edit) → Mild e → (layer : Layer) (s : NodeState) → next_counter layer (applied e s) ≡ next_counter layer s
 unfolding next_counter applied active_row
 mild-same (Reserve Nwk v) m Nwk s = reserve-next v s.active s.active s
 mild-same (Reserve Nwk v) m Aps s = refl
@@ -77,18 +77,18 @@ mild-same (Floor Aps k p v) m Aps s = refl
 mild-same (Start k v) m layer s = absurd m
 mild-same (Moved x) m layer s = absurd m
 
-heard-same : (of : Tier) (k : Bytes) (sender counter : ℕ) (layer : Tier) (s : NodeState) → next_counter layer (heard of k sender counter s) ≡ next_counter layer s
+heard-same : (of : Layer) (k : Bytes) (sender counter : ℕ) (layer : Layer) (s : NodeState) → next_counter layer (heard of k sender counter s) ≡ next_counter layer s
 unfolding next_counter heard active_row
 heard-same Nwk k sender counter Nwk s = active-next (net_kept sender (counter + 1)) (λ r. refl) (λ r. refl) k s.active s
 heard-same Nwk k sender counter Aps s = refl
 heard-same Aps k sender counter Nwk s = same-active s.active s (heard Aps k sender counter s) refl
 heard-same Aps k sender counter Aps s = refl
 
-ends : (s t : NodeState) → ((layer : Tier) → next_counter layer t ≡ next_counter layer s) → ReachesEnd s → ReachesEnd t
-ends s t same (inl e) = inl (subst (λ n. most ≤ n) (sym (same Nwk)) e)
-ends s t same (inr e) = inr (subst (λ n. most ≤ n) (sym (same Aps)) e)
+ends : (s t : NodeState) → ((layer : Layer) → next_counter layer t ≡ next_counter layer s) → ReachesEnd s → ReachesEnd t
+ends s t same (inl e) = inl (subst (λ n. greatest_counter ≤ n) (sym (same Nwk)) e)
+ends s t same (inr e) = inr (subst (λ n. greatest_counter ≤ n) (sym (same Aps)) e)
 
-abbrev KeepsEnd : LogLine → Type 0
+abbrev KeepsEnd : Line → Type 0
 KeepsEnd l = (s : NodeState) → ReachesEnd s → ReachesEnd (after l s)
 
 changes-keep : (number n : ℕ) (es : List Edit) → AllByRecursion Mild es → AllByRecursion KeepsEnd (map (Changed number n) es)
@@ -101,22 +101,22 @@ unfolding after
 commit-keeps number n [] = tt
 commit-keeps number n (e ∷ es) = (λ s k. k, tt)
 
-accepts-keep : (number n : ℕ) (ts : List Sealing) → AllByRecursion KeepsEnd (map (Accept number n) ts)
+accepts-keep : (number n : ℕ) (ts : List Term) → AllByRecursion KeepsEnd (map (Accept number n) ts)
 unfolding after accepted
 accepts-keep number n [] = tt
 accepts-keep number n (t ∷ ts) = (λ s. ends s (heard t.layer t.base t.source t.counter s) (λ layer. heard-same t.layer t.base t.source t.counter layer s), accepts-keep number n ts)
 
 -- the changes of a refused answer
 
-reserve-mild : (layer : Tier) (o : Option ℕ) → AllByRecursion Mild (option_to_list (option_map (Reserve layer) o))
+reserve-mild : (layer : Layer) (o : Option ℕ) → AllByRecursion Mild (option_to_list (option_map (Reserve layer) o))
 reserve-mild layer None = tt
 reserve-mild layer (Some v) = (tt, tt)
 
-floor-mild : (t : Sealing) (o : Option ℕ) → AllByRecursion Mild (option_to_list (option_map (Floor t.layer t.base t.source) o))
+floor-mild : (t : Term) (o : Option ℕ) → AllByRecursion Mild (option_to_list (option_map (Floor t.layer t.base t.source) o))
 floor-mild t None = tt
 floor-mild t (Some v) = (tt, tt)
 
-floors-mild : (k : Counting) (ts : List Sealing) → AllByRecursion Mild (flat_map (floor_edit k) ts)
+floors-mild : (k : Counting) (ts : List Term) → AllByRecursion Mild (flat_map (floor_edit k) ts)
 floors-mild k [] = tt
 floors-mild k (t ∷ ts) = all-append Mild (floor_edit k t) (flat_map (floor_edit k) ts) (floor-mild t (k.floor t.layer)) (floors-mild k ts)
 
@@ -129,18 +129,18 @@ refused-edits s k p e =
 
 -- Lines without a refusal, and none of the start
 
-unfoldable NoRefusal : LogLine → Type 0
-NoRefusal (Refuse e n spot reason) = ⊥
+unfoldable NoRefusal : Line → Type 0
+NoRefusal (Refuse e n place reason) = ⊥
 NoRefusal (Counter n layer v) = ⊥
 NoRefusal _ = Unit {0}
 
-plain-line : (h : List LogLine) (l : LogLine) → NoRefusal l → GroupLine h l
+plain-line : (h : List Line) (l : Line) → NoRefusal l → GroupLine h l
 unfolding NoRefusal
-plain-line h (Refuse e n spot reason) k = absurd k
+plain-line h (Refuse e n place reason) k = absurd k
 plain-line h (Counter n layer v) k = absurd k
 plain-line h _ k = tt
 
-plain : (h ls : List LogLine) → AllByRecursion NoRefusal ls → Each GroupLine h ls
+plain : (h ls : List Line) → AllByRecursion NoRefusal ls → Each GroupLine h ls
 plain h [] a = tt
 plain h (l ∷ ls) a = (plain-line h l a.0, plain (h ++ l ∷ []) ls a.1)
 
@@ -158,12 +158,12 @@ stored-plain : (number n : ℕ) (a : Answer) → AllByRecursion NoRefusal (store
 unfolding stored_lines
 stored-plain number n a = all-append NoRefusal (map (Changed number n) a.edits) (commit_lines number n a.edits) (changes-plain number n a.edits) (commit-plain number n a.edits)
 
-accepts-plain : (number n : ℕ) (ts : List Sealing) → AllByRecursion NoRefusal (map (Accept number n) ts)
+accepts-plain : (number n : ℕ) (ts : List Term) → AllByRecursion NoRefusal (map (Accept number n) ts)
 unfolding NoRefusal
 accepts-plain number n [] = tt
 accepts-plain number n (t ∷ ts) = (tt, accepts-plain number n ts)
 
-seals-plain : (number n : ℕ) (ts : List Sealing) → AllByRecursion NoRefusal (map (Seal number n) ts)
+seals-plain : (number n : ℕ) (ts : List Term) → AllByRecursion NoRefusal (map (Seal number n) ts)
 unfolding NoRefusal
 seals-plain number n [] = tt
 seals-plain number n (t ∷ ts) = (tt, seals-plain number n ts)
@@ -191,20 +191,20 @@ cut-plain armed calls number n a = all-append NoRefusal (cond (stands armed call
 
 reached : (s : NodeState) → IsSpent s → ReachesEnd s
 unfolding spent
-reached s (inl e) = inl (leb-true most (next_counter Nwk s) e)
-reached s (inr e) = inr (leb-true most (next_counter Aps s) e)
+reached s (inl e) = inl (leb-true greatest_counter (next_counter Nwk s) e)
+reached s (inr e) = inr (leb-true greatest_counter (next_counter Aps s) e)
 
-stop-line : (number n : ℕ) (h0 h : List LogLine) (spot : Spot) (reason : Reason) → Rattle.zb_model_laws.proofs.SpentRules.ReasonFits (state_of h0 n) reason → (ReachesEnd (state_of h0 n) → ReachesEnd (state_of h n)) → GroupLine h (Refuse number n spot reason)
-stop-line number n h0 h spot CounterSpent f k = k (reached (state_of h0 n) f)
-stop-line number n h0 h spot _ f k = tt
+stop-line : (number n : ℕ) (h0 h : List Line) (place : Place) (reason : Reason) → Rattle.zb_model_laws.proofs.SpentRules.ReasonFits (state_of h0 n) reason → (ReachesEnd (state_of h0 n) → ReachesEnd (state_of h n)) → GroupLine h (Refuse number n place reason)
+stop-line number n h0 h place CounterSpent f k = k (reached (state_of h0 n) f)
+stop-line number n h0 h place _ f k = tt
 
-refusal-spent : (tools : Tools) (c : Setting) (number n : ℕ) (h : List LogLine) (kk : Counting) (p : Plan) (a : Answer) (o : Outcome) → p.outcome ≡ o → a.edits ≡ edits_of (state_of h n) kk p → Fits (state_of h n) o
-    → Each GroupLine ((h ++ stored_lines number n a) ++ map (Accept number n) p.accepts) (refuse_lines number n p.spot (Rattle.zb_model.specs.Answer.reason_of o))
+refusal-spent : (tools : Tools) (c : Setting) (number n : ℕ) (h : List Line) (kk : Counting) (p : Plan) (a : Answer) (o : Outcome) → p.outcome ≡ o → a.edits ≡ edits_of (state_of h n) kk p → Fits (state_of h n) o
+    → Each GroupLine ((h ++ stored_lines number n a) ++ map (Accept number n) p.accepts) (refuse_lines number n p.place (Rattle.zb_model.specs.Answer.reason_of o))
 unfolding stored_lines
 refusal-spent tools c number n h kk p a (Does moves sending) e same f = tt
-refusal-spent tools c number n h kk p a (Stop reason) e same f = (stop-line number n h ((h ++ stored) ++ map (Accept number n) p.accepts) p.spot reason f keep, tt)
+refusal-spent tools c number n h kk p a (Stop reason) e same f = (stop-line number n h ((h ++ stored) ++ map (Accept number n) p.accepts) p.place reason f keep, tt)
   where
-    stored : List LogLine
+    stored : List Line
     stored = map (Changed number n) a.edits ++ commit_lines number n a.edits
 
     mild : AllByRecursion Mild a.edits
@@ -214,7 +214,7 @@ refusal-spent tools c number n h kk p a (Stop reason) e same f = (stop-line numb
     keep k = lines-keep ReachesEnd n (h ++ stored) (map (Accept number n) p.accepts) (accepts-keep number n p.accepts)
         (lines-keep ReachesEnd n h stored (all-append KeepsEnd (map (Changed number n) a.edits) (commit_lines number n a.edits) (changes-keep number n a.edits mild) (commit-keeps number n a.edits)) k)
 
-group-spent : (tools : Tools) (c : Setting) (h h0 : List LogLine) (number n : ℕ) (p : Plan) → Fits (state_of h n) p.outcome → Each GroupLine h (group_of h0 number n (answer_by tools c (state_of h n) (counting_of c (state_of h n) p) p))
+group-spent : (tools : Tools) (c : Setting) (h h0 : List Line) (number n : ℕ) (p : Plan) → Fits (state_of h n) p.outcome → Each GroupLine h (group_of h0 number n (answer_by tools c (state_of h n) (counting_of c (state_of h n) p) p))
 unfolding group_of told_lines answer_by
 group-spent tools c h h0 number n p f =
     each-append GroupLine h stored (accepts ++ (refusal ++ (seals ++ send))) (plain h stored (stored-plain number n a))
@@ -225,28 +225,28 @@ group-spent tools c h h0 number n p f =
     a : Answer
     a = answer_by tools c (state_of h n) (counting_of c (state_of h n) p) p
 
-    stored : List LogLine
+    stored : List Line
     stored = stored_lines number n a
 
-    accepts : List LogLine
+    accepts : List Line
     accepts = map (Accept number n) p.accepts
 
-    refusal : List LogLine
-    refusal = refuse_lines number n a.spot a.refusal
+    refusal : List Line
+    refusal = refuse_lines number n a.place a.refusal
 
-    seals : List LogLine
+    seals : List Line
     seals = map (Seal number n) a.seals
 
-    send : List LogLine
+    send : List Line
     send = send_lines number (Some n) (length (air h0) + 1) a.frame
 
 -- A step
 
-either : (P : List LogLine → Type 0) (b : Bool) (u v : Step) → P u.lines → P v.lines → P (cond b u v).lines
+either : (P : List Line → Type 0) (b : Bool) (u v : Step) → P u.lines → P v.lines → P (cond b u v).lines
 either P true u v p q = p
 either P false u v p q = q
 
-answer-spent : (tools : Tools) (c : Setting) (h : List LogLine) (disks : List Disk) (number n : ℕ) (p : Plan) → Fits (state_of h n) p.outcome → Each GroupLine h (answer_step h disks number n (answer_by tools c (state_of h n) (counting_of c (state_of h n) p) p)).lines
+answer-spent : (tools : Tools) (c : Setting) (h : List Line) (disks : List Disk) (number n : ℕ) (p : Plan) → Fits (state_of h n) p.outcome → Each GroupLine h (answer_step h disks number n (answer_by tools c (state_of h n) (counting_of c (state_of h n) p) p)).lines
 answer-spent tools c h disks number n p f =
     either (Each GroupLine h) (falls (disk_of disks n).armed (calls_for h n a.edits)) cut whole
     (plain h cut.lines (cut-plain (disk_of disks n).armed (calls_for h n a.edits) number n a)) (group-spent tools c h h number n p f)
@@ -260,28 +260,28 @@ answer-spent tools c h disks number n p f =
     whole : Step
     whole = record { lines = group_of h number n a; disks = disks }
 
-task-spent : (tools : Tools) (w : World) (h : List LogLine) (disks : List Disk) (number n : ℕ) (task : Task) → Each GroupLine h (task_step tools counting_of w h disks number n task).lines
+task-spent : (tools : Tools) (w : Schedule) (h : List Line) (disks : List Disk) (number n : ℕ) (task : Task) → Each GroupLine h (task_step tools counting_of w h disks number n task).lines
 unfolding task_step
 task-spent tools w h disks number n task =
     either (Each GroupLine h) (is_up h n) (answer_step h disks number n (answer_counted tools counting_of (setting_of w n) (state_of h n) (plan_of tools (setting_of w n) (state_of h n) task))) (refused_step disks number n Down)
     (answer-spent tools (setting_of w n) h disks number n (plan_of tools (setting_of w n) (state_of h n) task) (plan-fits tools (setting_of w n) (state_of h n) task)) (tt, tt)
 
-by-power : (h : List LogLine) (number n : ℕ) (b : Bool) → GroupLine h (Refuse number n Spot.AtEvent (cond b Reason.NoFrame Down))
+by-power : (h : List Line) (number n : ℕ) (b : Bool) → GroupLine h (Refuse number n Place.AtEvent (cond b Reason.NoFrame Down))
 by-power h number n true = tt
 by-power h number n false = tt
 
-deliver-spent : (tools : Tools) (w : World) (h : List LogLine) (disks : List Disk) (number n : ℕ) (o : Option Bytes) → Each GroupLine h (deliver_step tools counting_of w h disks number n o).lines
+deliver-spent : (tools : Tools) (w : Schedule) (h : List Line) (disks : List Disk) (number n : ℕ) (o : Option Bytes) → Each GroupLine h (deliver_step tools counting_of w h disks number n o).lines
 deliver-spent tools w h disks number n None = (by-power h number n (is_up h n), tt)
 deliver-spent tools w h disks number n (Some bytes) = task-spent tools w h disks number n (Received bytes (supply w h))
 
-boot-spent : (h : List LogLine) (disks : List Disk) (number n : ℕ) → Each GroupLine h (boot_step disks number n).lines
+boot-spent : (h : List Line) (disks : List Disk) (number n : ℕ) → Each GroupLine h (boot_step disks number n).lines
 boot-spent h disks number n =
     either (Each GroupLine h) (falls (disk_of disks n).armed (BootCalls (disk_of disks n).both_open))
     (record { lines = fallen_line (disk_of disks n).armed number n; disks = with_disk disks n (record { armed = NotArmed; both_open = leaves_both (disk_of disks n).armed (BootCalls (disk_of disks n).both_open) }) })
     (record { lines = Boot number n ∷ []; disks = with_disk disks n (record { armed = (disk_of disks n).armed; both_open = false }) })
     (plain h (fallen_line (disk_of disks n).armed number n) (fallen-plain (disk_of disks n).armed number n)) (tt, tt)
 
-step-spent : (tools : Tools) (w : World) (h : List LogLine) (disks : List Disk) (number : ℕ) (act : Act) → Each GroupLine h (step tools w h disks number act).lines
+step-spent : (tools : Tools) (w : Schedule) (h : List Line) (disks : List Disk) (number : ℕ) (event : Event) → Each GroupLine h (step tools w h disks number event).lines
 unfolding step step_by forged_net forged_both forged_open
 step-spent tools w h disks number (Own n task) = task-spent tools w h disks number n task
 step-spent tools w h disks number (RollOver n) = task-spent tools w h disks number n (DoRoll (supply w h))
@@ -296,9 +296,9 @@ step-spent tools w h disks number (ForgeNet to from source key sequence counter 
 step-spent tools w h disks number (ForgeNetAps to from source key sequence counter label base aps_counter command) = (tt, (tt, (tt, tt)))
 step-spent tools w h disks number (ForgeOpen to from source label base aps_counter command) = (tt, (tt, tt))
 
-pub groups-spent : (tools : Tools) (w : World) (h : List LogLine) (disks : List Disk) (number : ℕ) (acts : List Act) → Each GroupLine h (groups tools w h disks number acts)
+pub groups-spent : (tools : Tools) (w : Schedule) (h : List Line) (disks : List Disk) (number : ℕ) (events : List Event) → Each GroupLine h (groups tools w h disks number events)
 unfolding groups
 groups-spent tools w h disks number [] = tt
-groups-spent tools w h disks number (act ∷ acts) =
-    each-append GroupLine h (step tools w h disks number act).lines (groups tools w (h ++ (step tools w h disks number act).lines) (step tools w h disks number act).disks (number + 1) acts)
-    (step-spent tools w h disks number act) (groups-spent tools w (h ++ (step tools w h disks number act).lines) (step tools w h disks number act).disks (number + 1) acts)
+groups-spent tools w h disks number (event ∷ events) =
+    each-append GroupLine h (step tools w h disks number event).lines (groups tools w (h ++ (step tools w h disks number event).lines) (step tools w h disks number event).disks (number + 1) events)
+    (step-spent tools w h disks number event) (groups-spent tools w (h ++ (step tools w h disks number event).lines) (step tools w h disks number event).disks (number + 1) events)

@@ -1,12 +1,12 @@
 -- Counters are taken by seals alone: no other line but a boot and a first counter sets them on.
 use Rattle.std.proofs.Common.{◌≡◌, ℕ, ◌+◌, Bool, true, false, cond, ◌&&◌, List, [], ◌∷◌, ◌++◌, map, length, Option, Some, None, option_map, find, nat_eq, refl, sym, ap, ◌∙◌, subst, arith, ◌⊎◌, inl, inr}
 use Rattle.std.proofs.lemmas.Bool.{false≢true}
-use Rattle.zb_model.specs.Data.{Bytes, Tier, Nwk, Aps, Sealing, Move, Draw, DropNet, DropLink, Install, Active, Row, Pair, Became, Live, Removed, Roll, Told, Untold, Edit, Reserve, Floor, Start, Moved}
-use Rattle.zb_model.specs.Lines.{LogLine, Declared, GivenNet, GivenLink, Counter, Changed, Commit, Accept, Refuse, Seal, Forge, Send, Inject, Stopped, DownReset, DownDisk, Boot, Dump, End}
-use Rattle.zb_model.specs.State.{NetKey, NodeState, same_key, has_net, at_net, of_active, net_of, new_net, given_net, reserved, dropped_net, net_floor, net_kept, next_at, applied, moved, sealed, sealed_at, heard, accepted, with_given_net, with_given_link}
-use Rattle.zb_model.specs.Readings.{state_of, heard_line, after, speaker, alike_tier}
+use Rattle.zb_model.specs.Data.{Bytes, Layer, Nwk, Aps, Term, Move, Draw, DropNet, DropLink, Install, Active, Row, Pair, Became, Live, Removed, Roll, Told, Untold, Edit, Reserve, Floor, Start, Moved}
+use Rattle.zb_model.specs.Lines.{Line, Declared, GivenNet, GivenLink, Counter, Changed, Commit, Accept, Refuse, Seal, Forge, Send, Inject, Stopped, DownReset, DownDisk, Boot, Dump, End}
+use Rattle.zb_model.specs.State.{NetKey, NodeState, same_key, has_net, at_net, of_active, net_of, new_net, given_net, reserved, dropped_net, net_floor, net_kept, next_at, applied, moved, sealed, sealed_at, heard, accepted, with_given_net, with_given_link, same_layer}
+use Rattle.zb_model.specs.Readings.{state_of, heard_line, after, speaker}
 use Rattle.zb_model.specs.Claims.{Each}
-use Rattle.zb_model.specs.Play.{World}
+use Rattle.zb_model.specs.Play.{Schedule}
 use Rattle.zb_model.specs.Schedules.{IsSchedule}
 use Rattle.zb_model.specs.Tools.{Tools}
 use Rattle.zb_model.specs.Transcript.{transcript}
@@ -83,13 +83,13 @@ moved-stays (Roll b) s = record { aps = refl; nets = same-nets s.nets }
 moved-stays (Told d) s = record { aps = refl; nets = same-nets s.nets }
 moved-stays (Untold d) s = record { aps = refl; nets = same-nets s.nets }
 
-heard-stays : (layer : Tier) (k : Bytes) (sender counter : ℕ) (s : NodeState) → Stays s (heard layer k sender counter s)
+heard-stays : (layer : Layer) (k : Bytes) (sender counter : ℕ) (s : NodeState) → Stays s (heard layer k sender counter s)
 unfolding heard
 heard-stays Nwk k sender counter s = record { aps = refl; nets = at-nets k (net_kept sender (counter + 1)) (λ r. refl) (λ r. refl) s.nets }
 heard-stays Aps k sender counter s = record { aps = refl; nets = same-nets s.nets }
 
 -- what a line that takes no counter does
-abbrev Keeps : LogLine → Type 0
+abbrev Keeps : Line → Type 0
 Keeps l = SetsOn l ⊎ ((s : NodeState) → Stays s (after l s))
 
 edit-keeps : (e n : ℕ) (x : Edit) → Keeps (Changed e n x)
@@ -101,11 +101,11 @@ edit-keeps e n (Floor Aps k p v) = inr (λ s. record { aps = refl; nets = same-n
 edit-keeps e n (Start k v) = inl tt
 edit-keeps e n (Moved m) = inr (λ s. moved-stays m s)
 
-abbrev NoSeal : LogLine → Type 0
+abbrev NoSeal : Line → Type 0
 NoSeal (Seal e n t) = ⊥
 NoSeal _ = Unit {0}
 
-line-keeps : (l : LogLine) → NoSeal l → Keeps l
+line-keeps : (l : Line) → NoSeal l → Keeps l
 unfolding after with_given_net with_given_link accepted
 line-keeps (Declared p) k = inr (λ s. record { aps = refl; nets = same-nets s.nets })
 line-keeps (GivenNet n key q) k = inr (λ s. record { aps = refl; nets = add-nets (has_net key s.nets) (given_net s.declared key q) s.nets })
@@ -136,7 +136,7 @@ no-more n = omega arith
 takes-none : (s t : NodeState) → Stays s t → Takes 0 (λ key. 0) s t
 takes-none s t k = (k.aps ∙ no-more s.aps_next, λ key r e. k.nets key r e ∙ ap Some (no-more r.next))
 
-heard-none : (m : ℕ) (l : LogLine) (s : NodeState) → ((s : NodeState) → Stays s (after l s)) → Takes 0 (λ key. 0) s (heard_line m s l)
+heard-none : (m : ℕ) (l : Line) (s : NodeState) → ((s : NodeState) → Stays s (after l s)) → Takes 0 (λ key. 0) s (heard_line m s l)
 unfolding heard_line
 heard-none m l s k = by-test (nat_eq (speaker l) m)
   where
@@ -156,7 +156,7 @@ number-is x y e = subst Is e refl
 one-more : (x c : ℕ) → x ≡ c → c + 1 ≡ x + 1
 one-more x c e = ap (λ y. y + 1) (sym e)
 
-sealed-net : (t : Sealing) (s : NodeState) → NextIs Nwk t s → (key : Bytes) (r : NetKey) → row_of key s.nets ≡ Some r → next_in key (at_net t.base (next_at (t.counter + 1)) s.nets) ≡ Some (r.next + cond (same_key t.base key) 1 0)
+sealed-net : (t : Term) (s : NodeState) → NextIs Nwk t s → (key : Bytes) (r : NetKey) → row_of key s.nets ≡ Some r → next_in key (at_net t.base (next_at (t.counter + 1)) s.nets) ≡ Some (r.next + cond (same_key t.base key) 1 0)
 sealed-net t s next key r e =
     ap (λ o. option_map (λ (x : NetKey). x.next) o) (find-map (λ (x : NetKey). same_key x.key key) F (λ x. by-key (same_key x.key t.base) x) s.nets ∙ ap (λ o. option_map F o) e)
     ∙ ap Some (by-base (same_key t.base key) refl)
@@ -181,26 +181,26 @@ sealed-net t s next key r e =
         ∙ one-more r.next t.counter (number-is r.next t.counter (sym (ap (λ o. option_map (λ (x : NetKey). x.next) o) (ap (λ k. net_of k s) (same_key-eq t.base key q) ∙ e)) ∙ next))
     by-base false q = by-row (same_key r.key t.base) refl q
 
-sealed-takes : (layer : Tier) (t : Sealing) (s : NodeState) → NextIs layer t s → Takes (cond (alike_tier layer Aps) 1 0) (λ key. cond (alike_tier layer Nwk && same_key t.base key) 1 0) s (sealed_at layer t s)
+sealed-takes : (layer : Layer) (t : Term) (s : NodeState) → NextIs layer t s → Takes (cond (same_layer layer Aps) 1 0) (λ key. cond (same_layer layer Nwk && same_key t.base key) 1 0) s (sealed_at layer t s)
 sealed-takes Nwk t s n = (no-more s.aps_next, λ key r e. sealed-net t s n key r e)
 sealed-takes Aps t s n = (one-more s.aps_next t.counter n, λ key r e. same-nets s.nets key r e ∙ ap Some (no-more r.next))
 
-seal-takes : (m e n : ℕ) (t : Sealing) (s : NodeState) → (n ≡ m → NextIs t.layer t s) → Takes (taken_aps m (Seal e n t)) (λ key. taken_nwk m key (Seal e n t)) s (heard_line m s (Seal e n t))
+seal-takes : (m e n : ℕ) (t : Term) (s : NodeState) → (n ≡ m → NextIs t.layer t s) → Takes (taken_aps m (Seal e n t)) (λ key. taken_nwk m key (Seal e n t)) s (heard_line m s (Seal e n t))
 unfolding heard_line speaker after sealed
 seal-takes m e n t s k = by-test (nat_eq n m) refl
   where
-    by-test : (b : Bool) → nat_eq n m ≡ b → Takes (cond (b && alike_tier t.layer Aps) 1 0) (λ key. cond (b && (alike_tier t.layer Nwk && same_key t.base key)) 1 0) s (cond b (sealed_at t.layer t s) s)
+    by-test : (b : Bool) → nat_eq n m ≡ b → Takes (cond (b && same_layer t.layer Aps) 1 0) (λ key. cond (b && (same_layer t.layer Nwk && same_key t.base key)) 1 0) s (cond b (sealed_at t.layer t s) s)
     by-test true q = sealed-takes t.layer t s (k (Rattle.std.proofs.Common.eqb-true n m q))
     by-test false q = takes-none s s (record { aps = refl; nets = same-nets s.nets })
 
-quiet-takes : (h : List LogLine) (l : LogLine) → ((m : ℕ) → taken_aps m l ≡ 0) → ((m : ℕ) (key : Bytes) → taken_nwk m key l ≡ 0) → Keeps l → TakesAll h l
+quiet-takes : (h : List Line) (l : Line) → ((m : ℕ) → taken_aps m l ≡ 0) → ((m : ℕ) (key : Bytes) → taken_nwk m key l ≡ 0) → Keeps l → TakesAll h l
 quiet-takes h l a b (inl k) = inl k
 quiet-takes h l a b (inr k) = inr (λ m. turn m (subst (λ s. Takes 0 (λ key. 0) (state_of h m) s) (sym (state-snoc h l m)) (heard-none m l (state_of h m) k)))
   where
     turn : (m : ℕ) → Takes 0 (λ key. 0) (state_of h m) (state_of (h ++ l ∷ []) m) → Takes (taken_aps m l) (λ key. taken_nwk m key l) (state_of h m) (state_of (h ++ l ∷ []) m)
     turn m q = (q.0 ∙ ap (λ x. (state_of h m).aps_next + x) (sym (a m)), λ key r e. q.1 key r e ∙ ap (λ x. Some (r.next + x)) (sym (b m key)))
 
-line-takes : (h : List LogLine) (l : LogLine) → TakesNext h l → TakesAll h l
+line-takes : (h : List Line) (l : Line) → TakesNext h l → TakesAll h l
 line-takes h (Seal e n t) k = inr (λ m. subst (λ s. Takes (taken_aps m (Seal e n t)) (λ key. taken_nwk m key (Seal e n t)) (state_of h m) s) (sym (state-snoc h (Seal e n t) m))
     (seal-takes m e n t (state_of h m) (λ q. subst (λ x. NextIs t.layer t (state_of h x)) q k.2)))
 line-takes h (Declared p) k = quiet-takes h (Declared p) (λ m. refl) (λ m key. refl) (line-keeps (Declared p) tt)
@@ -221,9 +221,9 @@ line-takes h (Boot e n) k = inl tt
 line-takes h (Dump e n b) k = quiet-takes h (Dump e n b) (λ m. refl) (λ m key. refl) (line-keeps (Dump e n b) tt)
 line-takes h (End a b c d e f) k = quiet-takes h (End a b c d e f) (λ m. refl) (λ m key. refl) (line-keeps (End a b c d e f) tt)
 
-each-takes-all : (h ls : List LogLine) → Each TakesNext h ls → Each TakesAll h ls
+each-takes-all : (h ls : List Line) → Each TakesNext h ls → Each TakesAll h ls
 each-takes-all h [] a = tt
 each-takes-all h (l ∷ ls) a = (line-takes h l a.0, each-takes-all (h ++ l ∷ []) ls a.1)
 
-pub takes-all : (tools : Tools) (w : World) → IsSchedule w → Each TakesAll [] (transcript tools w)
+pub takes-all : (tools : Tools) (w : Schedule) → IsSchedule w → Each TakesAll [] (transcript tools w)
 takes-all tools w i = each-takes-all [] (transcript tools w) (takes-next tools w i)

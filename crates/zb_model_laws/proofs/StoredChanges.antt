@@ -2,7 +2,7 @@
 use Rattle.std.proofs.Common.{◌≡◌, ℕ, List, [], ◌∷◌, ◌++◌, map, Bool, true, false, if◌then◌else◌, ◌||◌, ◌&&◌, Option, Some, None, nat_lt, nat_eq, max, refl, sym, ap, ◌∙◌}
 use Rattle.std.specs.List.{list_any}
 use Rattle.std.proofs.lemmas.List.{map-append}
-use Rattle.zb_model.specs.Data.{Bytes, Nwk, Aps, Trust, Draw, DropNet, DropLink, Install, Active, Row, Pair, Became, Live, Removed, Roll, Told, Untold, Edit, Reserve, Floor, Start, Moved}
+use Rattle.zb_model.specs.Data.{Bytes, Nwk, Aps, Attribute, Draw, DropNet, DropLink, Install, Active, Row, Pair, Became, Live, Removed, Roll, Told, Untold, Edit, Reserve, Floor, Start, Moved}
 use Rattle.zb_model.specs.State.{SenderFloor, NetKey, LinkKey, NodeState, same_key, has_net, has_link, is_link, is_live_of, is_told, at_net, at_link, of_active, new_net, reserved, started_at, dropped_net, dropped_link, floor_stored, net_floor, link_floor, told_as, revived, new_link, with_link, with_told, applied, applied_all, booted_floor, booted_net, booted_link, after_boot}
 
 -- a boot after a boot changes nothing
@@ -105,18 +105,18 @@ installed_again key sequence rs =
     by_test false = map-append booted_net (map booted_net rs) (new_net key sequence ∷ []) ∙ ap (λ (l : List NetKey). l ++ booted_net (new_net key sequence) ∷ []) (nets_twice rs)
         ∙ sym (map-append booted_net rs (new_net key sequence ∷ []))
 
-linked_again : (partner : ℕ) (key : Bytes) (trust : Trust) (told : Bool) (rs : List LinkKey)
-    → map booted_link (with_link partner key trust told (map booted_link rs)) ≡ map booted_link (with_link partner key trust told rs)
-linked_again partner key trust told rs =
-    ap (λ (b : Bool). map booted_link (if b then at_link partner key (revived trust told) (map booted_link rs) else map booted_link rs ++ new_link partner key trust told ∷ []))
+linked_again : (partner : ℕ) (key : Bytes) (attribute : Attribute) (told : Bool) (rs : List LinkKey)
+    → map booted_link (with_link partner key attribute told (map booted_link rs)) ≡ map booted_link (with_link partner key attribute told rs)
+linked_again partner key attribute told rs =
+    ap (λ (b : Bool). map booted_link (if b then at_link partner key (revived attribute told) (map booted_link rs) else map booted_link rs ++ new_link partner key attribute told ∷ []))
     (any_link (is_link partner key) (λ r. refl) rs)
     ∙ by_test (has_link partner key rs)
   where
-    by_test : (b : Bool) → map booted_link (if b then at_link partner key (revived trust told) (map booted_link rs) else map booted_link rs ++ new_link partner key trust told ∷ [])
-        ≡ map booted_link (if b then at_link partner key (revived trust told) rs else rs ++ new_link partner key trust told ∷ [])
-    by_test true = some_links (is_link partner key) (revived trust told) (λ r. refl) (λ r. refl) rs
-    by_test false = map-append booted_link (map booted_link rs) (new_link partner key trust told ∷ []) ∙ ap (λ (l : List LinkKey). l ++ booted_link (new_link partner key trust told) ∷ []) (links_twice rs)
-        ∙ sym (map-append booted_link rs (new_link partner key trust told ∷ []))
+    by_test : (b : Bool) → map booted_link (if b then at_link partner key (revived attribute told) (map booted_link rs) else map booted_link rs ++ new_link partner key attribute told ∷ [])
+        ≡ map booted_link (if b then at_link partner key (revived attribute told) rs else rs ++ new_link partner key attribute told ∷ [])
+    by_test true = some_links (is_link partner key) (revived attribute told) (λ r. refl) (λ r. refl) rs
+    by_test false = map-append booted_link (map booted_link rs) (new_link partner key attribute told ∷ []) ∙ ap (λ (l : List LinkKey). l ++ booted_link (new_link partner key attribute told) ∷ []) (links_twice rs)
+        ∙ sym (map-append booted_link rs (new_link partner key attribute told ∷ []))
 
 told_again : (partner : ℕ) (told : Bool) (rs : List LinkKey) → map booted_link (with_told partner told (map booted_link rs)) ≡ map booted_link (with_told partner told rs)
 told_again partner told rs = some_links (is_live_of partner) (told_as told) (λ r. refl) (λ r. refl) rs
@@ -143,11 +143,11 @@ change_again (Moved (DropNet key)) s = rows (after_boot s) _ _ _ _ (at_nets key 
 change_again (Moved (DropLink partner key)) s = rows (after_boot s) _ _ _ _ (nets_twice s.nets) (some_links (is_link partner key) dropped_link (λ r. refl) (λ r. refl) s.links)
 change_again (Moved (Install key sequence)) s = rows (after_boot s) _ _ _ _ (installed_again key sequence s.nets) (links_twice s.links)
 change_again (Moved (Active key)) s = rows (after_boot (applied (Moved (Active key)) s)) _ _ _ _ (nets_twice s.nets) (links_twice s.links)
-change_again (Moved (Row partner key trust)) s = rows (after_boot s) _ _ _ _ (nets_twice s.nets)
-    (ap (λ (b : Bool). map booted_link (with_link partner key trust b (map booted_link s.links))) (any_link (λ (r : LinkKey). is_live_of partner r && r.told) (λ r. refl) s.links)
-    ∙ linked_again partner key trust (is_told s partner) s.links)
+change_again (Moved (Row partner key attribute)) s = rows (after_boot s) _ _ _ _ (nets_twice s.nets)
+    (ap (λ (b : Bool). map booted_link (with_link partner key attribute b (map booted_link s.links))) (any_link (λ (r : LinkKey). is_live_of partner r && r.told) (λ r. refl) s.links)
+    ∙ linked_again partner key attribute (is_told s partner) s.links)
 change_again (Moved (Pair first second key)) s = rows (after_boot (applied (Moved (Pair first second key)) s)) _ _ _ _ (nets_twice s.nets) (links_twice s.links)
-change_again (Moved (Became stage)) s = rows (after_boot (applied (Moved (Became stage)) s)) _ _ _ _ (nets_twice s.nets) (links_twice s.links)
+change_again (Moved (Became state)) s = rows (after_boot (applied (Moved (Became state)) s)) _ _ _ _ (nets_twice s.nets) (links_twice s.links)
 change_again (Moved (Live device)) s = rows (after_boot s) _ _ _ _ (nets_twice s.nets) (told_again device false s.links)
 change_again (Moved (Removed device)) s = rows (after_boot (applied (Moved (Removed device)) s)) _ _ _ _ (nets_twice s.nets) (links_twice s.links)
 change_again (Moved (Roll true)) s = rows (after_boot (applied (Moved (Roll true)) s)) _ _ _ _ (nets_twice s.nets) (all_links (told_as false) (λ r. refl) s.links)

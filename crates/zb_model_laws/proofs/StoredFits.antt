@@ -5,7 +5,7 @@ use Rattle.std.specs.List.{list_any, list_all}
 use Rattle.std.proofs.lemmas.List.{length-map}
 use Rattle.zb_model.specs.Data.{Bytes, Nwk, Aps, Draw, DropNet, DropLink, Install, Active, Row, Pair, Became, Live, Removed, Roll, Told, Untold, Edit, Reserve, Floor, Start, Moved}
 use Rattle.zb_model.specs.State.{SenderFloor, NetKey, LinkKey, NodeState, same_key, has_net, is_link, is_live_of, is_live, is_unverified, net_of, net_of_active, active_row, sender_floor, floor_of_sender, stored_limit, limit_of, pair_of, applied, booted_floor, booted_net, booted_link, after_boot}
-use Rattle.zb_model.specs.Fits.{all_apart, rows_have_room, most_nets, most_links, most_pairs, keys_differ, at_most_two_live, active_is_live, row_is_live, partners_agree, like_rows, same_bool, links_are_marked, floors_are_kept, most_senders, senders_ascend, limits_are_started, duty_is_kept, pairs_are_kept, keeps_rules, may_change, live_net, live_link, net_stored, link_stored, net_limit, fits}
+use Rattle.zb_model.specs.Fits.{all_apart, rows_have_room, most_nets, most_links, most_pairs, keys_differ, at_most_two_live, active_is_live, row_is_live, partners_agree, like_rows, same_bool, links_are_marked, floors_are_kept, most_senders, senders_ascend, limits_are_started, role_is_kept, pairs_are_kept, keeps_rules, may_change, live_net, live_link, net_stored, link_stored, net_limit, fits}
 use Rattle.zb_model_laws.proofs.Basics.{find-map}
 use Rattle.zb_model_laws.proofs.StoredChanges.{any_net, any_link, change_again}
 
@@ -53,8 +53,8 @@ floors_same fs =
 room_same : (s : NodeState) → rows_have_room (after_boot s) ≡ rows_have_room s
 unfolding after_boot rows_have_room
 room_same s =
-    ap (λ (n : ℕ). nat_le n most_nets && (nat_le (length (map booted_link s.links)) (most_links s.duty) && nat_le (length s.pairs) most_pairs)) (length-map s.nets booted_net)
-    ∙ ap (λ (n : ℕ). nat_le (length s.nets) most_nets && (nat_le n (most_links s.duty) && nat_le (length s.pairs) most_pairs)) (length-map s.links booted_link)
+    ap (λ (n : ℕ). nat_le n most_nets && (nat_le (length (map booted_link s.links)) (most_links s.role) && nat_le (length s.pairs) most_pairs)) (length-map s.nets booted_net)
+    ∙ ap (λ (n : ℕ). nat_le (length s.nets) most_nets && (nat_le n (most_links s.role) && nat_le (length s.pairs) most_pairs)) (length-map s.links booted_link)
 
 differ_same : (s : NodeState) → keys_differ (after_boot s) ≡ keys_differ s
 unfolding after_boot keys_differ
@@ -84,7 +84,7 @@ active_same s = by_active s.active
 agree_same : (s : NodeState) → partners_agree (after_boot s) ≡ partners_agree s
 unfolding after_boot partners_agree
 agree_same s =
-    let one = λ (a b : LinkKey). like_rows a b && same_bool (is_unverified a.trust) (is_unverified b.trust) in
+    let one = λ (a b : LinkKey). like_rows a b && same_bool (is_unverified a.attribute) (is_unverified b.attribute) in
     let two = λ (a b : LinkKey). like_rows a b && not (same_bool a.told b.told) in
     ap (λ (b : Bool). b && all_apart two (map booted_link s.links)) (apart one booted_link (λ a b. refl) s.links)
     ∙ ap (λ (b : Bool). all_apart one s.links && b) (apart two booted_link (λ a b. refl) s.links)
@@ -101,9 +101,9 @@ started_same : (s : NodeState) → limits_are_started (after_boot s) ≡ limits_
 unfolding after_boot limits_are_started
 started_same s = every _ booted_net (λ r. refl) s.nets
 
-duty_same : (s : NodeState) → duty_is_kept (after_boot s) ≡ duty_is_kept s
-unfolding after_boot duty_is_kept
-duty_same s = refl
+role_same : (s : NodeState) → role_is_kept (after_boot s) ≡ role_is_kept s
+unfolding after_boot role_is_kept
+role_same s = refl
 
 pairs_same : (s : NodeState) → pairs_are_kept (after_boot s) ≡ pairs_are_kept s
 unfolding after_boot pairs_are_kept
@@ -111,7 +111,7 @@ pairs_same s = refl
 
 pub rules_same : (s : NodeState) → keeps_rules (after_boot s) ≡ keeps_rules s
 unfolding keeps_rules
-rules_same s = rw (room_same s, differ_same s, live_same s, active_same s, agree_same s, marked_same s, kept_same s, started_same s, duty_same s, pairs_same s) refl
+rules_same s = rw (room_same s, differ_same s, live_same s, active_same s, agree_same s, marked_same s, kept_same s, started_same s, role_same s, pairs_same s) refl
 
 -- what a change needs
 
@@ -189,9 +189,9 @@ may_same (Moved (DropNet key)) s = live_found key s
 may_same (Moved (DropLink partner key)) s = any_live_link partner key s.links
 may_same (Moved (Install key sequence)) s = ap (λ (b : Bool). not b) (any_net (λ (r : NetKey). same_key r.key key) (λ r. refl) s.nets)
 may_same (Moved (Active key)) s = live_found key s
-may_same (Moved (Row partner key trust)) s = refl
+may_same (Moved (Row partner key attribute)) s = refl
 may_same (Moved (Pair first second key)) s = refl
-may_same (Moved (Became stage)) s = refl
+may_same (Moved (Became state)) s = refl
 may_same (Moved (Live device)) s = rw (device_same s device) refl
 may_same (Moved (Removed device)) s = rw (device_same s device) refl
 may_same (Moved (Roll sending)) s = refl
@@ -213,9 +213,9 @@ fits_same (Moved (DropNet key)) s = both_same (Moved (DropNet key)) s
 fits_same (Moved (DropLink partner key)) s = both_same (Moved (DropLink partner key)) s
 fits_same (Moved (Install key sequence)) s = both_same (Moved (Install key sequence)) s
 fits_same (Moved (Active key)) s = both_same (Moved (Active key)) s
-fits_same (Moved (Row partner key trust)) s = both_same (Moved (Row partner key trust)) s
+fits_same (Moved (Row partner key attribute)) s = both_same (Moved (Row partner key attribute)) s
 fits_same (Moved (Pair first second key)) s = both_same (Moved (Pair first second key)) s
-fits_same (Moved (Became stage)) s = both_same (Moved (Became stage)) s
+fits_same (Moved (Became state)) s = both_same (Moved (Became state)) s
 fits_same (Moved (Live device)) s = both_same (Moved (Live device)) s
 fits_same (Moved (Removed device)) s = both_same (Moved (Removed device)) s
 fits_same (Moved (Roll sending)) s = both_same (Moved (Roll sending)) s

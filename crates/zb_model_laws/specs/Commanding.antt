@@ -1,26 +1,26 @@
 -- What the laws on keys ask of a schedule's nodes, and of frames and commands as they are spelled and read.
 use Rattle.std.specs.Prelude.{ℕ, ◌≡◌, ◌<◌, ◌^◌, ◌⊎◌, true, false, ◌∷◌, Some, is_some}
 use Rattle.std.specs.List.{AllByRecursion}
-use Rattle.zb_model.specs.Data.{Bytes, Purpose, Station, Order, ConfirmKey}
+use Rattle.zb_model.specs.Data.{Bytes, Label, Station, Command, ConfirmKey}
 use Rattle.zb_model.specs.State.{is_centre}
-use Rattle.zb_model.specs.Tools.{Tools, ApsSight, Known}
+use Rattle.zb_model.specs.Tools.{Tools, ApsShown, Known}
 use Rattle.zb_model.specs.Frames.{aps_term, sealed_command, sealed_data, data_front, clear_command, clear_broadcast}
-use Rattle.zb_model.specs.Secrets.{key_in, key_of_sight, is_command_header}
+use Rattle.zb_model.specs.Secrets.{key_in, key_shown, is_command_header}
 use Rattle.zb_model.specs.Rules.{centre_of}
-use Rattle.zb_model.specs.Play.{World, stations}
+use Rattle.zb_model.specs.Play.{Schedule, stations}
 
 -- A schedule declares one centre: each station that is declared as one has the centre's EUI.
-abbrev pub OneCentre : World → Type 0
-OneCentre w = AllByRecursion (λ (p : Station). is_centre p.duty ≡ true → p.eui ≡ centre_of (stations w)) (stations w)
+abbrev pub OneCentre : Schedule → Type 0
+OneCentre w = AllByRecursion (λ (p : Station). is_centre p.role ≡ true → p.eui ≡ centre_of (stations w)) (stations w)
 
 -- the command is a Confirm-Key for the device, if its own device has an EUI of 64 bits
-abbrev pub IsConfirmOf : Order → ℕ → Type 0
+abbrev pub IsConfirmOf : Command → ℕ → Type 0
 IsConfirmOf (ConfirmKey status kind device) d = device < 2 ^ 64 → device ≡ d
 IsConfirmOf _ d = ⊥
 
 -- Of the commands, only Confirm-Key is spelled so that it reads as a Confirm-Key of status 0, and with its own device.
 abbrev pub SpellsConfirm : Tools → Type 0
-SpellsConfirm tools = (order : Order) (kind d : ℕ) → tools.read_order (tools.spelled order) ≡ Known (ConfirmKey 0 kind d) → IsConfirmOf order d
+SpellsConfirm tools = (model_command : Command) (kind d : ℕ) → tools.read_command (tools.spelled model_command) ≡ Known (ConfirmKey 0 kind d) → IsConfirmOf model_command d
 
 -- the frame control of a command that stands unsealed in a frame: to one node, or to all
 abbrev pub IsClearControl : ℕ → Type 0
@@ -30,8 +30,8 @@ IsClearControl control = (control ≡ clear_command) ⊎ (control ≡ clear_broa
 -- as a command isn't read as one; a command in clear is read behind its control and its counter; a sealed APS frame shows that
 -- it is sealed.
 pub record ShowsKeys (tools : Tools) : Type 0 where
-  pub order : (o : Order) (k : Bytes) → key_of_sight (tools.read_order (tools.spelled o)) ≡ Some k → key_in o ≡ Some k
-  pub plain : (bytes : Bytes) (a : ApsSight) → tools.read_aps bytes ≡ Some a → is_command_header bytes ≡ false → a.is_command ≡ false
-  pub clear : (control counter : ℕ) (bytes : Bytes) (a : ApsSight) → IsClearControl control → tools.read_aps (control ∷ counter ∷ bytes) ≡ Some a → a.body ≡ bytes
-  pub command : (label : Purpose) (key : Bytes) (source counter : ℕ) (content : Bytes) (a : ApsSight) → tools.read_aps (tools.wire (aps_term sealed_command label key source counter content)) ≡ Some a → is_some a.auxiliary ≡ true
-  pub telling : (label : Purpose) (key : Bytes) (source counter : ℕ) (content : Bytes) (a : ApsSight) → tools.read_aps (tools.wire (aps_term (data_front sealed_data) label key source counter content)) ≡ Some a → is_some a.auxiliary ≡ true
+  pub command : (o : Command) (k : Bytes) → key_shown (tools.read_command (tools.spelled o)) ≡ Some k → key_in o ≡ Some k
+  pub plain : (bytes : Bytes) (a : ApsShown) → tools.read_aps bytes ≡ Some a → is_command_header bytes ≡ false → a.is_command ≡ false
+  pub clear : (control counter : ℕ) (bytes : Bytes) (a : ApsShown) → IsClearControl control → tools.read_aps (control ∷ counter ∷ bytes) ≡ Some a → a.body ≡ bytes
+  pub command : (label : Label) (key : Bytes) (source counter : ℕ) (content : Bytes) (a : ApsShown) → tools.read_aps (tools.wire (aps_term sealed_command label key source counter content)) ≡ Some a → is_some a.auxiliary ≡ true
+  pub telling : (label : Label) (key : Bytes) (source counter : ℕ) (content : Bytes) (a : ApsShown) → tools.read_aps (tools.wire (aps_term (data_front sealed_data) label key source counter content)) ≡ Some a → is_some a.auxiliary ≡ true

@@ -1,10 +1,10 @@
 -- What the laws over runs ask of a schedule, as one record. Every schedule that is read from a text keeps it.
-use Rattle.zb_model.specs.Play.{World}
+use Rattle.zb_model.specs.Play.{Schedule}
 use Rattle.zb_model.specs.Schedules.{IsSchedule}
 use Rattle.zb_model_laws.specs.Commanding.{OneCentre}
 use Rattle.zb_model_laws.specs.KeysApart.{KeysApart}
 
-pub record Premises (w : World) : Type 0 where
+pub record Premises (w : Schedule) : Type 0 where
   -- events of declared nodes; EUIs, blocks and limits at the start in their ranges
   pub schedule : IsSchedule w
   -- each node that is declared as a centre has the centre's EUI

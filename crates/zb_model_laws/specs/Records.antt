@@ -3,7 +3,7 @@
 use Rattle.std.specs.Prelude.{◌≡◌, ℕ, zero, suc, ◌<◌, ◌^◌, Bool, true, false, if◌then◌else◌, List, [], ◌∷◌, length, take, drop, slice_get, Option, Some, None, option_map, nat_eq, nat_lt, is_some}
 use Rattle.std.specs.Int.{Width, w16, w32, w64, byte_len, from_le_bytes}
 use Rattle.std.specs.List.{AllByRecursion}
-use Rattle.zb_model.specs.Data.{Bytes, Duty, Centre, Router, Device, Stage, Fresh, Knocked, Joined, Offered, Confirmed, Rejoining, Gone, Trust, Provisional, Unverified, Verified}
+use Rattle.zb_model.specs.Data.{Bytes, Role, Centre, Router, Device, State, Fresh, Knocked, Joined, Offered, Confirmed, Rejoining, Gone, Attribute, Provisional, Unverified, Verified}
 use Rattle.zb_model.specs.State.{SenderFloor, NetKey, LinkKey, PairKey, NodeState, net_of_active}
 
 -- Readings: a value is taken off the front of bytes
@@ -44,27 +44,27 @@ so_many read (suc n) bytes = follow (read bytes) (λ x rest. follow (so_many rea
 
 -- Bytes that stand for one of a few values
 
-unfoldable pub duty_of : ℕ → Option Duty
-duty_of zero = Some Centre
-duty_of (suc zero) = Some Router
-duty_of (suc (suc zero)) = Some Device
-duty_of _ = None
+unfoldable pub role_of : ℕ → Option Role
+role_of zero = Some Centre
+role_of (suc zero) = Some Router
+role_of (suc (suc zero)) = Some Device
+role_of _ = None
 
-unfoldable pub stage_of : ℕ → Option Stage
-stage_of zero = Some Fresh
-stage_of (suc zero) = Some Knocked
-stage_of (suc (suc zero)) = Some Joined
-stage_of (suc (suc (suc zero))) = Some Offered
-stage_of (suc (suc (suc (suc zero)))) = Some Confirmed
-stage_of (suc (suc (suc (suc (suc zero))))) = Some Rejoining
-stage_of (suc (suc (suc (suc (suc (suc zero)))))) = Some Gone
-stage_of _ = None
+unfoldable pub state_of : ℕ → Option State
+state_of zero = Some Fresh
+state_of (suc zero) = Some Knocked
+state_of (suc (suc zero)) = Some Joined
+state_of (suc (suc (suc zero))) = Some Offered
+state_of (suc (suc (suc (suc zero)))) = Some Confirmed
+state_of (suc (suc (suc (suc (suc zero))))) = Some Rejoining
+state_of (suc (suc (suc (suc (suc (suc zero)))))) = Some Gone
+state_of _ = None
 
-unfoldable pub trust_of : ℕ → Option Trust
-trust_of zero = Some Provisional
-trust_of (suc zero) = Some Unverified
-trust_of (suc (suc zero)) = Some Verified
-trust_of _ = None
+unfoldable pub attribute_of : ℕ → Option Attribute
+attribute_of zero = Some Provisional
+attribute_of (suc zero) = Some Unverified
+attribute_of (suc (suc zero)) = Some Verified
+attribute_of _ = None
 
 unfoldable pub yes_or_no : ℕ → Option Bool
 yes_or_no zero = Some false
@@ -131,11 +131,11 @@ link_at = do
   partner ← a_number w64
   key ← some_bytes 16
   attribute ← a_byte
-  trust ← chosen (trust_of attribute)
+  model_attribute ← chosen (attribute_of attribute)
   byte ← a_byte
   flags ← chosen (three_flags byte)
   stored ← a_number w32
-  give (record { partner = partner; key = key; trust = trust; live = flags.0; code = flags.1; told = flags.2; kept = stored; stored = stored })
+  give (record { partner = partner; key = key; attribute = model_attribute; live = flags.0; code = flags.1; told = flags.2; kept = stored; stored = stored })
 
 unfoldable pub pair_at : Taking PairKey
 pair_at = do
@@ -156,9 +156,9 @@ record_at = do
   version ← a_byte
   three ← chosen (only 3 version)
   role ← a_byte
-  duty ← chosen (duty_of role)
+  model_role ← chosen (role_of role)
   step ← a_byte
-  stage ← chosen (stage_of step)
+  state ← chosen (state_of step)
   declared ← a_number w32
   aps ← a_number w32
   roll ← a_byte
@@ -172,7 +172,7 @@ record_at = do
   links ← so_many link_at link_count
   pair_count ← a_number w16
   pairs ← so_many pair_at pair_count
-  give (record { duty = duty; stage = stage; declared = declared; aps_limit = aps; aps_next = aps; sending = sending; nets = nets; active = active; links = links; pairs = pairs })
+  give (record { role = model_role; state = state; declared = declared; aps_limit = aps; aps_next = aps; sending = sending; nets = nets; active = active; links = links; pairs = pairs })
 
 abbrev pub whole : Option (NodeState × Bytes) → Option NodeState
 whole None = None

@@ -16,9 +16,9 @@ use Rattle.zb_cursor.specs.Spelling.{eui}
 use Rattle.zb_model_laws.proofs.Basics.{append-nil'}
 use Rattle.zb_model_laws.specs.Commanding.{SpellsConfirm}
 use Rattle.zb_model.specs.Data as model
-use Rattle.zb_model.specs.Tools.{OrderSight, Known}
+use Rattle.zb_model.specs.Tools.{CommandShown, Known}
 use Rattle.zb_model_real.specs.Real.{eui_of, real}
-use Rattle.zb_trace_watch.specs.Readers.{order, order_sight}
+use Rattle.zb_trace_watch.specs.Readers.{command, command_shown}
 
 -- readings that give no Confirm-Key
 
@@ -30,7 +30,7 @@ abbrev ReadsNone : Result (Command × List ℕ) CmdError → Type 0
 ReadsNone (Ok x) = NoConfirm x.0
 ReadsNone (Err e) = Unit {0}
 
-abbrev IsNone : OrderSight → Type 0
+abbrev IsNone : CommandShown → Type 0
 IsNone (Known (model.ConfirmKey status kind destination)) = ⊥
 IsNone _ = Unit {0}
 
@@ -93,7 +93,7 @@ verify-none cut bytes =
     follow-none (List ℕ) (bytes_at 16 cut r) (λ h r. Ok (Verify k s h, r)) (λ h r. tt)))
 
 -- what was read is shown, where no bytes are left
-known-none : (c : Command) → NoConfirm c → IsNone (Known (order c))
+known-none : (c : Command) → NoConfirm c → IsNone (Known (command c))
 known-none (TransportNetwork k q d s) n = tt
 known-none (TransportApplication k p i) n = tt
 known-none (TransportLink k d s) n = tt
@@ -106,17 +106,17 @@ known-none (Tunnel d i) n = tt
 known-none (Verify k s h) n = tt
 known-none (Confirm s k d) n = n
 
-error-none : (e : CmdError) → IsNone (order_sight (Err e))
+error-none : (e : CmdError) → IsNone (command_shown (Err e))
 error-none (fault.Unknown id) = tt
 error-none (fault.KeyType found) = tt
 error-none (fault.Short len) = tt
 error-none (fault.Trailing len) = tt
 
-ended-none : (c : Command) (left : ℕ) (b : Bool) → NoConfirm c → IsNone (order_sight (cond b (Ok c) (Err (fault.Trailing left))))
+ended-none : (c : Command) (left : ℕ) (b : Bool) → NoConfirm c → IsNone (command_shown (cond b (Ok c) (Err (fault.Trailing left))))
 ended-none c left true n = known-none c n
 ended-none c left false n = tt
 
-whole-none : (r : Result (Command × List ℕ) CmdError) → ReadsNone r → IsNone (order_sight (whole r))
+whole-none : (r : Result (Command × List ℕ) CmdError) → ReadsNone r → IsNone (command_shown (whole r))
 whole-none (Err e) n = error-none e
 whole-none (Ok x) n = ended-none x.0 (length x.1) (length x.1 == 0) n
 
@@ -125,43 +125,43 @@ whole-none (Ok x) n = ended-none x.0 (length x.1) (length x.1 == 0) n
 abbrev cut_of : List ℕ → CmdError
 cut_of bytes = fault.Short (length bytes)
 
-transport-net : (rest : List ℕ) → IsNone (order_sight (command_of (5 ∷ 1 ∷ rest)))
+transport-net : (rest : List ℕ) → IsNone (command_shown (command_of (5 ∷ 1 ∷ rest)))
 unfolding command_of command_at body_of transport_at transport_of
 transport-net rest = whole-none (network_at (cut_of (5 ∷ 1 ∷ rest)) rest) (network-none (cut_of (5 ∷ 1 ∷ rest)) rest)
 
-transport-app : (rest : List ℕ) → IsNone (order_sight (command_of (5 ∷ 3 ∷ rest)))
+transport-app : (rest : List ℕ) → IsNone (command_shown (command_of (5 ∷ 3 ∷ rest)))
 unfolding command_of command_at body_of transport_at transport_of
 transport-app rest = whole-none (application_at (cut_of (5 ∷ 3 ∷ rest)) rest) (application-none (cut_of (5 ∷ 3 ∷ rest)) rest)
 
-transport-link : (rest : List ℕ) → IsNone (order_sight (command_of (5 ∷ 4 ∷ rest)))
+transport-link : (rest : List ℕ) → IsNone (command_shown (command_of (5 ∷ 4 ∷ rest)))
 unfolding command_of command_at body_of transport_at transport_of
 transport-link rest = whole-none (link_at (cut_of (5 ∷ 4 ∷ rest)) rest) (link-none (cut_of (5 ∷ 4 ∷ rest)) rest)
 
-update : (rest : List ℕ) → IsNone (order_sight (command_of (6 ∷ rest)))
+update : (rest : List ℕ) → IsNone (command_shown (command_of (6 ∷ rest)))
 unfolding command_of command_at body_of
 update rest = whole-none (update_at (cut_of (6 ∷ rest)) rest) (update-none (cut_of (6 ∷ rest)) rest)
 
-remove : (rest : List ℕ) → IsNone (order_sight (command_of (7 ∷ rest)))
+remove : (rest : List ℕ) → IsNone (command_shown (command_of (7 ∷ rest)))
 unfolding command_of command_at body_of
 remove rest = whole-none (remove_at (cut_of (7 ∷ rest)) rest) (remove-none (cut_of (7 ∷ rest)) rest)
 
-request-app : (rest : List ℕ) → IsNone (order_sight (command_of (8 ∷ 2 ∷ rest)))
+request-app : (rest : List ℕ) → IsNone (command_shown (command_of (8 ∷ 2 ∷ rest)))
 unfolding command_of command_at body_of request_at request_of
 request-app rest = whole-none (partner_at (cut_of (8 ∷ 2 ∷ rest)) rest) (partner-none (cut_of (8 ∷ 2 ∷ rest)) rest)
 
-request-link : IsNone (order_sight (command_of (8 ∷ 4 ∷ [])))
+request-link : IsNone (command_shown (command_of (8 ∷ 4 ∷ [])))
 unfolding command_of command_at body_of request_at request_of
 request-link = tt
 
-switch : (rest : List ℕ) → IsNone (order_sight (command_of (9 ∷ rest)))
+switch : (rest : List ℕ) → IsNone (command_shown (command_of (9 ∷ rest)))
 unfolding command_of command_at body_of
 switch rest = whole-none (switch_at (cut_of (9 ∷ rest)) rest) (switch-none (cut_of (9 ∷ rest)) rest)
 
-tunnel : (rest : List ℕ) → IsNone (order_sight (command_of (14 ∷ rest)))
+tunnel : (rest : List ℕ) → IsNone (command_shown (command_of (14 ∷ rest)))
 unfolding command_of command_at body_of
 tunnel rest = whole-none (tunnel_at (cut_of (14 ∷ rest)) rest) (tunnel-none (cut_of (14 ∷ rest)) rest)
 
-verify : (rest : List ℕ) → IsNone (order_sight (command_of (15 ∷ rest)))
+verify : (rest : List ℕ) → IsNone (command_shown (command_of (15 ∷ rest)))
 unfolding command_of command_at body_of
 verify rest = whole-none (verify_at (cut_of (15 ∷ rest)) rest) (verify-none (cut_of (15 ∷ rest)) rest)
 
@@ -173,13 +173,13 @@ confirm-again status kind device lt =
     ap (λ b. eui_at (cut_of (16 ∷ status ∷ kind ∷ eui (eui_of device))) b) (sym (append-nil' (eui (eui_of device)))) ∙ eui_again (cut_of (16 ∷ status ∷ kind ∷ eui (eui_of device))) (eui_of device) [] lt in
     rw again refl
 
-device_of : OrderSight → ℕ
+device_of : CommandShown → ℕ
 device_of (Known (model.ConfirmKey status kind device)) = device
 device_of _ = 0
 
-confirmed : (status kind device k d : ℕ) → order_sight (command_of (16 ∷ status ∷ kind ∷ eui (eui_of device))) ≡ Known (model.ConfirmKey 0 k d) → device < 2 ^ 64 → device ≡ d
+confirmed : (status kind device k d : ℕ) → command_shown (command_of (16 ∷ status ∷ kind ∷ eui (eui_of device))) ≡ Known (model.ConfirmKey 0 k d) → device < 2 ^ 64 → device ≡ d
 unfolding device_of
-confirmed status kind device k d e lt = ap (λ r. device_of (order_sight r)) (sym (confirm-again status kind device lt)) ∙ ap device_of e
+confirmed status kind device k d e lt = ap (λ r. device_of (command_shown r)) (sym (confirm-again status kind device lt)) ∙ ap device_of e
 
 pub spells-confirm : SpellsConfirm real
 unfolding real

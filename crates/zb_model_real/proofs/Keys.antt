@@ -16,13 +16,13 @@ use Rattle.zb_cursor.specs.Reading.{follow, byte_at, number_at, optional_at, ins
 use Rattle.zb_cursor.specs.Spelling.{bit}
 use Rattle.zb_model_laws.specs.Commanding.{IsClearControl}
 use Rattle.zb_model.specs.Data as model
-use Rattle.zb_model.specs.Data.{Bytes, Purpose}
+use Rattle.zb_model.specs.Data.{Bytes, Label}
 use Rattle.zb_model.specs.Frames.{aps_term, sealed_command, sealed_data, data_front, clear_command, clear_broadcast}
 use Rattle.zb_model.specs.Secrets.{is_command_header}
-use Rattle.zb_model.specs.Tools.{ApsSight}
+use Rattle.zb_model.specs.Tools.{ApsShown}
 use Rattle.zb_seal.specs.Wire.{wire}
 use Rattle.zb_model_real.specs.Real.{term_of}
-use Rattle.zb_trace_watch.specs.Readers.{auxiliary, aps_sight}
+use Rattle.zb_trace_watch.specs.Readers.{auxiliary, aps_shown}
 
 abbrev pub IsNone : (A : Type 0) → Option A → Type 0
 IsNone A None = Unit {0}
@@ -123,66 +123,66 @@ frame-reads cut c rest =
     weaken (Ok x) h e p = (ap (λ (y : ApsHeader). y.control) p.0 ∙ e, λ b. p.1 (ap (λ n. bit n 5) e ∙ b))
     weaken (Err x) h e p = tt
 
-abbrev sight_of : ApsFrame → ApsSight
+abbrev sight_of : ApsFrame → ApsShown
 sight_of f = record { is_command = is_command f.header.control; auxiliary = option_map auxiliary f.aux; body = f.body.items }
 
-seen : (P : ApsFrame → Type 0) (long : Bool) (r : Result (ApsFrame × List ℕ) E) (a : ApsSight) → Reads E ApsFrame P r → aps_sight (cond long (Err TooLong) (aps.whole r)) ≡ Some a → (f : ApsFrame) × (sight_of f ≡ a) × P f
-seen P true r a p e = absurd (none-is ApsSight a e)
-seen P false (Err x) a p e = absurd (none-is ApsSight a e)
-seen P false (Ok x) a p e = (x.0, some-same ApsSight (sight_of x.0) a e, p)
+seen : (P : ApsFrame → Type 0) (long : Bool) (r : Result (ApsFrame × List ℕ) E) (a : ApsShown) → Reads E ApsFrame P r → aps_shown (cond long (Err TooLong) (aps.whole r)) ≡ Some a → (f : ApsFrame) × (sight_of f ≡ a) × P f
+seen P true r a p e = absurd (none-is ApsShown a e)
+seen P false (Err x) a p e = absurd (none-is ApsShown a e)
+seen P false (Ok x) a p e = (x.0, some-same ApsShown (sight_of x.0) a e, p)
 
-begins : (c : ℕ) (rest : List ℕ) (a : ApsSight) → aps_sight (frame_of (c ∷ rest)) ≡ Some a → (f : ApsFrame) × (sight_of f ≡ a) × Begins c f
+begins : (c : ℕ) (rest : List ℕ) (a : ApsShown) → aps_shown (frame_of (c ∷ rest)) ≡ Some a → (f : ApsFrame) × (sight_of f ≡ a) × Begins c f
 unfolding frame_of
 begins c rest a e = seen (Begins c) (nat_lt 127 (length (c ∷ rest))) (frame_at (Short (length (c ∷ rest))) (c ∷ rest)) a (frame-reads (Short (length (c ∷ rest))) c rest) e
 
-no-bytes : (a : ApsSight) → aps_sight (frame_of []) ≡ Some a → ⊥
+no-bytes : (a : ApsShown) → aps_shown (frame_of []) ≡ Some a → ⊥
 unfolding frame_of frame_at header_at control_at
-no-bytes a e = none-is ApsSight a e
+no-bytes a e = none-is ApsShown a e
 
-pub shows-plain : (bytes : Bytes) (a : ApsSight) → aps_sight (frame_of bytes) ≡ Some a → is_command_header bytes ≡ false → a.is_command ≡ false
+pub shows-plain : (bytes : Bytes) (a : ApsShown) → aps_shown (frame_of bytes) ≡ Some a → is_command_header bytes ≡ false → a.is_command ≡ false
 shows-plain [] a e h = absurd (no-bytes a e)
-shows-plain (c ∷ rest) a e h = let b = begins c rest a e in ap (λ (y : ApsSight). y.is_command) (sym b.1) ∙ ap is_command b.2.0 ∙ h
+shows-plain (c ∷ rest) a e h = let b = begins c rest a e in ap (λ (y : ApsShown). y.is_command) (sym b.1) ∙ ap is_command b.2.0 ∙ h
 
 some-mapped : (o : Option ApsAux) → is_some o ≡ true → is_some (option_map auxiliary o) ≡ true
 some-mapped None e = e
 some-mapped (Some x) e = refl
 
-shows-secured : (c : ℕ) (rest : List ℕ) → bit c 5 ≡ true → (a : ApsSight) → aps_sight (frame_of (c ∷ rest)) ≡ Some a → is_some a.auxiliary ≡ true
-shows-secured c rest s a e = let b = begins c rest a e in ap (λ (y : ApsSight). is_some y.auxiliary) (sym b.1) ∙ some-mapped b.0.aux (b.2.1 s)
+shows-secured : (c : ℕ) (rest : List ℕ) → bit c 5 ≡ true → (a : ApsShown) → aps_shown (frame_of (c ∷ rest)) ≡ Some a → is_some a.auxiliary ≡ true
+shows-secured c rest s a e = let b = begins c rest a e in ap (λ (y : ApsShown). is_some y.auxiliary) (sym b.1) ∙ some-mapped b.0.aux (b.2.1 s)
 
 -- frames of a node's own
 
-pub shows-command : (label : Purpose) (key : Bytes) (source counter : ℕ) (content : Bytes) (a : ApsSight) → aps_sight (frame_of (wire (term_of (aps_term sealed_command label key source counter content)))) ≡ Some a → is_some a.auxiliary ≡ true
+pub shows-command : (label : Label) (key : Bytes) (source counter : ℕ) (content : Bytes) (a : ApsShown) → aps_shown (frame_of (wire (term_of (aps_term sealed_command label key source counter content)))) ≡ Some a → is_some a.auxiliary ≡ true
 shows-command model.ForData key source counter content a e = shows-secured 0x21 (drop 1 (wire (term_of (aps_term sealed_command model.ForData key source counter content)))) refl a e
 shows-command model.ForNetwork key source counter content a e = shows-secured 0x21 (drop 1 (wire (term_of (aps_term sealed_command model.ForNetwork key source counter content)))) refl a e
 shows-command model.ForTransport key source counter content a e = shows-secured 0x21 (drop 1 (wire (term_of (aps_term sealed_command model.ForTransport key source counter content)))) refl a e
 shows-command model.ForLoad key source counter content a e = shows-secured 0x21 (drop 1 (wire (term_of (aps_term sealed_command model.ForLoad key source counter content)))) refl a e
 
-pub shows-telling : (label : Purpose) (key : Bytes) (source counter : ℕ) (content : Bytes) (a : ApsSight) → aps_sight (frame_of (wire (term_of (aps_term (data_front sealed_data) label key source counter content)))) ≡ Some a → is_some a.auxiliary ≡ true
+pub shows-telling : (label : Label) (key : Bytes) (source counter : ℕ) (content : Bytes) (a : ApsShown) → aps_shown (frame_of (wire (term_of (aps_term (data_front sealed_data) label key source counter content)))) ≡ Some a → is_some a.auxiliary ≡ true
 shows-telling model.ForData key source counter content a e = shows-secured 0x20 (drop 1 (wire (term_of (aps_term (data_front sealed_data) model.ForData key source counter content)))) refl a e
 shows-telling model.ForNetwork key source counter content a e = shows-secured 0x20 (drop 1 (wire (term_of (aps_term (data_front sealed_data) model.ForNetwork key source counter content)))) refl a e
 shows-telling model.ForTransport key source counter content a e = shows-secured 0x20 (drop 1 (wire (term_of (aps_term (data_front sealed_data) model.ForTransport key source counter content)))) refl a e
 shows-telling model.ForLoad key source counter content a e = shows-secured 0x20 (drop 1 (wire (term_of (aps_term (data_front sealed_data) model.ForLoad key source counter content)))) refl a e
 
-clear-one : (long : Bool) (cut : E) (counter : ℕ) (bytes : Bytes) (a : ApsSight) → aps_sight (cond long (Err TooLong) (aps.whole (frame_at cut (0x01 ∷ counter ∷ bytes)))) ≡ Some a → a.body ≡ bytes
+clear-one : (long : Bool) (cut : E) (counter : ℕ) (bytes : Bytes) (a : ApsShown) → aps_shown (cond long (Err TooLong) (aps.whole (frame_at cut (0x01 ∷ counter ∷ bytes)))) ≡ Some a → a.body ≡ bytes
 unfolding frame_at header_at control_at fields_at unsecured_at
-clear-one true cut counter bytes a e = absurd (none-is ApsSight a e)
-clear-one false cut counter bytes a e = ap (λ (o : Option ApsSight). body_of o) (sym e)
+clear-one true cut counter bytes a e = absurd (none-is ApsShown a e)
+clear-one false cut counter bytes a e = ap (λ (o : Option ApsShown). body_of o) (sym e)
   where
-    body_of : Option ApsSight → Bytes
+    body_of : Option ApsShown → Bytes
     body_of None = []
     body_of (Some x) = x.body
 
-clear-all : (long : Bool) (cut : E) (counter : ℕ) (bytes : Bytes) (a : ApsSight) → aps_sight (cond long (Err TooLong) (aps.whole (frame_at cut (0x09 ∷ counter ∷ bytes)))) ≡ Some a → a.body ≡ bytes
+clear-all : (long : Bool) (cut : E) (counter : ℕ) (bytes : Bytes) (a : ApsShown) → aps_shown (cond long (Err TooLong) (aps.whole (frame_at cut (0x09 ∷ counter ∷ bytes)))) ≡ Some a → a.body ≡ bytes
 unfolding frame_at header_at control_at fields_at unsecured_at
-clear-all true cut counter bytes a e = absurd (none-is ApsSight a e)
-clear-all false cut counter bytes a e = ap (λ (o : Option ApsSight). body_of o) (sym e)
+clear-all true cut counter bytes a e = absurd (none-is ApsShown a e)
+clear-all false cut counter bytes a e = ap (λ (o : Option ApsShown). body_of o) (sym e)
   where
-    body_of : Option ApsSight → Bytes
+    body_of : Option ApsShown → Bytes
     body_of None = []
     body_of (Some x) = x.body
 
-pub shows-clear : (control counter : ℕ) (bytes : Bytes) (a : ApsSight) → IsClearControl control → aps_sight (frame_of (control ∷ counter ∷ bytes)) ≡ Some a → a.body ≡ bytes
+pub shows-clear : (control counter : ℕ) (bytes : Bytes) (a : ApsShown) → IsClearControl control → aps_shown (frame_of (control ∷ counter ∷ bytes)) ≡ Some a → a.body ≡ bytes
 unfolding frame_of
-shows-clear control counter bytes a (inl c) e = clear-one (nat_lt 127 (length (clear_command ∷ counter ∷ bytes))) (Short (length (clear_command ∷ counter ∷ bytes))) counter bytes a (subst (λ x. aps_sight (cond (nat_lt 127 (length (x ∷ counter ∷ bytes))) (Err TooLong) (aps.whole (frame_at (Short (length (x ∷ counter ∷ bytes))) (x ∷ counter ∷ bytes)))) ≡ Some a) c e)
-shows-clear control counter bytes a (inr c) e = clear-all (nat_lt 127 (length (clear_broadcast ∷ counter ∷ bytes))) (Short (length (clear_broadcast ∷ counter ∷ bytes))) counter bytes a (subst (λ x. aps_sight (cond (nat_lt 127 (length (x ∷ counter ∷ bytes))) (Err TooLong) (aps.whole (frame_at (Short (length (x ∷ counter ∷ bytes))) (x ∷ counter ∷ bytes)))) ≡ Some a) c e)
+shows-clear control counter bytes a (inl c) e = clear-one (nat_lt 127 (length (clear_command ∷ counter ∷ bytes))) (Short (length (clear_command ∷ counter ∷ bytes))) counter bytes a (subst (λ x. aps_shown (cond (nat_lt 127 (length (x ∷ counter ∷ bytes))) (Err TooLong) (aps.whole (frame_at (Short (length (x ∷ counter ∷ bytes))) (x ∷ counter ∷ bytes)))) ≡ Some a) c e)
+shows-clear control counter bytes a (inr c) e = clear-all (nat_lt 127 (length (clear_broadcast ∷ counter ∷ bytes))) (Short (length (clear_broadcast ∷ counter ∷ bytes))) counter bytes a (subst (λ x. aps_shown (cond (nat_lt 127 (length (x ∷ counter ∷ bytes))) (Err TooLong) (aps.whole (frame_at (Short (length (x ∷ counter ∷ bytes))) (x ∷ counter ∷ bytes)))) ≡ Some a) c e)

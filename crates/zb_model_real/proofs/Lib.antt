@@ -1,7 +1,7 @@
 mod Showing
 mod Confirming
 mod Keys
-mod Orders
+mod Commands
 mod OwnKeys
 pub mod RealRuns
 mod SameTerms

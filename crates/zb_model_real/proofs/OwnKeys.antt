@@ -2,8 +2,8 @@
 use Rattle.zb_model_laws.specs.Commanding.{ShowsKeys}
 use Rattle.zb_model_real.specs.Real.{real}
 use Rattle.zb_model_real.proofs.Keys.{shows-plain, shows-clear, shows-command, shows-telling}
-use Rattle.zb_model_real.proofs.Orders.{spelled-key}
+use Rattle.zb_model_real.proofs.Commands.{spelled-key}
 
 pub shows-keys : ShowsKeys real
 unfolding real
-shows-keys = record { order = spelled-key; plain = shows-plain; clear = shows-clear; command = shows-command; telling = shows-telling }
+shows-keys = record { command = spelled-key; plain = shows-plain; clear = shows-clear; command = shows-command; telling = shows-telling }

@@ -10,8 +10,8 @@ use Rattle.zb_model_laws.proofs.Runs.{fresh}
 use Rattle.zb_model_laws.proofs.SpentLaw.{transcript-spent}
 use Rattle.zb_model_laws.proofs.SpentSteps.{takes-all}
 use Rattle.zb_model_laws.specs.Premises.{Premises}
-use Rattle.zb_model.specs.Lines.{LogLine}
-use Rattle.zb_model.specs.Play.{World}
+use Rattle.zb_model.specs.Lines.{Line}
+use Rattle.zb_model.specs.Play.{Schedule}
 use Rattle.zb_model.specs.Secrets.{ideal, private}
 use Rattle.zb_model.specs.Transcript.{end_line, run_lines, transcript}
 use Rattle.zb_model_real.specs.Headline.{EndsYesYes, Holds, SaysYesYes}
@@ -21,16 +21,16 @@ use Rattle.zb_model_real.proofs.Confirming.{spells-confirm}
 use Rattle.zb_model_real.proofs.OwnKeys.{shows-keys}
 
 -- a list of lines ends with its last line
-ends : (ls : List LogLine) (l : LogLine) → EndsYesYes (ls ++ l ∷ []) → SaysYesYes l
+ends : (ls : List Line) (l : Line) → EndsYesYes (ls ++ l ∷ []) → SaysYesYes l
 ends [] l e = e
 ends (x ∷ []) l e = e
 ends (x ∷ y ∷ ls) l e = ends (y ∷ ls) l e
 
-two_words : (w : World) → EndsYesYes (transcript real w) → (ideal real (run_lines real w) ≡ true) × (private real (run_lines real w) ≡ true)
+two_words : (w : Schedule) → EndsYesYes (transcript real w) → (ideal real (run_lines real w) ≡ true) × (private real (run_lines real w) ≡ true)
 unfolding transcript end_line
-two_words w e = ends (run_lines real w) (end_line real (length w.acts) (run_lines real w)) e
+two_words w e = ends (run_lines real w) (end_line real (length w.events) (run_lines real w)) e
 
-pub holds : (w : World) → Premises w → Holds w
+pub holds : (w : Schedule) → Premises w → Holds w
 holds w p = record {
   lawful = lawful real w;
   counted = counted real opens-real w;

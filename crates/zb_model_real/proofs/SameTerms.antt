@@ -4,32 +4,32 @@ use Rattle.zb_base.specs.declared.label.Label.{Label}
 use Rattle.zb_base.specs.declared.label.Label.TheVariants as label
 use Rattle.zb_base.specs.declared.label.Layer.{Layer}
 use Rattle.zb_base.specs.declared.label.Layer.TheVariants as layer
-use Rattle.zb_node_types.specs.Changes.{tier}
+use Rattle.zb_node_types.specs.Changes.{model_layer}
 use Rattle.zb_model.specs.Tools.{sealing_key as model_key}
 use Rattle.zb_seal.specs.Keys.{sealing_key}
-use Rattle.zb_seal.specs.Terms.{purpose, sealing}
+use Rattle.zb_seal.specs.Terms.{model_label, model_term}
 use Rattle.zb_seal.specs.Wire.{wire}
 use Rattle.zb_seal.specs.declared.term.Term.{Term}
 use Rattle.zb_model_real.specs.Real.{real, term_of, layer_of, label_of}
 
-layer-back : (l : Layer) → layer_of (tier l) ≡ l
+layer-back : (l : Layer) → layer_of (model_layer l) ≡ l
 layer-back layer.Nwk = refl
 layer-back layer.Aps = refl
 
-label-back : (l : Label) → label_of (purpose l) ≡ l
+label-back : (l : Label) → label_of (model_label l) ≡ l
 label-back label.Data = refl
 label-back label.Network = refl
 label-back label.Transport = refl
 label-back label.Load = refl
 
-term-back : (t : Term) → term_of (sealing t) ≡ t
-term-back t = ap (λ l. record t { layer = l; label = label_of (purpose t.label) }) (layer-back t.layer) ∙ ap (λ l. record t { label = l }) (label-back t.label)
+term-back : (t : Term) → term_of (model_term t) ≡ t
+term-back t = ap (λ l. record t { layer = l; label = label_of (model_label t.label) }) (layer-back t.layer) ∙ ap (λ l. record t { label = l }) (label-back t.label)
 
-pub same_wire : (t : Term) → real.wire (sealing t) ≡ wire t
+pub same_wire : (t : Term) → real.wire (model_term t) ≡ wire t
 unfolding real
 same_wire t = ap wire (term-back t)
 
-pub same_key : (l : Label) (base : List ℕ) → model_key real (purpose l) base ≡ sealing_key l base
+pub same_key : (l : Label) (base : List ℕ) → model_key real (model_label l) base ≡ sealing_key l base
 unfolding real model_key
 same_key label.Data base = refl
 same_key label.Network base = refl

@@ -6,8 +6,8 @@ use Rattle.zb_aps.specs.declared.fault.ApsError.{ApsError}
 use Rattle.zb_aps.specs.declared.frame.ApsFrame.{ApsFrame}
 use Rattle.zb_base.specs.declared.address.Eui.{Eui}
 use Rattle.zb_model_laws.specs.Opening.{Opens, shown_source}
-use Rattle.zb_model.specs.Data.{Bytes, Nwk, Aps, Sealing}
-use Rattle.zb_model.specs.Tools.{NwkSight, NwkAuxiliary, ApsSight, ApsAuxiliary}
+use Rattle.zb_model.specs.Data.{Bytes, Nwk, Aps, Term}
+use Rattle.zb_model.specs.Tools.{NwkShown, NwkAuxiliary, ApsShown, ApsAuxiliary}
 use Rattle.zb_nwk.specs.Reading as nwk
 use Rattle.zb_nwk.specs.declared.auxiliary.NwkAux.{NwkAux}
 use Rattle.zb_nwk.specs.declared.fault.NwkError.{NwkError}
@@ -21,10 +21,10 @@ use Rattle.zb_base.specs.declared.label.Layer.TheVariants as layer
 use Rattle.zb_seal.specs.Keys.{sealing_key}
 use Rattle.zb_seal.specs.Opening as opening
 use Rattle.zb_seal.specs.Wire.{real_level}
-use Rattle.zb_seal.specs.Terms.{sealing}
+use Rattle.zb_seal.specs.Terms.{model_term}
 use Rattle.zb_seal.specs.declared.envelope.Envelope.{Envelope}
-use Rattle.zb_model_real.specs.Real.{eui_of, key_of, opened, nwk_auxiliary, nwk_sight, real}
-use Rattle.zb_trace_watch.specs.Readers.{auxiliary, aps_sight}
+use Rattle.zb_model_real.specs.Real.{eui_of, key_of, opened, nwk_auxiliary, nwk_shown, real}
+use Rattle.zb_trace_watch.specs.Readers.{auxiliary, aps_shown}
 
 abbrev IsNone : (A : Type 0) → Option A → Type 0
 IsNone A None = Unit {0}
@@ -37,16 +37,16 @@ some-same : (A : Type 0) (x y : A) → Some x ≡ Some y → x ≡ y
 some-same A x y e = ap (λ o. Rattle.std.specs.Prelude.unwrap_or o x) e
 
 -- the term of an envelope: its layer, base key, source and counter
-abbrev Facts : Envelope → Bytes → ℕ → Sealing → Type 0
-Facts s key source t = (t.layer ≡ Rattle.zb_node_types.specs.Changes.tier s.layer) × (t.base ≡ key) × (t.source ≡ source) × (t.counter ≡ s.counter)
+abbrev Facts : Envelope → Bytes → ℕ → Term → Type 0
+Facts s key source t = (t.layer ≡ Rattle.zb_node_types.specs.Changes.layer s.layer) × (t.base ≡ key) × (t.source ≡ source) × (t.counter ≡ s.counter)
 
-term-facts : (s : Envelope) (key : Bytes) (source : Eui) (o : Option (List ℕ)) (t : Sealing) → opened (opened_term s (key_of key) source o) ≡ Some t → Facts s key source.0 t
-term-facts s key source None t e = absurd (none-is Sealing t e)
-term-facts s key source (Some content) t e = let q = some-same Sealing (sealing (opening.term_of (record s { text = record { items = content } }) (key_of key) source)) t e in (
-  ap (λ (x : Sealing). x.layer) (sym q),
-  ap (λ (x : Sealing). x.base) (sym q),
-  ap (λ (x : Sealing). x.source) (sym q),
-  ap (λ (x : Sealing). x.counter) (sym q),
+term-facts : (s : Envelope) (key : Bytes) (source : Eui) (o : Option (List ℕ)) (t : Term) → opened (opened_term s (key_of key) source o) ≡ Some t → Facts s key source.0 t
+term-facts s key source None t e = absurd (none-is Term t e)
+term-facts s key source (Some content) t e = let q = some-same Term (model_term (opening.term_of (record s { text = record { items = content } }) (key_of key) source)) t e in (
+  ap (λ (x : Term). x.layer) (sym q),
+  ap (λ (x : Term). x.base) (sym q),
+  ap (λ (x : Term). x.source) (sym q),
+  ap (λ (x : Term). x.counter) (sym q),
 )
 
 -- NWK
@@ -63,24 +63,24 @@ nwk_shown f a = record {
   mic = f.mic;
 }
 
-nwk-aux : (key : Bytes) (f : NwkFrame) (x : Option NwkAux) (aux : NwkAuxiliary) (t : Sealing) → option_map nwk_auxiliary x ≡ Some aux → opened (opened_seen (nwk_envelope f x) (key_of key) None) ≡ Some t
+nwk-aux : (key : Bytes) (f : NwkFrame) (x : Option NwkAux) (aux : NwkAuxiliary) (t : Term) → option_map nwk_auxiliary x ≡ Some aux → opened (opened_seen (nwk_envelope f x) (key_of key) None) ≡ Some t
     → (t.layer ≡ Nwk) × (t.base ≡ key) × (t.source ≡ aux.source) × (t.counter ≡ aux.counter)
 unfolding opening.opened nwk_shown
 nwk-aux key f None aux t a e = absurd (none-is NwkAuxiliary aux a)
 nwk-aux key f (Some x) aux t a e = let q = some-same NwkAuxiliary (nwk_auxiliary x) aux a in let g = term-facts (nwk_shown f x) key x.source (content_of (nwk_shown f x) (sealing_key label.Network key) x.source) t e in (g.0, g.1, g.2 ∙ ap (λ (y : NwkAuxiliary). y.source) q, g.3 ∙ ap (λ (y : NwkAuxiliary). y.counter) q)
 
-nwk-by : (key : Bytes) (r : Result NwkFrame NwkError) (f : NwkSight) (aux : NwkAuxiliary) (t : Sealing) → nwk_sight r ≡ Some f → f.auxiliary ≡ Some aux → opened (opened_seen (nwk_seen r) (key_of key) None) ≡ Some t
+nwk-by : (key : Bytes) (r : Result NwkFrame NwkError) (f : NwkShown) (aux : NwkAuxiliary) (t : Term) → nwk_shown r ≡ Some f → f.auxiliary ≡ Some aux → opened (opened_seen (nwk_seen r) (key_of key) None) ≡ Some t
     → (t.layer ≡ Nwk) × (t.base ≡ key) × (t.source ≡ aux.source) × (t.counter ≡ aux.counter)
-nwk-by key (Err e) f aux t a b c = absurd (none-is NwkSight f a)
-nwk-by key (Ok fr) f aux t a b c = nwk-aux key fr fr.aux aux t (ap (λ (o : Option NwkSight). shown o) a ∙ b) c
+nwk-by key (Err e) f aux t a b c = absurd (none-is NwkShown f a)
+nwk-by key (Ok fr) f aux t a b c = nwk-aux key fr fr.aux aux t (ap (λ (o : Option NwkShown). shown o) a ∙ b) c
   where
-    shown : Option NwkSight → Option NwkAuxiliary
+    shown : Option NwkShown → Option NwkAuxiliary
     shown None = None
     shown (Some x) = x.auxiliary
 
 -- APS
 
-aps-from : (s : Envelope) (key : Bytes) (given : ℕ) (o : Option Eui) (t : Sealing) → opened (opened_from s (key_of key) (source_of o (Some (eui_of given)))) ≡ Some t → Facts s key (shown_source given (option_map (λ (x : Eui). x.0) o)) t
+aps-from : (s : Envelope) (key : Bytes) (given : ℕ) (o : Option Eui) (t : Term) → opened (opened_from s (key_of key) (source_of o (Some (eui_of given)))) ≡ Some t → Facts s key (shown_source given (option_map (λ (x : Eui). x.0) o)) t
 aps-from s key given None t e = term-facts s key (eui_of given) (content_of s (sealing_key s.label key) (eui_of given)) t e
 aps-from s key given (Some x) t e = term-facts s key x (content_of s (sealing_key s.label key) x) t e
 
@@ -96,18 +96,18 @@ aps_shown f a = record {
   mic = f.mic;
 }
 
-aps-aux : (key : Bytes) (given : ℕ) (f : ApsFrame) (x : Option ApsAux) (aux : ApsAuxiliary) (t : Sealing) → option_map auxiliary x ≡ Some aux → opened (opened_seen (aps_envelope f x) (key_of key) (Some (eui_of given))) ≡ Some t
+aps-aux : (key : Bytes) (given : ℕ) (f : ApsFrame) (x : Option ApsAux) (aux : ApsAuxiliary) (t : Term) → option_map auxiliary x ≡ Some aux → opened (opened_seen (aps_envelope f x) (key_of key) (Some (eui_of given))) ≡ Some t
     → (t.layer ≡ Aps) × (t.base ≡ key) × (t.source ≡ shown_source given aux.source) × (t.counter ≡ aux.counter)
 unfolding opening.opened aps_shown
 aps-aux key given f None aux t a e = absurd (none-is ApsAuxiliary aux a)
 aps-aux key given f (Some x) aux t a e = let q = some-same ApsAuxiliary (auxiliary x) aux a in let g = aps-from (aps_shown f x) key given x.source t e in (g.0, g.1, g.2 ∙ ap (λ (y : ApsAuxiliary). shown_source given y.source) q, g.3 ∙ ap (λ (y : ApsAuxiliary). y.counter) q)
 
-aps-by : (key : Bytes) (given : ℕ) (r : Result ApsFrame ApsError) (f : ApsSight) (aux : ApsAuxiliary) (t : Sealing) → aps_sight r ≡ Some f → f.auxiliary ≡ Some aux → opened (opened_seen (aps_seen r) (key_of key) (Some (eui_of given))) ≡ Some t
+aps-by : (key : Bytes) (given : ℕ) (r : Result ApsFrame ApsError) (f : ApsShown) (aux : ApsAuxiliary) (t : Term) → aps_shown r ≡ Some f → f.auxiliary ≡ Some aux → opened (opened_seen (aps_seen r) (key_of key) (Some (eui_of given))) ≡ Some t
     → (t.layer ≡ Aps) × (t.base ≡ key) × (t.source ≡ shown_source given aux.source) × (t.counter ≡ aux.counter)
-aps-by key given (Err e) f aux t a b c = absurd (none-is ApsSight f a)
-aps-by key given (Ok fr) f aux t a b c = aps-aux key given fr fr.aux aux t (ap (λ (o : Option ApsSight). shown o) a ∙ b) c
+aps-by key given (Err e) f aux t a b c = absurd (none-is ApsShown f a)
+aps-by key given (Ok fr) f aux t a b c = aps-aux key given fr fr.aux aux t (ap (λ (o : Option ApsShown). shown o) a ∙ b) c
   where
-    shown : Option ApsSight → Option ApsAuxiliary
+    shown : Option ApsShown → Option ApsAuxiliary
     shown None = None
     shown (Some x) = x.auxiliary
 

@@ -5,26 +5,26 @@ use Rattle.zb_model_counted.specs.Counted.{Counted}
 use Rattle.zb_model_counted.specs.Floors.{FloorsAreFor}
 use Rattle.zb_model_laws.specs.Spent.{SpentLine, TakesAll}
 use Rattle.zb_model.specs.Claims.{Confirms, Each, Fresh, Lawful, Locked, Once}
-use Rattle.zb_model.specs.Lines.{LogLine, End}
-use Rattle.zb_model.specs.Play.{World}
+use Rattle.zb_model.specs.Lines.{Line, End}
+use Rattle.zb_model.specs.Play.{Schedule}
 use Rattle.zb_model.specs.Transcript.{transcript}
 use Rattle.zb_model_real.specs.Real.{real}
 
 -- the last line is an end line that says `yes yes`
-abbrev pub SaysYesYes : LogLine → Type 0
+abbrev pub SaysYesYes : Line → Type 0
 SaysYesYes (End events seals accepts refusals ideal private) = (ideal ≡ true) × (private ≡ true)
 SaysYesYes _ = ⊥
 
-abbrev pub EndsYesYes : List LogLine → Type 0
+abbrev pub EndsYesYes : List Line → Type 0
 EndsYesYes [] = ⊥
 EndsYesYes (l ∷ []) = SaysYesYes l
 EndsYesYes (l ∷ m ∷ ls) = EndsYesYes (m ∷ ls)
 
-pub record Holds (w : World) : Type 0 where
+pub record Holds (w : Schedule) : Type 0 where
   -- each group answers its event by the policy, with the counters that it must have; and no other lines do
   pub lawful : Lawful real w (transcript real w)
   pub counted : Counted real w (transcript real w)
-  pub alone : (lines : List LogLine) → Lawful real w lines → Counted real w lines → lines ≡ transcript real w
+  pub alone : (lines : List Line) → Lawful real w lines → Counted real w lines → lines ≡ transcript real w
   -- so no counter is skipped without a boot, no floor is more than the incoming block above the counter for which it was stored,
   -- and a node that answers counter-spent stands at 2^32 - 1
   pub in_order : Each TakesAll [] (transcript real w)

@@ -19,26 +19,26 @@ use Rattle.zb_cmd.specs.declared.fault.CmdError.TheVariants as fault
 use Rattle.zb_cmd.specs.declared.leave.Leave as leaving
 use Rattle.zb_mmo.specs.Keyed.{keyed}
 use Rattle.zb_model.specs.Data as model
-use Rattle.zb_model.specs.Data.{Bytes, Tier, Purpose, Sealing, Order}
-use Rattle.zb_model.specs.Tools.{Tools, NwkSight, NwkAuxiliary, LeaveSight, Leave, Other, NoCommand}
+use Rattle.zb_model.specs.Data.{Bytes}
+use Rattle.zb_model.specs.Tools.{Tools, NwkShown, NwkAuxiliary, LeaveShown, Leave, Other, NoCommand}
 use Rattle.zb_nwk.specs.Reading as nwk
 use Rattle.zb_nwk.specs.declared.auxiliary.NwkAux.{NwkAux}
 use Rattle.zb_nwk.specs.declared.fault.NwkError.{NwkError}
 use Rattle.zb_nwk.specs.declared.frame.NwkFrame.{NwkFrame}
 use Rattle.zb_seal.specs.Opening.{opened_nwk, opened_aps}
-use Rattle.zb_seal.specs.Terms.{sealing}
+use Rattle.zb_seal.specs.Terms.{model_term}
 use Rattle.zb_seal.specs.Wire.{wire}
 use Rattle.zb_seal.specs.declared.envelope.OpenError.{OpenError}
 use Rattle.zb_seal.specs.declared.term.Term.{Term}
-use Rattle.zb_trace_watch.specs.Readers.{aps_sight, order_sight}
+use Rattle.zb_trace_watch.specs.Readers.{aps_shown, command_shown}
 
 -- Terms
 
-abbrev pub layer_of : Tier → Layer
+abbrev pub layer_of : model.Layer → Layer
 layer_of model.Nwk = layer.Nwk
 layer_of model.Aps = layer.Aps
 
-abbrev pub label_of : Purpose → Label
+abbrev pub label_of : model.Label → Label
 label_of model.ForData = label.Data
 label_of model.ForNetwork = label.Network
 label_of model.ForTransport = label.Transport
@@ -51,7 +51,7 @@ abbrev pub key_of : Bytes → Key
 key_of bytes = record { 0 = bytes }
 
 -- a term of the model as the program's
-abbrev pub term_of : Sealing → Term
+abbrev pub term_of : model.Term → Term
 term_of t = record {
   layer = layer_of t.layer;
   base = key_of t.base;
@@ -63,8 +63,8 @@ term_of t = record {
   content = record { items = t.content };
 }
 
-abbrev pub opened : Result Term OpenError → Option Sealing
-opened (Ok t) = Some (sealing t)
+abbrev pub opened : Result Term OpenError → Option model.Term
+opened (Ok t) = Some (model_term t)
 opened (Err e) = None
 
 -- Frames
@@ -72,9 +72,9 @@ opened (Err e) = None
 abbrev pub nwk_auxiliary : NwkAux → NwkAuxiliary
 nwk_auxiliary aux = record { counter = aux.counter; source = aux.source.0; sequence = aux.key_sequence }
 
-abbrev pub nwk_sight : Result NwkFrame NwkError → Option NwkSight
-nwk_sight (Err e) = None
-nwk_sight (Ok f) = Some (record {
+abbrev pub nwk_shown : Result NwkFrame NwkError → Option NwkShown
+nwk_shown (Err e) = None
+nwk_shown (Ok f) = Some (record {
   is_command = is_command f.header.control;
   destination = f.header.destination.0;
   source = f.header.source.0;
@@ -84,7 +84,7 @@ nwk_sight (Ok f) = Some (record {
 
 -- Commands
 
-abbrev pub command_for : Order → Command
+abbrev pub command_for : model.Command → Command
 command_for (model.TransportNet key sequence destination source) = cmd.TransportNetwork (key_of key) sequence (eui_of destination) (eui_of source)
 command_for (model.TransportApp key partner initiator) = cmd.TransportApplication (key_of key) (eui_of partner) initiator
 command_for (model.TransportLink key destination source) = cmd.TransportLink (key_of key) (eui_of destination) (eui_of source)
@@ -97,20 +97,20 @@ command_for (model.Tunnel destination inner) = cmd.Tunnel (eui_of destination) (
 command_for (model.VerifyKey kind source hash) = cmd.Verify kind (eui_of source) hash
 command_for (model.ConfirmKey status kind destination) = cmd.Confirm status kind (eui_of destination)
 
-abbrev pub leave_sight : Result leaving.Leave CmdError → LeaveSight
-leave_sight (Ok l) = Leave l.options
-leave_sight (Err (fault.Unknown id)) = Other
-leave_sight (Err _) = NoCommand
+abbrev pub leave_shown : Result leaving.Leave CmdError → LeaveShown
+leave_shown (Ok l) = Leave l.options
+leave_shown (Err (fault.Unknown id)) = Other
+leave_shown (Err _) = NoCommand
 
 unfoldable pub real : Tools
 real = record {
   wire = λ t. wire (term_of t);
   keyed = λ key b. keyed key (b ∷ []);
-  read_nwk = λ bytes. nwk_sight (nwk.frame_of bytes);
+  read_nwk = λ bytes. nwk_shown (nwk.frame_of bytes);
   open_nwk = λ bytes key. opened (opened_nwk bytes (key_of key));
-  read_aps = λ bytes. aps_sight (aps.frame_of bytes);
+  read_aps = λ bytes. aps_shown (aps.frame_of bytes);
   open_aps = λ bytes key source. opened (opened_aps bytes (key_of key) (Some (eui_of source)));
-  read_order = λ bytes. order_sight (command_of bytes);
-  spelled = λ order. command (command_for order);
-  read_leave = λ bytes. leave_sight (leave_of bytes);
+  read_command = λ bytes. command_shown (command_of bytes);
+  spelled = λ model_command. command (command_for model_command);
+  read_leave = λ bytes. leave_shown (leave_of bytes);
 }

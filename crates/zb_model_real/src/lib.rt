@@ -7,10 +7,10 @@ ghost use Rattle.zb_base.specs.declared.label.Label.{Label};
 ghost use Rattle.zb_model_laws.specs.Commanding.{ShowsKeys, SpellsConfirm};
 ghost use Rattle.zb_model_laws.specs.Opening.{Opens};
 ghost use Rattle.zb_model_laws.specs.Premises.{Premises};
-ghost use Rattle.zb_model.specs.Play.{World};
+ghost use Rattle.zb_model.specs.Play.{Schedule};
 ghost use Rattle.zb_model.specs.Tools.{sealing_key as model_key};
 ghost use Rattle.zb_seal.specs.Keys.{sealing_key};
-ghost use Rattle.zb_seal.specs.Terms.{purpose, sealing};
+ghost use Rattle.zb_seal.specs.Terms.{model_label, model_term};
 ghost use Rattle.zb_seal.specs.Wire.{wire};
 ghost use Rattle.zb_seal.specs.declared.term.Term.{Term};
 ghost use Rattle.zb_model_real.specs.Headline.{Holds};
@@ -21,8 +21,8 @@ ghost use Rattle.zb_trace_watch.specs.Standing.{FindKeys};
 /// zb_seal derives from its base key.
 #[tactic(auto, using(crate::proofs::SameTerms::same_wire, crate::proofs::SameTerms::same_key))]
 pub fn terms_go_out_as_they_are_sealed()
-    ensures wire { (t : Term) → real.wire (sealing t) ≡ wire t }
-    ensures keys { (label : Label) (base : List ℕ) → model_key real (purpose label) base ≡ sealing_key label base }
+    ensures wire { (t : Term) → real.wire (model_term t) ≡ wire t }
+    ensures keys { (label : Label) (base : List ℕ) → model_key real (model_label label) base ≡ sealing_key label base }
 {}
 
 /// What a real frame opens to is of its layer, and has the base key under which it was opened and the source and counter that
@@ -53,5 +53,5 @@ pub fn frames_show_their_own_keys()
 /// are confirmed; and where the end line says `yes yes`, removed devices are locked out. `Premises` is of the schedule: its
 /// numbers are in their ranges, it names declared nodes, has one centre, and its keys are different keys.
 pub fn every_run_of_real_frames_holds()
-    ensures { (w : World) → Premises w → Holds w }
+    ensures { (w : Schedule) → Premises w → Holds w }
 {}

@@ -12,14 +12,14 @@ use Rattle.zb_install.specs.Code.{code_key, code_of}
 use Rattle.zb_crc.specs.Division.{added, divided, message_bits, remainder}
 use Rattle.zb_install.specs.Crc.{crc}
 use Rattle.zb_mmo.specs.Hash.{blocks_of, hash}
-use Rattle.zb_model.specs.Data.{Bytes, Duty, Station, ForTransport, ForLoad, SayTo, TellTo, DoKnock, DoRejoin, DoTimer, AskFor, HasChild, DoProvision, DoRemove, DoSwitch, DoAgain, DoShare}
+use Rattle.zb_model.specs.Data.{Bytes, Role, Station, ForTransport, ForLoad, SayTo, TellTo, DoKnock, DoRejoin, DoTimer, AskFor, HasChild, DoProvision, DoRemove, DoSwitch, DoAgain, DoShare}
 use Rattle.zb_model.specs.Play as model
-use Rattle.zb_model.specs.Play.{World, Own, RollOver, Deliver, Reset, PowerOn, ShowRecord, ArmStop, ArmFail, InjectBytes, ForgeNet, ForgeNetAps, ForgeOpen}
+use Rattle.zb_model.specs.Play.{Schedule, Own, RollOver, Deliver, Reset, PowerOn, ShowRecord, ArmStop, ArmFail, InjectBytes, ForgeNet, ForgeNetAps, ForgeOpen}
 use Rattle.zb_model.specs.Rules.{centre_of}
-use Rattle.zb_sched.specs.Plan.{Member, Plan}
+use Rattle.zb_sched.specs.Plan.{Node, Plan}
 use Rattle.zb_sched.specs.Reading.{schedule_of}
-use Rattle.zb_sched_line.specs.Said.{Act, Says, Delivers, Ticks, Knocks, Rejoins, Adopts, Provisions, Repeats, Rolls, Switches, Removes, Resets, Boots, Dumps, Stops, Fails, Injects, ForgesNet, ForgesBoth, ForgesOpen, Asks, Shares, Tells}
-use Rattle.zb_model_schedules.specs.Worlds.{act_for, world_of}
+use Rattle.zb_sched_line.specs.Said.{Event, Says, Delivers, Ticks, Knocks, Rejoins, Adopts, Provisions, Repeats, Rolls, Switches, Removes, Resets, Boots, Dumps, Stops, Fails, Injects, ForgesNet, ForgesBoth, ForgesOpen, Asks, Shares, Tells}
+use Rattle.zb_model_schedules.specs.Schedules.{act_for, schedule_of}
 
 -- hexadecimal digits as bytes
 abbrev digit : ℕ → ℕ
@@ -74,16 +74,16 @@ abbrev code : Bytes
 code = x "83FED3407A939723A5C639B26916D505C3B5"
 
 abbrev r_station : Station
-r_station = record { name = codes "r"; eui = r; short = 11068; duty = Duty.Router; out_block = 5; in_block = 2 }
+r_station = record { name = codes "r"; eui = r; short = 11068; role = Role.Router; out_block = 5; in_block = 2 }
 
 abbrev c_station : Station
-c_station = record { name = codes "c"; eui = c; short = 0; duty = Duty.Centre; out_block = 16; in_block = 4 }
+c_station = record { name = codes "c"; eui = c; short = 0; role = Role.Centre; out_block = 16; in_block = 4 }
 
 abbrev d_station : Station
-d_station = record { name = codes "d"; eui = d; short = 6699; duty = Duty.Device; out_block = 8; in_block = 3 }
+d_station = record { name = codes "d"; eui = d; short = 6699; role = Role.Device; out_block = 8; in_block = 3 }
 
 abbrev e_station : Station
-e_station = record { name = codes "e"; eui = e; short = 24175; duty = Duty.Device; out_block = 4; in_block = 1 }
+e_station = record { name = codes "e"; eui = e; short = 24175; role = Role.Device; out_block = 4; in_block = 1 }
 
 -- what the text reads as
 
@@ -99,7 +99,7 @@ d_name = codes "d"
 abbrev e_name : Bytes
 e_name = codes "e"
 
-abbrev plan_members : List Member
+abbrev plan_members : List Node
 plan_members =
     record { name = r_name; role = role.Router; eui = r; short = 11068; out_block = 5; in_block = 2; code = None; network = Some (key, 7); start_nwk = 0; start_aps = 0 } ∷
     record { name = c_name; role = role.Centre; eui = c; short = 0; out_block = 16; in_block = 4; code = None; network = Some (key, 6); start_nwk = 7; start_aps = 0 } ∷
@@ -107,8 +107,8 @@ plan_members =
     record { name = e_name; role = role.Device; eui = e; short = 24175; out_block = 4; in_block = 1; code = None; network = None; start_nwk = 0; start_aps = 0 } ∷
     []
 
-abbrev plan_acts : List Act
-plan_acts =
+abbrev plan_events : List Event
+plan_events =
     Provisions d_name code ∷
     Knocks d_name ∷
     Adopts c_name d_name false ∷
@@ -137,7 +137,7 @@ plan_acts =
     []
 
 abbrev plan : Plan
-plan = record { members = plan_members; draws = other ∷ third ∷ []; acts = plan_acts }
+plan = record { nodes = plan_members; draws = other ∷ third ∷ []; events = plan_events }
 
 text_reads_as_plan : result_ok (schedule_of text) ≡ Some plan
 unfolding code_of crc remainder added divided message_bits decode_pairs hash blocks_of xored enciphered last_round round_key next_key state_after round mix_column substitute times
@@ -145,16 +145,16 @@ text_reads_as_plan = refl
 
 -- the world that it is
 
-abbrev members : List model.Member
-members =
+abbrev nodes : List model.Node
+nodes =
     record { station = r_station; code = None; network = Some (key, 7); start_nwk = 0; start_aps = 0 } ∷
     record { station = c_station; code = None; network = Some (key, 6); start_nwk = 7; start_aps = 0 } ∷
     record { station = d_station; code = Some (code_key code); network = None; start_nwk = 0; start_aps = 9 } ∷
     record { station = e_station; code = None; network = None; start_nwk = 0; start_aps = 0 } ∷
     []
 
-abbrev acts : List model.Act
-acts =
+abbrev events : List model.Event
+events =
     Own c (DoProvision d (code_key code)) ∷
     Own d DoKnock ∷
     Own c (HasChild d false) ∷
@@ -182,11 +182,11 @@ acts =
     Own d (TellTo e (x "55")) ∷
     []
 
-abbrev world : World
-world = record { members = members; draws = other ∷ third ∷ []; acts = acts }
+abbrev schedule : Schedule
+schedule = record { nodes = nodes; draws = other ∷ third ∷ []; events = events }
 
-plan_is_world : world_of plan ≡ world
-unfolding world_of act_for centre_of
+plan_is_world : schedule_of plan ≡ schedule
+unfolding schedule_of act_for centre_of
 plan_is_world = refl
 
 -- the link key of the install code of d

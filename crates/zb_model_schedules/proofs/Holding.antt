@@ -4,11 +4,11 @@ use Rattle.zb_sched.specs.Plan.{Plan}
 use Rattle.zb_sched.specs.Valid.{IsSchedule}
 use Rattle.zb_model_real.specs.Headline.{Holds}
 use Rattle.zb_model_real.proofs.RealRuns.{holds}
-use Rattle.zb_model_schedules.specs.Worlds.{world_of}
+use Rattle.zb_model_schedules.specs.Schedules.{schedule_of}
 use Rattle.zb_model_schedules.proofs.Meets.{is_schedule, keys_apart, one}
 
-pub premises : (p : Plan) → IsSchedule p → Premises (world_of p)
+pub premises : (p : Plan) → IsSchedule p → Premises (schedule_of p)
 premises p is = record { schedule = is_schedule p is; one_centre = one p is; keys = keys_apart p is }
 
-pub all_hold : (p : Plan) → IsSchedule p → Holds (world_of p)
-all_hold p is = holds (world_of p) (premises p is)
+pub all_hold : (p : Plan) → IsSchedule p → Holds (schedule_of p)
+all_hold p is = holds (schedule_of p) (premises p is)

@@ -2,7 +2,7 @@
 //! clause of the call that reads one.
 
 ghost use Rattle.std.specs.Prelude.{◌≡◌, Ok};
-ghost use Rattle.zb_model_schedules.specs.Worlds.{world_of};
+ghost use Rattle.zb_model_schedules.specs.Schedules.{schedule_of};
 ghost use Rattle.zb_sched.specs.Plan.{Plan};
 ghost use Rattle.zb_sched.specs.Reading.{schedule_of};
 ghost use Rattle.zb_sched.specs.Valid.{IsSchedule};
@@ -25,7 +25,7 @@ pub fn texts_read_as_schedules(text: &[u8])
 
 /// Where a text is a schedule, all laws over runs hold of its run.
 pub fn each_text_holds(text: &[u8])
-    ensures { (p : Plan) → schedule_of text.now ≡ Ok p → Holds (world_of p) }
+    ensures { (p : Plan) → schedule_of text.now ≡ Ok p → Holds (schedule_of p) }
 {
     texts_read_as_schedules(text);
     each_schedule_holds();

@@ -18,45 +18,45 @@ use Rattle.zb_node_types.specs.declared.refusal.Refusal.{Refusal}
 use Rattle.zb_node_types.specs.declared.refusal.Refusal.TheVariants as refusal
 use Rattle.zb_model.specs.Data as model
 
-abbrev pub tier : Layer → model.Tier
-tier layer.Nwk = model.Nwk
-tier layer.Aps = model.Aps
+abbrev pub model_layer : Layer → model.Layer
+model_layer layer.Nwk = model.Nwk
+model_layer layer.Aps = model.Aps
 
-abbrev pub duty : Role → model.Duty
-duty role.Centre = model.Centre
-duty role.Router = model.Router
-duty role.Device = model.Device
+abbrev pub model_role : Role → model.Role
+model_role role.Centre = model.Centre
+model_role role.Router = model.Router
+model_role role.Device = model.Device
 
-abbrev pub stage : State → model.Stage
-stage state.Fresh = model.Fresh
-stage state.Knocked = model.Knocked
-stage state.Joined = model.Joined
-stage state.Offered = model.Offered
-stage state.Confirmed = model.Confirmed
-stage state.Rejoining = model.Rejoining
-stage state.Gone = model.Gone
+abbrev pub model_state : State → model.State
+model_state state.Fresh = model.Fresh
+model_state state.Knocked = model.Knocked
+model_state state.Joined = model.Joined
+model_state state.Offered = model.Offered
+model_state state.Confirmed = model.Confirmed
+model_state state.Rejoining = model.Rejoining
+model_state state.Gone = model.Gone
 
-abbrev pub trust : Attribute → model.Trust
-trust attribute.Provisional = model.Provisional
-trust attribute.Unverified = model.Unverified
-trust attribute.Verified = model.Verified
+abbrev pub model_attribute : Attribute → model.Attribute
+model_attribute attribute.Provisional = model.Provisional
+model_attribute attribute.Unverified = model.Unverified
+model_attribute attribute.Verified = model.Verified
 
 abbrev pub is_sending : Rollover → Bool
 is_sending rollover.Idle = false
 is_sending rollover.Sending = true
 
 abbrev pub edit : Change → model.Edit
-edit (change.Reserve l limit) = model.Reserve (tier l) limit
-edit (change.Floor l key sender value) = model.Floor (tier l) key.0 sender.0 value
+edit (change.Reserve l limit) = model.Reserve (model_layer l) limit
+edit (change.Floor l key sender value) = model.Floor (model_layer l) key.0 sender.0 value
 edit (change.Draw key) = model.Moved (model.Draw key.0)
 edit (change.DropNet key) = model.Moved (model.DropNet key.0)
 edit (change.DropLink partner key) = model.Moved (model.DropLink partner.0 key.0)
 edit (change.Install key sequence) = model.Moved (model.Install key.0 sequence)
 edit (change.Active key) = model.Moved (model.Active key.0)
 edit (change.Start key value) = model.Start key.0 value
-edit (change.Row partner key a) = model.Moved (model.Row partner.0 key.0 (trust a))
+edit (change.Row partner key a) = model.Moved (model.Row partner.0 key.0 (model_attribute a))
 edit (change.Pair first second key) = model.Moved (model.Pair first.0 second.0 key.0)
-edit (change.State s) = model.Moved (model.Became (stage s))
+edit (change.State s) = model.Moved (model.Became (model_state s))
 edit (change.Live device) = model.Moved (model.Live device.0)
 edit (change.Removed device) = model.Moved (model.Removed device.0)
 edit (change.Roll r) = model.Moved (model.Roll (is_sending r))
@@ -66,10 +66,10 @@ edit (change.Untold device) = model.Moved (model.Untold device.0)
 abbrev pub edits : List Change → List model.Edit
 edits changes = map edit changes
 
-abbrev pub spot : Place → model.Spot
-spot place.Nwk = model.AtNwk
-spot place.Aps = model.AtAps
-spot place.Event = model.AtEvent
+abbrev pub model_place : Place → model.Place
+model_place place.Nwk = model.AtNwk
+model_place place.Aps = model.AtAps
+model_place place.Event = model.AtEvent
 
 -- the reason of a refusal, apart from its place
 abbrev pub reason : Refusal → model.Reason

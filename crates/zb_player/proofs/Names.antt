@@ -5,8 +5,8 @@ use Rattle.std.specs.List.{AllByRecursion, flat_map}
 use Rattle.std.proofs.lemmas.Bool.Decides.{eqb_tells}
 use Rattle.std.proofs.lemmas.Grind.{flat_map-append}
 use Rattle.zb_base.specs.Config.{ApartBy}
-use Rattle.zb_model.specs.Data.{Bytes, Sealing, Station, AtEvent, NoKey}
-use Rattle.zb_model.specs.Lines.{LogLine, Declared, Seal, Send, Refuse}
+use Rattle.zb_model.specs.Data.{Bytes, Term, Station, AtEvent, NoKey}
+use Rattle.zb_model.specs.Lines.{Line, Declared, Seal, Send, Refuse}
 use Rattle.zb_model.specs.FirstPath.{HeldKey, Holder, Saying, Plan, said, given, start, next, tally, reply_of, reply_by, reply, replies, holder_named, end_of, before_end, transcript}
 use Rattle.zb_player.specs.Stands.{named_text}
 use Rattle.zb_player.specs.Text.{line_text, name_in, name_of, stations_in, stations_of, text_by, text}
@@ -39,28 +39,28 @@ name_at (node ∷ more) (suc place) d apart bound =
     differs (x ∷ xs) zero differ bound = differ.0
     differs (x ∷ xs) (suc place) differ bound = differs xs place differ.1 (omega arith)
 
-pub reply_named : (wire : Sealing → Bytes) (known : List Station) (h : List LogLine) (number : ℕ) (saying : Saying) (holder : Holder) (net : Option HeldKey)
+pub reply_named : (wire : Term → Bytes) (known : List Station) (h : List Line) (number : ℕ) (saying : Saying) (holder : Holder) (net : Option HeldKey)
     → name_in known holder.station.eui ≡ holder.station.name
     → text_by known (reply_of wire h number saying holder net) ≡ named_text holder.station.name (reply_of wire h number saying holder net)
 reply_named wire known h number saying holder None named =
     ap (λ n. line_text n (Refuse number holder.station.eui AtEvent NoKey) ++ []) named
 reply_named wire known h number saying holder (Some held) named =
-    let sealing = said holder held (next h holder.station.eui) saying in
-    ap (λ n. line_text n (Seal number holder.station.eui sealing)
-    ++ (line_text n (Send number (Some holder.station.eui) ((tally h).frames + 1) (wire sealing)) ++ [])) named
+    let term = said holder held (next h holder.station.eui) saying in
+    ap (λ n. line_text n (Seal number holder.station.eui term)
+    ++ (line_text n (Send number (Some holder.station.eui) ((tally h).frames + 1) (wire term)) ++ [])) named
 
 -- replies declare no node
-stations-reply_of : (wire : Sealing → Bytes) (h : List LogLine) (number : ℕ) (saying : Saying) (holder : Holder) (net : Option HeldKey)
+stations-reply_of : (wire : Term → Bytes) (h : List Line) (number : ℕ) (saying : Saying) (holder : Holder) (net : Option HeldKey)
     → stations_of (reply_of wire h number saying holder net) ≡ []
 stations-reply_of wire h number saying holder None = refl
 stations-reply_of wire h number saying holder (Some held) = refl
 
-stations-reply_by : (wire : Sealing → Bytes) (h : List LogLine) (number : ℕ) (saying : Saying) (holder : Option Holder)
+stations-reply_by : (wire : Term → Bytes) (h : List Line) (number : ℕ) (saying : Saying) (holder : Option Holder)
     → stations_of (reply_by wire h number saying holder) ≡ []
 stations-reply_by wire h number saying None = refl
 stations-reply_by wire h number saying (Some holder) = stations-reply_of wire h number saying holder holder.net
 
-stations-replies : (wire : Sealing → Bytes) (holders : List Holder) (h : List LogLine) (number : ℕ) (sayings : List Saying)
+stations-replies : (wire : Term → Bytes) (holders : List Holder) (h : List Line) (number : ℕ) (sayings : List Saying)
     → stations_of (replies wire holders h number sayings) ≡ []
 stations-replies wire holders h number [] = refl
 stations-replies wire holders h number (saying ∷ more) =
@@ -90,7 +90,7 @@ stations-start holders =
     ∙ ap (λ l. l ++ stations_of (flat_map (λ (holder : Holder). given holder holder.net) holders)) (stations-declared holders)
     ∙ ap (λ l. stations holders ++ l) (stations-given holders) ∙ append-nil (stations holders)
 
-stations-transcript : (wire : Sealing → Bytes) (plan : Plan) → stations_of (transcript wire plan) ≡ stations plan.holders
+stations-transcript : (wire : Term → Bytes) (plan : Plan) → stations_of (transcript wire plan) ≡ stations plan.holders
 stations-transcript wire plan =
     let body = replies wire plan.holders (start plan.holders) 1 plan.sayings in
     let last = end_of (length plan.sayings) (tally (before_end wire plan)) ∷ [] in
@@ -101,7 +101,7 @@ stations-transcript wire plan =
     ∙ append-nil (stations_of (start plan.holders)) ∙ stations-start plan.holders
 
 -- the text of a transcript, in its three parts
-pub text_parts : (wire : Sealing → Bytes) (plan : Plan) → text (transcript wire plan)
+pub text_parts : (wire : Term → Bytes) (plan : Plan) → text (transcript wire plan)
     ≡ text_by (stations plan.holders) (start plan.holders)
     ++ text_by (stations plan.holders) (replies wire plan.holders (start plan.holders) 1 plan.sayings)
     ++ text_by (stations plan.holders) (end_of (length plan.sayings) (tally (before_end wire plan)) ∷ [])
@@ -113,5 +113,5 @@ text_parts wire plan =
     ∙ text-append known (before_end wire plan) last
     ∙ ap (λ l. l ++ text_by known last) (text-append known (start plan.holders) body)
   where
-    text-append : (known : List Station) (xs ys : List LogLine) → text_by known (xs ++ ys) ≡ text_by known xs ++ text_by known ys
+    text-append : (known : List Station) (xs ys : List Line) → text_by known (xs ++ ys) ≡ text_by known xs ++ text_by known ys
     text-append known xs ys = flat_map-append _ xs ys

@@ -9,7 +9,7 @@ use Rattle.std.proofs.lemmas.List.{length-map}
 use Rattle.zb_base.specs.Config.{ApartBy}
 use Rattle.zb_base.specs.Outside.{AppendsFront}
 use Rattle.zb_model.specs.Data.{Bytes, Station}
-use Rattle.zb_model.specs.Lines.{LogLine, Declared, GivenNet}
+use Rattle.zb_model.specs.Lines.{Line, Declared, GivenNet}
 use Rattle.zb_model.specs.FirstPath.{Holder, start, given, reply, replies, end_of, tally, transcript}
 use Rattle.zb_player.proofs.Names.{stations, name_at, text_parts}
 use Rattle.zb_player.specs.Stands.{Stands, Answers, AnswersAll, PrintsAll, AreApart, answered, answered_text, seated, nodes_of, node_text, given_text, given_by, start_text, counts_of}
@@ -50,7 +50,7 @@ front_at a b xs rest first = front_of a b b xs [] rest first (0, Appends-nil b)
 
 -- Replies, one more
 
-replies-take : (holders : List Holder) (h : List LogLine) (number : ℕ) (says : List Say) (i : ℕ) (d : Say) → i < length says
+replies-take : (holders : List Holder) (h : List Line) (number : ℕ) (says : List Say) (i : ℕ) (d : Say) → i < length says
     → replies wire holders h number (sayings_of (take (suc i) says))
     ≡ replies wire holders h number (sayings_of (take i says))
     ++ reply wire holders (h ++ replies wire holders h number (sayings_of (take i says))) (number + i) (saying_of (get_or says i d))
@@ -69,8 +69,8 @@ replies-take holders h number (say ∷ more) (suc i) d bound =
     ∙ ap (λ l. (g ++ front) ++ reply wire holders l (number + 1 + i) x) (append_assoc h g front)
     ∙ ap (λ n. (g ++ front) ++ reply wire holders (h ++ (g ++ front)) n x) later
 
-replies-rest : (holders : List Holder) (h : List LogLine) (number : ℕ) (says : List Say) (i : ℕ)
-    → ((rest : List LogLine) × (replies wire holders h number (sayings_of says) ≡ replies wire holders h number (sayings_of (take i says)) ++ rest))
+replies-rest : (holders : List Holder) (h : List Line) (number : ℕ) (says : List Say) (i : ℕ)
+    → ((rest : List Line) × (replies wire holders h number (sayings_of says) ≡ replies wire holders h number (sayings_of (take i says)) ++ rest))
 replies-rest holders h number [] zero = ([], refl)
 replies-rest holders h number [] (suc i) = ([], refl)
 replies-rest holders h number (say ∷ more) zero = (replies wire holders h number (sayings_of (say ∷ more)), refl)
@@ -79,10 +79,10 @@ replies-rest holders h number (say ∷ more) (suc i) =
     let r = replies-rest holders (h ++ g) (number + 1) more i in
     (r.0, ap (λ l. g ++ l) r.1 ∙ sym (append_assoc g (replies wire holders (h ++ g) (number + 1) (sayings_of (take i more))) r.0))
 
-text-append : (known : List Station) (xs ys : List LogLine) → text_by known (xs ++ ys) ≡ text_by known xs ++ text_by known ys
+text-append : (known : List Station) (xs ys : List Line) → text_by known (xs ++ ys) ≡ text_by known xs ++ text_by known ys
 text-append known xs ys = flat_map-append _ xs ys
 
-answered-more : (seats : List Seat) (h : List LogLine) (says : List Say) (i : ℕ) (d : Say) → i < length says
+answered-more : (seats : List Seat) (h : List Line) (says : List Say) (i : ℕ) (d : Say) → i < length says
     → answered seats h (take (i + 1) says) ≡ answered seats h (take i says)
     ++ reply wire (seated seats) (h ++ answered seats h (take i says)) (i + 1) (saying_of (get_or says i d))
 answered-more seats h says i d bound =
@@ -92,11 +92,11 @@ answered-more seats h says i d bound =
     ∙ ap (λ n. answered seats h (take i says) ++ reply wire (seated seats) (h ++ answered seats h (take i says)) n (saying_of (get_or says i d))) order
 
 -- the loop's step
-pub step : (h : List LogLine) (old now new : Network) (says : List Say) (i : ℕ) (d : Say) (before middle after : Option Bytes) (blank page : Bytes) → i < length says
+pub step : (h : List Line) (old now new : Network) (says : List Say) (i : ℕ) (d : Say) (before middle after : Option Bytes) (blank page : Bytes) → i < length says
     → d ≡ get_or says i d → blank ≡ []
     → AnswersAll h old (take i says) now before middle
     → nodes_of new.seats.items ≡ nodes_of now.seats.items
-    → ((k : List LogLine) → AreApart now.seats.items → Stands k now → Answers k (seated now.seats.items) (i + 1) d new blank page)
+    → ((k : List Line) → AreApart now.seats.items → Stands k now → Answers k (seated now.seats.items) (i + 1) d new blank page)
     → Appends middle after page
     → AnswersAll h old (take (i + 1) says) new before after
 step h old now new says i d before middle after blank page bound found empty so_far nodes one out apart stands =
@@ -120,7 +120,7 @@ step h old now new says i d before middle after blank page bound found empty so_
     )
 
 -- an event wasn't answered
-pub stopped : (h : List LogLine) (old now : Network) (says : List Say) (i : ℕ) (before middle : Option Bytes)
+pub stopped : (h : List Line) (old now : Network) (says : List Say) (i : ℕ) (before middle : Option Bytes)
     → AnswersAll h old (take i says) now before middle → PrintsAll h old says before middle
 stopped h old now says i before middle so_far apart stands =
     let inv = so_far apart stands in
@@ -131,10 +131,10 @@ stopped h old now says i before middle so_far apart stands =
     (front_at before middle (answered_text old.seats.items h (take i says)) (text_by (stations (seated old.seats.items)) r.0) inv.2)
 
 -- the lines of an event weren't all taken
-pub cut : (h : List LogLine) (old now new : Network) (says : List Say) (i : ℕ) (d : Say) (before middle after : Option Bytes) (blank page : Bytes) → i < length says
+pub cut : (h : List Line) (old now new : Network) (says : List Say) (i : ℕ) (d : Say) (before middle after : Option Bytes) (blank page : Bytes) → i < length says
     → d ≡ get_or says i d → blank ≡ []
     → AnswersAll h old (take i says) now before middle
-    → ((k : List LogLine) → AreApart now.seats.items → Stands k now → Answers k (seated now.seats.items) (i + 1) d new blank page)
+    → ((k : List Line) → AreApart now.seats.items → Stands k now → Answers k (seated now.seats.items) (i + 1) d new blank page)
     → AppendsFront middle after page
     → PrintsAll h old says before after
 cut h old now new says i d before middle after blank page bound found empty so_far one out apart stands =
@@ -259,7 +259,7 @@ pub front_answers : (script : Script) (nodes : List Node) (says : List Say) (net
     → nodes ≡ script.nodes → says ≡ script.says → ApartBy (λ (holder : Holder). holder.station.eui) (holders_of script.nodes)
     → blank ≡ [] → page ≡ blank ++ start_text nodes → Appends before middle page
     → nodes_of network.seats.items ≡ nodes → Stands (start (holders_of nodes)) network
-    → ((h : List LogLine) → PrintsAll h network says middle after)
+    → ((h : List Line) → PrintsAll h network says middle after)
     → AppendsFront before after (text (transcript wire (plan_of script)))
 front_answers script nodes says network before middle after blank page are_nodes are_says apart empty written out same stands prints =
     let answers : AppendsFront middle after (replies_text nodes says) =
@@ -280,7 +280,7 @@ pub all_answered : (script : Script) (nodes : List Node) (says : List Say) (old 
     → nodes ≡ script.nodes → says ≡ script.says → ApartBy (λ (holder : Holder). holder.station.eui) (holders_of script.nodes)
     → blank ≡ [] → page ≡ blank ++ start_text nodes → Appends before middle page
     → nodes_of old.seats.items ≡ nodes → Stands (start (holders_of nodes)) old
-    → ((h : List LogLine) → AnswersAll h old says new middle after)
+    → ((h : List Line) → AnswersAll h old says new middle after)
     → Answered script nodes says old new before after
 unfolding last_text
 all_answered script nodes says old new before middle after blank page are_nodes are_says apart empty written out same stands answers =

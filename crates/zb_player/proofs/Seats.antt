@@ -6,7 +6,7 @@ use Rattle.std.proofs.Math.ListN.{set, get_or-map}
 use Rattle.std.proofs.lemmas.List.{length-map}
 use Rattle.std.proofs.lemmas.Grind.{fold-append}
 use Rattle.zb_base.specs.Config.{ApartBy}
-use Rattle.zb_model.specs.Lines.{LogLine, Declared}
+use Rattle.zb_model.specs.Lines.{Line, Declared}
 use Rattle.zb_model.specs.Data.{Bytes}
 use Rattle.zb_model.specs.FirstPath.{HeldKey, Holder, Saying, Tally, tallied, nothing, tally, next, start, given, said, sealed_and_sent, reply, reply_of, reply_by, holder_named}
 use Rattle.zb_model.proofs.FirstPathLaws.{next-start, next-append, next-sealed, next-sealed_own}
@@ -124,7 +124,7 @@ nodes_set (seat ∷ more) zero d new node = ap (λ n. n ∷ nodes_of more) node
 nodes_set (seat ∷ more) (suc place) d new node = ap (λ l. seat.node ∷ l) (nodes_set more place d new node)
 
 -- a seat with a sealer answers by a seal and a frame
-pub seat_seals : (h : List LogLine) (event number : ℕ) (say : Say) (before after : Bytes) (seat : Seat) (old new : Sealer)
+pub seat_seals : (h : List Line) (event number : ℕ) (say : Say) (before after : Bytes) (seat : Seat) (old new : Sealer)
     → seat.sealer ≡ Some old → SeatStands (next h) seat → number ≡ (tally h).frames + 1
     → new.network ≡ old.network → new.next ≡ old.next + 1
     → after ≡ before ++ line_text seat.node.peer.name.bytes (line.Seal event seat.node.peer.eui.0 (said_by seat.node old.network old.next say))
@@ -134,21 +134,21 @@ seat_seals h event number say before after seat old new has stands is_next same_
     let node = seat.node in
     let keys : Some old.network ≡ node.network = ap (option_map (λ (sealer : Sealer). sealer.network)) (sym has) ∙ stands.network in
     let counter : old.next ≡ next h node.peer.eui.0 = subst (SealerStands (next h) node.peer.eui.0) has stands.sealer in
-    let sealing = said_by node old.network (next h node.peer.eui.0) say in
-    let g = sealed_and_sent wire h event node.peer.eui.0 sealing in
+    let term = said_by node old.network (next h node.peer.eui.0) say in
+    let g = sealed_and_sent wire h event node.peer.eui.0 term in
     let is_g : g ≡ replied node h event say = ap (λ n. reply_of wire h event (saying_of say) (holder_of node) (held_of n)) keys in
-    let own : next (h ++ g) node.peer.eui.0 ≡ next h node.peer.eui.0 + 1 = next-sealed_own wire h event node.peer.eui.0 sealing in
+    let own : next (h ++ g) node.peer.eui.0 ≡ next h node.peer.eui.0 + 1 = next-sealed_own wire h event node.peer.eui.0 term in
     let name = node.peer.name.bytes in
     let text : after ≡ before ++ named_text name g =
     written
     ∙ ap (λ c. before ++ line_text name (line.Seal event node.peer.eui.0 (said_by node old.network c say))
     ++ line_text name (line.Send event (Some node.peer.eui.0) number (wire (said_by node old.network c say)))) counter
-    ∙ ap (λ m. before ++ line_text name (line.Seal event node.peer.eui.0 sealing)
-    ++ line_text name (line.Send event (Some node.peer.eui.0) m (wire sealing))) is_next
-    ∙ append_assoc before (line_text name (line.Seal event node.peer.eui.0 sealing))
-    (line_text name (line.Send event (Some node.peer.eui.0) ((tally h).frames + 1) (wire sealing)))
-    ∙ ap (λ l. before ++ (line_text name (line.Seal event node.peer.eui.0 sealing) ++ l))
-    (sym (append-nil (line_text name (line.Send event (Some node.peer.eui.0) ((tally h).frames + 1) (wire sealing))))) in
+    ∙ ap (λ m. before ++ line_text name (line.Seal event node.peer.eui.0 term)
+    ++ line_text name (line.Send event (Some node.peer.eui.0) m (wire term))) is_next
+    ∙ append_assoc before (line_text name (line.Seal event node.peer.eui.0 term))
+    (line_text name (line.Send event (Some node.peer.eui.0) ((tally h).frames + 1) (wire term)))
+    ∙ ap (λ l. before ++ (line_text name (line.Seal event node.peer.eui.0 term) ++ l))
+    (sym (append-nil (line_text name (line.Send event (Some node.peer.eui.0) ((tally h).frames + 1) (wire term))))) in
     record {
       stands = record {
         network = ap Some same_key ∙ keys;
@@ -164,19 +164,19 @@ all-at P (x ∷ xs) zero d all bound = all.0
 all-at P (x ∷ xs) (suc place) d all bound = all-at P xs place d all.1 (omega arith)
 
 -- the counters of other nodes stay
-next-other : (h : List LogLine) (event : ℕ) (saying : Saying) (holder : Holder) (net : Option HeldKey) (eui : ℕ) → eui ≢ holder.station.eui
+next-other : (h : List Line) (event : ℕ) (saying : Saying) (holder : Holder) (net : Option HeldKey) (eui : ℕ) → eui ≢ holder.station.eui
     → next (h ++ reply_of wire h event saying holder net) eui ≡ next h eui
 next-other h event saying holder None eui other = next-append h (reply_of wire h event saying holder None) eui
 next-other h event saying holder (Some held) eui other =
-    let sealing = said holder held (next h holder.station.eui) saying in
+    let term = said holder held (next h holder.station.eui) saying in
     elim (eqb_tells holder.station.eui eui) [
       | inl same ↦ absurd (other (sym same.1))
       | inr differ ↦
-          next-sealed wire h event holder.station.eui eui sealing ∙ ap (λ b. if b then sealing.counter + 1 else next h eui) differ.0
+          next-sealed wire h event holder.station.eui eui term ∙ ap (λ b. if b then term.counter + 1 else next h eui) differ.0
     ]
 
 -- one seat answers for the whole network
-pub network_answers : (h : List LogLine) (event : ℕ) (say : Say) (seats : List Seat) (place : ℕ) (d new : Seat) (sent : Bool) (frames refusals number : ℕ)
+pub network_answers : (h : List Line) (event : ℕ) (say : Say) (seats : List Seat) (place : ℕ) (d new : Seat) (sent : Bool) (frames refusals number : ℕ)
     (before after : Bytes) (network : Network)
     → ApartBy (λ (holder : Holder). holder.station.eui) (seated seats) → AllByRecursion (SeatStands (next h)) seats → tally h ≡ counts_of frames refusals
     → place < length seats → holder_named say.name.bytes (seated seats) ≡ Some (holder_of (get_or seats place d).node)
@@ -210,7 +210,7 @@ network_answers h event say seats place d new sent frames refusals number before
     }
 
 -- no node has the name: no line
-pub nobody_answers : (h : List LogLine) (event : ℕ) (say : Say) (network : Network) (text : Bytes)
+pub nobody_answers : (h : List Line) (event : ℕ) (say : Say) (network : Network) (text : Bytes)
     → holder_named say.name.bytes (seated network.seats.items) ≡ None → Stands h network → Answers h (seated network.seats.items) event say network text text
 nobody_answers h event say network text named stands =
     let is_g : [] ≡ reply wire (seated network.seats.items) h event (saying_of say) = ap (reply_by wire h event (saying_of say)) (sym named) in

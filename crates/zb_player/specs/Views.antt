@@ -10,17 +10,17 @@ use Rattle.zb_player.specs.declared.script.Node.{Node}
 use Rattle.zb_player.specs.declared.script.Say.{Say}
 use Rattle.zb_player.specs.declared.script.Script.{Script}
 
-abbrev pub duty_of : Role → model.Duty
-duty_of role.Centre = model.Centre
-duty_of role.Router = model.Router
-duty_of role.Device = model.Device
+abbrev pub role_of : Role → model.Role
+role_of role.Centre = model.Centre
+role_of role.Router = model.Router
+role_of role.Device = model.Device
 
 abbrev pub station_of : Node → model.Station
 station_of node = record {
   name = node.peer.name.bytes;
   eui = node.peer.eui.0;
   short = node.peer.short.0;
-  duty = duty_of node.peer.role;
+  role = role_of node.peer.role;
   out_block = node.out_block;
   in_block = node.in_block;
 }

@@ -1,7 +1,7 @@
 -- The bytes of a sealed network frame on the air.
 use Rattle.std.specs.Prelude.{ℕ, ◌-◌, ◌%◌, [], ◌∷◌, ◌++◌, length, take, drop, slice_index, bit_and}
 use Rattle.zb_ccm.specs.Ccm.{Sealed, sealed}
-use Rattle.zb_model.specs.Data.{Bytes, Sealing, Nwk, ForNetwork}
+use Rattle.zb_model.specs.Data.{Bytes, Term, Nwk, ForNetwork}
 use Rattle.std.specs.Int.{w32, w64, to_le_bytes}
 use Rattle.zb_model.specs.FirstPath.{network_header, network_control, nonce_of}
 use Rattle.zb_player.specs.declared.frames.Heading.{Heading}
@@ -19,7 +19,7 @@ on_air_header header =
 abbrev pub frame_of : Bytes → Sealed → Bytes
 frame_of header under_seal = on_air_header header ++ under_seal.text ++ under_seal.mic
 
-abbrev pub wire : Sealing → Bytes
+abbrev pub wire : Term → Bytes
 wire t = frame_of t.header (sealed t.base (nonce_of t) t.header t.content 4)
 
 -- the header that a heading gives, with some security control, and the nonce
@@ -31,7 +31,7 @@ abbrev pub heading_nonce : Heading → Bytes
 heading_nonce heading = to_le_bytes w64 heading.source.0 ++ to_le_bytes w32 heading.counter ++ network_control ∷ []
 
 -- what is sealed in a network layer
-abbrev pub network_term : Bytes → ℕ → ℕ → Bytes → Bytes → Sealing
+abbrev pub network_term : Bytes → ℕ → ℕ → Bytes → Bytes → Term
 network_term key source counter header content = record {
   layer = Nwk;
   base = key;

@@ -27,7 +27,7 @@ pub(crate) struct Network {
 
 impl Seat {
     ghost use Rattle.std.specs.Prelude.{◌≡◌, ◌+◌, ◌-◌, ◌^◌, ◌<◌, ◌++◌, ℕ, List, IfOk, OnOk};
-    ghost use Rattle.zb_model.specs.Lines.{LogLine};
+    ghost use Rattle.zb_model.specs.Lines.{Line};
     ghost use Rattle.zb_model.specs.FirstPath.{next, tally};
     ghost use Rattle.zb_player.specs.Stands.{SealerIsBelow, SeatStands, SeatAnswers};
 
@@ -62,7 +62,7 @@ impl Seat {
         requires below { SealerIsBelow event self.old.sealer }
         ensures below { OnOk result (SealerIsBelow (event + 1) self.new.sealer) }
         ensures node { self.new.node ≡ self.old.node }
-        ensures answers { IfOk result (λ sent. (h : List LogLine) → SeatStands (next h) self.old → number ≡ (tally h).frames + 1
+        ensures answers { IfOk result (λ sent. (h : List Line) → SeatStands (next h) self.old → number ≡ (tally h).frames + 1
             → SeatAnswers h event say.now self.new sent page.old.items page.new.items) }
     {
         match &mut self.sealer {
@@ -83,7 +83,7 @@ impl Network {
     ghost use Rattle.std.specs.Prelude.{◌≡◌, ◌+◌, ◌-◌, ◌^◌, ◌<◌, List, length, MatchOption, None, Some, slice_index_or, IfOk, OnOk};
     ghost use Rattle.zb_player.specs.declared.network.Seat.{Seat};
     ghost use Rattle.zb_base.specs.Config.{ApartBy};
-    ghost use Rattle.zb_model.specs.Lines.{LogLine};
+    ghost use Rattle.zb_model.specs.Lines.{Line};
     ghost use Rattle.zb_model.specs.FirstPath.{Holder, holder_named, start};
     ghost use Rattle.zb_player.specs.Stands.{nodes_of, seated, IsBelow, Stands, Answers};
     ghost use Rattle.zb_player.specs.Views.{holder_of, holders_of};
@@ -122,7 +122,7 @@ impl Network {
         requires below { IsBelow event self.old }
         ensures below { OnOk result (IsBelow (event + 1) self.new) }
         ensures nodes { nodes_of self.new.seats.items ≡ nodes_of self.old.seats.items }
-        ensures answers { OnOk result ((h : List LogLine) → ApartBy (λ (holder : Holder). holder.station.eui) (seated self.old.seats.items)
+        ensures answers { OnOk result ((h : List Line) → ApartBy (λ (holder : Holder). holder.station.eui) (seated self.old.seats.items)
             → Stands h self.old → Answers h (seated self.old.seats.items) event say.now self.new page.old.items page.new.items) }
     {
         let Some(place) = self.place_of(&say.name) else {

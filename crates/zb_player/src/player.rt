@@ -3,7 +3,7 @@ ghost use Rattle.std.specs.Prelude.{◌≡◌, ◌≤◌, ◌++◌, [], ◌+◌,
 ghost use Rattle.std.specs.Io.KnownBytes.{Appends};
 ghost use Rattle.zb_base.specs.Outside.{AppendsFront, Rose};
 ghost use Rattle.zb_model.specs.FirstPath.{transcript};
-ghost use Rattle.zb_model.specs.Lines.{LogLine};
+ghost use Rattle.zb_model.specs.Lines.{Line};
 ghost use Rattle.zb_player.specs.Stands.{nodes_of, IsBelow, AnswersAll, PrintsAll, start_text, node_text, given_text};
 ghost use Rattle.zb_player.specs.Text.{text};
 ghost use Rattle.zb_player.specs.Views.{plan_of, IsPlayable};
@@ -90,8 +90,8 @@ fn answer_all<W: Sink>(
     requires few { length says.now ≤ 100000 }
     requires below { IsBelow 1 network.old }
     ensures empty { OnOk result (page.new.items ≡ []) }
-    ensures whole { OnOk result ((h : List LogLine) → AnswersAll h network.old says.now network.new (W.taken out.old) (W.taken out.new)) }
-    ensures front { OnErr result ((h : List LogLine) → PrintsAll h network.old says.now (W.taken out.old) (W.taken out.new)) }
+    ensures whole { OnOk result ((h : List Line) → AnswersAll h network.old says.now network.new (W.taken out.old) (W.taken out.new)) }
+    ensures front { OnErr result ((h : List Line) → PrintsAll h network.old says.now (W.taken out.old) (W.taken out.new)) }
     ensures later { W.faults out.old ≤ W.faults out.new }
     ensures cause { result ≡ Err PlayFault.Write → Rose (W.faults out.old) (W.faults out.new) }
 {

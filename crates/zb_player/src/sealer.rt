@@ -38,10 +38,10 @@ impl Sealer {
         number: u32,
         page: &mut Vec<u8>,
     ) -> Result<(), AllocError>
-        ensures { let sealing = said_by node.now self.now.network self.now.next say.now in
+        ensures { let term = said_by node.now self.now.network self.now.next say.now in
             let name = node.now.peer.name.bytes in
-            OnOk result (page.new.items ≡ page.old.items ++ line_text name (line.Seal event node.now.peer.eui.0 sealing)
-            ++ line_text name (line.Send event (Some node.now.peer.eui.0) number (wire sealing))) }
+            OnOk result (page.new.items ≡ page.old.items ++ line_text name (line.Seal event node.now.peer.eui.0 term)
+            ++ line_text name (line.Send event (Some node.now.peer.eui.0) number (wire term))) }
     {
         let heading = Heading {
             to: say.to,

@@ -10,38 +10,38 @@ use Rattle.zb_sched.specs.Plan as sched
 use Rattle.zb_sched.specs.Reading.{schedule_of}
 use Rattle.zb_sched.specs.Valid.{Pairwise, Apart, FitsMember, IsSchedule}
 use Rattle.zb_sched.specs.declared.error.SchedError.{SchedError}
-use Rattle.zb_sched_line.specs.Said.{Bytes, Act, Says}
+use Rattle.zb_sched_line.specs.Said.{Bytes, Event, Says}
 
-apart-from : (m : sched.Member) (ms : List sched.Member) → AllByRecursion (Apart m) ms
+apart-from : (m : sched.Node) (ms : List sched.Node) → AllByRecursion (Apart m) ms
     → AllByRecursion (λ (other : Holder). m.eui ≢ other.station.eui) (map holder ms)
 apart-from m [] all = tt
 apart-from m (n ∷ ms) all = (all.0.1, apart-from m ms all.1)
 
-apart : (ms : List sched.Member) → Pairwise Apart ms → ApartBy (λ (h : Holder). h.station.eui) (map holder ms)
+apart : (ms : List sched.Node) → Pairwise Apart ms → ApartBy (λ (h : Holder). h.station.eui) (map holder ms)
 apart [] pairs = tt
 apart (m ∷ ms) pairs = (apart-from m ms pairs.0, apart ms pairs.1)
 
-addresses : (ms : List sched.Member) → AllByRecursion FitsMember ms → HaveAddresses (map holder ms)
+addresses : (ms : List sched.Node) → AllByRecursion FitsMember ms → HaveAddresses (map holder ms)
 addresses [] all = tt
 addresses (m ∷ ms) all = (all.0.0.1.0, addresses ms all.1)
 
-one-saying : (act : Act) → length (sayings act) ≤ 1
+one-saying : (act : Event) → length (sayings act) ≤ 1
 one-saying (Says name to bytes) = omega arith
 one-saying act = omega arith
 
-few : (acts : List Act) → length (flat_map sayings acts) ≤ length acts
+few : (events : List Event) → length (flat_map sayings events) ≤ length events
 few [] = omega arith
-few (act ∷ acts) =
+few (act ∷ events) =
     let here : length (sayings act) ≤ 1 = one-saying act in
-    let rest : length (flat_map sayings acts) ≤ length acts = few acts in
-    let both : length (sayings act ++ flat_map sayings acts) ≡ length (sayings act) + length (flat_map sayings acts) =
-    length-append (sayings act) (flat_map sayings acts) in
+    let rest : length (flat_map sayings events) ≤ length events = few events in
+    let both : length (sayings act ++ flat_map sayings events) ≡ length (sayings act) + length (flat_map sayings events) =
+    length-append (sayings act) (flat_map sayings events) in
     omega arith
 
 pub playable : (p : sched.Plan) → IsSchedule p → IsPlayable (script p)
 playable p valid =
-    let bound : length (flat_map sayings p.acts) ≤ length p.acts = few p.acts in
-    let limit : length p.acts ≤ 100000 = valid.so_far.few_acts in
+    let bound : length (flat_map sayings p.events) ≤ length p.events = few p.events in
+    let limit : length p.events ≤ 100000 = valid.so_far.few_events in
     record { euis = apart p.members valid.so_far.apart; addresses = addresses p.members valid.so_far.members; few = omega arith }
 
 -- a schedule all of whose lines are played

@@ -4,16 +4,16 @@ use Rattle.std.specs.Prelude.{ℕ, ◌+◌, Bool, true, false, if◌then◌else�
 use Rattle.std.specs.List.{flat_map}
 use Rattle.std.specs.Str.Lines.{lines}
 use Rattle.zb_model.specs.FirstPath.{HeldKey, Holder, Saying, Plan}
-use Rattle.zb_player.specs.Views.{duty_of}
+use Rattle.zb_player.specs.Views.{role_of}
 use Rattle.zb_sched.specs.Plan as sched
 use Rattle.zb_sched.specs.Reading.{schedule_of}
 use Rattle.zb_sched.specs.declared.error.SchedCause.TheVariants.{Syntax}
 use Rattle.zb_sched.specs.declared.error.SchedError.{SchedError}
 use Rattle.zb_sched_line.specs.Grammar.{meaning_of}
-use Rattle.zb_sched_line.specs.Said.{Bytes, Act, Says, Sentence, Quiet, Introduces, Holds, Happens}
+use Rattle.zb_sched_line.specs.Said.{Bytes, Event, Says, Sentence, Quiet, Introduces, Holds, Happens}
 
 -- the forms that are played
-abbrev pub is_saying : Act → Bool
+abbrev pub is_saying : Event → Bool
 is_saying (Says name to bytes) = true
 is_saying act = false
 
@@ -49,18 +49,18 @@ abbrev pub held : Option (Bytes × ℕ) → Option HeldKey
 held None = None
 held (Some network) = Some (record { key = network.0; sequence = network.1 })
 
-abbrev pub holder : sched.Member → Holder
+abbrev pub holder : sched.Node → Holder
 holder m = record {
-  station = record { name = m.name; eui = m.eui; short = m.short; duty = duty_of m.role; out_block = m.out_block; in_block = m.in_block };
+  station = record { name = m.name; eui = m.eui; short = m.short; role = role_of m.role; out_block = m.out_block; in_block = m.in_block };
   net = held m.network;
 }
 
-abbrev pub sayings : Act → List Saying
+abbrev pub sayings : Event → List Saying
 sayings (Says name to bytes) = record { name = name; to = to; payload = bytes } ∷ []
 sayings act = []
 
 abbrev pub script : sched.Plan → Plan
-script plan = record { holders = map holder plan.members; sayings = flat_map sayings plan.acts }
+script plan = record { holders = map holder plan.members; sayings = flat_map sayings plan.events }
 
 abbrev pub scripted : Result sched.Plan SchedError → Result Plan SchedError
 scripted (Ok plan) = Ok (script plan)

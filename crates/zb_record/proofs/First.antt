@@ -4,7 +4,7 @@ use Rattle.std.proofs.lemmas.Bool.{not-true}
 use Rattle.std.proofs.lemmas.List.{map-append}
 use Rattle.zb_model.specs.Data.{Bytes, Draw, DropNet, DropLink, Install, Active, Row, Pair, Became, Live, Removed, Roll, Told, Untold, Edit, Reserve, Floor, Start, Moved, Move, Nwk, Aps}
 use Rattle.zb_model.specs.State.{NodeState, NetKey, same_key, at_net, has_net, new_net, given_net, applied, shown}
-use Rattle.zb_model.specs.Fits.{keeps_rules, rows_have_room, keys_differ, at_most_two_live, active_is_live, partners_agree, links_are_marked, floors_are_kept, limits_are_started, duty_is_kept, pairs_are_kept, fits, may_change}
+use Rattle.zb_model.specs.Fits.{keeps_rules, rows_have_room, keys_differ, at_most_two_live, active_is_live, partners_agree, links_are_marked, floors_are_kept, limits_are_started, role_is_kept, pairs_are_kept, fits, may_change}
 use Rattle.zb_model_fits.specs.Fitting.{leaves_rules}
 use Rattle.zb_model_fits.proofs.Tests.{both, neither, all_map}
 use Rattle.zb_model_fits.proofs.Parts.{rules_of, floors_rule, same_key_of}
@@ -24,7 +24,7 @@ fit_kept e s kept fit =
 -- ---- one limit for all rows
 
 declared_kept : (n : ℕ) (s : NodeState) → keeps_rules s ≡ true → keeps_rules (record s { declared = n }) ≡ true
-unfolding keeps_rules rows_have_room keys_differ at_most_two_live active_is_live partners_agree links_are_marked floors_are_kept limits_are_started duty_is_kept pairs_are_kept
+unfolding keeps_rules rows_have_room keys_differ at_most_two_live active_is_live partners_agree links_are_marked floors_are_kept limits_are_started role_is_kept pairs_are_kept
 declared_kept n s kept = kept
 
 limited_is_mild : (limit : ℕ) → Mild (limited limit)
@@ -84,9 +84,9 @@ first_moved (DropNet key) s kept fit = fit_kept (Moved (DropNet key)) s kept fit
 first_moved (DropLink partner key) s kept fit = fit_kept (Moved (DropLink partner key)) s kept fit
 first_moved (Install key sequence) s kept fit = net_kept key sequence s kept fit
 first_moved (Active key) s kept fit = fit_kept (Moved (Active key)) s kept fit
-first_moved (Row partner key trust) s kept fit = fit_kept (Moved (Row partner key trust)) s kept fit
+first_moved (Row partner key attribute) s kept fit = fit_kept (Moved (Row partner key attribute)) s kept fit
 first_moved (Pair first second key) s kept fit = absurd (cc)
-first_moved (Became stage) s kept fit = fit_kept (Moved (Became stage)) s kept fit
+first_moved (Became state) s kept fit = fit_kept (Moved (Became state)) s kept fit
 first_moved (Live device) s kept fit = fit_kept (Moved (Live device)) s kept fit
 first_moved (Removed device) s kept fit = fit_kept (Moved (Removed device)) s kept fit
 first_moved (Roll sending) s kept fit = fit_kept (Moved (Roll sending)) s kept fit

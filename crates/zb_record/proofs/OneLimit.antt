@@ -19,7 +19,7 @@ use Rattle.zb_record.specs.Placed.{◌>>=◌, give, field, whole, rows_at}
 use Rattle.zb_record.specs.Rows.{net_at, net_flags_fit, is_new_net, floors_at, live_floors_at, all_floors_at, links_at, pairs_at}
 use Rattle.zb_record.specs.Records.{may_enter, may_roll, has_net_room, is_place, node_at, head_at, nets_at, state_from, record_at, record_read, ended}
 use Rattle.zb_record.proofs.Sound.{both_read, rows_keep, given}
-use Rattle.zb_node_types.specs.Changes.{duty}
+use Rattle.zb_node_types.specs.Changes.{model_role}
 use Rattle.zb_record.specs.Redoing.{Redone, onward, made, limited, first_applied, first_fits, fits_behind, applied_behind, change_redone, changes_redone, payloads_redone, redone, GoesOn, HasOneLimit}
 
 -- ---- what each change keeps, all of them keep
@@ -95,9 +95,9 @@ moved_one (Install key sequence) s one fit = by_test (has_net key s.nets)
     by_test true = one
     by_test false = one_more s.declared s.nets (given_net s.declared key sequence) one (refl, refl, refl)
 moved_one (Active key) s one fit = one
-moved_one (Row partner key trust) s one fit = one
+moved_one (Row partner key attribute) s one fit = one
 moved_one (Pair first second key) s one fit = absurd (cc)
-moved_one (Became stage) s one fit = one
+moved_one (Became model_state) s one fit = one
 moved_one (Live device) s one fit = one
 moved_one (Removed device) s one fit = one
 moved_one (Roll sending) s one fit = one
@@ -178,8 +178,8 @@ record_one bytes rest s first e =
     let a = both_read node_at _ bytes rest s e in
     let b = both_read (head_at a.value) _ a.between rest s a.two in
     let c = both_read (nets_at b.value) _ b.between rest s b.two in
-    let d = both_read (links_at (duty a.value.role)) _ c.between rest s c.two in
-    let f = both_read (pairs_at a.value.version (duty a.value.role)) _ d.between rest s d.two in
+    let d = both_read (links_at (model_role a.value.role)) _ c.between rest s c.two in
+    let f = both_read (pairs_at a.value.version (model_role a.value.role)) _ d.between rest s d.two in
     let is : state_from b.value c.value d.value f.value ≡ s = given _ s f.between rest f.two in
     let n1 = both_read (whole version_at) _ bytes a.between a.value a.one in
     let n2 = both_read (whole role_at) _ n1.between a.between a.value n1.two in

@@ -1,4 +1,5 @@
 -- A record that is written is read again, as it is after a boot.
+use Rattle.zb_model.specs.Data as model
 use Rattle.std.proofs.Common.{◌≡◌, ℕ, zero, suc, ◌+◌, ◌^◌, ◌<◌, ◌≤◌, List, [], ◌∷◌, ◌++◌, length, map, filter, flat_map, Result, Ok, refl, sym, ap, ◌∙◌, subst, arith, Bool, true, false, not, if◌then◌else◌, ◌&&◌, ◌||◌, append_assoc, append-nil, length-append}
 use Rattle.std.specs.Prelude.{nat_eq, nat_le, nat_lt}
 use Rattle.std.specs.Int.{w32}
@@ -12,14 +13,14 @@ use Rattle.zb_base.specs.declared.address.Eui.{Eui}
 use Rattle.zb_base.specs.declared.key.Key.{Key}
 use Rattle.zb_node_types.specs.declared.state.Attribute.{Attribute}
 use Rattle.zb_node_types.specs.declared.state.Attribute.TheVariants as attribute
-use Rattle.zb_node_types.specs.Changes.{trust}
+use Rattle.zb_node_types.specs.Changes.{model_attribute}
 use Rattle.zb_cursor.specs.Spelling.{bit}
 use Rattle.zb_cursor.specs.Reading.{Reading, byte_at, number_at, eui_at, key_at}
 use Rattle.zb_cursor.proofs.ReadAgain.{wide32, number_again, eui_again, key_again}
-use Rattle.zb_model.specs.Data.{Duty, Trust, Provisional, Unverified, Verified}
+use Rattle.zb_model.specs.Data.{Role, Provisional, Unverified, Verified}
 use Rattle.zb_model.specs.State.{SenderFloor, NetKey, LinkKey, PairKey, same_key, has_net, booted_floor, booted_net, booted_link, shown_net}
 use Rattle.zb_model.specs.Fits.{senders_ascend, all_apart, most_senders}
-use Rattle.zb_model.specs.Record.{worth, net_bytes, sender_bytes, floors_bytes, link_bytes, pair_bytes, trust_byte, four_bytes, eight_bytes}
+use Rattle.zb_model.specs.Record.{worth, net_bytes, sender_bytes, floors_bytes, link_bytes, pair_bytes, attribute_byte, four_bytes, eight_bytes}
 use Rattle.zb_model_fits.proofs.Tests.{both, any_map, apart_snoc}
 use Rattle.zb_model_fits.proofs.Parts.{nets_alike, links_alike, pairs_alike, pair_rule, floors_rule, limit_rule}
 use Rattle.zb_record.specs.declared.version.Version.TheVariants.{Third}
@@ -289,25 +290,25 @@ three_flags false false true = (refl, refl, refl, refl)
 three_flags false false false = (refl, refl, refl, refl)
 
 -- an attribute of the program for each of the model
-attribute_of : Trust → Attribute
+attribute_of : model.Attribute → Attribute
 attribute_of Provisional = attribute.Provisional
 attribute_of Unverified = attribute.Unverified
 attribute_of Verified = attribute.Verified
 
-attribute_same : (t : Trust) → trust (attribute_of t) ≡ t
+attribute_same : (t : model.Attribute) → model_attribute (attribute_of t) ≡ t
 unfolding attribute_of
 attribute_same Provisional = refl
 attribute_same Unverified = refl
 attribute_same Verified = refl
 
-pub record LinksCan (d : Duty) (done rows : List LinkKey) : Type 0 where
+pub record LinksCan (d : Role) (done rows : List LinkKey) : Type 0 where
   pub keys : all_apart links_alike (done ++ rows) ≡ true
   pub kinds : all_apart kinds_alike (done ++ rows) ≡ true
   pub told : all_apart told_apart (done ++ rows) ≡ true
   pub marks : list_all (is_marked d) rows ≡ true
   pub fits : AllByRecursion LinkFits rows
 
-pub link_again : (d : Duty) (done rows : List LinkKey) (r : LinkKey) (rest : List ℕ) → LinksCan d done (r ∷ rows) → (link_at d (map booted_link done) (link_bytes r ++ rest) ≡ found (booted_link r) rest) × LinksCan d (done ++ r ∷ []) rows
+pub link_again : (d : Role) (done rows : List LinkKey) (r : LinkKey) (rest : List ℕ) → LinksCan d done (r ∷ rows) → (link_at d (map booted_link done) (link_bytes r ++ rest) ≡ found (booted_link r) rest) × LinksCan d (done ++ r ∷ []) rows
 unfolding link_at
 link_again d done rows r rest can =
     let keys = apart_here links_alike done rows r can.keys in
@@ -316,27 +317,27 @@ link_again d done rows r rest can =
     let marks = both (is_marked d r) (list_all (is_marked d) rows) can.marks in
     let e : Eui = record { 0 = r.partner } in
     let k : Key = record { 0 = r.key } in
-    let a : Attribute = attribute_of r.trust in
+    let a : Attribute = attribute_of r.attribute in
     let flags = worth 1 r.live + (worth 2 r.code + worth 4 r.told) in
     let bits = three_flags r.live r.code r.told in
     let t4 : List ℕ = four_bytes r.stored ++ rest in
     let t3 : List ℕ = flags ∷ t4 in
-    let t2 : List ℕ = trust_byte r.trust ∷ t3 in
+    let t2 : List ℕ = attribute_byte r.attribute ∷ t3 in
     let t1 = r.key ++ t2 in
-    let row : link_row r.partner r.key (trust a) flags ≡ record r { kept = 0; stored = 0 } = rw (bits.0, bits.1, bits.2, attribute_same r.trust) refl in
+    let row : link_row r.partner r.key (model_attribute a) flags ≡ record r { kept = 0; stored = 0 } = rw (bits.0, bits.1, bits.2, attribute_same r.attribute) refl in
     let none_key : list_any (λ (x : LinkKey). same_key x.key r.key) (map booted_link done) ≡ false = any_map (λ (x : LinkKey). same_key x.key r.key) booted_link done ∙ keys.0 in
     let new : is_new_link (map booted_link done) k ≡ true = rw none_key refl in
     let none_kind : list_any (λ (y : LinkKey). kinds_alike y r) (map booted_link done) ≡ false = any_map (λ (y : LinkKey). kinds_alike y r) booted_link done ∙ kinds.0 in
     let none_told : list_any (λ (y : LinkKey). told_apart y r) (map booted_link done) ≡ false = any_map (λ (y : LinkKey). told_apart y r) booted_link done ∙ told.0 in
     let fit_row : link_fits d (map booted_link done) r ≡ true = rw (marks.0, none_kind, none_told) refl in
-    let fit : link_flags_fit d (map booted_link done) r.partner r.key (trust a) flags ≡ true = ap (λ b. b && link_fits d (map booted_link done) (link_row r.partner r.key (trust a) flags)) bits.3 ∙ ap (link_fits d (map booted_link done)) row ∙ fit_row in
+    let fit : link_flags_fit d (map booted_link done) r.partner r.key (model_attribute a) flags ≡ true = ap (λ b. b && link_fits d (map booted_link done) (link_row r.partner r.key (model_attribute a) flags)) bits.3 ∙ ap (link_fits d (map booted_link done)) row ∙ fit_row in
     let partner_read = eui_again (length (eight_bytes r.partner ++ t1)) e t1 can.fits.0.partner in
     let key_read = field_again key_at (is_new_link (map booted_link done)) t1 t2 k (key_again (length t1) k t2 can.fits.0.key) new in
-    let trust_read : attribute_at (length t2) t2 ≡ found a t3 = ap (λ b. attribute_at (length t2) (trust_byte b ∷ t3)) (sym (attribute_same r.trust)) ∙ attribute_again (length t2) a t3 in
-    let flags_read = field_again byte_at (link_flags_fit d (map booted_link done) r.partner r.key (trust a)) t3 t4 flags refl fit in
+    let attribute_read : attribute_at (length t2) t2 ≡ found a t3 = ap (λ b. attribute_at (length t2) (attribute_byte b ∷ t3)) (sym (attribute_same r.attribute)) ∙ attribute_again (length t2) a t3 in
+    let flags_read = field_again byte_at (link_flags_fit d (map booted_link done) r.partner r.key (model_attribute a)) t3 t4 flags refl fit in
     let floor_read = number_again (length t4) w32 (2 ^ 32) wide32 r.stored rest can.fits.0.stored in
-    let value : found (record (link_row r.partner r.key (trust a) flags) { kept = r.stored; stored = r.stored }) rest ≡ found (booted_link r) rest = ap (λ (x : LinkKey). found (record x { kept = r.stored; stored = r.stored }) rest) row in
+    let value : found (record (link_row r.partner r.key (model_attribute a) flags) { kept = r.stored; stored = r.stored }) rest ≡ found (booted_link r) rest = ap (λ (x : LinkKey). found (record x { kept = r.stored; stored = r.stored }) rest) row in
     let regrouped : link_bytes r ++ rest ≡ eight_bytes r.partner ++ t1 = simp append_assoc in (
-      ap (link_at d (map booted_link done)) regrouped ∙ rw (partner_read, key_read, trust_read, flags_read, floor_read) value,
+      ap (link_at d (map booted_link done)) regrouped ∙ rw (partner_read, key_read, attribute_read, flags_read, floor_read) value,
       record { keys = keys.1; kinds = kinds.1; told = told.1; marks = marks.1; fits = can.fits.1 },
     )

@@ -50,17 +50,17 @@ all_made v count i bytes s total le so =
 
 -- payloads: with so many more bytes than payloads those that are left give the whole
 pub record Left (v : Version) (bytes : List ℕ) (s : NodeState) (total : Redone) : Type 0 where
-  pub most : ℕ
-  pub enough : length bytes ≤ most
-  pub gives : payloads_redone v most bytes s ≡ total
+  pub greatest_counter : ℕ
+  pub enough : length bytes ≤ greatest_counter
+  pub gives : payloads_redone v greatest_counter bytes s ≡ total
 
 pub at_first : (v : Version) (bytes : List ℕ) (s : NodeState) → Left v bytes s (redone v bytes s)
 unfolding redone
-at_first v bytes s = record { most = length bytes; enough = omega arith; gives = refl }
+at_first v bytes s = record { greatest_counter = length bytes; enough = omega arith; gives = refl }
 
 pub at_last : (v : Version) (bytes : List ℕ) (s : NodeState) (total : Redone) → bytes ≡ [] → Left v bytes s total → total ≡ (s, Ok [])
 unfolding payloads_redone
-at_last v bytes s total none so = sym so.gives ∙ ap (λ b. payloads_redone v so.most b s) none ∙ by_most so.most
+at_last v bytes s total none so = sym so.gives ∙ ap (λ b. payloads_redone v so.greatest_counter b s) none ∙ by_most so.greatest_counter
   where
     by_most : (n : ℕ) → payloads_redone v n [] s ≡ (s, Ok [])
     by_most zero = refl
@@ -69,17 +69,17 @@ at_last v bytes s total none so = sym so.gives ∙ ap (λ b. payloads_redone v s
 module _ (v : Version) (bytes front rest : List ℕ) (count : ℕ) (s t : NodeState) (total : Redone) (parts : bytes ≡ count ∷ front) (so : Left v bytes s total) where
   pub next_payload : changes_redone v count front s ≡ (t, Ok rest) → length rest ≤ length front → Left v rest t total
   unfolding payloads_redone
-  next_payload one le = by_most so.most so.enough so.gives
+  next_payload one le = by_most so.greatest_counter so.enough so.gives
     where
       by_most : (n : ℕ) → length bytes ≤ n → payloads_redone v n bytes s ≡ total → Left v rest t total
       by_most zero enough gives = absurd (omega (arith, ap (length {A = ℕ}) parts, enough))
       by_most (suc n) enough gives =
           let step : payloads_redone v (suc n) (count ∷ front) s ≡ payloads_redone v n rest t = rw one refl in
-          record { most = n; enough = omega (arith, ap (length {A = ℕ}) parts, enough, le); gives = sym step ∙ ap (λ b. payloads_redone v (suc n) b s) (sym parts) ∙ gives }
+          record { greatest_counter = n; enough = omega (arith, ap (length {A = ℕ}) parts, enough, le); gives = sym step ∙ ap (λ b. payloads_redone v (suc n) b s) (sym parts) ∙ gives }
 
   pub bad_payload : (e : ℕ) → changes_redone v count front s ≡ (t, Err e) → total ≡ (t, Err e)
   unfolding payloads_redone
-  bad_payload e one = by_most so.most so.enough so.gives
+  bad_payload e one = by_most so.greatest_counter so.enough so.gives
     where
       by_most : (n : ℕ) → length bytes ≤ n → payloads_redone v n bytes s ≡ total → total ≡ (t, Err e)
       by_most zero enough gives = absurd (omega (arith, ap (length {A = ℕ}) parts, enough))

@@ -6,13 +6,13 @@ use Rattle.std.proofs.lemmas.Bool.{not-true, leb-true, ltb-true, eq-eqb}
 use Rattle.std.proofs.lemmas.List.{map-append, append-nil, length-map}
 use Rattle.std.proofs.lemmas.List.Elements.{filter-append}
 use Rattle.std.proofs.lemmas.List.Folds.{list_all-append, list_all-map}
-use Rattle.zb_node_types.specs.Changes.{duty, trust}
+use Rattle.zb_node_types.specs.Changes.{model_role, model_attribute}
 use Rattle.zb_cursor.specs.Spelling.{bit}
 use Rattle.zb_cursor.specs.Reading.{Reading, byte_at, number_at, eui_at, key_at}
 use Rattle.std.specs.Int.{w16, w32}
-use Rattle.zb_model.specs.Data.{Bytes, Duty}
+use Rattle.zb_model.specs.Data.{Bytes, Role}
 use Rattle.zb_model.specs.State.{NodeState, SenderFloor, NetKey, LinkKey, PairKey, same_key, is_centre, has_net, shown_net}
-use Rattle.zb_model.specs.Fits.{keeps_rules, duty_is_kept, active_is_live, row_is_live, senders_ascend, all_apart, is_fresh, most_nets, most_links, most_pairs, most_senders}
+use Rattle.zb_model.specs.Fits.{keeps_rules, role_is_kept, active_is_live, row_is_live, senders_ascend, all_apart, is_fresh, most_nets, most_links, most_pairs, most_senders}
 use Rattle.zb_model_fits.proofs.Tests.{both, never, or_true, apart_seen, apart_snoc}
 use Rattle.zb_model_fits.proofs.Parts.{rules_back, nets_alike, links_alike, pairs_alike, pair_rule, floors_rule, limit_rule, same_key_is, same_key_of}
 use Rattle.zb_record.specs.declared.version.Version.{Version}
@@ -239,24 +239,24 @@ all_filled (r ∷ rs) done rows bytes rest floorless kept e =
 
 -- ---- link keys
 
-pub record LinksKept (d : Duty) (rows : List LinkKey) : Type 0 where
+pub record LinksKept (d : Role) (rows : List LinkKey) : Type 0 where
   pub keys : all_apart links_alike rows ≡ true
   pub kinds : all_apart kinds_alike rows ≡ true
   pub told : all_apart told_apart rows ≡ true
   pub marks : list_all (is_marked d) rows ≡ true
 
-link_kept : (d : Duty) (done : List LinkKey) (bytes rest : List ℕ) (x : LinkKey) → LinksKept d done → link_at d done bytes ≡ found x rest → LinksKept d (done ++ x ∷ [])
+link_kept : (d : Role) (done : List LinkKey) (bytes rest : List ℕ) (x : LinkKey) → LinksKept d done → link_at d done bytes ≡ found x rest → LinksKept d (done ++ x ∷ [])
 unfolding link_at
 link_kept d done bytes rest x kept e =
     let a = both_read (whole eui_at) _ bytes rest x e in
     let b = both_read (field key_at (is_new_link done)) _ a.between rest x a.two in
     let c = both_read (whole attribute_at) _ b.between rest x b.two in
-    let f = both_read (field byte_at (link_flags_fit d done a.value.0 b.value.0 (trust c.value))) _ c.between rest x c.two in
+    let f = both_read (field byte_at (link_flags_fit d done a.value.0 b.value.0 (model_attribute c.value))) _ c.between rest x c.two in
     let g = both_read (whole (number_at w32)) _ f.between rest x f.two in
-    let row : LinkKey = record (link_row a.value.0 b.value.0 (trust c.value) f.value) { kept = g.value; stored = g.value } in
+    let row : LinkKey = record (link_row a.value.0 b.value.0 (model_attribute c.value) f.value) { kept = g.value; stored = g.value } in
     let is : row ≡ x = given row x g.between rest g.two in
     let new : not (list_any (λ (r : LinkKey). same_key r.key row.key) done) ≡ true = passed key_at (is_new_link done) a.between b.between b.value b.one in
-    let fit = passed byte_at (link_flags_fit d done a.value.0 b.value.0 (trust c.value)) c.between f.between f.value f.one in
+    let fit = passed byte_at (link_flags_fit d done a.value.0 b.value.0 (model_attribute c.value)) c.between f.between f.value f.one in
     let parts = both (nat_lt f.value 8) (link_fits d done row) fit in
     let more = both (is_marked d row) (not (list_any (λ (y : LinkKey). kinds_alike y row) done) && not (list_any (λ (y : LinkKey). told_apart y row) done)) parts.1 in
     let alone = both (not (list_any (λ (y : LinkKey). kinds_alike y row) done)) (not (list_any (λ (y : LinkKey). told_apart y row) done)) more.1 in
@@ -267,7 +267,7 @@ link_kept d done bytes rest x kept e =
       marks = list_all-append (is_marked d) done (row ∷ []) ∙ rw (kept.marks, more.0) refl;
     })
 
-links_kept : (d : Duty) (bytes rest : List ℕ) (rows : List LinkKey) → links_at d bytes ≡ found rows rest → LinksKept d rows × (length rows ≤ most_links d)
+links_kept : (d : Role) (bytes rest : List ℕ) (rows : List LinkKey) → links_at d bytes ≡ found rows rest → LinksKept d rows × (length rows ≤ most_links d)
 unfolding links_at
 links_kept d bytes rest rows e =
     let a = both_read (field (number_at w16) (has_link_room d)) _ bytes rest rows e in
@@ -298,7 +298,7 @@ pair_kept done bytes rest x kept e =
       names = apart_snoc pairs_alike done row ∙ rw (kept.names, parts.1) refl;
     })
 
-pairs_kept : (version : Version) (d : Duty) (bytes rest : List ℕ) (rows : List PairKey) → pairs_at version d bytes ≡ found rows rest → PairsKept rows × (length rows ≤ pairs_room d)
+pairs_kept : (version : Version) (d : Role) (bytes rest : List ℕ) (rows : List PairKey) → pairs_at version d bytes ≡ found rows rest → PairsKept rows × (length rows ≤ pairs_room d)
 unfolding all_pairs_at
 pairs_kept First d bytes rest rows e = let same = given [] rows bytes rest e in subst (λ l. PairsKept l × (length l ≤ pairs_room d)) same (record { order = refl; names = refl }, omega arith)
 pairs_kept Second d bytes rest rows e = let same = given [] rows bytes rest e in subst (λ l. PairsKept l × (length l ≤ pairs_room d)) same (record { order = refl; names = refl }, omega arith)
@@ -385,16 +385,16 @@ nets_kept h bytes rest rows room e =
       room = omega (arith, long, room, ap (length {A = NetKey}) back, length-map rows bare);
     }
 
-duty_holds : (s : NodeState) → (not (is_centre s.duty) || is_fresh s.stage) ≡ true → (not s.sending || is_centre s.duty) ≡ true → length s.pairs ≤ pairs_room s.duty → duty_is_kept s ≡ true
-unfolding duty_is_kept
-duty_holds s enter roll room = by_centre (is_centre s.duty) s.sending enter roll room
+role_holds : (s : NodeState) → (not (is_centre s.role) || is_fresh s.state) ≡ true → (not s.sending || is_centre s.role) ≡ true → length s.pairs ≤ pairs_room s.role → role_is_kept s ≡ true
+unfolding role_is_kept
+role_holds s enter roll room = by_centre (is_centre s.role) s.sending enter roll room
   where
-    by_centre : (b c : Bool) → (not b || is_fresh s.stage) ≡ true → (not c || b) ≡ true → length s.pairs ≤ (if b then most_pairs else 0) → (if b then is_fresh s.stage else not c && nat_eq (length s.pairs) 0) ≡ true
+    by_centre : (b c : Bool) → (not b || is_fresh s.state) ≡ true → (not c || b) ≡ true → length s.pairs ≤ (if b then most_pairs else 0) → (if b then is_fresh s.state else not c && nat_eq (length s.pairs) 0) ≡ true
     by_centre true c enter roll room = enter
     by_centre false true enter roll room = absurd (cc)
     by_centre false false enter roll room = eq-eqb _ _ (omega (arith, room))
 
-room_most : (d : Duty) (n : ℕ) → n ≤ pairs_room d → n ≤ most_pairs
+room_most : (d : Role) (n : ℕ) → n ≤ pairs_room d → n ≤ most_pairs
 room_most d n le = by_centre (is_centre d) le
   where
     by_centre : (b : Bool) → n ≤ (if b then most_pairs else 0) → n ≤ most_pairs
@@ -415,8 +415,8 @@ record_kept bytes rest s e =
     let a = both_read node_at _ bytes rest s e in
     let b = both_read (head_at a.value) _ a.between rest s a.two in
     let c = both_read (nets_at b.value) _ b.between rest s b.two in
-    let d = both_read (links_at (duty a.value.role)) _ c.between rest s c.two in
-    let f = both_read (pairs_at a.value.version (duty a.value.role)) _ d.between rest s d.two in
+    let d = both_read (links_at (model_role a.value.role)) _ c.between rest s c.two in
+    let f = both_read (pairs_at a.value.version (model_role a.value.role)) _ d.between rest s d.two in
     let is : state_from b.value c.value d.value f.value ≡ s = given _ s f.between rest f.two in
     let n1 = both_read (whole version_at) _ bytes a.between a.value a.one in
     let n2 = both_read (whole role_at) _ n1.between a.between a.value n1.two in
@@ -433,28 +433,28 @@ record_kept bytes rest s e =
     let count : b.value.nets ≤ most_nets = subst (λ (x : Head). x.nets ≤ most_nets) head (leb-true _ _ (passed (number_at w16) has_net_room h3.between h4.between h4.value h4.one)) in
     let same_node : a.value ≡ b.value.node = ap (λ (x : Head). x.node) head in
     let nets = nets_kept b.value b.between c.between c.value count c.one in
-    let links = links_kept (duty a.value.role) c.between d.between d.value d.one in
-    let pairs = pairs_kept a.value.version (duty a.value.role) d.between f.between f.value f.one in
+    let links = links_kept (model_role a.value.role) c.between d.between d.value d.one in
+    let pairs = pairs_kept a.value.version (model_role a.value.role) d.between f.between f.value f.one in
     let state : NodeState = state_from b.value c.value d.value f.value in
-    let role_is : duty a.value.role ≡ state.duty = ap (λ (x : Node). duty x.role) same_node in
-    let pairs_few : length f.value ≤ pairs_room state.duty = subst (λ (d : Duty). length f.value ≤ pairs_room d) role_is pairs.1 in
-    let state_enter : (not (is_centre state.duty) || is_fresh state.stage) ≡ true = subst (λ (x : Node). may_enter x.role x.state ≡ true) same_node enter in
-    let state_roll : (not state.sending || is_centre state.duty) ≡ true = subst (λ (x : Node). may_roll x.role b.value.rolling ≡ true) same_node roll in
+    let role_is : model_role a.value.role ≡ state.role = ap (λ (x : Node). model_role x.role) same_node in
+    let pairs_few : length f.value ≤ pairs_room state.role = subst (λ (d : Role). length f.value ≤ pairs_room d) role_is pairs.1 in
+    let state_enter : (not (is_centre state.role) || is_fresh state.state) ≡ true = subst (λ (x : Node). may_enter x.role x.state ≡ true) same_node enter in
+    let state_roll : (not state.sending || is_centre state.role) ≡ true = subst (λ (x : Node). may_roll x.role b.value.rolling ≡ true) same_node roll in
     subst IsKept is (record {
       rules = rules_back state (record {
         nets_room = nets.room;
-        links_room = subst (λ (d : Duty). length state.links ≤ most_links d) role_is links.1;
-        pairs_room = room_most state.duty (length f.value) pairs_few;
+        links_room = subst (λ (d : Role). length state.links ≤ most_links d) role_is links.1;
+        pairs_room = room_most state.role (length f.value) pairs_few;
         net_keys = nets.keys;
         link_keys = links.0.keys;
         two = nets.two;
         active = active_kept state b.value.active nets.keys nets.active_row refl;
         kinds = links.0.kinds;
         told = links.0.told;
-        marks = subst (λ (d : Duty). list_all (is_marked d) state.links ≡ true) role_is links.0.marks;
+        marks = subst (λ (d : Role). list_all (is_marked d) state.links ≡ true) role_is links.0.marks;
         floors = nets.floors;
         limits = nets.limits;
-        duty_kept = duty_holds state state_enter state_roll pairs_few;
+        role_kept = role_holds state state_enter state_roll pairs_few;
         pairs = pairs.0.order;
         pair_names = pairs.0.names;
       });

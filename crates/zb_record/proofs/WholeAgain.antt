@@ -1,4 +1,5 @@
 -- The whole record of a state is read again as that state after a boot.
+use Rattle.zb_model.specs.Data as model
 use Rattle.std.proofs.Common.{◌≡◌, ℕ, zero, suc, ◌+◌, ◌^◌, ◌<◌, ◌≤◌, List, [], ◌∷◌, ◌++◌, length, map, flat_map, Ok, refl, sym, ap, ◌∙◌, arith, Bool, true, false, not, if◌then◌else◌, ◌&&◌, ◌||◌, Option, Some, None, append-nil}
 use Rattle.std.specs.Prelude.{find, nat_eq, nat_lt, ◌==◌}
 use Rattle.std.specs.Int.{w16, w32}
@@ -9,13 +10,13 @@ use Rattle.zb_node_types.specs.declared.state.State.{State}
 use Rattle.zb_node_types.specs.declared.state.State.TheVariants as state
 use Rattle.zb_node_types.specs.declared.state.Rollover.{Rollover}
 use Rattle.zb_node_types.specs.declared.state.Rollover.TheVariants as rollover
-use Rattle.zb_node_types.specs.Changes.{duty, stage, is_sending}
+use Rattle.zb_node_types.specs.Changes.{model_role, model_state, is_sending}
 use Rattle.zb_cursor.specs.Reading.{number_at}
 use Rattle.zb_cursor.proofs.ReadAgain.{wide16, wide32, number_again}
-use Rattle.zb_model.specs.Data.{Bytes, Duty, Centre, Router, Device, Stage, Fresh, Knocked, Joined, Offered, Confirmed, Rejoining, Gone}
+use Rattle.zb_model.specs.Data.{Bytes, Centre, Router, Device, Fresh, Knocked, Joined, Offered, Confirmed, Rejoining, Gone}
 use Rattle.zb_model.specs.State.{NodeState, NetKey, same_key, is_centre, live_nets, booted_net, booted_link, after_boot, shown, shown_net}
-use Rattle.zb_model.specs.Fits.{keeps_rules, duty_is_kept, active_is_live, row_is_live, is_fresh, most_nets, most_pairs}
-use Rattle.zb_model.specs.Record.{record_of, active_place, place_from, duty_byte, stage_byte, worth, two_bytes, four_bytes, net_bytes, floors_bytes, link_bytes, pair_bytes}
+use Rattle.zb_model.specs.Fits.{keeps_rules, role_is_kept, active_is_live, row_is_live, is_fresh, most_nets, most_pairs}
+use Rattle.zb_model.specs.Record.{record_of, active_place, place_from, role_byte, state_byte, worth, two_bytes, four_bytes, net_bytes, floors_bytes, link_bytes, pair_bytes}
 use Rattle.zb_model_fits.proofs.Tests.{both}
 use Rattle.zb_model_fits.proofs.Parts.{Rules, rules_of, same_key_is}
 use Rattle.zb_record.specs.declared.version.Version.TheVariants.{Third}
@@ -31,12 +32,12 @@ use Rattle.zb_record.proofs.RecordAgain.{found, field_again, rows_again, NetsCan
 
 -- what the program says for the model's words
 
-role_for : Duty → Role
+role_for : model.Role → Role
 role_for Centre = role.Centre
 role_for Router = role.Router
 role_for Device = role.Device
 
-state_for : Stage → State
+state_for : model.State → State
 state_for Fresh = state.Fresh
 state_for Knocked = state.Knocked
 state_for Joined = state.Joined
@@ -49,13 +50,13 @@ rollover_for : Bool → Rollover
 rollover_for false = rollover.Idle
 rollover_for true = rollover.Sending
 
-role_same : (d : Duty) → duty (role_for d) ≡ d
+role_same : (d : model.Role) → model_role (role_for d) ≡ d
 unfolding role_for
 role_same Centre = refl
 role_same Router = refl
 role_same Device = refl
 
-state_same : (g : Stage) → stage (state_for g) ≡ g
+state_same : (g : model.State) → model_state (state_for g) ≡ g
 unfolding state_for
 state_same Fresh = refl
 state_same Knocked = refl
@@ -70,13 +71,13 @@ unfolding rollover_for
 rollover_same false = refl
 rollover_same true = refl
 
-role_read : (cut : ℕ) (d : Duty) (rest : List ℕ) → role_at cut (duty_byte d ∷ rest) ≡ found (role_for d) rest
+role_read : (cut : ℕ) (d : model.Role) (rest : List ℕ) → role_at cut (role_byte d ∷ rest) ≡ found (role_for d) rest
 unfolding role_at role_for
 role_read cut Centre rest = refl
 role_read cut Router rest = refl
 role_read cut Device rest = refl
 
-state_read : (cut : ℕ) (g : Stage) (rest : List ℕ) → state_at cut (stage_byte g ∷ rest) ≡ found (state_for g) rest
+state_read : (cut : ℕ) (g : model.State) (rest : List ℕ) → state_at cut (state_byte g ∷ rest) ≡ found (state_for g) rest
 unfolding state_at state_for
 state_read cut Fresh rest = refl
 state_read cut Knocked rest = refl
@@ -93,29 +94,29 @@ rollover_read cut true rest = refl
 
 -- what the part that the node plays allows
 
-enter_can : (s : NodeState) → duty_is_kept s ≡ true → may_enter (role_for s.duty) (state_for s.stage) ≡ true
-unfolding duty_is_kept
-enter_can s kept = ap (λ d. not (is_centre d) || is_fresh (stage (state_for s.stage))) (role_same s.duty) ∙ ap (λ g. not (is_centre s.duty) || is_fresh g) (state_same s.stage) ∙ by_centre (is_centre s.duty) kept
+enter_can : (s : NodeState) → role_is_kept s ≡ true → may_enter (role_for s.role) (state_for s.state) ≡ true
+unfolding role_is_kept
+enter_can s kept = ap (λ d. not (is_centre d) || is_fresh (model_state (state_for s.state))) (role_same s.role) ∙ ap (λ g. not (is_centre s.role) || is_fresh g) (state_same s.state) ∙ by_centre (is_centre s.role) kept
   where
-    by_centre : (b : Bool) → (if b then is_fresh s.stage else not s.sending && nat_eq (length s.pairs) 0) ≡ true → (not b || is_fresh s.stage) ≡ true
+    by_centre : (b : Bool) → (if b then is_fresh s.state else not s.sending && nat_eq (length s.pairs) 0) ≡ true → (not b || is_fresh s.state) ≡ true
     by_centre true e = e
     by_centre false e = refl
 
-roll_can : (s : NodeState) → duty_is_kept s ≡ true → may_roll (role_for s.duty) (rollover_for s.sending) ≡ true
-unfolding duty_is_kept
-roll_can s kept = ap (λ b. not b || is_centre (duty (role_for s.duty))) (rollover_same s.sending) ∙ ap (λ d. not s.sending || is_centre d) (role_same s.duty) ∙ by_centre (is_centre s.duty) s.sending kept
+roll_can : (s : NodeState) → role_is_kept s ≡ true → may_roll (role_for s.role) (rollover_for s.sending) ≡ true
+unfolding role_is_kept
+roll_can s kept = ap (λ b. not b || is_centre (model_role (role_for s.role))) (rollover_same s.sending) ∙ ap (λ d. not s.sending || is_centre d) (role_same s.role) ∙ by_centre (is_centre s.role) s.sending kept
   where
-    by_centre : (b c : Bool) → (if b then is_fresh s.stage else not c && nat_eq (length s.pairs) 0) ≡ true → (not c || b) ≡ true
+    by_centre : (b c : Bool) → (if b then is_fresh s.state else not c && nat_eq (length s.pairs) 0) ≡ true → (not c || b) ≡ true
     by_centre true true e = refl
     by_centre true false e = refl
     by_centre false true e = absurd (cc)
     by_centre false false e = refl
 
-pairs_can : (s : NodeState) → duty_is_kept s ≡ true → length s.pairs ≤ most_pairs → length s.pairs ≤ pairs_room s.duty
-unfolding duty_is_kept
-pairs_can s kept few = by_centre (is_centre s.duty) kept
+pairs_can : (s : NodeState) → role_is_kept s ≡ true → length s.pairs ≤ most_pairs → length s.pairs ≤ pairs_room s.role
+unfolding role_is_kept
+pairs_can s kept few = by_centre (is_centre s.role) kept
   where
-    by_centre : (b : Bool) → (if b then is_fresh s.stage else not s.sending && nat_eq (length s.pairs) 0) ≡ true → length s.pairs ≤ (if b then most_pairs else 0)
+    by_centre : (b : Bool) → (if b then is_fresh s.state else not s.sending && nat_eq (length s.pairs) 0) ≡ true → length s.pairs ≤ (if b then most_pairs else 0)
     by_centre true e = few
     by_centre false e = let none = eqb-true (length s.pairs) 0 (both (not s.sending) (nat_eq (length s.pairs) 0) e).1 in omega (arith, none)
 
@@ -181,17 +182,17 @@ active_can s (Some key) is kept few =
 -- ---- the parts
 
 node_of : NodeState → Node
-node_of s = record { version = Third; role = role_for s.duty; state = state_for s.stage }
+node_of s = record { version = Third; role = role_for s.role; state = state_for s.state }
 
 head_of : NodeState → Head
 head_of s = record { node = node_of s; declared = s.declared; aps_limit = s.aps_limit; rolling = rollover_for s.sending; nets = length s.nets; active = active_place s }
 
-node_again : (s : NodeState) (rest : List ℕ) → Rules s → node_at (3 ∷ duty_byte s.duty ∷ stage_byte s.stage ∷ rest) ≡ found (node_of s) rest
+node_again : (s : NodeState) (rest : List ℕ) → Rules s → node_at (3 ∷ role_byte s.role ∷ state_byte s.state ∷ rest) ≡ found (node_of s) rest
 unfolding node_at node_of version_at
 node_again s rest r =
-    let t1 : List ℕ = stage_byte s.stage ∷ rest in
-    let role_is = role_read (length (duty_byte s.duty ∷ t1)) s.duty t1 in
-    let state_is = field_again state_at (may_enter (role_for s.duty)) t1 rest (state_for s.stage) (state_read (length t1) s.stage rest) (enter_can s r.duty_kept) in
+    let t1 : List ℕ = state_byte s.state ∷ rest in
+    let role_is = role_read (length (role_byte s.role ∷ t1)) s.role t1 in
+    let state_is = field_again state_at (may_enter (role_for s.role)) t1 rest (state_for s.state) (state_read (length t1) s.state rest) (enter_can s r.role_kept) in
     rw (role_is, state_is) refl
 
 head_again : (s : NodeState) (rest : List ℕ) → Rules s → FitsBytes s
@@ -208,7 +209,7 @@ head_again s rest r fits =
     rw (
       number_again (length (four_bytes s.declared ++ t1)) w32 (2 ^ 32) wide32 s.declared t1 fits.declared,
       number_again (length t1) w32 (2 ^ 32) wide32 s.aps_limit t2 fits.aps_limit,
-      field_again rollover_at (may_roll (role_for s.duty)) t2 t3 (rollover_for s.sending) (rollover_read (length t2) s.sending t3) (roll_can s r.duty_kept),
+      field_again rollover_at (may_roll (role_for s.role)) t2 t3 (rollover_for s.sending) (rollover_read (length t2) s.sending t3) (roll_can s r.role_kept),
       field_again (number_at w16) has_net_room t3 t4 (length s.nets) (number_again (length t3) w16 (2 ^ 16) wide16 (length s.nets) t4 few) room,
       field_again (number_at w16) (is_place (length s.nets)) t4 rest (active_place s) (number_again (length t4) w16 (2 ^ 16) wide16 (active_place s) rest active.small) active.among,
     ) refl
@@ -223,27 +224,27 @@ nets_again s rest r fits =
     ap (λ l. all_floors_at [] (map bare_boot s.nets) (l ++ rest)) (filtered s.nets) ∙ all_floors_again s.nets [] rest fits.nets r.floors in
     rw rows floors
 
-links_again : (s : NodeState) (rest : List ℕ) → Rules s → FitsBytes s → links_at s.duty (two_bytes (length s.links) ++ (flat_map link_bytes s.links ++ rest)) ≡ found (map booted_link s.links) rest
+links_again : (s : NodeState) (rest : List ℕ) → Rules s → FitsBytes s → links_at s.role (two_bytes (length s.links) ++ (flat_map link_bytes s.links ++ rest)) ≡ found (map booted_link s.links) rest
 unfolding links_at
 links_again s rest r fits =
     let t : List ℕ = flat_map link_bytes s.links ++ rest in
-    let few : length s.links < 2 ^ 16 = by_centre (is_centre s.duty) r.links_room in
-    let room : has_link_room s.duty (length s.links) ≡ true = le-leb _ _ r.links_room in
-    rw (field_again (number_at w16) (has_link_room s.duty) (two_bytes (length s.links) ++ t) t (length s.links) (number_again (length (two_bytes (length s.links) ++ t)) w16 (2 ^ 16) wide16 (length s.links) t few) room)
-    (rows_again (link_at s.duty) link_bytes booted_link (LinksCan s.duty) (link_again s.duty) s.links [] rest (record { keys = r.link_keys; kinds = r.kinds; told = r.told; marks = r.marks; fits = fits.links }))
+    let few : length s.links < 2 ^ 16 = by_centre (is_centre s.role) r.links_room in
+    let room : has_link_room s.role (length s.links) ≡ true = le-leb _ _ r.links_room in
+    rw (field_again (number_at w16) (has_link_room s.role) (two_bytes (length s.links) ++ t) t (length s.links) (number_again (length (two_bytes (length s.links) ++ t)) w16 (2 ^ 16) wide16 (length s.links) t few) room)
+    (rows_again (link_at s.role) link_bytes booted_link (LinksCan s.role) (link_again s.role) s.links [] rest (record { keys = r.link_keys; kinds = r.kinds; told = r.told; marks = r.marks; fits = fits.links }))
   where
     by_centre : (b : Bool) → length s.links ≤ (if b then 1024 else 64) → length s.links < 2 ^ 16
     by_centre true le = omega (arith, le)
     by_centre false le = omega (arith, le)
 
-all_pairs_again : (s : NodeState) → Rules s → FitsBytes s → all_pairs_at s.duty (two_bytes (length s.pairs) ++ flat_map pair_bytes s.pairs) ≡ found s.pairs []
+all_pairs_again : (s : NodeState) → Rules s → FitsBytes s → all_pairs_at s.role (two_bytes (length s.pairs) ++ flat_map pair_bytes s.pairs) ≡ found s.pairs []
 unfolding all_pairs_at
 all_pairs_again s r fits =
     let t : List ℕ = flat_map pair_bytes s.pairs in
     let few : length s.pairs < 2 ^ 16 = omega (arith, r.pairs_room) in
-    let room : has_pair_room s.duty (length s.pairs) ≡ true = le-leb _ _ (pairs_can s r.duty_kept r.pairs_room) in
+    let room : has_pair_room s.role (length s.pairs) ≡ true = le-leb _ _ (pairs_can s r.role_kept r.pairs_room) in
     let rows = rows_again pair_at pair_bytes same_pair PairsCan pair_again s.pairs [] [] (record { names = r.pair_names; order = r.pairs; fits = fits.pairs }) in
-    rw (field_again (number_at w16) (has_pair_room s.duty) (two_bytes (length s.pairs) ++ t) t (length s.pairs) (number_again (length (two_bytes (length s.pairs) ++ t)) w16 (2 ^ 16) wide16 (length s.pairs) t few) room)
+    rw (field_again (number_at w16) (has_pair_room s.role) (two_bytes (length s.pairs) ++ t) t (length s.pairs) (number_again (length (two_bytes (length s.pairs) ++ t)) w16 (2 ^ 16) wide16 (length s.pairs) t few) room)
     (ap (rows_at pair_at (length s.pairs) []) (sym (append-nil t)) ∙ rows ∙ ap (λ l. found l []) (map_same s.pairs))
 
 booted_rows : (nets : List NetKey) → map booted_row nets ≡ map shown_net (map booted_net nets)
@@ -256,7 +257,7 @@ unfolding head_of node_of shown after_boot
 state_again s r =
     let active = active_can s s.active refl r.active r.nets_room in
     let key : key_of (active_place s) (map booted_row s.nets) ≡ s.active = key_booted (active_place s) s.nets ∙ active.key_is in
-    rw (key, role_same s.duty, state_same s.stage, rollover_same s.sending, booted_rows s.nets) refl
+    rw (key, role_same s.role, state_same s.state, rollover_same s.sending, booted_rows s.nets) refl
 
 pub record_again : (s : NodeState) → keeps_rules s ≡ true → FitsBytes s → record_read (record_of s) ≡ Ok (shown (after_boot s))
 unfolding record_read record_at record_of node_of
@@ -266,6 +267,6 @@ record_again s kept fits =
     let t4 : List ℕ = two_bytes (length s.links) ++ (flat_map link_bytes s.links ++ t5) in
     let t3 : List ℕ = flat_map net_bytes s.nets ++ (flat_map floors_bytes (live_nets s) ++ t4) in
     let t2 : List ℕ = four_bytes s.declared ++ (four_bytes s.aps_limit ++ (worth 1 s.sending ∷ (two_bytes (length s.nets) ++ (two_bytes (active_place s) ++ t3)))) in
-    let links : links_at (duty (role_for s.duty)) t4 ≡ found (map booted_link s.links) t5 = ap (λ d. links_at d t4) (role_same s.duty) ∙ links_again s t5 r fits in
-    let pairs : all_pairs_at (duty (role_for s.duty)) t5 ≡ found s.pairs [] = ap (λ d. all_pairs_at d t5) (role_same s.duty) ∙ all_pairs_again s r fits in
+    let links : links_at (model_role (role_for s.role)) t4 ≡ found (map booted_link s.links) t5 = ap (λ d. links_at d t4) (role_same s.role) ∙ links_again s t5 r fits in
+    let pairs : all_pairs_at (model_role (role_for s.role)) t5 ≡ found s.pairs [] = ap (λ d. all_pairs_at d t5) (role_same s.role) ∙ all_pairs_again s r fits in
     rw (node_again s t2 r, head_again s t3 r fits, nets_again s t4 r fits, links, pairs) (ap (λ t. ended (found t [])) (state_again s r))

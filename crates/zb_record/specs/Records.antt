@@ -9,7 +9,7 @@ use Rattle.zb_node_types.specs.declared.fault.KeyError.{KeyError}
 use Rattle.zb_node_types.specs.declared.fault.KeyError.TheVariants.{KeyOld, KeysFull, RowsFull, KeyInUse, NoRow, WrongHash, BadRecord}
 use Rattle.zb_node_types.specs.declared.state.State.{State}
 use Rattle.zb_node_types.specs.declared.state.Rollover.{Rollover}
-use Rattle.zb_node_types.specs.Changes.{duty, stage, is_sending}
+use Rattle.zb_node_types.specs.Changes.{model_role, model_state, is_sending}
 use Rattle.zb_cursor.specs.Reading.{number_at}
 use Rattle.zb_model.specs.Data.{Bytes}
 use Rattle.zb_model.specs.State.{NodeState, NetKey, LinkKey, PairKey, is_centre}
@@ -24,10 +24,10 @@ use Rattle.zb_record.specs.Rows.{net_seen, link_seen, pair_seen, net_at, all_flo
 
 -- the centre stays in the first state, and it alone sends a new network key
 abbrev pub may_enter : Role → State → Bool
-may_enter role state = not (is_centre (duty role)) || is_fresh (stage state)
+may_enter role state = not (is_centre (model_role role)) || is_fresh (model_state state)
 
 abbrev pub may_roll : Role → Rollover → Bool
-may_roll role rolling = not (is_sending rolling) || is_centre (duty role)
+may_roll role rolling = not (is_sending rolling) || is_centre (model_role role)
 
 unfoldable pub node_at : Placed Node
 node_at = do
@@ -66,8 +66,8 @@ key_of (suc place) (r ∷ rs) = key_of place rs
 -- the state that a record stands for, after a boot
 abbrev pub state_from : Head → List NetKey → List LinkKey → List PairKey → NodeState
 state_from h nets links pairs = record {
-  duty = duty h.node.role;
-  stage = stage h.node.state;
+  model_role = model_role h.node.role;
+  model_state = model_state h.node.state;
   declared = h.declared;
   aps_limit = h.aps_limit;
   aps_next = h.aps_limit;
@@ -83,8 +83,8 @@ record_at = do
   node ← node_at
   h ← head_at node
   nets ← nets_at h
-  links ← links_at (duty node.role)
-  pairs ← pairs_at node.version (duty node.role)
+  links ← links_at (model_role node.role)
+  pairs ← pairs_at node.version (model_role node.role)
   give (state_from h nets links pairs)
 
 -- all of the bytes

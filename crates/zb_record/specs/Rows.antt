@@ -4,10 +4,10 @@ use Rattle.std.specs.List.{list_any, list_all}
 use Rattle.std.specs.Int.{w16, w32}
 use Rattle.zb_base.specs.declared.address.Eui.{Eui}
 use Rattle.zb_base.specs.declared.key.Key.{Key}
-use Rattle.zb_node_types.specs.Changes.{trust}
+use Rattle.zb_node_types.specs.Changes.{model_attribute}
 use Rattle.zb_cursor.specs.Spelling.{bit}
 use Rattle.zb_cursor.specs.Reading.{byte_at, number_at, eui_at, key_at}
-use Rattle.zb_model.specs.Data.{Bytes, Duty, Trust}
+use Rattle.zb_model.specs.Data.{Bytes, Role, Attribute}
 use Rattle.zb_model.specs.State.{SenderFloor, NetKey, LinkKey, PairKey, same_key, is_centre, is_provisional, is_unverified, has_net}
 use Rattle.zb_model.specs.Fits.{most_links, most_pairs, most_senders, like_rows, same_bool}
 use Rattle.zb_record.specs.declared.version.Version.{Version}
@@ -39,7 +39,7 @@ abbrev pub link_seen : LinkRecord → LinkKey
 link_seen r = record {
   partner = r.partner.0;
   key = r.key.0;
-  trust = trust r.attribute;
+  model_attribute = model_attribute r.attribute;
   live = r.live;
   code = r.code;
   told = r.told;
@@ -128,11 +128,11 @@ abbrev pub is_new_link : List LinkKey → Key → Bool
 is_new_link done k = not (list_any (λ (r : LinkKey). same_key r.key k.0) done)
 
 -- the flags of a link row: bit 0 live, bit 1 from a code, bit 2 told
-abbrev pub link_row : ℕ → Bytes → Trust → ℕ → LinkKey
+abbrev pub link_row : ℕ → Bytes → Attribute → ℕ → LinkKey
 link_row partner key t flags = record {
   partner = partner;
   key = key;
-  trust = t;
+  model_attribute = t;
   live = bit flags 0;
   code = bit flags 1;
   told = bit flags 2;
@@ -141,35 +141,35 @@ link_row partner key t flags = record {
 }
 
 abbrev pub kinds_alike : LinkKey → LinkKey → Bool
-kinds_alike a b = like_rows a b && same_bool (is_unverified a.trust) (is_unverified b.trust)
+kinds_alike a b = like_rows a b && same_bool (is_unverified a.attribute) (is_unverified b.attribute)
 
 abbrev pub told_apart : LinkKey → LinkKey → Bool
 told_apart a b = like_rows a b && not (same_bool a.told b.told)
 
 -- a told row is a live one of the centre, and a provisional one is from a code
-abbrev pub is_marked : Duty → LinkKey → Bool
-is_marked d r = (not r.told || (r.live && is_centre d)) && (not (is_provisional r.trust) || r.code)
+abbrev pub is_marked : Role → LinkKey → Bool
+is_marked d r = (not r.told || (r.live && is_centre d)) && (not (is_provisional r.attribute) || r.code)
 
 -- a partner has one live row of a kind, and its live rows agree in whether it was told
-abbrev pub link_fits : Duty → List LinkKey → LinkKey → Bool
+abbrev pub link_fits : Role → List LinkKey → LinkKey → Bool
 link_fits d done r = is_marked d r && (not (list_any (λ (y : LinkKey). kinds_alike y r) done) && not (list_any (λ (y : LinkKey). told_apart y r) done))
 
-abbrev pub link_flags_fit : Duty → List LinkKey → ℕ → Bytes → Trust → ℕ → Bool
+abbrev pub link_flags_fit : Role → List LinkKey → ℕ → Bytes → Attribute → ℕ → Bool
 link_flags_fit d done partner key t flags = nat_lt flags 8 && link_fits d done (link_row partner key t flags)
 
-unfoldable pub link_at : Duty → List LinkKey → Placed LinkKey
+unfoldable pub link_at : Role → List LinkKey → Placed LinkKey
 link_at d done = do
   partner ← whole eui_at
   key ← field key_at (is_new_link done)
   attribute ← whole attribute_at
-  flags ← field byte_at (link_flags_fit d done partner.0 key.0 (trust attribute))
+  flags ← field byte_at (link_flags_fit d done partner.0 key.0 (model_attribute attribute))
   floor ← whole (number_at w32)
-  give (record (link_row partner.0 key.0 (trust attribute) flags) { kept = floor; stored = floor })
+  give (record (link_row partner.0 key.0 (model_attribute attribute) flags) { kept = floor; stored = floor })
 
-abbrev pub has_link_room : Duty → ℕ → Bool
+abbrev pub has_link_room : Role → ℕ → Bool
 has_link_room d n = nat_le n (most_links d)
 
-unfoldable pub links_at : Duty → Placed (List LinkKey)
+unfoldable pub links_at : Role → Placed (List LinkKey)
 links_at d = do
   count ← field (number_at w16) (has_link_room d)
   rows_at (link_at d) count []
@@ -195,19 +195,19 @@ pair_at done = do
   give (record { first = first.0; second = second.0; key = key.0 })
 
 -- the centre alone has pairs
-abbrev pub pairs_room : Duty → ℕ
+abbrev pub pairs_room : Role → ℕ
 pairs_room d = if is_centre d then most_pairs else 0
 
-abbrev pub has_pair_room : Duty → ℕ → Bool
+abbrev pub has_pair_room : Role → ℕ → Bool
 has_pair_room d n = nat_le n (pairs_room d)
 
-unfoldable pub all_pairs_at : Duty → Placed (List PairKey)
+unfoldable pub all_pairs_at : Role → Placed (List PairKey)
 all_pairs_at d = do
   count ← field (number_at w16) (has_pair_room d)
   rows_at pair_at count []
 
 -- they stand in version 3 alone
-abbrev pub pairs_at : Version → Duty → Placed (List PairKey)
+abbrev pub pairs_at : Version → Role → Placed (List PairKey)
 pairs_at First d = give []
 pairs_at Second d = give []
 pairs_at Third d = all_pairs_at d

@@ -1,20 +1,20 @@
 //! Fields of one byte that stand for a layer, an attribute, a state or a rollover. A byte that stands for none is refused
 //! by the reader's fault.
 ghost use Rattle.std.specs.Prelude.{◌≡◌, ◌∷◌, IfOk};
-ghost use Rattle.zb_node_types.specs.Changes.{duty, tier, trust, stage, is_sending};
+ghost use Rattle.zb_node_types.specs.Changes.{model_role, model_layer, model_attribute, model_state, is_sending};
 ghost use Rattle.zb_cursor.specs.Reading.{Gives};
-ghost use Rattle.zb_model.specs.Record.{duty_byte, tier_byte, trust_byte, stage_byte, worth};
+ghost use Rattle.zb_model.specs.Record.{role_byte, layer_byte, attribute_byte, state_byte, worth};
 ghost use Rattle.zb_record.specs.Fields.{role_at, layer_at, attribute_at, state_at, rollover_at};
 
 use zb_base::{Layer, Role};
-use zb_node_types::{Attribute, Rollover, State};
 use zb_cursor::Reader;
+use zb_node_types::{Attribute, Rollover, State};
 
 /// A layer: 00 network, 01 application support.
 #[tactic(auto, unfolding(crate::specs::Fields::layer_at))]
 pub(crate) fn read_layer(reader: &mut Reader<usize>) -> Result<Layer, usize>
     ensures exact { Gives result reader.new.rest.now (layer_at reader.old.cut reader.old.rest.now) }
-    ensures spelled { IfOk result (λ x. reader.old.rest.now ≡ tier_byte (tier x) ∷ reader.new.rest.now) }
+    ensures spelled { IfOk result (λ x. reader.old.rest.now ≡ layer_byte (model_layer x) ∷ reader.new.rest.now) }
     ensures cut { reader.new.cut ≡ reader.old.cut }
 {
     match reader.byte()? {
@@ -28,7 +28,7 @@ pub(crate) fn read_layer(reader: &mut Reader<usize>) -> Result<Layer, usize>
 #[tactic(auto, unfolding(crate::specs::Fields::attribute_at))]
 pub(crate) fn read_attribute(reader: &mut Reader<usize>) -> Result<Attribute, usize>
     ensures exact { Gives result reader.new.rest.now (attribute_at reader.old.cut reader.old.rest.now) }
-    ensures spelled { IfOk result (λ x. reader.old.rest.now ≡ trust_byte (trust x) ∷ reader.new.rest.now) }
+    ensures spelled { IfOk result (λ x. reader.old.rest.now ≡ attribute_byte (model_attribute x) ∷ reader.new.rest.now) }
     ensures cut { reader.new.cut ≡ reader.old.cut }
 {
     match reader.byte()? {
@@ -43,7 +43,7 @@ pub(crate) fn read_attribute(reader: &mut Reader<usize>) -> Result<Attribute, us
 #[tactic(auto, unfolding(crate::specs::Fields::state_at))]
 pub(crate) fn read_state(reader: &mut Reader<usize>) -> Result<State, usize>
     ensures exact { Gives result reader.new.rest.now (state_at reader.old.cut reader.old.rest.now) }
-    ensures spelled { IfOk result (λ x. reader.old.rest.now ≡ stage_byte (stage x) ∷ reader.new.rest.now) }
+    ensures spelled { IfOk result (λ x. reader.old.rest.now ≡ state_byte (model_state x) ∷ reader.new.rest.now) }
     ensures cut { reader.new.cut ≡ reader.old.cut }
 {
     match reader.byte()? {
@@ -76,7 +76,7 @@ pub(crate) fn read_rollover(reader: &mut Reader<usize>) -> Result<Rollover, usiz
 #[tactic(auto, unfolding(crate::specs::Fields::role_at))]
 pub(crate) fn read_role(reader: &mut Reader<usize>) -> Result<Role, usize>
     ensures exact { Gives result reader.new.rest.now (role_at reader.old.cut reader.old.rest.now) }
-    ensures spelled { IfOk result (λ x. reader.old.rest.now ≡ duty_byte (duty x) ∷ reader.new.rest.now) }
+    ensures spelled { IfOk result (λ x. reader.old.rest.now ≡ role_byte (model_role x) ∷ reader.new.rest.now) }
     ensures cut { reader.new.cut ≡ reader.old.cut }
 {
     match reader.byte()? {

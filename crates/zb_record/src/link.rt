@@ -2,7 +2,7 @@
 ghost use Rattle.std.specs.Prelude.{◌≡◌, ◌&&◌, ◌||◌, not, [], map, nat_eq, nat_le, nat_lt};
 ghost use Rattle.std.specs.List.{list_any};
 ghost use Rattle.std.specs.Int.{w16, w32};
-ghost use Rattle.zb_node_types.specs.Changes.{duty, trust};
+ghost use Rattle.zb_node_types.specs.Changes.{model_role, model_attribute};
 ghost use Rattle.zb_cursor.specs.Reading.{byte_at, eui_at, key_at, number_at};
 ghost use Rattle.zb_cursor.specs.Spelling.{bit};
 ghost use Rattle.zb_model.specs.State.{is_centre, is_provisional, is_unverified, same_key};
@@ -14,8 +14,8 @@ use crate::field::read_attribute;
 use crate::place::begin;
 use std::alloc::Global;
 use zb_base::{Eui, Key, OrMemory, Role};
-use zb_node_types::Attribute;
 use zb_cursor::{Reader, has_bit};
+use zb_node_types::Attribute;
 
 /// A link key in a record: partner 8, key 16, attribute 1, flags 1 (bit 0 live, bit 1 from a code, bit 2 told), floor 4.
 #[derive(Clone, Copy, Debug, PartialEq, Eq)]
@@ -39,7 +39,7 @@ pub struct LinkRecord {
 impl LinkRecord {
     /// A row with a floor of 0.
     fn with_flags(partner: Eui, key: Key, attribute: Attribute, flags: u8) -> LinkRecord
-        ensures { link_seen result ≡ link_row partner.0 key.0 (trust attribute) flags }
+        ensures { link_seen result ≡ link_row partner.0 key.0 (model_attribute attribute) flags }
     {
         LinkRecord {
             partner,
@@ -54,7 +54,7 @@ impl LinkRecord {
 
     /// Whether it is only offered.
     fn is_unverified(&self) -> bool
-        ensures { result ≡ is_unverified (link_seen self.now).trust }
+        ensures { result ≡ is_unverified (link_seen self.now).attribute }
     {
         matches!(self.attribute, Attribute::Unverified)
     }
@@ -82,21 +82,21 @@ impl LinkRecord {
 
     /// Whether a told row is a live one of the centre, and a provisional one from a code.
     fn is_marked(&self, role: Role) -> bool
-        ensures { result ≡ is_marked (duty role) (link_seen self.now) }
+        ensures { result ≡ is_marked (model_role role) (link_seen self.now) }
     {
         self.may_be_told(role) && self.may_be_provisional()
     }
 
     /// Whether it isn't told, or is a live row of the centre.
     fn may_be_told(&self, role: Role) -> bool
-        ensures { result ≡ (not (link_seen self.now).told || ((link_seen self.now).live && is_centre (duty role))) }
+        ensures { result ≡ (not (link_seen self.now).told || ((link_seen self.now).live && is_centre (model_role role))) }
     {
         !self.told || (self.live && matches!(role, Role::Centre))
     }
 
     /// Whether it isn't provisional, or is from a code.
     fn may_be_provisional(&self) -> bool
-        ensures { result ≡ (not (is_provisional (link_seen self.now).trust) || (link_seen self.now).code) }
+        ensures { result ≡ (not (is_provisional (link_seen self.now).attribute) || (link_seen self.now).code) }
     {
         !matches!(self.attribute, Attribute::Provisional) || self.code
     }
@@ -147,7 +147,7 @@ fn has_told_apart(rows: &[LinkRecord], other: &LinkRecord) -> bool
 /// Whether a row may stand behind these.
 #[tactic(auto, using(crate::proofs::Lists::any_map))]
 fn row_fits(role: Role, rows: &[LinkRecord], row: &LinkRecord) -> bool
-    ensures { result ≡ link_fits (duty role) (map link_seen rows.now) (link_seen row.now) }
+    ensures { result ≡ link_fits (model_role role) (map link_seen rows.now) (link_seen row.now) }
 {
     row.is_marked(role) && is_alone(rows, row)
 }
@@ -169,7 +169,7 @@ fn read_flags(
     key: Key,
     attribute: Attribute,
 ) -> Result<u8, usize>
-    ensures { Gives (λ b. b) result reader.new.rest.now (field byte_at (link_flags_fit (duty role) (map link_seen rows.now) partner.0 key.0 (trust attribute)) reader.old.rest.now) }
+    ensures { Gives (λ b. b) result reader.new.rest.now (field byte_at (link_flags_fit (model_role role) (map link_seen rows.now) partner.0 key.0 (model_attribute attribute)) reader.old.rest.now) }
 {
     let left = begin(reader);
     let flags = reader.byte()?;
@@ -187,7 +187,7 @@ fn read_flags(
 
 /// Whether flags are known, and their row may stand behind these.
 fn flags_fit(role: Role, rows: &[LinkRecord], row: LinkRecord, flags: u8) -> bool
-    ensures { result ≡ (nat_lt flags 8 && link_fits (duty role) (map link_seen rows.now) (link_seen row)) }
+    ensures { result ≡ (nat_lt flags 8 && link_fits (model_role role) (map link_seen rows.now) (link_seen row)) }
 {
     flags < 8 && row_fits(role, rows, &row)
 }
@@ -199,7 +199,7 @@ fn read_link(
     role: Role,
     rows: &[LinkRecord],
 ) -> Result<LinkRecord, usize>
-    ensures { Gives link_seen result reader.new.rest.now (link_at (duty role) (map link_seen rows.now) reader.old.rest.now) }
+    ensures { Gives link_seen result reader.new.rest.now (link_at (model_role role) (map link_seen rows.now) reader.old.rest.now) }
 {
     let _left = begin(reader);
     let partner = reader.eui()?;
@@ -222,7 +222,7 @@ fn read_link(
 
 /// How many link keys a node may hold.
 fn link_room(role: Role) -> u16
-    ensures { result ≡ most_links (duty role) }
+    ensures { result ≡ most_links (model_role role) }
 {
     match role {
         Role::Centre => 1024,
@@ -233,7 +233,7 @@ fn link_room(role: Role) -> u16
 
 /// The number of link keys.
 fn read_count(reader: &mut Reader<usize>, role: Role) -> Result<u16, usize>
-    ensures { Gives (λ n. n) result reader.new.rest.now (field (number_at w16) (has_link_room (duty role)) reader.old.rest.now) }
+    ensures { Gives (λ n. n) result reader.new.rest.now (field (number_at w16) (has_link_room (model_role role)) reader.old.rest.now) }
 {
     let left = begin(reader);
     let count = reader.number16()?;
@@ -251,7 +251,7 @@ fn read_rows(
     role: Role,
     count: u16,
 ) -> Result<Vec<LinkRecord>, OrMemory<usize>>
-    ensures { Answers (λ v. map link_seen v.items) result reader.new.rest.now (rows_at (link_at (duty role)) count [] reader.old.rest.now) }
+    ensures { Answers (λ v. map link_seen v.items) result reader.new.rest.now (rows_at (link_at (model_role role)) count [] reader.old.rest.now) }
 {
     let mut rows = Vec::with_capacity(alloc, usize::from(count))?;
     for _ in 0..count {
@@ -270,7 +270,7 @@ pub(crate) fn read_links(
     reader: &mut Reader<usize>,
     role: Role,
 ) -> Result<Vec<LinkRecord>, OrMemory<usize>>
-    ensures { Answers (λ v. map link_seen v.items) result reader.new.rest.now (links_at (duty role) reader.old.rest.now) }
+    ensures { Answers (λ v. map link_seen v.items) result reader.new.rest.now (links_at (model_role role) reader.old.rest.now) }
 {
     match read_count(reader, role) {
         Ok(count) => read_rows(alloc, reader, role, count),

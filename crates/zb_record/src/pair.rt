@@ -2,7 +2,7 @@
 ghost use Rattle.std.specs.Prelude.{◌≡◌, ◌&&◌, ◌==◌, not, [], map, nat_le, nat_lt};
 ghost use Rattle.std.specs.List.{list_any};
 ghost use Rattle.std.specs.Int.{w16};
-ghost use Rattle.zb_node_types.specs.Changes.{duty};
+ghost use Rattle.zb_node_types.specs.Changes.{model_role};
 ghost use Rattle.zb_cursor.specs.Reading.{byte_at, eui_at, number_at};
 ghost use Rattle.zb_record.specs.Placed.{Answers, Gives, field, rows_at};
 ghost use Rattle.zb_record.specs.Rows.{pair_seen, is_pair, is_new_pair, is_one, pairs_room, has_pair_room, pair_at, all_pairs_at, pairs_at};
@@ -78,7 +78,7 @@ fn read_pair(reader: &mut Reader<usize>, rows: &[PairRecord]) -> Result<PairReco
 
 /// How many pairs a node may hold.
 fn pair_room(role: Role) -> u16
-    ensures { result ≡ pairs_room (duty role) }
+    ensures { result ≡ pairs_room (model_role role) }
 {
     match role {
         Role::Centre => 256,
@@ -89,7 +89,7 @@ fn pair_room(role: Role) -> u16
 
 /// The number of pairs.
 fn read_count(reader: &mut Reader<usize>, role: Role) -> Result<u16, usize>
-    ensures { Gives (λ n. n) result reader.new.rest.now (field (number_at w16) (has_pair_room (duty role)) reader.old.rest.now) }
+    ensures { Gives (λ n. n) result reader.new.rest.now (field (number_at w16) (has_pair_room (model_role role)) reader.old.rest.now) }
 {
     let left = begin(reader);
     let count = reader.number16()?;
@@ -125,7 +125,7 @@ pub(crate) fn read_pairs(
     version: Version,
     role: Role,
 ) -> Result<Vec<PairRecord>, OrMemory<usize>>
-    ensures { Answers (λ v. map pair_seen v.items) result reader.new.rest.now (pairs_at version (duty role) reader.old.rest.now) }
+    ensures { Answers (λ v. map pair_seen v.items) result reader.new.rest.now (pairs_at version (model_role role) reader.old.rest.now) }
 {
     match version {
         Version::First => Ok(Vec::new(alloc)),
@@ -141,7 +141,7 @@ fn read_all(
     reader: &mut Reader<usize>,
     role: Role,
 ) -> Result<Vec<PairRecord>, OrMemory<usize>>
-    ensures { Answers (λ v. map pair_seen v.items) result reader.new.rest.now (all_pairs_at (duty role) reader.old.rest.now) }
+    ensures { Answers (λ v. map pair_seen v.items) result reader.new.rest.now (all_pairs_at (model_role role) reader.old.rest.now) }
 {
     match read_count(reader, role) {
         Ok(count) => read_rows(alloc, reader, count),

@@ -1,7 +1,7 @@
 //! A whole record.
 ghost use Rattle.std.specs.Prelude.{◌≡◌, ◌&&◌, ◌||◌, ◌==◌, not, [], map, nat_le, nat_lt};
 ghost use Rattle.std.specs.Int.{w16, w32};
-ghost use Rattle.zb_node_types.specs.Changes.{duty, is_sending, stage};
+ghost use Rattle.zb_node_types.specs.Changes.{model_role, is_sending, model_state};
 ghost use Rattle.zb_cursor.specs.Reading.{number_at};
 ghost use Rattle.zb_model.specs.State.{is_centre};
 ghost use Rattle.zb_record.specs.Fields.{rollover_at, state_at};
@@ -18,8 +18,8 @@ use crate::sender::read_all_floors;
 use crate::version::{Version, read_version};
 use std::alloc::Global;
 use zb_base::{OrMemory, Role};
-use zb_node_types::{Rollover, State};
 use zb_cursor::Reader;
+use zb_node_types::{Rollover, State};
 
 /// What a record says of its node first.
 #[derive(Clone, Copy, Debug, PartialEq, Eq)]

@@ -8,7 +8,7 @@ use Rattle.zb_model_fits.proofs.Shown.{rules_shown}
 use Rattle.zb_host.specs.Plans.{Restored, gives, bad}
 use Rattle.zb_model_laws.proofs.StoredChanges.{change_again, changes_again}
 use Rattle.zb_model_laws.proofs.StoredFits.{rules_same, fits_same}
-use Rattle.zb_model.specs.Data.{Duty, Edit}
+use Rattle.zb_model.specs.Data.{Role, Edit}
 use Rattle.zb_model.specs.State.{NodeState, shown, after_boot, applied, applied_all}
 use Rattle.zb_model.specs.Fits.{keeps_rules, fits, all_fit}
 use Rattle.zb_model.specs.Record.{payload, record_of}
@@ -25,7 +25,7 @@ use Rattle.zb_stored_tables.proofs.Widths.{AreBytes, read_fits}
 use Rattle.zb_stored_tables.proofs.InMemory.{recorded_booted, boot_of_shown, shown_again}
 use Rattle.zb_stored_tables.proofs.Made.{all_made_fits, shown_fits, booted_fits, fits_back, fits_as_stored}
 use Rattle.zb_stored_tables.proofs.Tested.{fits_true, fits_from}
-use Rattle.zb_stored_tables.proofs.Entries.{at_end, none_left, all_fit_rules, all_applied_duty, shown_duty, IsRuled, entries_ruled, entries_fit, no_entries}
+use Rattle.zb_stored_tables.proofs.Entries.{at_end, none_left, all_fit_rules, all_applied_role, shown_role, IsRuled, entries_ruled, entries_fit, no_entries}
 
 abbrev gave : NodeState → Result NodeState ℕ
 gave t = Ok t
@@ -40,24 +40,24 @@ same_given s t e = ap (state_or s) e
 
 -- ---- what a record and entries give
 
-read_ruled : (role : Duty) (r : List ℕ) (s : NodeState) → record_read r ≡ gave s → s.duty ≡ role → IsRuled role s
+read_ruled : (role : Role) (r : List ℕ) (s : NodeState) → record_read r ≡ gave s → s.role ≡ role → IsRuled role s
 unfolding shown
 read_ruled role r s read role_is = let kept = read_kept r s read in record { role_is = role_is; rules = kept.rules; forgets = ap (λ l. record s { nets = l }) kept.forgets }
 
 -- how a state came from them
-pub record Begun (role : Duty) (r q : List ℕ) (u : NodeState) : Type 0 where
+pub record Begun (role : Role) (r q : List ℕ) (u : NodeState) : Type 0 where
   pub start : NodeState
   pub read : record_read r ≡ gave start
-  pub role_is : start.duty ≡ role
+  pub role_is : start.role ≡ role
   pub reached : NodeState
   pub made : redone (version_in r) q start ≡ at_end reached []
   pub booted : u ≡ after_boot reached
 
-pub begun : (role : Duty) (r q : List ℕ) (u : NodeState) → state_given role r q ≡ gave u → Begun role r q u
+pub begun : (role : Role) (r q : List ℕ) (u : NodeState) → state_given role r q ≡ gave u → Begun role r q u
 unfolding state_given
 begun role r q u e = by_role (is_of_other role r) refl e
   where
-    by_end : (s t : NodeState) (x : Result (List ℕ) ℕ) → record_read r ≡ gave s → s.duty ≡ role → redone (version_in r) q s ≡ (t, x) → behind (length r) (length q) t x ≡ gave u → Begun role r q u
+    by_end : (s t : NodeState) (x : Result (List ℕ) ℕ) → record_read r ≡ gave s → s.role ≡ role → redone (version_in r) q s ≡ (t, x) → behind (length r) (length q) t x ≡ gave u → Begun role r q u
     by_end s t (Ok rest) is role_is made e =
         record { start = s; read = is; role_is = role_is; reached = t; made = made ∙ ap (at_end t) (none_left (version_in r) q rest s t made); booted = sym (same_given (after_boot t) u e) }
     by_end s t (Err left) is role_is made e = absurd (cc)
@@ -70,11 +70,11 @@ begun role r q u e = by_role (is_of_other role r) refl e
     by_role true is e = absurd (cc)
     by_role false is e = by_read (record_read r) refl is e
 
-given_back : (role : Duty) (r q : List ℕ) (s t : NodeState) → record_read r ≡ gave s → s.duty ≡ role → redone (version_in r) q s ≡ at_end t [] → state_given role r q ≡ gave (after_boot t)
+given_back : (role : Role) (r q : List ℕ) (s t : NodeState) → record_read r ≡ gave s → s.role ≡ role → redone (version_in r) q s ≡ at_end t [] → state_given role r q ≡ gave (after_boot t)
 unfolding state_given
 given_back role r q s t read role_is made = rw (of_this_role role r s read role_is, read, made) refl
 
-pub restored_back : (role : Duty) (r q : List ℕ) (u : NodeState) → state_given role r q ≡ gave u → FitsBytes u → restored role r q ≡ gives (record_of u)
+pub restored_back : (role : Role) (r q : List ℕ) (u : NodeState) → state_given role r q ≡ gave u → FitsBytes u → restored role r q ≡ gives (record_of u)
 unfolding restored
 restored_back role r q u is widths = rw (is, fits_true u widths) refl
 
@@ -90,7 +90,7 @@ later_version (b ∷ bytes) other = λ e. by_one (b == 1) (b == 2) (b == 3) refl
     by_one false false false is e = absurd (cc)
 
 -- a state whose record is what they give
-record Stands (role : Duty) (r q w : List ℕ) : Type 0 where
+record Stands (role : Role) (r q w : List ℕ) : Type 0 where
   state : NodeState
   is : state_given role r q ≡ gave state
   widths : FitsBytes state
@@ -107,7 +107,7 @@ IsGiven (bad at) = ⊥
 not_given : {A : Type 0} (at : ℕ) (w : List ℕ) → bad at ≡ gives w → A
 not_given at w e = absurd (subst IsGiven (sym e) tt)
 
-stands : (role : Duty) (r q w : List ℕ) → restored role r q ≡ gives w → Stands role r q w
+stands : (role : Role) (r q w : List ℕ) → restored role r q ≡ gives w → Stands role r q w
 unfolding restored content_of
 stands role r q w e = by_state (state_given role r q) refl e
   where
@@ -143,23 +143,23 @@ made_alike es s t same =
 
 -- ---- after a plan
 
-pub record IsKeptAfter (role : Duty) (t : NodeState) : Type 0 where
-  pub role_is : t.duty ≡ role
+pub record IsKeptAfter (role : Role) (t : NodeState) : Type 0 where
+  pub role_is : t.role ≡ role
   pub rules : keeps_rules t ≡ true
   pub widths : FitsBytes t
 
-boot_duty : (s : NodeState) → (after_boot s).duty ≡ s.duty
+boot_role : (s : NodeState) → (after_boot s).role ≡ s.role
 unfolding after_boot
-boot_duty s = refl
+boot_role s = refl
 
 -- The tables after a plan keep the rules, fit the widths and have the same role.
-pub kept_after : (role : Duty) (s t : NodeState) (cs : List Change) → IsStorable role s cs → IsStoredAfter cs s t → IsKeptAfter role t
+pub kept_after : (role : Role) (s t : NodeState) (cs : List Change) → IsStorable role s cs → IsStoredAfter cs s t → IsKeptAfter role t
 kept_after role s t cs plan after =
     let made = applied_all (edits cs) s in
     let rules = rules_shown made (all_fit_rules (edits cs) s plan.kept.rules plan.fit) in
     let widths = shown_fits made (all_made_fits cs s plan.range plan.kept.widths) in
     record {
-      role_is = sym (boot_duty t) ∙ ap (λ (u : NodeState). u.duty) after ∙ boot_duty (shown made) ∙ shown_duty made ∙ all_applied_duty (edits cs) s ∙ plan.role_is;
+      role_is = sym (boot_role t) ∙ ap (λ (u : NodeState). u.role) after ∙ boot_role (shown made) ∙ shown_role made ∙ all_applied_role (edits cs) s ∙ plan.role_is;
       rules = sym (rules_same t) ∙ ap keeps_rules after ∙ rules_same (shown made) ∙ rules;
       widths = fits_as_stored (shown made) t after widths;
     }
@@ -167,7 +167,7 @@ kept_after role s t cs plan after =
 -- ---- the law
 
 -- An entry behind what led to tables that differ from these in memory alone.
-reached_adds : (role : Duty) (s t : NodeState) (cs : List Change) (r q : List ℕ) (u : NodeState) (b : Begun role r q u) → IsStorable role s cs → IsStoredAfter cs s t → get_or r 0 0 ≢ 1
+reached_adds : (role : Role) (s t : NodeState) (cs : List Change) (r q : List ℕ) (u : NodeState) (b : Begun role r q u) → IsStorable role s cs → IsStoredAfter cs s t → get_or r 0 0 ≢ 1
     → after_boot b.reached ≡ after_boot s → state_given role r (q ++ payload (edits cs)) ≡ gave (after_boot t)
 reached_adds role s t cs r q u b plan after later same =
     let ruled = entries_ruled (version_in r) role q [] b.start b.reached (read_ruled role r b.start b.read b.role_is) b.made in
@@ -176,18 +176,18 @@ reached_adds role s t cs r q u b plan after later same =
     given_back role r (q ++ payload (edits cs)) b.start (shown (applied_all (edits cs) b.reached)) b.read b.role_is made
     ∙ ap gave (made_alike (edits cs) b.reached s same ∙ sym after)
 
-pub state_adds : (role : Duty) (s t : NodeState) (cs : List Change) (r q : List ℕ) → IsStorable role s cs → IsStoredAfter cs s t → get_or r 0 0 ≢ 1
+pub state_adds : (role : Role) (s t : NodeState) (cs : List Change) (r q : List ℕ) → IsStorable role s cs → IsStoredAfter cs s t → get_or r 0 0 ≢ 1
     → state_given role r q ≡ gave (after_boot s) → state_given role r (q ++ payload (edits cs)) ≡ gave (after_boot t)
 state_adds role s t cs r q plan after later is =
     let b = begun role r q (after_boot s) is in
     reached_adds role s t cs r q (after_boot s) b plan after later (sym b.booted)
 
 -- the core of a state with which a node boots
-booted_core : (role : Duty) (s t : NodeState) (cs : List Change) (r q : List ℕ) → IsStorable role s cs → IsStoredAfter cs s t → state_given role r q ≡ gave (after_boot t) → restored role r q ≡ gives (record_of t)
+booted_core : (role : Role) (s t : NodeState) (cs : List Change) (r q : List ℕ) → IsStorable role s cs → IsStoredAfter cs s t → state_given role r q ≡ gave (after_boot t) → restored role r q ≡ gives (record_of t)
 booted_core role s t cs r q plan after given =
     restored_back role r q (after_boot t) given (booted_fits t (kept_after role s t cs plan after).widths) ∙ ap (λ w. gives w) (recorded_booted t)
 
-pub core_adds : (role : Duty) (s t : NodeState) (cs : List Change) (r q : List ℕ) → IsStorable role s cs → IsStoredAfter cs s t → get_or r 0 0 ≢ 1
+pub core_adds : (role : Role) (s t : NodeState) (cs : List Change) (r q : List ℕ) → IsStorable role s cs → IsStoredAfter cs s t → get_or r 0 0 ≢ 1
     → restored role r q ≡ gives (record_of s) → restored role r (q ++ payload (edits cs)) ≡ gives (record_of t)
 core_adds role s t cs r q plan after later is =
     let stood = stands role r q (record_of s) is in
@@ -202,17 +202,17 @@ boot_twice : (s : NodeState) → after_boot (after_boot s) ≡ after_boot s
 unfolding applied_all
 boot_twice s = changes_again [] s
 
-pub state_keeps : (role : Duty) (s t : NodeState) (cs : List Change) → IsStorable role s cs → IsStoredAfter cs s t → state_given role (record_of t) [] ≡ gave (after_boot t)
+pub state_keeps : (role : Role) (s t : NodeState) (cs : List Change) → IsStorable role s cs → IsStoredAfter cs s t → state_given role (record_of t) [] ≡ gave (after_boot t)
 state_keeps role s t cs plan after =
     let kept = kept_after role s t cs plan after in
     let made = shown (applied_all (edits cs) s) in
     let start = shown (after_boot t) in
     let read = record_again t kept.rules kept.widths in
-    let given = given_back role (record_of t) [] start start read (shown_duty (after_boot t) ∙ boot_duty t ∙ kept.role_is) (no_entries (version_in (record_of t)) start) in
+    let given = given_back role (record_of t) [] start start read (shown_role (after_boot t) ∙ boot_role t ∙ kept.role_is) (no_entries (version_in (record_of t)) start) in
     let forgets = ap shown after ∙ sym (boot_of_shown made) ∙ ap after_boot (shown_again (applied_all (edits cs) s)) ∙ sym after in
     given ∙ ap gave (ap after_boot forgets ∙ boot_twice t)
 
-pub core_keeps : (role : Duty) (s t : NodeState) (cs : List Change) → IsStorable role s cs → IsStoredAfter cs s t → restored role (record_of t) [] ≡ gives (record_of t)
+pub core_keeps : (role : Role) (s t : NodeState) (cs : List Change) → IsStorable role s cs → IsStoredAfter cs s t → restored role (record_of t) [] ≡ gives (record_of t)
 core_keeps role s t cs plan after = booted_core role s t cs (record_of t) [] plan after (state_keeps role s t cs plan after)
 
 pub core_newest : (s : NodeState) → get_or (record_of s) 0 0 ≢ 1
@@ -224,13 +224,13 @@ unfolding applied_all
 core_idle s t forgets after = sym (recorded_booted t) ∙ ap record_of after ∙ recorded_booted (shown s) ∙ ap record_of forgets
 
 -- A plan without changes is one of any core over tables.
-pub none_storable : (role : Duty) (s : NodeState) → s.duty ≡ role → IsKept s → IsStorable role s []
+pub none_storable : (role : Role) (s : NodeState) → s.role ≡ role → IsKept s → IsStorable role s []
 unfolding all_fit payload
 none_storable role s role_is kept = record { role_is = role_is; kept = kept; range = tt; fit = refl; short = omega arith }
 
 -- ---- what bytes give
 
-pub bytes_give_kept : (role : Duty) (r q : List ℕ) (u : NodeState) → AreBytes r → AreBytes q → state_given role r q ≡ gave u → IsKept u × (u.duty ≡ role)
+pub bytes_give_kept : (role : Role) (r q : List ℕ) (u : NodeState) → AreBytes r → AreBytes q → state_given role r q ≡ gave u → IsKept u × (u.role ≡ role)
 bytes_give_kept role r q u ar aq e =
     let b = begun role r q u e in
     let ruled = entries_ruled (version_in r) role q [] b.start b.reached (read_ruled role r b.start b.read b.role_is) b.made in
@@ -242,5 +242,5 @@ bytes_give_kept role r q u ar aq e =
         forgets = ap shown b.booted ∙ forgets ∙ sym b.booted;
         widths = subst FitsBytes (sym b.booted) widths;
       },
-      ap (λ (s : NodeState). s.duty) b.booted ∙ boot_duty b.reached ∙ ruled.role_is,
+      ap (λ (s : NodeState). s.role) b.booted ∙ boot_role b.reached ∙ ruled.role_is,
     )

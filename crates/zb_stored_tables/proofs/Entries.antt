@@ -2,7 +2,7 @@
 use Rattle.std.proofs.Common.{◌≡◌, ℕ, zero, suc, ◌≤◌, Bool, true, false, if◌then◌else◌, List, [], ◌∷◌, length, Result, Ok, Err, refl, sym, ap, ◌∙◌, subst, arith}
 use Rattle.zb_node_types.specs.declared.change.Change.{Change}
 use Rattle.zb_node_types.specs.Changes.{edit}
-use Rattle.zb_model.specs.Data.{Duty, Draw, DropNet, DropLink, Install, Active, Row, Pair, Became, Live, Removed, Roll, Told, Untold, Edit, Reserve, Floor, Start, Moved, Nwk, Aps}
+use Rattle.zb_model.specs.Data.{Role, Draw, DropNet, DropLink, Install, Active, Row, Pair, Became, Live, Removed, Roll, Told, Untold, Edit, Reserve, Floor, Start, Moved, Nwk, Aps}
 use Rattle.zb_model.specs.State.{NodeState, shown, applied, applied_all}
 use Rattle.zb_model.specs.Fits.{keeps_rules, fits, all_fit}
 use Rattle.zb_model_fits.proofs.Tests.{both}
@@ -123,68 +123,68 @@ all_fit_rules (e ∷ es) s kept fit = let parts = both (fits e s) (all_fit es (a
 
 -- ---- the role
 
-pub applied_duty : (e : Edit) (s : NodeState) → (applied e s).duty ≡ s.duty
+pub applied_role : (e : Edit) (s : NodeState) → (applied e s).role ≡ s.role
 unfolding applied
-applied_duty (Reserve Nwk limit) s = refl
-applied_duty (Reserve Aps limit) s = refl
-applied_duty (Floor Nwk key sender value) s = refl
-applied_duty (Floor Aps key sender value) s = refl
-applied_duty (Start key value) s = refl
-applied_duty (Moved (Draw key)) s = refl
-applied_duty (Moved (DropNet key)) s = refl
-applied_duty (Moved (DropLink partner key)) s = refl
-applied_duty (Moved (Install key sequence)) s = refl
-applied_duty (Moved (Active key)) s = refl
-applied_duty (Moved (Row partner key trust)) s = refl
-applied_duty (Moved (Pair first second key)) s = refl
-applied_duty (Moved (Became stage)) s = refl
-applied_duty (Moved (Live device)) s = refl
-applied_duty (Moved (Removed device)) s = refl
-applied_duty (Moved (Roll sending)) s = refl
-applied_duty (Moved (Told device)) s = refl
-applied_duty (Moved (Untold device)) s = refl
+applied_role (Reserve Nwk limit) s = refl
+applied_role (Reserve Aps limit) s = refl
+applied_role (Floor Nwk key sender value) s = refl
+applied_role (Floor Aps key sender value) s = refl
+applied_role (Start key value) s = refl
+applied_role (Moved (Draw key)) s = refl
+applied_role (Moved (DropNet key)) s = refl
+applied_role (Moved (DropLink partner key)) s = refl
+applied_role (Moved (Install key sequence)) s = refl
+applied_role (Moved (Active key)) s = refl
+applied_role (Moved (Row partner key attribute)) s = refl
+applied_role (Moved (Pair first second key)) s = refl
+applied_role (Moved (Became model_state)) s = refl
+applied_role (Moved (Live device)) s = refl
+applied_role (Moved (Removed device)) s = refl
+applied_role (Moved (Roll sending)) s = refl
+applied_role (Moved (Told device)) s = refl
+applied_role (Moved (Untold device)) s = refl
 
-behind_duty : (v : Version) (e : Edit) (s : NodeState) → (applied_behind v e s).duty ≡ s.duty
+behind_role : (v : Version) (e : Edit) (s : NodeState) → (applied_behind v e s).role ≡ s.role
 unfolding applied_behind first_applied
-behind_duty First (Reserve Nwk limit) s = refl
-behind_duty First (Reserve Aps limit) s = applied_duty (Reserve Aps limit) s
-behind_duty First (Floor layer key sender value) s = applied_duty (Floor layer key sender value) s
-behind_duty First (Start key value) s = applied_duty (Start key value) s
-behind_duty First (Moved (Draw key)) s = applied_duty (Moved (Draw key)) s
-behind_duty First (Moved (DropNet key)) s = applied_duty (Moved (DropNet key)) s
-behind_duty First (Moved (DropLink partner key)) s = applied_duty (Moved (DropLink partner key)) s
-behind_duty First (Moved (Install key sequence)) s = refl
-behind_duty First (Moved (Active key)) s = applied_duty (Moved (Active key)) s
-behind_duty First (Moved (Row partner key trust)) s = applied_duty (Moved (Row partner key trust)) s
-behind_duty First (Moved (Pair first second key)) s = applied_duty (Moved (Pair first second key)) s
-behind_duty First (Moved (Became stage)) s = applied_duty (Moved (Became stage)) s
-behind_duty First (Moved (Live device)) s = applied_duty (Moved (Live device)) s
-behind_duty First (Moved (Removed device)) s = applied_duty (Moved (Removed device)) s
-behind_duty First (Moved (Roll sending)) s = applied_duty (Moved (Roll sending)) s
-behind_duty First (Moved (Told device)) s = applied_duty (Moved (Told device)) s
-behind_duty First (Moved (Untold device)) s = applied_duty (Moved (Untold device)) s
-behind_duty Second e s = applied_duty e s
-behind_duty Third e s = applied_duty e s
+behind_role First (Reserve Nwk limit) s = refl
+behind_role First (Reserve Aps limit) s = applied_role (Reserve Aps limit) s
+behind_role First (Floor layer key sender value) s = applied_role (Floor layer key sender value) s
+behind_role First (Start key value) s = applied_role (Start key value) s
+behind_role First (Moved (Draw key)) s = applied_role (Moved (Draw key)) s
+behind_role First (Moved (DropNet key)) s = applied_role (Moved (DropNet key)) s
+behind_role First (Moved (DropLink partner key)) s = applied_role (Moved (DropLink partner key)) s
+behind_role First (Moved (Install key sequence)) s = refl
+behind_role First (Moved (Active key)) s = applied_role (Moved (Active key)) s
+behind_role First (Moved (Row partner key attribute)) s = applied_role (Moved (Row partner key attribute)) s
+behind_role First (Moved (Pair first second key)) s = applied_role (Moved (Pair first second key)) s
+behind_role First (Moved (Became model_state)) s = applied_role (Moved (Became model_state)) s
+behind_role First (Moved (Live device)) s = applied_role (Moved (Live device)) s
+behind_role First (Moved (Removed device)) s = applied_role (Moved (Removed device)) s
+behind_role First (Moved (Roll sending)) s = applied_role (Moved (Roll sending)) s
+behind_role First (Moved (Told device)) s = applied_role (Moved (Told device)) s
+behind_role First (Moved (Untold device)) s = applied_role (Moved (Untold device)) s
+behind_role Second e s = applied_role e s
+behind_role Third e s = applied_role e s
 
-pub all_applied_duty : (es : List Edit) (s : NodeState) → (applied_all es s).duty ≡ s.duty
+pub all_applied_role : (es : List Edit) (s : NodeState) → (applied_all es s).role ≡ s.role
 unfolding applied_all
-all_applied_duty [] s = refl
-all_applied_duty (e ∷ es) s = all_applied_duty es (applied e s) ∙ applied_duty e s
+all_applied_role [] s = refl
+all_applied_role (e ∷ es) s = all_applied_role es (applied e s) ∙ applied_role e s
 
-pub shown_duty : (s : NodeState) → (shown s).duty ≡ s.duty
+pub shown_role : (s : NodeState) → (shown s).role ≡ s.role
 unfolding shown
-shown_duty s = refl
+shown_role s = refl
 
 -- ---- what is kept, of any numbers and of bytes
 
-pub record IsRuled (role : Duty) (s : NodeState) : Type 0 where
-  pub role_is : s.duty ≡ role
+pub record IsRuled (role : Role) (s : NodeState) : Type 0 where
+  pub role_is : s.role ≡ role
   pub rules : keeps_rules s ≡ true
   pub forgets : shown s ≡ s
 
-one_ruled : (v : Version) (role : Duty) (c : Change) (s : NodeState) → fits_behind v (edit c) s ≡ true → IsRuled role s → IsRuled role (shown (applied_behind v (edit c) s))
+one_ruled : (v : Version) (role : Role) (c : Change) (s : NodeState) → fits_behind v (edit c) s ≡ true → IsRuled role s → IsRuled role (shown (applied_behind v (edit c) s))
 one_ruled v role c s fit p = record {
-  role_is = shown_duty (applied_behind v (edit c) s) ∙ behind_duty v (edit c) s ∙ p.role_is;
+  role_is = shown_role (applied_behind v (edit c) s) ∙ behind_role v (edit c) s ∙ p.role_is;
   rules = behind_shown v (edit c) s p.rules fit;
   forgets = shown_again (applied_behind v (edit c) s);
 }
@@ -193,7 +193,7 @@ abbrev Any : List ℕ → Type 0
 Any bytes = Unit {0}
 
 -- The entries behind a record keep the rules, the role, and no floors of dropped network keys.
-pub entries_ruled : (v : Version) (role : Duty) (entries rest : List ℕ) (s t : NodeState) → IsRuled role s → redone v entries s ≡ at_end t rest → IsRuled role t
+pub entries_ruled : (v : Version) (role : Role) (entries rest : List ℕ) (s t : NodeState) → IsRuled role s → redone v entries s ≡ at_end t rest → IsRuled role t
 unfolding redone
 entries_ruled v role entries rest s t p e =
     (payloads_keep v (IsRuled role) Any (λ b bytes q. tt) (λ bytes left u w made q k. (subst (IsRuled role) (sym made.state) (one_ruled v role made.change u made.fit k), tt))

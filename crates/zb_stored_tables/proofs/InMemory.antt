@@ -3,7 +3,7 @@ use Rattle.std.proofs.Common.{◌≡◌, ℕ, ◌+◌, List, [], ◌∷◌, ◌+
 use Rattle.std.specs.Prelude.{nat_eq}
 use Rattle.std.proofs.lemmas.List.{length-map}
 use Rattle.std.proofs.lemmas.List.Concat.{flat_map-cons}
-use Rattle.zb_model.specs.Data.{Bytes, Tier, Nwk, Aps}
+use Rattle.zb_model.specs.Data.{Bytes, Layer, Nwk, Aps}
 use Rattle.zb_model.specs.State.{SenderFloor, NetKey, LinkKey, NodeState, same_key, is_link, at_net, at_link, of_active, next_at, counted, floor_kept, net_kept, link_kept, heard, booted_floor, booted_net, booted_link, after_boot, shown_net, shown}
 use Rattle.zb_model.specs.Record.{place_from, active_place, net_bytes, sender_bytes, floors_bytes, link_bytes, record_of}
 use Rattle.zb_model_fits.proofs.ShownApplied.{shown_twice}
@@ -139,13 +139,13 @@ active_memory None rs = refl
 active_memory (Some key) rs = net_memory key (λ r. next_at (r.next + 1) r) (λ r. refl) rs
 
 -- a counter was used
-pub boot_of_counted : (layer : Tier) (s : NodeState) → after_boot (counted layer s) ≡ after_boot s
+pub boot_of_counted : (layer : Layer) (s : NodeState) → after_boot (counted layer s) ≡ after_boot s
 unfolding after_boot counted
 boot_of_counted Nwk s = ap (λ l. record s { aps_next = s.aps_limit; nets = l; links = map booted_link s.links }) (active_memory s.active s.nets)
 boot_of_counted Aps s = refl
 
 -- a sender's counter was accepted
-pub boot_of_heard : (layer : Tier) (key : Bytes) (sender counter : ℕ) (s : NodeState) → after_boot (heard layer key sender counter s) ≡ after_boot s
+pub boot_of_heard : (layer : Layer) (key : Bytes) (sender counter : ℕ) (s : NodeState) → after_boot (heard layer key sender counter s) ≡ after_boot s
 unfolding after_boot heard
 boot_of_heard Nwk key sender counter s =
     ap (λ l. record s { aps_next = s.aps_limit; nets = l; links = map booted_link s.links })
@@ -163,20 +163,20 @@ boot_of_heard_from (Some r) counter s = boot_of_heard Aps r.key r.partner counte
 
 -- ---- the role stays
 
-pub role_of_counted : (layer : Tier) (s : NodeState) → (counted layer s).duty ≡ s.duty
+pub role_of_counted : (layer : Layer) (s : NodeState) → (counted layer s).role ≡ s.role
 unfolding counted
 role_of_counted Nwk s = refl
 role_of_counted Aps s = refl
 
-role_of_heard : (layer : Tier) (key : Bytes) (sender counter : ℕ) (s : NodeState) → (heard layer key sender counter s).duty ≡ s.duty
+role_of_heard : (layer : Layer) (key : Bytes) (sender counter : ℕ) (s : NodeState) → (heard layer key sender counter s).role ≡ s.role
 unfolding heard
 role_of_heard Nwk key sender counter s = refl
 role_of_heard Aps key sender counter s = refl
 
-pub role_of_heard_under : (o : Option NetKey) (sender counter : ℕ) (s : NodeState) → (heard_under o sender counter s).duty ≡ s.duty
+pub role_of_heard_under : (o : Option NetKey) (sender counter : ℕ) (s : NodeState) → (heard_under o sender counter s).role ≡ s.role
 role_of_heard_under None sender counter s = refl
 role_of_heard_under (Some r) sender counter s = role_of_heard Nwk r.key sender counter s
 
-pub role_of_heard_from : (o : Option LinkKey) (counter : ℕ) (s : NodeState) → (heard_from o counter s).duty ≡ s.duty
+pub role_of_heard_from : (o : Option LinkKey) (counter : ℕ) (s : NodeState) → (heard_from o counter s).role ≡ s.role
 role_of_heard_from None counter s = refl
 role_of_heard_from (Some r) counter s = role_of_heard Aps r.key r.partner counter s

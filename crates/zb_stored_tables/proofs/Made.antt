@@ -6,8 +6,8 @@ use Rattle.zb_node_types.specs.declared.change.Change.{Change}
 use Rattle.zb_node_types.specs.declared.change.Change.TheVariants as change
 use Rattle.zb_node_types.specs.declared.state.Rollover.TheVariants as rollover
 use Rattle.zb_base.specs.declared.label.Layer.TheVariants as layer
-use Rattle.zb_node_types.specs.Changes.{edit, edits, trust}
-use Rattle.zb_model.specs.Data.{Bytes, Trust}
+use Rattle.zb_node_types.specs.Changes.{edit, edits, model_attribute}
+use Rattle.zb_model.specs.Data.{Bytes, Attribute}
 use Rattle.zb_model.specs.State.{SenderFloor, NetKey, LinkKey, PairKey, NodeState, same_key, is_link, has_link, is_live_of, is_told, has_net, given_net, names, names_two, at_net, at_link, of_active, new_net, reserved, started_at, dropped_net, dropped_link, floor_stored, net_floor, link_floor, told_as, revived, new_link, with_link, with_pair, applied, applied_all, booted_floor, booted_net, booted_link, after_boot, shown_net, shown}
 use Rattle.zb_record.specs.declared.version.Version.{Version}
 use Rattle.zb_record.specs.declared.version.Version.TheVariants.{First, Second, Third}
@@ -97,7 +97,7 @@ installed_fits key sequence long rs all = by_test (has_net key rs)
     by_test true = all
     by_test false = all_snoc NetFits rs (new_net key sequence) all (record { key = long; limit = omega arith; floors = tt })
 
-linked_fits : (partner : ℕ) (key : Bytes) (t : Trust) (told : Bool) → partner < 2 ^ 64 → length key ≡ 16 → (rs : List LinkKey) → AllByRecursion LinkFits rs → AllByRecursion LinkFits (with_link partner key t told rs)
+linked_fits : (partner : ℕ) (key : Bytes) (t : Attribute) (told : Bool) → partner < 2 ^ 64 → length key ≡ 16 → (rs : List LinkKey) → AllByRecursion LinkFits rs → AllByRecursion LinkFits (with_link partner key t told rs)
 linked_fits partner key t told small long rs all = by_test (has_link partner key rs)
   where
     by_test : (b : Bool) → AllByRecursion LinkFits (if b then at_link partner key (revived t told) rs else rs ++ new_link partner key t told ∷ [])
@@ -155,7 +155,7 @@ made_fits (change.DropLink partner key) s range fits = links_fit s _ fits refl r
 made_fits (change.Install key sequence) s range fits = nets_fit s _ fits refl refl refl refl (installed_fits key.0 sequence range.0 s.nets fits.nets)
 made_fits (change.Active key) s range fits = record { declared = fits.declared; aps_limit = fits.aps_limit; nets = fits.nets; links = fits.links; pairs = fits.pairs }
 made_fits (change.Start key value) s range fits = nets_fit s _ fits refl refl refl refl (net_at_fits key.0 (started_at value) (started_fits value) s.nets fits.nets)
-made_fits (change.Row partner key t) s range fits = links_fit s _ fits refl refl refl refl (linked_fits partner.0 key.0 (trust t) (is_told s partner.0) range.0 range.1 s.links fits.links)
+made_fits (change.Row partner key t) s range fits = links_fit s _ fits refl refl refl refl (linked_fits partner.0 key.0 (model_attribute t) (is_told s partner.0) range.0 range.1 s.links fits.links)
 made_fits (change.Pair first second key) s range fits = pairs_fit s _ fits refl refl refl refl (paired_fits first.0 second.0 key.0 range.0 range.1 range.2 s.pairs fits.pairs)
 made_fits (change.State g) s range fits = record { declared = fits.declared; aps_limit = fits.aps_limit; nets = fits.nets; links = fits.links; pairs = fits.pairs }
 made_fits (change.Live device) s range fits = links_fit s _ fits refl refl refl refl (link_at_fits (is_live_of device.0) (told_as false) (told_fits false) s.links fits.links)

@@ -1,4 +1,5 @@
 -- What is read as a record of version 3 is the state that the laws on records read from the same bytes.
+use Rattle.zb_model.specs.Data as model
 use Rattle.std.proofs.Common.{◌≡◌, ℕ, zero, suc, ◌+◌, ◌<◌, ◌≤◌, Bool, true, false, if◌then◌else◌, ◌&&◌, ◌||◌, List, [], ◌∷◌, ◌++◌, length, take, drop, Option, Some, None, Result, Ok, Err, nat_eq, nat_lt, refl, sym, ap, ◌∙◌, subst, arith, ◌==◌, append-nil, append_assoc, length-append}
 use Rattle.std.specs.Prelude.{slice_get, option_map}
 use Rattle.std.specs.Int.{Width, w16, w32, w64, byte_len, from_le_bytes}
@@ -10,14 +11,13 @@ use Rattle.zb_base.specs.declared.node.Role.{Role}
 use Rattle.zb_node_types.specs.declared.state.State.{State}
 use Rattle.zb_node_types.specs.declared.state.Attribute.{Attribute}
 use Rattle.zb_node_types.specs.declared.state.Rollover.{Rollover}
-use Rattle.zb_node_types.specs.Changes.{duty, stage, trust, is_sending}
+use Rattle.zb_node_types.specs.Changes.{model_role, model_state, model_attribute, is_sending}
 use Rattle.zb_cursor.specs.Spelling.{bit}
 use Rattle.zb_cursor.specs.Reading.{Reading, byte_at, bytes_at, number_at, eui_at, key_at}
 use Rattle.zb_cursor.specs.Reading as cursor
-use Rattle.zb_model.specs.Data.{Duty}
 use Rattle.zb_model.specs.State.{SenderFloor, NetKey, LinkKey, PairKey, NodeState}
 use Rattle.zb_model.specs.Record.{record_of}
-use Rattle.zb_model_laws.specs.Records.{Taking, follow, a_byte, some_bytes, a_number, so_many, duty_of, stage_of, trust_of, yes_or_no, only, two_flags, three_flags, with_floors, active_at, state_in, whole as whole_of}
+use Rattle.zb_model_laws.specs.Records.{Taking, follow, a_byte, some_bytes, a_number, so_many, role_of, state_of, attribute_of, yes_or_no, only, two_flags, three_flags, with_floors, active_at, state_in, whole as whole_of}
 use Rattle.zb_model_laws.specs.Records as laws
 use Rattle.zb_record.specs.declared.version.Version.{Version}
 use Rattle.zb_record.specs.declared.version.Version.TheVariants.{Third}
@@ -124,29 +124,29 @@ picked {A} pick cut (b ∷ bytes) rest x e = by_value (pick b) refl e
 apart : (a b : ℕ) → (a ≡ b → ⊥) → (a == b) ≡ false
 apart a b differ = ne_eqb a b differ
 
-role_same : (b : ℕ) (x : Role) → role_of b ≡ Some x → duty_of b ≡ Some (duty x)
-unfolding duty_of
-role_same zero x e = ap (option_map duty) e
-role_same (suc zero) x e = ap (option_map duty) e
-role_same (suc (suc zero)) x e = ap (option_map duty) e
+role_same : (b : ℕ) (x : Role) → role_of b ≡ Some x → role_of b ≡ Some (model_role x)
+unfolding role_of
+role_same zero x e = ap (option_map model_role) e
+role_same (suc zero) x e = ap (option_map model_role) e
+role_same (suc (suc zero)) x e = ap (option_map model_role) e
 role_same (suc (suc (suc n))) x e = absurd (let none : role_of (suc (suc (suc n))) ≡ None = rw (apart (suc (suc (suc n))) 0 (λ q. omega (arith, q)), apart (suc (suc (suc n))) 1 (λ q. omega (arith, q)), apart (suc (suc (suc n))) 2 (λ q. omega (arith, q))) refl in let bad : None ≡ Some x = sym none ∙ e in cc)
 
-state_same : (b : ℕ) (x : State) → state_of b ≡ Some x → stage_of b ≡ Some (stage x)
-unfolding stage_of
-state_same zero x e = ap (option_map stage) e
-state_same (suc zero) x e = ap (option_map stage) e
-state_same (suc (suc zero)) x e = ap (option_map stage) e
-state_same (suc (suc (suc zero))) x e = ap (option_map stage) e
-state_same (suc (suc (suc (suc zero)))) x e = ap (option_map stage) e
-state_same (suc (suc (suc (suc (suc zero))))) x e = ap (option_map stage) e
-state_same (suc (suc (suc (suc (suc (suc zero)))))) x e = ap (option_map stage) e
+state_same : (b : ℕ) (x : State) → state_of b ≡ Some x → state_of b ≡ Some (model_state x)
+unfolding state_of
+state_same zero x e = ap (option_map model_state) e
+state_same (suc zero) x e = ap (option_map model_state) e
+state_same (suc (suc zero)) x e = ap (option_map model_state) e
+state_same (suc (suc (suc zero))) x e = ap (option_map model_state) e
+state_same (suc (suc (suc (suc zero)))) x e = ap (option_map model_state) e
+state_same (suc (suc (suc (suc (suc zero))))) x e = ap (option_map model_state) e
+state_same (suc (suc (suc (suc (suc (suc zero)))))) x e = ap (option_map model_state) e
 state_same (suc (suc (suc (suc (suc (suc (suc n))))))) x e = absurd (let none : state_of (suc (suc (suc (suc (suc (suc (suc n))))))) ≡ None = rw (apart (suc (suc (suc (suc (suc (suc (suc n))))))) 0 (λ q. omega (arith, q)), apart (suc (suc (suc (suc (suc (suc (suc n))))))) 1 (λ q. omega (arith, q)), apart (suc (suc (suc (suc (suc (suc (suc n))))))) 2 (λ q. omega (arith, q)), apart (suc (suc (suc (suc (suc (suc (suc n))))))) 3 (λ q. omega (arith, q)), apart (suc (suc (suc (suc (suc (suc (suc n))))))) 4 (λ q. omega (arith, q)), apart (suc (suc (suc (suc (suc (suc (suc n))))))) 5 (λ q. omega (arith, q)), apart (suc (suc (suc (suc (suc (suc (suc n))))))) 6 (λ q. omega (arith, q))) refl in let bad : None ≡ Some x = sym none ∙ e in cc)
 
-attribute_same : (b : ℕ) (x : Attribute) → attribute_of b ≡ Some x → trust_of b ≡ Some (trust x)
-unfolding trust_of
-attribute_same zero x e = ap (option_map trust) e
-attribute_same (suc zero) x e = ap (option_map trust) e
-attribute_same (suc (suc zero)) x e = ap (option_map trust) e
+attribute_same : (b : ℕ) (x : Attribute) → attribute_of b ≡ Some x → attribute_of b ≡ Some (model_attribute x)
+unfolding attribute_of
+attribute_same zero x e = ap (option_map model_attribute) e
+attribute_same (suc zero) x e = ap (option_map model_attribute) e
+attribute_same (suc (suc zero)) x e = ap (option_map model_attribute) e
 attribute_same (suc (suc (suc n))) x e = absurd (let none : attribute_of (suc (suc (suc n))) ≡ None = rw (apart (suc (suc (suc n))) 0 (λ q. omega (arith, q)), apart (suc (suc (suc n))) 1 (λ q. omega (arith, q)), apart (suc (suc (suc n))) 2 (λ q. omega (arith, q))) refl in let bad : None ≡ Some x = sym none ∙ e in cc)
 
 rollover_same : (b : ℕ) (x : Rollover) → rollover_of b ≡ Some x → yes_or_no b ≡ Some (is_sending x)
@@ -333,7 +333,7 @@ active_says place n nets long few is = by_none (nat_eq place 65535) refl is
 
 -- ---- link keys and pairs
 
-link_says : (d : Duty) (done : List LinkKey) → Says LinkKey LinkKey (λ x. x) (link_at d done) laws.link_at
+link_says : (d : model.Role) (done : List LinkKey) → Says LinkKey LinkKey (λ x. x) (link_at d done) laws.link_at
 unfolding link_at attribute_at laws.link_at follow laws.chosen
 link_says d done bytes rest x e =
     let a = both_read (whole eui_at) _ bytes rest x e in
@@ -343,7 +343,7 @@ link_says d done bytes rest x e =
     let c = both_read (whole attribute_at) _ b.between rest x b.two in
     let c1 = picked attribute_of (length b.between) b.between c.between c.value c.one in
     let c2 = attribute_same c1.byte c.value c1.is in
-    let flags = link_flags_fit d done a.value.0 b.value.0 (trust c.value) in
+    let flags = link_flags_fit d done a.value.0 b.value.0 (model_attribute c.value) in
     let f = both_read (field byte_at flags) _ c.between rest x c.two in
     let f1 = byte_says (length c.between) c.between f.between f.value (was_read byte_at flags c.between f.between f.value f.one) in
     let few = both (nat_lt f.value 8) _ (passed byte_at flags c.between f.between f.value f.one) in
@@ -359,7 +359,7 @@ record Counted {A : Type 0} (take : Taking A) (rows : List A) (bytes rest : List
   one : a_number w16 bytes ≡ taken count between
   two : so_many take count between ≡ taken rows rest
 
-links_say : (d : Duty) (bytes rest : List ℕ) (rows : List LinkKey) → links_at d bytes ≡ found rows rest → Counted laws.link_at rows bytes rest
+links_say : (d : model.Role) (bytes rest : List ℕ) (rows : List LinkKey) → links_at d bytes ≡ found rows rest → Counted laws.link_at rows bytes rest
 unfolding links_at
 links_say d bytes rest rows e =
     let a = both_read (field (number_at w16) (has_link_room d)) _ bytes rest rows e in
@@ -384,7 +384,7 @@ pair_says done bytes rest x e =
     let f2 = one_same f.value (passed byte_at is_one c.between f.between f.value f.one) in
     rw (a1, b1, c1, f1, f2) (same_found _ x f.between rest f.two)
 
-pairs_say : (d : Duty) (bytes rest : List ℕ) (rows : List PairKey) → pairs_at Third d bytes ≡ found rows rest → Counted laws.pair_at rows bytes rest
+pairs_say : (d : model.Role) (bytes rest : List ℕ) (rows : List PairKey) → pairs_at Third d bytes ≡ found rows rest → Counted laws.pair_at rows bytes rest
 unfolding all_pairs_at
 pairs_say d bytes rest rows e =
     let a = both_read (field (number_at w16) (has_pair_room d)) _ bytes rest rows e in
@@ -407,8 +407,8 @@ record Nodes (node : Node) (bytes rest : List ℕ) : Type 0 where
   two : a_byte after_version ≡ taken role after_role
   three : a_byte after_role ≡ taken state rest
   version_is : version_of version ≡ Some node.version
-  role_is : duty_of role ≡ Some (duty node.role)
-  state_is : stage_of state ≡ Some (stage node.state)
+  role_is : role_of role ≡ Some (model_role node.role)
+  state_is : state_of state ≡ Some (model_state node.state)
 
 node_says : (bytes rest : List ℕ) (node : Node) → node_at bytes ≡ found node rest → Nodes node bytes rest
 unfolding node_at version_at role_at state_at
@@ -433,8 +433,8 @@ node_says bytes rest node e =
       two = b1.front;
       three = c1.front ∙ ap (taken c1.byte) left;
       version_is = a1.is ∙ ap (λ (n : Node). Some n.version) is;
-      role_is = role_same b1.byte b.value b1.is ∙ ap (λ (n : Node). Some (duty n.role)) is;
-      state_is = state_same c1.byte c.value c1.is ∙ ap (λ (n : Node). Some (stage n.state)) is;
+      role_is = role_same b1.byte b.value b1.is ∙ ap (λ (n : Node). Some (model_role n.role)) is;
+      state_is = state_same c1.byte c.value c1.is ∙ ap (λ (n : Node). Some (model_state n.state)) is;
     }
 
 record Heads (node : Node) (h : Head) (bytes rest : List ℕ) : Type 0 where
@@ -509,15 +509,15 @@ record_says bytes rest s third e =
     let c = both_read (nets_at b.value) _ b.between rest s b.two in
     let nets = nets_say b.value b.between c.between c.value (ap (λ (x : Node). x.version) h.node_is ∙ is_third) c.one in
     let active = active_says b.value.active b.value.nets c.value nets.long h.few h.place_is in
-    let d = both_read (links_at (duty a.value.role)) _ c.between rest s c.two in
-    let links = links_say (duty a.value.role) c.between d.between d.value d.one in
-    let f = both_read (pairs_at a.value.version (duty a.value.role)) _ d.between rest s d.two in
-    let pairs = pairs_say (duty a.value.role) d.between f.between f.value (subst (λ (v : Version). pairs_at v (duty a.value.role) d.between ≡ found f.value f.between) is_third f.one) in
+    let d = both_read (links_at (model_role a.value.role)) _ c.between rest s c.two in
+    let links = links_say (model_role a.value.role) c.between d.between d.value d.one in
+    let f = both_read (pairs_at a.value.version (model_role a.value.role)) _ d.between rest s d.two in
+    let pairs = pairs_say (model_role a.value.role) d.between f.between f.value (subst (λ (v : Version). pairs_at v (model_role a.value.role) d.between ≡ found f.value f.between) is_third f.one) in
     let made = state_from b.value c.value d.value f.value in
     let seen : NodeState → NodeState = λ t. t in
     let node_is = h.node_is in
     rw (n.one, three_same n.version version, n.two, n.role_is, n.three, n.state_is, h.one, h.two, h.three, h.rolling_is, h.four, h.five, nets.one, nets.two, active, links.one, links.two, pairs.one, pairs.two)
-    (ap (λ (x : Node). taken (record made { duty = duty x.role; stage = stage x.state }) f.between) (sym node_is) ∙ same_found made s f.between rest f.two)
+    (ap (λ (x : Node). taken (record made { role = model_role x.role; state = model_state x.state }) f.between) (sym node_is) ∙ same_found made s f.between rest f.two)
 
 pub state_read : (bytes : List ℕ) (s : NodeState) → record_version bytes ≡ Some Third → record_read bytes ≡ Ok s → state_in bytes ≡ Some s
 unfolding record_read state_in

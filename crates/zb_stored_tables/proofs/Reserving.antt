@@ -4,8 +4,8 @@ use Rattle.std.proofs.lemmas.Bool.{le-leb, and_from}
 use Rattle.zb_model_fits.proofs.FitLaws.{fits_is}
 use Rattle.zb_model_fits.specs.Fitting.{leaves_rules}
 use Rattle.zb_model_laws.proofs.Basics.{find-map}
-use Rattle.zb_model.specs.Data.{Bytes, Tier, Nwk, Aps, Reserve}
-use Rattle.zb_model.specs.State.{NetKey, NodeState, same_key, at_net, of_active, reserved, net_of_active, active_row, next_of, limit_of, next_counter, stored_limit, shown_net, shown, applied, most}
+use Rattle.zb_model.specs.Data.{Bytes, Layer, Nwk, Aps, Reserve}
+use Rattle.zb_model.specs.State.{NetKey, NodeState, same_key, at_net, of_active, reserved, net_of_active, active_row, next_of, limit_of, next_counter, stored_limit, shown_net, shown, applied, greatest_counter}
 use Rattle.zb_model.specs.Fits.{keeps_rules, fits}
 use Rattle.zb_stored_tables.specs.Stored.{MayReserve}
 
@@ -49,12 +49,12 @@ limit_same f same declared (Some r) = same r
 active_after : (limit : ℕ) (s : NodeState) → active_row (shown (applied (Reserve Nwk limit) s)) ≡ option_map shown_net (option_map (reserved limit) (active_row s))
 active_after limit s = active_shown (applied (Reserve Nwk limit) s) ∙ ap (option_map shown_net) (active_reserved limit s)
 
-reserved_limit : (limit declared : ℕ) (o : Option NetKey) → is_some o ≡ true → limit_of declared (option_map (reserved limit) o) ≡ max (limit_of declared o) (min limit most)
+reserved_limit : (limit declared : ℕ) (o : Option NetKey) → is_some o ≡ true → limit_of declared (option_map (reserved limit) o) ≡ max (limit_of declared o) (min limit greatest_counter)
 reserved_limit limit declared None some = absurd (cc)
 reserved_limit limit declared (Some r) some = refl
 
 -- the next counter stays
-pub next_reserved : (layer : Tier) (limit : ℕ) (s : NodeState) → next_counter layer (shown (applied (Reserve layer limit) s)) ≡ next_counter layer s
+pub next_reserved : (layer : Layer) (limit : ℕ) (s : NodeState) → next_counter layer (shown (applied (Reserve layer limit) s)) ≡ next_counter layer s
 unfolding next_counter shown applied
 next_reserved Nwk limit s =
     ap (next_of s.declared) (active_after limit s)
@@ -63,7 +63,7 @@ next_reserved Nwk limit s =
 next_reserved Aps limit s = refl
 
 -- and the stored limit is the new one, where it was lower
-pub limit_reserved : (layer : Tier) (limit : ℕ) (s : NodeState) → MayReserve layer s → stored_limit layer (shown (applied (Reserve layer limit) s)) ≡ max (stored_limit layer s) (min limit most)
+pub limit_reserved : (layer : Layer) (limit : ℕ) (s : NodeState) → MayReserve layer s → stored_limit layer (shown (applied (Reserve layer limit) s)) ≡ max (stored_limit layer s) (min limit greatest_counter)
 unfolding stored_limit shown applied
 limit_reserved Nwk limit s may =
     ap (limit_of s.declared) (active_after limit s)
@@ -71,7 +71,7 @@ limit_reserved Nwk limit s may =
     ∙ reserved_limit limit s.declared (active_row s) may
 limit_reserved Aps limit s may = refl
 
-pub reserve_fits : (layer : Tier) (limit : ℕ) (s : NodeState) → keeps_rules s ≡ true → MayReserve layer s → stored_limit layer s ≤ limit → fits (Reserve layer limit) s ≡ true
+pub reserve_fits : (layer : Layer) (limit : ℕ) (s : NodeState) → keeps_rules s ≡ true → MayReserve layer s → stored_limit layer s ≤ limit → fits (Reserve layer limit) s ≡ true
 unfolding leaves_rules stored_limit
 reserve_fits Nwk limit s kept may low = fits_is (Reserve Nwk limit) s kept ∙ and_from _ true (and_from _ _ may (le-leb _ _ low)) refl
 reserve_fits Aps limit s kept may low = fits_is (Reserve Aps limit) s kept ∙ and_from _ true (le-leb _ _ low) refl

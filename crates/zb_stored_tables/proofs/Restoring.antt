@@ -5,7 +5,7 @@ use Rattle.zb_base.specs.declared.fault.OrMemory.TheVariants.{Fault, NoMemory}
 use Rattle.zb_node_types.specs.declared.fault.KeyError.{KeyError}
 use Rattle.zb_node_types.specs.declared.fault.KeyError.TheVariants.{KeyOld, KeysFull, RowsFull, KeyInUse, NoRow, WrongHash, BadRecord}
 use Rattle.zb_host.specs.Plans.{gives, IsRestoreFault}
-use Rattle.zb_model.specs.Data.{Duty}
+use Rattle.zb_model.specs.Data.{Role}
 use Rattle.zb_model.specs.State.{NodeState, shown, after_boot}
 use Rattle.zb_model.specs.Fits.{keeps_rules}
 use Rattle.zb_model.specs.Record.{record_of}
@@ -28,7 +28,7 @@ pub all_bytes : (bytes : List ℕ) → ((i : ℕ) → get_or bytes i 0 < 256) �
 all_bytes [] each = tt
 all_bytes (b ∷ bytes) each = (each 0, all_bytes bytes (λ i. each (suc i)))
 
-module _ (role : Duty) (content entries : List ℕ) where
+module _ (role : Role) (content entries : List ℕ) where
   -- a record of another role
   pub other_role : is_of_other role content ≡ true → state_given role content entries ≡ Err 1
   unfolding state_given
@@ -56,7 +56,7 @@ module _ (role : Duty) (content entries : List ℕ) where
   pub read_fits_widths : (t : NodeState) → ((i : ℕ) → get_or content i 0 < 256) → ((i : ℕ) → get_or entries i 0 < 256) → state_given role content entries ≡ gave (after_boot t) → FitsBytes t
   read_fits_widths t a b given = fits_back t (bytes_give_kept role content entries (after_boot t) (all_bytes content a) (all_bytes entries b) given).0.widths
 
-  pub read_has_role : (t : NodeState) → ((i : ℕ) → get_or content i 0 < 256) → ((i : ℕ) → get_or entries i 0 < 256) → state_given role content entries ≡ gave (after_boot t) → t.duty ≡ role
+  pub read_has_role : (t : NodeState) → ((i : ℕ) → get_or content i 0 < 256) → ((i : ℕ) → get_or entries i 0 < 256) → state_given role content entries ≡ gave (after_boot t) → t.role ≡ role
   unfolding after_boot
   read_has_role t a b given = (bytes_give_kept role content entries (after_boot t) (all_bytes content a) (all_bytes entries b) given).1
 
@@ -75,9 +75,9 @@ module _ (role : Duty) (content entries : List ℕ) where
   core_fault (Fault (BadRecord at)) bad = rw bad refl
   core_fault NoMemory bad = tt
 
-pub boot_role : (s t : NodeState) → t ≡ after_boot s → t.duty ≡ s.duty
+pub boot_role : (s t : NodeState) → t ≡ after_boot s → t.role ≡ s.role
 unfolding after_boot
-boot_role s t is = ap (λ (u : NodeState). u.duty) is
+boot_role s t is = ap (λ (u : NodeState). u.role) is
 
 -- the tables of their own record
 pub booted : (s t : NodeState) (bytes : List ℕ) → keeps_rules s ≡ true → shown s ≡ s → FitsBytes s → bytes ≡ record_of s → record_read bytes ≡ gave t → t ≡ after_boot s

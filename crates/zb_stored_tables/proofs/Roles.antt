@@ -1,14 +1,15 @@
 -- The role of a record that is read is its second byte.
+use Rattle.zb_model.specs.Data as model
 use Rattle.std.proofs.Common.{◌≡◌, ℕ, Bool, true, false, not, ◌&&◌, if◌then◌else◌, List, [], ◌∷◌, length, get_or, Option, Some, None, Result, Ok, Err, is_some, refl, sym, ap, ◌∙◌, subst}
 use Rattle.std.specs.Prelude.{◌==◌}
 use Rattle.std.specs.Int.{w16, w32}
 use Rattle.std.proofs.lemmas.Bool.{eqb-true, eq-eqb}
 use Rattle.zb_base.specs.declared.node.Role.{Role}
 use Rattle.zb_base.specs.declared.node.Role.TheVariants as role
-use Rattle.zb_node_types.specs.Changes.{duty}
+use Rattle.zb_node_types.specs.Changes.{model_role}
 use Rattle.zb_cursor.specs.Reading.{follow, byte_at, number_at}
-use Rattle.zb_model.specs.Data.{Duty, Centre, Router, Device}
-use Rattle.zb_model.specs.Record.{duty_byte}
+use Rattle.zb_model.specs.Data.{Centre, Router, Device}
+use Rattle.zb_model.specs.Record.{role_byte}
 use Rattle.zb_model.specs.State.{NodeState}
 use Rattle.zb_record.specs.declared.version.Version.{Version}
 use Rattle.zb_record.specs.declared.record.Node.{Node}
@@ -84,7 +85,7 @@ head_node node bytes rest h e =
 record RoleRead (bytes : List ℕ) (s : NodeState) : Type 0 where
   read_role : Role
   begins : Begins bytes read_role
-  duty_is : s.duty ≡ duty read_role
+  role_is : s.role ≡ model_role read_role
 
 record_role : (bytes rest : List ℕ) (s : NodeState) → record_at bytes ≡ found s rest → RoleRead bytes s
 unfolding record_at
@@ -92,13 +93,13 @@ record_role bytes rest s e =
     let a = both_read node_at _ bytes rest s e in
     let b = both_read (head_at a.value) _ a.between rest s a.two in
     let c = both_read (nets_at b.value) _ b.between rest s b.two in
-    let d = both_read (links_at (duty a.value.role)) _ c.between rest s c.two in
-    let f = both_read (pairs_at a.value.version (duty a.value.role)) _ d.between rest s d.two in
+    let d = both_read (links_at (model_role a.value.role)) _ c.between rest s c.two in
+    let f = both_read (pairs_at a.value.version (model_role a.value.role)) _ d.between rest s d.two in
     let g = given (state_from b.value c.value d.value f.value) s f.between rest f.two in
     record {
       read_role = a.value.role;
       begins = node_begins bytes a.between a.value a.one;
-      duty_is = ap (λ (x : NodeState). x.duty) (sym g.value) ∙ ap (λ (n : Node). duty n.role) (head_node a.value a.between b.between b.value b.one);
+      role_is = ap (λ (x : NodeState). x.role) (sym g.value) ∙ ap (λ (n : Node). model_role n.role) (head_node a.value a.between b.between b.value b.one);
     }
 
 read_begins : (bytes : List ℕ) (s : NodeState) → record_read bytes ≡ Ok s → RoleRead bytes s
@@ -117,50 +118,50 @@ read_begins bytes s e = by_result (record_at bytes) refl e
     by_result (Err left) is e = absurd (cc)
 
 -- the byte of a role that is read
-role_byte : (b : ℕ) (r : Role) → role_of b ≡ Some r → b ≡ duty_byte (duty r)
+role_byte : (b : ℕ) (r : Role) → role_of b ≡ Some r → b ≡ role_byte (model_role r)
 role_byte b r e = by_tests (b == 0) (b == 1) (b == 2) refl refl refl e
   where
     is_role : (x : Role) → Some x ≡ Some r → x ≡ r
     is_role x e = cc
 
     by_tests : (zero_ one two : Bool) → (b == 0) ≡ zero_ → (b == 1) ≡ one → (b == 2) ≡ two
-        → (if zero_ then Some role.Centre else if one then Some role.Router else if two then Some role.Device else None) ≡ Some r → b ≡ duty_byte (duty r)
-    by_tests true one two z o t e = eqb-true b 0 z ∙ ap (λ (x : Role). duty_byte (duty x)) (is_role role.Centre e)
-    by_tests false true two z o t e = eqb-true b 1 o ∙ ap (λ (x : Role). duty_byte (duty x)) (is_role role.Router e)
-    by_tests false false true z o t e = eqb-true b 2 t ∙ ap (λ (x : Role). duty_byte (duty x)) (is_role role.Device e)
+        → (if zero_ then Some role.Centre else if one then Some role.Router else if two then Some role.Device else None) ≡ Some r → b ≡ role_byte (model_role r)
+    by_tests true one two z o t e = eqb-true b 0 z ∙ ap (λ (x : Role). role_byte (model_role x)) (is_role role.Centre e)
+    by_tests false true two z o t e = eqb-true b 1 o ∙ ap (λ (x : Role). role_byte (model_role x)) (is_role role.Router e)
+    by_tests false false true z o t e = eqb-true b 2 t ∙ ap (λ (x : Role). role_byte (model_role x)) (is_role role.Device e)
     by_tests false false false z o t e = absurd (cc)
 
-second_byte : (bytes : List ℕ) (s : NodeState) → RoleRead bytes s → get_or bytes 1 3 ≡ duty_byte s.duty
+second_byte : (bytes : List ℕ) (s : NodeState) → RoleRead bytes s → get_or bytes 1 3 ≡ role_byte s.role
 second_byte bytes s read =
-    ap (λ (l : List ℕ). get_or l 1 3) read.begins.parts ∙ role_byte read.begins.second read.read_role read.begins.role_is ∙ ap duty_byte (sym read.duty_is)
+    ap (λ (l : List ℕ). get_or l 1 3) read.begins.parts ∙ role_byte read.begins.second read.read_role read.begins.role_is ∙ ap role_byte (sym read.role_is)
 
-duty_of_byte : (a b : Duty) → duty_byte a ≡ duty_byte b → a ≡ b
-duty_of_byte Centre Centre e = refl
-duty_of_byte Router Router e = refl
-duty_of_byte Device Device e = refl
-duty_of_byte Centre Router e = absurd (cc)
-duty_of_byte Centre Device e = absurd (cc)
-duty_of_byte Router Centre e = absurd (cc)
-duty_of_byte Router Device e = absurd (cc)
-duty_of_byte Device Centre e = absurd (cc)
-duty_of_byte Device Router e = absurd (cc)
+role_of_byte : (a b : model.Role) → role_byte a ≡ role_byte b → a ≡ b
+role_of_byte Centre Centre e = refl
+role_of_byte Router Router e = refl
+role_of_byte Device Device e = refl
+role_of_byte Centre Router e = absurd (cc)
+role_of_byte Centre Device e = absurd (cc)
+role_of_byte Router Centre e = absurd (cc)
+role_of_byte Router Device e = absurd (cc)
+role_of_byte Device Centre e = absurd (cc)
+role_of_byte Device Router e = absurd (cc)
 
 -- What is read of a record that isn't of another role is of this one, and the other way round.
-pub read_of_role : (role : Duty) (bytes : List ℕ) (s : NodeState) → record_read bytes ≡ Ok s → is_of_other role bytes ≡ false → s.duty ≡ role
+pub read_of_role : (role : model.Role) (bytes : List ℕ) (s : NodeState) → record_read bytes ≡ Ok s → is_of_other role bytes ≡ false → s.role ≡ role
 read_of_role role bytes s e other =
     let read = read_begins bytes s e in
     let versioned : is_some (record_version bytes) ≡ true = ap (λ (l : List ℕ). is_some (record_version l)) read.begins.parts ∙ read.begins.versioned in
-    duty_of_byte s.duty role (sym (second_byte bytes s read) ∙ eqb-true _ _ (by_tests (is_some (record_version bytes)) (get_or bytes 1 3 == duty_byte role) versioned other))
+    role_of_byte s.role role (sym (second_byte bytes s read) ∙ eqb-true _ _ (by_tests (is_some (record_version bytes)) (get_or bytes 1 3 == role_byte role) versioned other))
   where
     by_tests : (a b : Bool) → a ≡ true → (a && not b) ≡ false → b ≡ true
     by_tests true true p q = refl
     by_tests true false p q = absurd (cc)
     by_tests false b p q = absurd (cc)
 
-pub of_this_role : (role : Duty) (bytes : List ℕ) (s : NodeState) → record_read bytes ≡ Ok s → s.duty ≡ role → is_of_other role bytes ≡ false
+pub of_this_role : (role : model.Role) (bytes : List ℕ) (s : NodeState) → record_read bytes ≡ Ok s → s.role ≡ role → is_of_other role bytes ≡ false
 of_this_role role bytes s e role_is =
-    let same = second_byte bytes s (read_begins bytes s e) ∙ ap duty_byte role_is in
-    rw (eq-eqb (get_or bytes 1 3) (duty_byte role) same) (no_test (is_some (record_version bytes)))
+    let same = second_byte bytes s (read_begins bytes s e) ∙ ap role_byte role_is in
+    rw (eq-eqb (get_or bytes 1 3) (role_byte role) same) (no_test (is_some (record_version bytes)))
   where
     no_test : (a : Bool) → (a && false) ≡ false
     no_test true = refl

@@ -4,8 +4,8 @@ use Rattle.std.specs.List.{AllByRecursion}
 use Rattle.std.proofs.lemmas.List.Concat.{flat_map-cons}
 use Rattle.zb_node_types.specs.declared.change.Change.{Change}
 use Rattle.zb_node_types.specs.declared.change.Change.TheVariants as change
-use Rattle.zb_node_types.specs.Changes.{edit, edits, trust}
-use Rattle.zb_model.specs.Record.{edit_bytes, payload, trust_byte, four_bytes, eight_bytes}
+use Rattle.zb_node_types.specs.Changes.{edit, edits, model_attribute}
+use Rattle.zb_model.specs.Record.{edit_bytes, payload, attribute_byte, four_bytes, eight_bytes}
 use Rattle.zb_record.specs.Ranges.{InRange}
 
 -- the longest is a pair
@@ -19,7 +19,7 @@ one_short (change.DropLink partner key) range = omega (arith, length-append (eig
 one_short (change.Install key sequence) range = omega (arith, length-append key.0 (sequence ∷ []), range.0)
 one_short (change.Active key) range = omega (arith, range)
 one_short (change.Start key value) range = omega (arith, length-append key.0 (four_bytes value), range.0)
-one_short (change.Row partner key t) range = omega (arith, length-append (eight_bytes partner.0) (key.0 ++ trust_byte (trust t) ∷ []), length-append key.0 (trust_byte (trust t) ∷ []), range.1)
+one_short (change.Row partner key t) range = omega (arith, length-append (eight_bytes partner.0) (key.0 ++ attribute_byte (model_attribute t) ∷ []), length-append key.0 (attribute_byte (model_attribute t) ∷ []), range.1)
 one_short (change.Pair first second key) range = omega (arith, length-append (eight_bytes first.0) (eight_bytes second.0 ++ key.0), length-append (eight_bytes second.0) key.0, range.2)
 one_short (change.State g) range = omega arith
 one_short (change.Live device) range = omega arith

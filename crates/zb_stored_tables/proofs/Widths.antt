@@ -5,9 +5,9 @@ use Rattle.std.specs.List.{AllByRecursion}
 use Rattle.std.proofs.lemmas.List.{length-take}
 use Rattle.zb_base.specs.declared.address.Eui.{Eui}
 use Rattle.zb_base.specs.declared.key.Key.{Key}
-use Rattle.zb_node_types.specs.Changes.{duty, trust}
+use Rattle.zb_node_types.specs.Changes.{model_role, model_attribute}
 use Rattle.zb_cursor.specs.Reading.{Reading, byte_at, bytes_at, number_at, eui_at, key_at}
-use Rattle.zb_model.specs.Data.{Duty}
+use Rattle.zb_model.specs.Data.{Role}
 use Rattle.zb_model.specs.State.{SenderFloor, NetKey, LinkKey, PairKey, NodeState}
 use Rattle.zb_record.specs.declared.version.Version.{Version}
 use Rattle.zb_record.specs.declared.version.Version.TheVariants.{First, Second, Third}
@@ -232,7 +232,7 @@ attribute_keeps : Keeps _ (Any _) attribute_at
 unfolding attribute_at
 attribute_keeps = pick_keeps _ attribute_of
 
-link_holds : (d : Duty) (done : List LinkKey) → Holds LinkKey LinkFits (link_at d done)
+link_holds : (d : Role) (done : List LinkKey) → Holds LinkKey LinkFits (link_at d done)
 unfolding link_at
 link_holds d done bytes rest x n e =
     let a = both_read (whole eui_at) _ bytes rest x e in
@@ -241,14 +241,14 @@ link_holds d done bytes rest x n e =
     let b1 = field_holds Key IsKey key_at (is_new_link done) key_keeps a.between b.between b.value a1.1 b.one in
     let c = both_read (whole attribute_at) _ b.between rest x b.two in
     let c1 = attribute_keeps (length b.between) b.between c.between c.value b1.1 c.one in
-    let f = both_read (field byte_at (link_flags_fit d done a.value.0 b.value.0 (trust c.value))) _ c.between rest x c.two in
-    let f1 = field_holds ℕ (Any ℕ) byte_at (link_flags_fit d done a.value.0 b.value.0 (trust c.value)) byte_keeps c.between f.between f.value c1.1 f.one in
+    let f = both_read (field byte_at (link_flags_fit d done a.value.0 b.value.0 (model_attribute c.value))) _ c.between rest x c.two in
+    let f1 = field_holds ℕ (Any ℕ) byte_at (link_flags_fit d done a.value.0 b.value.0 (model_attribute c.value)) byte_keeps c.between f.between f.value c1.1 f.one in
     let g = both_read (whole (number_at w32)) _ f.between rest x f.two in
     let g1 = number32 (length f.between) f.between g.between g.value f1.1 g.one in
     let h = given _ x g.between rest g.two in
     (subst LinkFits h.value (record { partner = a1.0; key = b1.0; stored = g1.0 }), subst AreBytes h.left g1.1)
 
-links_hold : (d : Duty) → Holds (List LinkKey) (AllByRecursion LinkFits) (links_at d)
+links_hold : (d : Role) → Holds (List LinkKey) (AllByRecursion LinkFits) (links_at d)
 unfolding links_at
 links_hold d bytes rest rows n e =
     let a = both_read (field (number_at w16) (has_link_room d)) _ bytes rest rows e in
@@ -271,7 +271,7 @@ pair_holds done bytes rest x n e =
     let h = given _ x f.between rest f.two in
     (subst PairFits h.value (record { first = a1.0; second = b1.0; key = c1.0 }), subst AreBytes h.left f1.1)
 
-pairs_hold : (version : Version) (d : Duty) → Holds (List PairKey) (AllByRecursion PairFits) (pairs_at version d)
+pairs_hold : (version : Version) (d : Role) → Holds (List PairKey) (AllByRecursion PairFits) (pairs_at version d)
 unfolding all_pairs_at
 pairs_hold First d bytes rest rows n e = let g = given [] rows bytes rest e in (subst (AllByRecursion PairFits) g.value tt, subst AreBytes g.left n)
 pairs_hold Second d bytes rest rows n e = let g = given [] rows bytes rest e in (subst (AllByRecursion PairFits) g.value tt, subst AreBytes g.left n)
@@ -338,10 +338,10 @@ record_holds bytes rest s n e =
     let b1 = head_holds a.value a.between b.between b.value a1.1 b.one in
     let c = both_read (nets_at b.value) _ b.between rest s b.two in
     let c1 = nets_hold b.value b1.0.0 b.between c.between c.value b1.1 c.one in
-    let d = both_read (links_at (duty a.value.role)) _ c.between rest s c.two in
-    let d1 = links_hold (duty a.value.role) c.between d.between d.value c1.1 d.one in
-    let f = both_read (pairs_at a.value.version (duty a.value.role)) _ d.between rest s d.two in
-    let f1 = pairs_hold a.value.version (duty a.value.role) d.between f.between f.value d1.1 f.one in
+    let d = both_read (links_at (model_role a.value.role)) _ c.between rest s c.two in
+    let d1 = links_hold (model_role a.value.role) c.between d.between d.value c1.1 d.one in
+    let f = both_read (pairs_at a.value.version (model_role a.value.role)) _ d.between rest s d.two in
+    let f1 = pairs_hold a.value.version (model_role a.value.role) d.between f.between f.value d1.1 f.one in
     let g = given (state_from b.value c.value d.value f.value) s f.between rest f.two in
     (subst FitsBytes g.value (record { declared = b1.0.0; aps_limit = b1.0.1; nets = c1.0; links = d1.0; pairs = f1.0 }), subst AreBytes g.left f1.1)
 

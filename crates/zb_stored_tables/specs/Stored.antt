@@ -8,10 +8,10 @@ use Rattle.zb_node_types.specs.declared.fault.KeyError.{KeyError}
 use Rattle.zb_node_types.specs.declared.fault.KeyError.TheVariants.{KeyOld, KeysFull, RowsFull, KeyInUse, NoRow, WrongHash, BadRecord}
 use Rattle.zb_node_types.specs.Changes.{edits}
 use Rattle.zb_host.specs.Plans.{Restored, gives, bad}
-use Rattle.zb_model.specs.Data.{Duty, Tier, Nwk, Aps}
+use Rattle.zb_model.specs.Data.{Role, Layer, Nwk, Aps}
 use Rattle.zb_model.specs.State.{SenderFloor, NetKey, LinkKey, PairKey, NodeState, active_row, after_boot, applied_all, shown}
 use Rattle.zb_model.specs.Fits.{AllFit, keeps_rules}
-use Rattle.zb_model.specs.Record.{duty_byte, payload, record_of}
+use Rattle.zb_model.specs.Record.{role_byte, payload, record_of}
 use Rattle.zb_record.specs.declared.version.Version.{Version}
 use Rattle.zb_record.specs.declared.version.Version.TheVariants.{Third}
 use Rattle.zb_record.specs.Fields.{record_version}
@@ -28,8 +28,8 @@ abbrev pub version_in : List ℕ → Version
 version_in content = version_or (record_version content)
 
 -- A record of another role than the core's, or of none, is bad at its second byte, whatever else is wrong behind it.
-abbrev pub is_of_other : Duty → List ℕ → Bool
-is_of_other role content = is_some (record_version content) && not (get_or content 1 3 == duty_byte role)
+abbrev pub is_of_other : Role → List ℕ → Bool
+is_of_other role content = is_some (record_version content) && not (get_or content 1 3 == role_byte role)
 
 -- The entries behind a record of so many bytes were made again, and the node boots with what they leave; or they are at fault,
 -- at a place that counts on from the record's length.
@@ -42,7 +42,7 @@ state_behind content entries (Ok s) = behind (length content) (length entries) (
 state_behind content entries (Err left) = Err (place_of (length content) left)
 
 -- The state with which a node of this role boots on a record and the payloads behind it, or the place of the first fault.
-unfoldable pub state_given : Duty → List ℕ → List ℕ → Result NodeState ℕ
+unfoldable pub state_given : Role → List ℕ → List ℕ → Result NodeState ℕ
 state_given role content entries = if is_of_other role content then Err 1 else state_behind content entries (record_read content)
 
 -- of tables that aren't made: bad bytes, at their place, or want of memory, and no other fault
@@ -81,7 +81,7 @@ recorded (Ok t) = if fits_widths t then gives (record_of t) else bad 0
 recorded (Err at) = bad at
 
 -- The record of the core of this role that a record and the payloads behind it give.
-unfoldable pub restored : Duty → List ℕ → List ℕ → Restored
+unfoldable pub restored : Role → List ℕ → List ℕ → Restored
 restored role content entries = recorded (state_given role content entries)
 
 -- What a node's tables keep at all times: the rules for records, no floors of dropped network keys, and values within the
@@ -93,8 +93,8 @@ pub record IsKept (s : NodeState) : Type 0 where
 
 -- What a plan of a core over tables of this role keeps: its changes are made of values that can be spelled, each fits the
 -- tables after those before it, and they have room in an entry.
-pub record IsStorable (role : Duty) (s : NodeState) (changes : List Change) : Type 0 where
-  pub role_is : s.duty ≡ role
+pub record IsStorable (role : Role) (s : NodeState) (changes : List Change) : Type 0 where
+  pub role_is : s.role ≡ role
   pub kept : IsKept s
   pub range : AllByRecursion InRange changes
   pub fit : AllFit (edits changes) s
@@ -106,6 +106,6 @@ abbrev pub IsStoredAfter : List Change → NodeState → NodeState → Type 0
 IsStoredAfter changes s t = after_boot t ≡ after_boot (shown (applied_all (edits changes) s))
 
 -- At NWK a reserve needs an active network key.
-abbrev pub MayReserve : Tier → NodeState → Type 0
+abbrev pub MayReserve : Layer → NodeState → Type 0
 MayReserve Nwk s = is_some (active_row s) ≡ true
 MayReserve Aps s = Unit {0}

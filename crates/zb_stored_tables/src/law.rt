@@ -4,10 +4,10 @@ ghost use Rattle.std.specs.List.{AllByRecursion};
 ghost use Rattle.zb_node_types.specs.declared.change.Change.{Change};
 ghost use Rattle.zb_node_types.specs.Changes.{edit, edits};
 ghost use Rattle.zb_host.specs.Plans.{gives};
-ghost use Rattle.zb_model.specs.Data.{Bytes, Duty, Tier, Reserve};
+ghost use Rattle.zb_model.specs.Data.{Bytes, Role, Layer, Reserve};
 ghost use Rattle.zb_model.specs.Fits.{fits, keeps_rules};
 ghost use Rattle.zb_model.specs.Record.{payload, record_of};
-ghost use Rattle.zb_model.specs.State.{NodeState, after_boot, applied, counted, heard, most, next_counter, shown, stored_limit};
+ghost use Rattle.zb_model.specs.State.{NodeState, after_boot, applied, counted, heard, greatest_counter, next_counter, shown, stored_limit};
 ghost use Rattle.zb_record.specs.declared.version.Version.TheVariants.{Third};
 ghost use Rattle.zb_record.specs.Changes.{change_at};
 ghost use Rattle.zb_record.specs.Fields.{record_version};
@@ -40,8 +40,8 @@ pub fn changes_keep_to_the_widths()
 /// What a record and the entries behind it give keeps the rules for records and the widths of a record, and no floors of
 /// dropped network keys; and it is of the role that was asked for.
 pub fn what_bytes_give_is_kept()
-    ensures { (role : Duty) (content entries : List ℕ) (s : NodeState) → AllByRecursion (λ b. b < 256) content → AllByRecursion (λ b. b < 256) entries
-        → state_given role content entries ≡ Ok s → IsKept s × (s.duty ≡ role) }
+    ensures { (role : Role) (content entries : List ℕ) (s : NodeState) → AllByRecursion (λ b. b < 256) content → AllByRecursion (λ b. b < 256) entries
+        → state_given role content entries ≡ Ok s → IsKept s × (s.role ≡ role) }
 {}
 
 /// A record has nothing that is in memory alone: neither what a boot sets back, nor the floors of dropped network keys.
@@ -49,17 +49,17 @@ pub fn what_bytes_give_is_kept()
 pub fn what_is_in_memory_alone_is_not_recorded()
     ensures boots { (s : NodeState) → record_of (after_boot s) ≡ record_of s }
     ensures forgets { (s : NodeState) → record_of (shown s) ≡ record_of s }
-    ensures seals { (layer : Tier) (s : NodeState) → after_boot (counted layer s) ≡ after_boot s }
-    ensures hears { (layer : Tier) (key : Bytes) (sender counter : ℕ) (s : NodeState) → after_boot (heard layer key sender counter s) ≡ after_boot s }
+    ensures seals { (layer : Layer) (s : NodeState) → after_boot (counted layer s) ≡ after_boot s }
+    ensures hears { (layer : Layer) (key : Bytes) (sender counter : ℕ) (s : NodeState) → after_boot (heard layer key sender counter s) ≡ after_boot s }
 {}
 
 /// The law of cores, of any core over tables: `s` are the tables before a plan and `t` those after it. An entry behind a
 /// record that isn't of the first version leads from the record before to the one after; the record alone gives itself
 /// again; it isn't of the first version; and a plan without changes leaves it.
 pub fn a_core_over_tables_keeps_the_law()
-    ensures adds { (role : Duty) (s t : NodeState) (cs : List Change) (r q : List ℕ) → IsStorable role s cs → IsStoredAfter cs s t → get_or r 0 0 ≢ 1
+    ensures adds { (role : Role) (s t : NodeState) (cs : List Change) (r q : List ℕ) → IsStorable role s cs → IsStoredAfter cs s t → get_or r 0 0 ≢ 1
         → restored role r q ≡ gives (record_of s) → restored role r (q ++ payload (edits cs)) ≡ gives (record_of t) }
-    ensures keeps { (role : Duty) (s t : NodeState) (cs : List Change) → IsStorable role s cs → IsStoredAfter cs s t → restored role (record_of t) [] ≡ gives (record_of t) }
+    ensures keeps { (role : Role) (s t : NodeState) (cs : List Change) → IsStorable role s cs → IsStoredAfter cs s t → restored role (record_of t) [] ≡ gives (record_of t) }
     ensures newest { (s : NodeState) → get_or (record_of s) 0 0 ≢ 1 }
     ensures idle { (s t : NodeState) → shown s ≡ s → IsStoredAfter [] s t → record_of t ≡ record_of s }
 {}
@@ -67,9 +67,9 @@ pub fn a_core_over_tables_keeps_the_law()
 /// The same of the tables themselves: a node boots on what is stored after a plan with the tables after it, as a boot leaves
 /// them.
 pub fn a_boot_gives_the_tables_again()
-    ensures adds { (role : Duty) (s t : NodeState) (cs : List Change) (r q : List ℕ) → IsStorable role s cs → IsStoredAfter cs s t → get_or r 0 0 ≢ 1
+    ensures adds { (role : Role) (s t : NodeState) (cs : List Change) (r q : List ℕ) → IsStorable role s cs → IsStoredAfter cs s t → get_or r 0 0 ≢ 1
         → state_given role r q ≡ Ok (after_boot s) → state_given role r (q ++ payload (edits cs)) ≡ Ok (after_boot t) }
-    ensures keeps { (role : Duty) (s t : NodeState) (cs : List Change) → IsStorable role s cs → IsStoredAfter cs s t → state_given role (record_of t) [] ≡ Ok (after_boot t) }
+    ensures keeps { (role : Role) (s t : NodeState) (cs : List Change) → IsStorable role s cs → IsStoredAfter cs s t → state_given role (record_of t) [] ≡ Ok (after_boot t) }
 {}
 
 /// Changes of values that can be spelled have room in an entry where there are at most 14.
@@ -81,8 +81,8 @@ pub fn few_changes_fit_an_entry()
 /// A reserve fits where its limit isn't below the stored one; at NWK there is an active network key. The next counter stays,
 /// and the stored limit becomes the new one.
 pub fn a_reserve_makes_room()
-    ensures fit { (layer : Tier) (limit : ℕ) (s : NodeState) → keeps_rules s ≡ true → MayReserve layer s → stored_limit layer s ≤ limit → fits (Reserve layer limit) s ≡ true }
-    ensures next { (layer : Tier) (limit : ℕ) (s : NodeState) → next_counter layer (shown (applied (Reserve layer limit) s)) ≡ next_counter layer s }
-    ensures limit { (layer : Tier) (limit : ℕ) (s : NodeState) → MayReserve layer s
-        → stored_limit layer (shown (applied (Reserve layer limit) s)) ≡ max (stored_limit layer s) (min limit most) }
+    ensures fit { (layer : Layer) (limit : ℕ) (s : NodeState) → keeps_rules s ≡ true → MayReserve layer s → stored_limit layer s ≤ limit → fits (Reserve layer limit) s ≡ true }
+    ensures next { (layer : Layer) (limit : ℕ) (s : NodeState) → next_counter layer (shown (applied (Reserve layer limit) s)) ≡ next_counter layer s }
+    ensures limit { (layer : Layer) (limit : ℕ) (s : NodeState) → MayReserve layer s
+        → stored_limit layer (shown (applied (Reserve layer limit) s)) ≡ max (stored_limit layer s) (min limit greatest_counter) }
 {}

@@ -1,8 +1,8 @@
 //! Tables from a record and the entries behind it.
 ghost use Rattle.std.specs.Prelude.{◌≡◌, ◌≤◌, Ok, OnOk, IfOk, IfErr, length};
 ghost use Rattle.zb_base.specs.declared.fault.OrMemory.TheVariants.{Fault};
-ghost use Rattle.zb_node_types.specs.Changes.{duty};
-ghost use Rattle.zb_model.specs.Record.{duty_byte};
+ghost use Rattle.zb_node_types.specs.Changes.{model_role};
+ghost use Rattle.zb_model.specs.Record.{role_byte};
 ghost use Rattle.zb_model.specs.State.{after_boot};
 ghost use Rattle.zb_record.specs.Ranges.{FitsBytes};
 ghost use Rattle.zb_record.specs.Redoing.{redone};
@@ -10,13 +10,13 @@ ghost use Rattle.zb_stored_tables.specs.Stored.{behind, is_of_other, state_given
 
 use std::alloc::Global;
 use zb_base::{NoMemory, OrMemory, Role};
-use zb_node_types::KeyError;
 use zb_keys::Tables;
+use zb_node_types::KeyError;
 use zb_record::{Version, version_of};
 
 // The byte of a role in a record.
 fn role_byte(role: Role) -> u8
-    ensures { result ≡ duty_byte (duty role) }
+    ensures { result ≡ role_byte (model_role role) }
 {
     match role {
         Role::Centre => 0,
@@ -27,7 +27,7 @@ fn role_byte(role: Role) -> u8
 
 // Whether a record is of another role, or of none.
 fn is_of_other(role: Role, content: &[u8]) -> bool
-    ensures { result ≡ is_of_other (duty role) content.now }
+    ensures { result ≡ is_of_other (model_role role) content.now }
 {
     version_of(content).is_some() && content.get(1) != Some(&role_byte(role))
 }
@@ -70,10 +70,10 @@ fn read(
 ) -> Result<Tables, OrMemory<KeyError>>
     requires record_size { length content.now ≤ 49152 }
     requires entries_size { length entries.now ≤ 15488 }
-    ensures given { IfOk result (λ t. state_given (duty role) content.now entries.now ≡ Ok (after_boot t)) }
+    ensures given { IfOk result (λ t. state_given (model_role role) content.now entries.now ≡ Ok (after_boot t)) }
     ensures widths { IfOk result (λ t. FitsBytes t) }
-    ensures role { IfOk result (λ t. t.duty ≡ duty role) }
-    ensures fault { IfErr result (IsGivenFault (state_given (duty role) content.now entries.now)) }
+    ensures role { IfOk result (λ t. t.role ≡ model_role role) }
+    ensures fault { IfErr result (IsGivenFault (state_given (model_role role) content.now entries.now)) }
 {
     if is_of_other(role, content) {
         return Err(OrMemory::Fault(KeyError::BadRecord { at: 1 }));
@@ -111,10 +111,10 @@ pub(crate) fn restore(
     requires record_size { length content.now ≤ 49152 }
     requires entries_size { length entries.now ≤ 15488 }
     requires room { 49152 ≤ length room.old }
-    ensures given { IfOk result (λ t. state_given (duty role) content.now entries.now ≡ Ok t) }
+    ensures given { IfOk result (λ t. state_given (model_role role) content.now entries.now ≡ Ok t) }
     ensures widths { IfOk result (λ t. FitsBytes t) }
-    ensures role { IfOk result (λ t. t.duty ≡ duty role) }
-    ensures fault { IfErr result (IsGivenFault (state_given (duty role) content.now entries.now)) }
+    ensures role { IfOk result (λ t. t.role ≡ model_role role) }
+    ensures fault { IfErr result (IsGivenFault (state_given (model_role role) content.now entries.now)) }
 {
     let tables = read(alloc, role, content, entries)?;
     match boot(alloc, &tables, room) {

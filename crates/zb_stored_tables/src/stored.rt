@@ -1,7 +1,7 @@
 //! A node's tables, as the core of a host keeps them.
 ghost use Rattle.std.specs.Prelude.{◌≡◌, ◌<◌, ◌≤◌, ◌^◌, ◌-◌, Ok, IfOk, IfErr, length, take, slice_get};
 ghost use Rattle.std.specs.List.{AllByRecursion};
-ghost use Rattle.zb_node_types.specs.Changes.{duty, edits, tier};
+ghost use Rattle.zb_node_types.specs.Changes.{model_role, edits, model_layer};
 ghost use Rattle.zb_host.specs.Plans.{gives, IsRestoreFault};
 ghost use Rattle.zb_keys.specs.Reading.{heard_under, heard_from};
 ghost use Rattle.zb_model.specs.Fits.{AllFit};
@@ -14,8 +14,8 @@ use crate::restore::restore;
 use std::alloc::Global;
 use std::marker::Model;
 use zb_base::{Eui, Layer, OrMemory, Role};
-use zb_node_types::{Changes, KeyError};
 use zb_keys::Tables;
+use zb_node_types::{Changes, KeyError};
 
 /// A node's tables, as the core of a host keeps them: what a record and the entries behind it gave, and what plans made of
 /// it since. Their values fit the widths of a record.
@@ -50,13 +50,13 @@ impl StoredTables {
         requires record_size { length content.now ≤ 49152 }
         requires entries_size { length entries.now ≤ 15488 }
         requires room { 49152 ≤ length room.old }
-        ensures given { IfOk result (λ t. state_given (duty role) content.now entries.now ≡ Ok t) }
-        ensures role { IfOk result (λ t. t.duty ≡ duty role) }
-        ensures fault { IfErr result (IsGivenFault (state_given (duty role) content.now entries.now)) }
+        ensures given { IfOk result (λ t. state_given (model_role role) content.now entries.now ≡ Ok t) }
+        ensures role { IfOk result (λ t. t.role ≡ model_role role) }
+        ensures fault { IfErr result (IsGivenFault (state_given (model_role role) content.now entries.now)) }
 
         // So a core over them is the one that its host asks for.
-        ensures core { IfOk result (λ t. restored (duty role) content.now entries.now ≡ gives (record_of t)) }
-        ensures no_core { IfErr result (IsRestoreFault (restored (duty role) content.now entries.now)) }
+        ensures core { IfOk result (λ t. restored (model_role role) content.now entries.now ≡ gives (record_of t)) }
+        ensures no_core { IfErr result (IsRestoreFault (restored (model_role role) content.now entries.now)) }
     {
         let tables = restore(alloc, role, content, entries, room)?;
         Ok(StoredTables { tables })
@@ -81,16 +81,16 @@ impl StoredTables {
         requires fit { AllFit (edits changes.now.items) self.old }
         requires range { AllByRecursion InRange changes.now.items }
         ensures made { self.new ≡ shown (applied_all (edits changes.now.items) self.old) }
-        ensures role { self.new.duty ≡ self.old.duty }
+        ensures role { self.new.role ≡ self.old.role }
     {
         self.tables.apply(changes);
     }
 
     /// Uses the next outgoing counter of a layer, which is reserved.
     pub fn sealed(&mut self, layer: Layer)
-        requires { next_counter (tier layer) self.old < stored_limit (tier layer) self.old }
-        ensures counted { self.new ≡ counted (tier layer) self.old }
-        ensures role { self.new.duty ≡ self.old.duty }
+        requires { next_counter (model_layer layer) self.old < stored_limit (model_layer layer) self.old }
+        ensures counted { self.new ≡ counted (model_layer layer) self.old }
+        ensures role { self.new.role ≡ self.old.role }
     {
         self.tables.sealed(layer);
     }
@@ -99,7 +99,7 @@ impl StoredTables {
     pub fn accepted_net(&mut self, place: u32, sender: Eui, counter: u32)
         requires { counter < 2 ^ 32 - 1 }
         ensures heard { self.new ≡ heard_under (slice_get self.old.nets place) sender.0 counter self.old }
-        ensures role { self.new.duty ≡ self.old.duty }
+        ensures role { self.new.role ≡ self.old.role }
     {
         self.tables.accepted_net(place, sender, counter);
     }
@@ -108,7 +108,7 @@ impl StoredTables {
     pub fn accepted_link(&mut self, place: u32, counter: u32)
         requires { counter < 2 ^ 32 - 1 }
         ensures heard { self.new ≡ heard_from (slice_get self.old.links place) counter self.old }
-        ensures role { self.new.duty ≡ self.old.duty }
+        ensures role { self.new.role ≡ self.old.role }
     {
         self.tables.accepted_link(place, counter);
     }

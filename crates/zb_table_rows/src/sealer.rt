@@ -5,16 +5,16 @@ ghost use Rattle.zb_node_types.specs.Changes.{edits};
 ghost use Rattle.zb_node_types.specs.declared.change.Change.TheVariants.{Reserve as reserve};
 ghost use Rattle.zb_model.specs.Data.{Centre, Nwk};
 ghost use Rattle.zb_model.specs.Record.{payload, record_of};
-ghost use Rattle.zb_model.specs.State.{most, next_counter, stored_limit};
+ghost use Rattle.zb_model.specs.State.{greatest_counter, next_counter, stored_limit};
 ghost use Rattle.zb_stored_tables.specs.Stored.{restored};
-ghost use Rattle.zb_table_rows.specs.Sealers.{IsPlan, IsAfter, Sealing, can_seal, planned, sealed};
+ghost use Rattle.zb_table_rows.specs.Sealers.{IsPlan, IsAfter, Term, can_seal, planned, sealed};
 ghost use Rattle.zb_table_rows.specs.SealerLaws.{sealer_adds, sealer_keeps, sealer_newest, sealer_idle, sealer_short};
 
 use std::alloc::Global;
 use std::marker::Model;
 use zb_base::{Config, Layer, OrMemory, Role};
-use zb_node_types::{Change, Changes, KeyError};
 use zb_host::{Core, Plan};
+use zb_node_types::{Change, Changes, KeyError};
 use zb_stored_tables::{StoredTables, change_bytes, hold_ranges};
 
 /// What happens to a sealing centre.
@@ -37,13 +37,13 @@ pub struct Sealer {
 impl Model for Sealer {
     ghost use Rattle.std.specs.Prelude.{◌≡◌, ◌≤◌};
     ghost use Rattle.zb_model.specs.Data.{Centre};
-    ghost use Rattle.zb_table_rows.specs.Sealers.{Sealing};
+    ghost use Rattle.zb_table_rows.specs.Sealers.{Term};
 
-    ghost Value = { Sealing };
+    ghost Value = { Term };
 
     ghost view = { λ c. record { tables = c.tables; block = c.block } };
 
-    ghost invariant = { λ c. (c.tables.duty ≡ Centre) × (1 ≤ c.block) };
+    ghost invariant = { λ c. (c.tables.role ≡ Centre) × (1 ≤ c.block) };
 }
 
 impl Core for Sealer {

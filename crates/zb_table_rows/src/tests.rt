@@ -35,7 +35,7 @@ const RESERVED: [u8; 7] = [1, 1, 0, 16, 0, 0, 0];
 // A network of one centre, which reserves so many counters at once.
 fn alone(block: u32) -> Config
     requires least { 1 ≤ block }
-    requires most { block ≤ 65536 }
+    requires greatest_counter { block ≤ 65536 }
     ensures { IsConfig result }
 {
     let mut peers = ArrayVec::new();

@@ -11,18 +11,17 @@ use Rattle.zb_base.specs.declared.label.Layer.{Layer}
 use Rattle.zb_base.specs.declared.label.Layer.TheVariants as layer
 use Rattle.zb_base.specs.declared.node.Role.{Role}
 use Rattle.zb_transported.specs.Carrying as carrying
-use Rattle.zb_node_types.specs.Changes.{tier, trust}
+use Rattle.zb_node_types.specs.Changes.{model_layer, model_attribute}
 use Rattle.zb_node_types.specs.declared.state.Attribute.{Attribute}
 use Rattle.zb_node_types.specs.declared.state.Attribute.TheVariants as attribute
 use Rattle.zb_cmd.specs.Reading.{command_of}
 use Rattle.zb_model.specs.Data as model
-use Rattle.zb_model.specs.Data.{Bytes, Sealing, Station, nobody}
+use Rattle.zb_model.specs.Data.{Bytes, Station, nobody}
 use Rattle.zb_model.specs.Lines as log
-use Rattle.zb_model.specs.Lines.{LogLine}
 use Rattle.zb_model.specs.Readings.{station_line, stations_of}
 use Rattle.zb_model.specs.Secrets.{base_in, based_line, came_by, carried, carried_at, code_in, ever_in, forged_in, holds, holds_some, ideal_line, is_the_centre, network_in, network_keys, removed_in, same_term, terms_in}
 use Rattle.zb_model.specs.Tools.{Tools}
-use Rattle.zb_seal.specs.Terms.{sealing}
+use Rattle.zb_seal.specs.Terms.{model_term}
 use Rattle.zb_seal.specs.declared.term.Term.{Term}
 use Rattle.zb_trace.specs.Views.{logged, named}
 use Rattle.zb_trace.specs.declared.line.Line.{Line}
@@ -55,14 +54,14 @@ headed (control ∷ more) key = chosen (nat_eq (control % 4) 1)
     chosen true = refl
     chosen false = refl
 
-carried_as : (tools : Tools) → FindKeys tools → (l : Layer) (s : Sealing) → carried_at (tier l) tools s ≡ bytes_of (carrying.carried_at l s.header s.content)
+carried_as : (tools : Tools) → FindKeys tools → (l : Layer) (s : model.Term) → carried_at (model_layer l) tools s ≡ bytes_of (carrying.carried_at l s.header s.content)
 carried_as tools find layer.Nwk s = find.in_frame s.content
 carried_as tools find layer.Aps s =
     ap (λ (o : Option Bytes). if nat_eq (get_or s.header 0 0 % 4) 1 then o else None) (find.in_command s.content) ∙ headed s.header (carrying.key_in (command_of s.content))
 
-pub carried_is : (tools : Tools) → FindKeys tools → (t : Term) → carried tools (sealing t) ≡ bytes_of (carrying.carried t)
+pub carried_is : (tools : Tools) → FindKeys tools → (t : Term) → carried tools (model_term t) ≡ bytes_of (carrying.carried t)
 unfolding carried carrying.carried
-carried_is tools find t = carried_as tools find t.layer (sealing t)
+carried_is tools find t = carried_as tools find t.layer (model_term t)
 
 key_that : (key : Option Key) (k : Bytes) → is_key key k ≡ is_that (option_map (λ (key : Key). key.0) key) k
 key_that None k = refl
@@ -104,15 +103,15 @@ pub record TakesIn (old new : Origins) (node : Option Eui) (key : Bytes) : Type 
   pub bases : new.bases ≡ old.bases
   pub carriers : new.carriers ≡ old.carriers
 
-module _ (tools : Tools) (w : Watch) (h : List LogLine) (stands : Stands tools w h) where
-  quiet : (l : LogLine) → station_line (stations_of h) l ≡ stations_of h → terms_in l ≡ [] → ((n : ℕ) → code_in n l ≡ []) → ((n : ℕ) → base_in n l ≡ []) → ideal_line tools h l ≡ true
+module _ (tools : Tools) (w : Watch) (h : List log.Line) (stands : Stands tools w h) where
+  quiet : (l : log.Line) → station_line (stations_of h) l ≡ stations_of h → terms_in l ≡ [] → ((n : ℕ) → code_in n l ≡ []) → ((n : ℕ) → base_in n l ≡ []) → ideal_line tools h l ≡ true
       → network_in l ≡ [] → forged_in l ≡ [] → ((n : ℕ) → ever_in (stations_of h) n l ≡ []) → removed_in l ≡ [] → based_line tools h l ≡ true → Stands tools w (h ++ l ∷ [])
   quiet l same none no_code no_base ideal no_network no_forged no_ever no_removed based =
       advances tools w w h l stands (nodes_stay tools w h l stands same) (origins_stay tools w h l stands none no_code no_base ideal) (passing_stays tools w h l stands no_network no_forged)
       (exposure_stays tools w h l stands none no_ever no_removed based)
 
   -- A key is held by the nodes of a test.
-  exposure_gains : (l : LogLine) (new : Exposure) (key : Key) (test : ℕ → Bool) → (IsSettled w.exposure → IsSettled new)
+  exposure_gains : (l : log.Line) (new : Exposure) (key : Key) (test : ℕ → Bool) → (IsSettled w.exposure → IsSettled new)
       → ((d : ℕ) → nat_eq d nobody ≡ false → (k : Bytes) → node_has new.ever d k ≡ (node_has w.exposure.ever d k || (test d && bytes_eq k key.0)))
       → new.removed ≡ w.exposure.removed → new.carried ≡ w.exposure.carried → new.based ≡ w.exposure.based
       → terms_in l ≡ [] → ((d : ℕ) → ever_in (stations_of h) d l ≡ (if test d then key.0 ∷ [] else [])) → removed_in l ≡ [] → based_line tools h l ≡ true
@@ -121,7 +120,7 @@ module _ (tools : Tools) (w : Watch) (h : List LogLine) (stands : Stands tools w
     settled = settled;
     carried = λ b k.
         ap (λ c. is_carried c b k) carried
-        ∙ sym (ap (λ (ts : List Sealing). is_carried w.exposure.carried b k || list_any (carries tools b k) ts) no_term ∙ or_none (is_carried w.exposure.carried b k));
+        ∙ sym (ap (λ (ts : List model.Term). is_carried w.exposure.carried b k || list_any (carries tools b k) ts) no_term ∙ or_none (is_carried w.exposure.carried b k));
     ever = λ d some k.
         ever d some k ∙ ap (λ (x : Bool). node_has w.exposure.ever d k || x) (sym (ap (λ (ks : List Bytes). holds ks k) (holds_it d) ∙ holds_if key.0 (test d) k));
     removed = λ d.
@@ -152,7 +151,7 @@ module _ (tools : Tools) (w : Watch) (h : List LogLine) (stands : Stands tools w
       → Stands tools (record w { passing = passing; exposure = exposure }) (h ++ log.GivenNet (named (stations_of h) name.bytes) key.0 sequence ∷ [])
   unfolding ideal_line
   given_net_follows name key sequence passing exposure network forged passed holds_it =
-      let l : LogLine = log.GivenNet (named (stations_of h) name.bytes) key.0 sequence in
+      let l : log.Line = log.GivenNet (named (stations_of h) name.bytes) key.0 sequence in
       advances tools w (record w { passing = passing; exposure = exposure }) h l stands (nodes_stay tools w h l stands refl) (origins_stay tools w h l stands refl (λ n. refl) (λ n. refl) refl)
       (passing_gains tools w h l stands passing key true refl refl network forged passed)
       (exposure_gains l exposure key (nat_eq (named (stations_of h) name.bytes)) holds_it.settled (by_node name exposure key holds_it) holds_it.removed holds_it.carried holds_it.based refl (λ d. refl) refl refl)
@@ -172,7 +171,7 @@ module _ (tools : Tools) (w : Watch) (h : List LogLine) (stands : Stands tools w
       → Stands tools (record w { passing = passing; origins = origins; exposure = exposure }) (h ++ log.GivenLink (named (stations_of h) name.bytes) partner key.0 ∷ [])
   unfolding ideal_line
   given_link_follows name key partner passing origins exposure network forged passed codes bases terms carriers traced ideal holds_it =
-      let l : LogLine = log.GivenLink (named (stations_of h) name.bytes) partner key.0 in
+      let l : log.Line = log.GivenLink (named (stations_of h) name.bytes) partner key.0 in
       let from : OriginsTake tools w.origins origins h l = record {
         terms = λ t. ap (λ s. has_term s t) terms ∙ sym (or_none (has_term w.origins.terms t));
         codes = λ n some k.
@@ -191,7 +190,7 @@ module _ (tools : Tools) (w : Watch) (h : List LogLine) (stands : Stands tools w
       → Stands tools (record w { passing = passing }) (h ++ log.Changed event centre (model.Moved (model.Draw key.0)) ∷ [])
   unfolding ideal_line
   draw_follows key event centre passing network forged passed =
-      let l : LogLine = log.Changed event centre (model.Moved (model.Draw key.0)) in
+      let l : log.Line = log.Changed event centre (model.Moved (model.Draw key.0)) in
       advances tools w (record w { passing = passing }) h l stands (nodes_stay tools w h l stands refl) (origins_stay tools w h l stands refl (λ n. refl) (λ n. refl) refl)
       (passing_gains tools w h l stands passing key true refl refl network forged passed) (exposure_stays tools w h l stands refl (λ n. refl) refl refl)
 
@@ -213,7 +212,7 @@ module _ (tools : Tools) (w : Watch) (h : List LogLine) (stands : Stands tools w
       → Stands tools (record w { origins = origins; exposure = exposure }) (h ++ log.Changed event (named (stations_of h) name.bytes) (model.Moved (model.Install key.0 sequence)) ∷ [])
   unfolding ideal_line
   install_follows name key event sequence origins exposure is holds_it =
-      let l : LogLine = log.Changed event (named (stations_of h) name.bytes) (model.Moved (model.Install key.0 sequence)) in
+      let l : log.Line = log.Changed event (named (stations_of h) name.bytes) (model.Moved (model.Install key.0 sequence)) in
       let from : OriginsTake tools w.origins origins h l = record {
         terms = λ t. ap (λ s. has_term s t) is.terms ∙ sym (or_none (has_term w.origins.terms t));
         codes = λ n some k. ap (λ s. node_has s n k) is.codes ∙ sym (or_none (node_has w.origins.codes n k));
@@ -245,7 +244,7 @@ module _ (tools : Tools) (w : Watch) (h : List LogLine) (stands : Stands tools w
       → Stands tools (record w { exposure = exposure }) (h ++ log.Changed event node (model.Moved (model.Pair first.0 second.0 key.0)) ∷ [])
   unfolding ideal_line
   pair_follows first second key event node middle exposure one two =
-      let l : LogLine = log.Changed event node (model.Moved (model.Pair first.0 second.0 key.0)) in
+      let l : log.Line = log.Changed event node (model.Moved (model.Pair first.0 second.0 key.0)) in
       advances tools w (record w { exposure = exposure }) h l stands (nodes_stay tools w h l stands refl) (origins_stay tools w h l stands refl (λ n. refl) (λ n. refl) refl) (passing_stays tools w h l stands refl refl)
       (exposure_gains l exposure key (λ d. nat_eq first.0 d || nat_eq second.0 d) (λ s. two.settled (one.settled s))
       (λ d some k.
@@ -265,7 +264,7 @@ module _ (tools : Tools) (w : Watch) (h : List LogLine) (stands : Stands tools w
   centre_partner true partner d = turned_number d partner.0
   centre_partner false partner d = refl
 
-  code_key : (event n partner : ℕ) (key : Bytes) (a : Attribute) → network_in (log.Changed event n (model.Moved (model.Row partner key (trust a)))) ≡ (if is_code a then key ∷ [] else [])
+  code_key : (event n partner : ℕ) (key : Bytes) (a : Attribute) → network_in (log.Changed event n (model.Moved (model.Row partner key (model_attribute a)))) ≡ (if is_code a then key ∷ [] else [])
   code_key event n partner key attribute.Provisional = refl
   code_key event n partner key attribute.Unverified = refl
   code_key event n partner key attribute.Verified = refl
@@ -276,10 +275,10 @@ module _ (tools : Tools) (w : Watch) (h : List LogLine) (stands : Stands tools w
       → ((n : ℕ) (k : Bytes) → node_has origins.bases n k ≡ (node_has taken.bases n k || (is_node (address_of w.nodes name) n && bytes_eq k key.0)))
       → origins.codes ≡ taken.codes → origins.terms ≡ taken.terms → origins.carriers ≡ taken.carriers → origins.traced ≡ taken.traced → origins.ideal ≡ taken.ideal
       → Holds w.exposure middle (if is_first_centre w.nodes.centre (address_of w.nodes name) then Some partner else None) key → Holds middle exposure (address_of w.nodes name) key
-      → Stands tools (record w { passing = passing; origins = origins; exposure = exposure }) (h ++ log.Changed event (named (stations_of h) name.bytes) (model.Moved (model.Row partner.0 key.0 (trust a))) ∷ [])
+      → Stands tools (record w { passing = passing; origins = origins; exposure = exposure }) (h ++ log.Changed event (named (stations_of h) name.bytes) (model.Moved (model.Row partner.0 key.0 (model_attribute a))) ∷ [])
   unfolding ideal_line
   row_follows name partner key a event passing taken origins middle exposure network forged passed is bases codes terms carriers traced ideal one two =
-      let l : LogLine = log.Changed event (named (stations_of h) name.bytes) (model.Moved (model.Row partner.0 key.0 (trust a))) in
+      let l : log.Line = log.Changed event (named (stations_of h) name.bytes) (model.Moved (model.Row partner.0 key.0 (model_attribute a))) in
       let from : OriginsTake tools w.origins origins h l = record {
         terms = λ t. ap (λ s. has_term s t) (terms ∙ is.terms) ∙ sym (or_none (has_term w.origins.terms t));
         codes = λ n some k. ap (λ s. node_has s n k) (codes ∙ is.codes) ∙ sym (or_none (node_has w.origins.codes n k));
@@ -308,7 +307,7 @@ module _ (tools : Tools) (w : Watch) (h : List LogLine) (stands : Stands tools w
       → Stands tools (record w { exposure = exposure }) (h ++ log.Changed event centre (model.Moved (model.Removed device.0)) ∷ [])
   unfolding ideal_line
   remove_follows device event centre exposure settled ever removed in_range carried based =
-      let l : LogLine = log.Changed event centre (model.Moved (model.Removed device.0)) in
+      let l : log.Line = log.Changed event centre (model.Moved (model.Removed device.0)) in
       let from : ExposureTakes tools w.exposure exposure h l = record {
         settled = settled;
         carried = λ b k. ap (λ c. is_carried c b k) carried ∙ sym (or_none (is_carried w.exposure.carried b k));
@@ -322,10 +321,10 @@ module _ (tools : Tools) (w : Watch) (h : List LogLine) (stands : Stands tools w
   -- terms
 
   pub accept_follows : (t : Term) (event node : ℕ) (origins : Origins) → origins ≡ record w.origins { ideal = w.origins.ideal && has_term w.origins.terms t }
-      → Stands tools (record w { origins = origins }) (h ++ log.Accept event node (sealing t) ∷ [])
+      → Stands tools (record w { origins = origins }) (h ++ log.Accept event node (model_term t) ∷ [])
   unfolding ideal_line
   accept_follows t event node origins is =
-      let l : LogLine = log.Accept event node (sealing t) in
+      let l : log.Line = log.Accept event node (model_term t) in
       let from : OriginsTake tools w.origins origins h l = record {
         terms = λ s. ap (λ (o : Origins). has_term o.terms s) is ∙ sym (or_none (has_term w.origins.terms s));
         codes = λ n some k. ap (λ (o : Origins). node_has o.codes n k) is ∙ sym (or_none (node_has w.origins.codes n k));
@@ -337,7 +336,7 @@ module _ (tools : Tools) (w : Watch) (h : List LogLine) (stands : Stands tools w
       advances tools w (record w { origins = origins }) h l stands (nodes_stay tools w h l stands refl) from (passing_stays tools w h l stands refl refl) (exposure_stays tools w h l stands refl (λ n. refl) refl refl)
 
   module _ (find : FindKeys tools) (t : Term) (key : Option Key) (key_is : key ≡ carrying.carried t) where
-    that_key : (k : Bytes) → is_key key k ≡ is_that (carried tools (sealing t)) k
+    that_key : (k : Bytes) → is_key key k ≡ is_that (carried tools (model_term t)) k
     that_key k = key_that key k ∙ ap (λ (o : Option Bytes). is_that o k) (ap bytes_of key_is ∙ sym (carried_is tools find t))
 
     test_key : (o : Option Bytes) (q : Option Key) → option_map (λ (key : Key). key.0) q ≡ o → has_that w.passing.network q ≡ holds_some (network_keys h) o
@@ -346,41 +345,41 @@ module _ (tools : Tools) (w : Watch) (h : List LogLine) (stands : Stands tools w
     test_key (Some k) None e = cc
     test_key (Some k) (Some q) e = let it : q.0 ≡ k = cc in stands.network q.0 ∙ ap (holds (network_keys h)) it
 
-    sealed_terms : (l : LogLine) (origins : Origins) → terms_in l ≡ sealing t ∷ [] → ((n : ℕ) → code_in n l ≡ []) → ((n : ℕ) → base_in n l ≡ []) → ideal_line tools h l ≡ true
-        → ((s : Term) → has_term origins.terms s ≡ (has_term w.origins.terms s || same_term (sealing s) (sealing t)))
+    sealed_terms : (l : log.Line) (origins : Origins) → terms_in l ≡ model_term t ∷ [] → ((n : ℕ) → code_in n l ≡ []) → ((n : ℕ) → base_in n l ≡ []) → ideal_line tools h l ≡ true
+        → ((s : Term) → has_term origins.terms s ≡ (has_term w.origins.terms s || same_term (model_term s) (model_term t)))
         → origins.codes ≡ w.origins.codes → origins.bases ≡ w.origins.bases
         → ((k b : Bytes) → is_carried origins.carriers k b ≡ (is_carried w.origins.carriers k b || (is_key key k && bytes_eq b t.base.0))) → origins.traced ≡ w.origins.traced
         → origins.ideal ≡ w.origins.ideal → OriginsTake tools w.origins origins h l
     sealed_terms l origins one no_code no_base fine terms codes bases carriers traced ideal = record {
       terms = λ s.
-          terms s ∙ ap (λ (x : Bool). has_term w.origins.terms s || x) (sym (ap (λ (ts : List Sealing). list_any (same_term (sealing s)) ts) one ∙ or_none (same_term (sealing s) (sealing t))));
+          terms s ∙ ap (λ (x : Bool). has_term w.origins.terms s || x) (sym (ap (λ (ts : List model.Term). list_any (same_term (model_term s)) ts) one ∙ or_none (same_term (model_term s) (model_term t))));
       codes = λ n some k. ap (λ o. node_has o n k) codes ∙ sym (ap (λ (ks : List Bytes). node_has w.origins.codes n k || holds ks k) (no_code n) ∙ or_none (node_has w.origins.codes n k));
       bases = λ n some k. ap (λ o. node_has o n k) bases ∙ sym (ap (λ (ks : List Bytes). node_has w.origins.bases n k || holds ks k) (no_base n) ∙ or_none (node_has w.origins.bases n k));
       carriers = λ b k.
           carriers k b
           ∙ ap (λ (x : Bool). is_carried w.origins.carriers k b || x)
           (ap (λ (x : Bool). x && bytes_eq b t.base.0) (that_key k)
-          ∙ (and_turned (is_that (carried tools (sealing t)) k) (bytes_eq b t.base.0) ∙ sym (ap (λ (ts : List Sealing). list_any (carries tools b k) ts) one ∙ or_none (carries tools b k (sealing t)))));
+          ∙ (and_turned (is_that (carried tools (model_term t)) k) (bytes_eq b t.base.0) ∙ sym (ap (λ (ts : List model.Term). list_any (carries tools b k) ts) one ∙ or_none (carries tools b k (model_term t)))));
       traced = λ n some k it. inl (ap (λ c. node_has c n k) (sym traced) ∙ it);
       ideal = ideal ∙ sym (ap (λ (x : Bool). w.origins.ideal && x) fine ∙ and_all w.origins.ideal);
     }
 
     carried_more : (new : Exposure) → ((b k : Bytes) → is_carried new.carried b k ≡ (is_carried w.exposure.carried b k || (bytes_eq b t.base.0 && is_key key k)))
-        → (b k : Bytes) → is_carried new.carried b k ≡ (is_carried w.exposure.carried b k || list_any (carries tools b k) (sealing t ∷ []))
+        → (b k : Bytes) → is_carried new.carried b k ≡ (is_carried w.exposure.carried b k || list_any (carries tools b k) (model_term t ∷ []))
     carried_more new adds b k =
-        adds b k ∙ ap (λ (x : Bool). is_carried w.exposure.carried b k || x) (ap (λ (x : Bool). bytes_eq b t.base.0 && x) (that_key k) ∙ sym (or_none (carries tools b k (sealing t))))
+        adds b k ∙ ap (λ (x : Bool). is_carried w.exposure.carried b k || x) (ap (λ (x : Bool). bytes_eq b t.base.0 && x) (that_key k) ∙ sym (or_none (carries tools b k (model_term t))))
 
     pub seal_follows : (event node : ℕ) (origins : Origins) (exposure : Exposure)
-        → ((s : Term) → has_term origins.terms s ≡ (has_term w.origins.terms s || same_term (sealing s) (sealing t)))
+        → ((s : Term) → has_term origins.terms s ≡ (has_term w.origins.terms s || same_term (model_term s) (model_term t)))
         → origins.codes ≡ w.origins.codes → origins.bases ≡ w.origins.bases
         → ((k b : Bytes) → is_carried origins.carriers k b ≡ (is_carried w.origins.carriers k b || (is_key key k && bytes_eq b t.base.0))) → origins.traced ≡ w.origins.traced
         → origins.ideal ≡ w.origins.ideal
         → (IsSettled w.exposure → IsSettled exposure) → exposure.ever ≡ w.exposure.ever → exposure.removed ≡ w.exposure.removed
         → ((b k : Bytes) → is_carried exposure.carried b k ≡ (is_carried w.exposure.carried b k || (bytes_eq b t.base.0 && is_key key k))) → exposure.based ≡ w.exposure.based
-        → Stands tools (record w { origins = origins; exposure = exposure }) (h ++ log.Seal event node (sealing t) ∷ [])
+        → Stands tools (record w { origins = origins; exposure = exposure }) (h ++ log.Seal event node (model_term t) ∷ [])
     unfolding ideal_line
     seal_follows event node origins exposure terms codes bases carriers traced ideal settled ever removed carried based =
-        let l : LogLine = log.Seal event node (sealing t) in
+        let l : log.Line = log.Seal event node (model_term t) in
         let from : ExposureTakes tools w.exposure exposure h l = record {
           settled = settled;
           carried = carried_more exposure carried;
@@ -393,7 +392,7 @@ module _ (tools : Tools) (w : Watch) (h : List LogLine) (stands : Stands tools w
         (sealed_terms l origins refl (λ n. refl) (λ n. refl) refl terms codes bases carriers traced ideal) (passing_stays tools w h l stands refl refl) from
 
     pub forge_follows : (event : ℕ) (origins : Origins) (passing : Passing) (told exposure : Exposure)
-        → ((s : Term) → has_term origins.terms s ≡ (has_term w.origins.terms s || same_term (sealing s) (sealing t)))
+        → ((s : Term) → has_term origins.terms s ≡ (has_term w.origins.terms s || same_term (model_term s) (model_term t)))
         → origins.codes ≡ w.origins.codes → origins.bases ≡ w.origins.bases
         → ((k b : Bytes) → is_carried origins.carriers k b ≡ (is_carried w.origins.carriers k b || (is_key key k && bytes_eq b t.base.0))) → origins.traced ≡ w.origins.traced
         → origins.ideal ≡ w.origins.ideal
@@ -401,10 +400,10 @@ module _ (tools : Tools) (w : Watch) (h : List LogLine) (stands : Stands tools w
         → told ≡ record w.exposure { based = w.exposure.based && has w.exposure.known t.base.0 }
         → (IsSettled told → IsSettled exposure) → exposure.ever ≡ told.ever → exposure.removed ≡ told.removed
         → ((b k : Bytes) → is_carried exposure.carried b k ≡ (is_carried told.carried b k || (bytes_eq b t.base.0 && is_key key k))) → exposure.based ≡ told.based
-        → Stands tools (record w { origins = origins; passing = passing; exposure = exposure }) (h ++ log.Forge event (sealing t) ∷ [])
+        → Stands tools (record w { origins = origins; passing = passing; exposure = exposure }) (h ++ log.Forge event (model_term t) ∷ [])
     unfolding ideal_line
     forge_follows event origins passing told exposure terms codes bases carriers traced ideal network forged passed is settled ever removed adds based =
-        let l : LogLine = log.Forge event (sealing t) in
+        let l : log.Line = log.Forge event (model_term t) in
         let from : ExposureTakes tools w.exposure exposure h l = record {
           settled = λ s. settled (subst IsSettled (sym is) (rebased w.exposure (w.exposure.based && has w.exposure.known t.base.0) s));
           carried = carried_more exposure (λ b k. adds b k ∙ ap (λ (e : Exposure). is_carried e.carried b k || (bytes_eq b t.base.0 && is_key key k)) is);
@@ -415,7 +414,7 @@ module _ (tools : Tools) (w : Watch) (h : List LogLine) (stands : Stands tools w
         } in
         advances tools w (record w { origins = origins; passing = passing; exposure = exposure }) h l stands (nodes_stay tools w h l stands refl)
         (sealed_terms l origins refl (λ n. refl) (λ n. refl) refl terms codes bases carriers traced ideal)
-        (passing_hears tools w h l stands passing (sealing t) key refl refl that_key (test_key (carried tools (sealing t)) key (ap bytes_of key_is ∙ sym (carried_is tools find t))) network forged passed) from
+        (passing_hears tools w h l stands passing (model_term t) key refl refl that_key (test_key (carried tools (model_term t)) key (ap bytes_of key_is ∙ sym (carried_is tools find t))) network forged passed) from
 
   -- A line that the watch passes over.
   pub quiet_follows : (l : Line)

@@ -1,5 +1,6 @@
 -- The node of a line, whether it is a router or device, and whether it is the centre, as a watch finds them and as the
 -- model reads them.
+use Rattle.zb_model.specs.Data as model
 use Rattle.std.proofs.Common.{◌≡◌, ℕ, List, [], ◌∷◌, Bool, true, false, cond, not, ◌||◌, ◌&&◌, Option, Some, None, refl, ap, sym, ◌∙◌, bytes_eq, nat_eq}
 use Rattle.std.specs.List.{AllByRecursion, find, list_any}
 use Rattle.std.specs.Option.{IfSome, option_map}
@@ -9,14 +10,14 @@ use Rattle.zb_base.specs.declared.address.Eui.{Eui}
 use Rattle.zb_base.specs.declared.key.Key.{Key}
 use Rattle.zb_base.specs.declared.node.Role.{Role}
 use Rattle.zb_base.specs.declared.node.Role.TheVariants as role
-use Rattle.zb_model.specs.Data.{Bytes, Duty, Centre, Router, Device, Sealing, Station, nobody}
-use Rattle.zb_model.specs.Lines.{LogLine}
+use Rattle.zb_model.specs.Data.{Bytes, Centre, Router, Device, Term, Station, nobody}
+use Rattle.zb_model.specs.Lines.{Line}
 use Rattle.zb_model.specs.Readings.{stations_of}
 use Rattle.zb_model.specs.Rules.{station_of}
 use Rattle.zb_model.specs.State.{is_centre}
 use Rattle.zb_model.specs.Secrets.{bases, brings, came_by, carried, holds, is_the_centre, joins, terms_of}
 use Rattle.zb_model.specs.Tools.{Tools}
-use Rattle.zb_trace.specs.Views.{duty, eui_or_nobody, named}
+use Rattle.zb_trace.specs.Views.{model_role, eui_or_nobody, named}
 use Rattle.zb_trace_watch.specs.Nodes.{address_of, is_first_centre, is_joiner, is_member, role_in}
 use Rattle.zb_trace_watch.specs.Origins.{IsTraced, came}
 use Rattle.zb_trace_watch.specs.Sets.{eui_cmp, is_carried, is_node, key_cmp, keys_at, meet}
@@ -57,34 +58,34 @@ node_or_nobody (Some x) (Some y) e d some = let it : x.0 ≡ y.eui = cc in turne
 
 -- Routers and devices
 
-member_duty : Duty → Bool
-member_duty Centre = false
-member_duty Router = true
-member_duty Device = true
+member_role : model.Role → Bool
+member_role Centre = false
+member_role Router = true
+member_role Device = true
 
 member_of : Option Station → Bool
 member_of None = false
-member_of (Some p) = member_duty p.duty
+member_of (Some p) = member_role p.role
 
-member_is : (r : Option Role) (o : Option Station) → option_map duty r ≡ option_map (λ (s : Station). s.duty) o → is_member r ≡ member_of o
-unfolding member_of member_duty
+member_is : (r : Option Role) (o : Option Station) → option_map model_role r ≡ option_map (λ (s : Station). s.role) o → is_member r ≡ member_of o
+unfolding member_of member_role
 member_is None None e = refl
 member_is None (Some p) e = cc
 member_is (Some x) None e = cc
-member_is (Some role.Centre) (Some p) e = let it : p.duty ≡ Centre = cc in rw it refl
-member_is (Some role.Router) (Some p) e = let it : p.duty ≡ Router = cc in rw it refl
-member_is (Some role.Device) (Some p) e = let it : p.duty ≡ Device = cc in rw it refl
+member_is (Some role.Centre) (Some p) e = let it : p.role ≡ Centre = cc in rw it refl
+member_is (Some role.Router) (Some p) e = let it : p.role ≡ Router = cc in rw it refl
+member_is (Some role.Device) (Some p) e = let it : p.role ≡ Device = cc in rw it refl
 
-joins_as : (h : List LogLine) (n : ℕ) (p : Station) (d : Duty) → station_of (stations_of h) n ≡ Some p → p.duty ≡ d → joins h n ≡ member_duty d
-unfolding member_duty
+joins_as : (h : List Line) (n : ℕ) (p : Station) (d : model.Role) → station_of (stations_of h) n ≡ Some p → p.role ≡ d → joins h n ≡ member_role d
+unfolding member_role
 joins_as h n p Centre e f = rw (e, f) refl
 joins_as h n p Router e f = rw (e, f) refl
 joins_as h n p Device e f = rw (e, f) refl
 
-joins_is : (h : List LogLine) (n : ℕ) (o : Option Station) → station_of (stations_of h) n ≡ o → joins h n ≡ member_of o
+joins_is : (h : List Line) (n : ℕ) (o : Option Station) → station_of (stations_of h) n ≡ o → joins h n ≡ member_of o
 unfolding member_of
 joins_is h n None e = rw e refl
-joins_is h n (Some p) e = joins_as h n p p.duty e refl
+joins_is h n (Some p) e = joins_as h n p p.role e refl
 
 -- The centre
 
@@ -92,7 +93,7 @@ eui_is : Option Station → ℕ → Bool
 eui_is None n = false
 eui_is (Some p) n = nat_eq p.eui n
 
-centre_as : (known : List Station) (n : ℕ) (o : Option Station) → find (λ (p : Station). is_centre p.duty) known ≡ o → is_the_centre known n ≡ eui_is o n
+centre_as : (known : List Station) (n : ℕ) (o : Option Station) → find (λ (p : Station). is_centre p.role) known ≡ o → is_the_centre known n ≡ eui_is o n
 unfolding eui_is
 centre_as known n None e = rw e refl
 centre_as known n (Some p) e = rw e refl
@@ -121,11 +122,11 @@ any_and p q (x ∷ xs) = ap (λ (b : Bool). (p x && q) || b) (any_and p q xs) �
     spread true false false = refl
     spread false b q = refl
 
-brings_as : (tools : Tools) (keys : List Bytes) (key : Bytes) (t : Sealing) (o : Option Bytes) → carried tools t ≡ o → (holds keys t.base && is_that (carried tools t) key) ≡ brings tools keys key t
+brings_as : (tools : Tools) (keys : List Bytes) (key : Bytes) (t : Term) (o : Option Bytes) → carried tools t ≡ o → (holds keys t.base && is_that (carried tools t) key) ≡ brings tools keys key t
 brings_as tools keys key t None e = rw e refl
 brings_as tools keys key t (Some k) e = rw e (ap (λ (b : Bool). holds keys t.base && b) (bytes_eq_sym key k))
 
-module _ (tools : Tools) (w : Watch) (h : List LogLine) (stands : Stands tools w h) where
+module _ (tools : Tools) (w : Watch) (h : List Line) (stands : Stands tools w h) where
   pub node_is : (name : ArrayString) (d : ℕ) → nat_eq d nobody ≡ false → is_node (address_of w.nodes name) d ≡ nat_eq (named (stations_of h) name.bytes) d
   unfolding named
   node_is name = node_or_nobody (address_of w.nodes name) (find (λ (s : Station). bytes_eq s.name name.bytes) (stations_of h)) (stands.nodes.addresses name)
@@ -142,17 +143,17 @@ module _ (tools : Tools) (w : Watch) (h : List LogLine) (stands : Stands tools w
   pub centre_is : (name : ArrayString) → is_first_centre w.nodes.centre (address_of w.nodes name) ≡ is_the_centre (stations_of h) (named (stations_of h) name.bytes)
   unfolding named
   centre_is name =
-      first_centre_as w.nodes.centre (find (λ (p : Station). is_centre p.duty) (stations_of h)) stands.nodes.centre (address_of w.nodes name)
+      first_centre_as w.nodes.centre (find (λ (p : Station). is_centre p.role) (stations_of h)) stands.nodes.centre (address_of w.nodes name)
       (find (λ (s : Station). bytes_eq s.name name.bytes) (stations_of h)) (stands.nodes.addresses name)
-      (found_somebody (λ (p : Station). is_centre p.duty) (stations_of h) stands.nodes.somebody)
-      ∙ sym (centre_as (stations_of h) (eui_or_nobody (find (λ (s : Station). bytes_eq s.name name.bytes) (stations_of h))) (find (λ (p : Station). is_centre p.duty) (stations_of h)) refl)
+      (found_somebody (λ (p : Station). is_centre p.role) (stations_of h) stands.nodes.somebody)
+      ∙ sym (centre_as (stations_of h) (eui_or_nobody (find (λ (s : Station). bytes_eq s.name name.bytes) (stations_of h))) (find (λ (p : Station). is_centre p.role) (stations_of h)) refl)
 
   came_under_is : (node : Eui) (key : Bytes) → nat_eq node.0 nobody ≡ false
       → meet (keys_at eui_cmp w.origins.bases node) (keys_at key_cmp w.origins.carriers (record { 0 = key })) ≡ list_any (brings tools (bases h node.0) key) (terms_of h)
   came_under_is node key some =
       list_any_alike (λ (b : Key). is_carried w.origins.carriers key b.0) (λ (b : Key). list_any (carries tools b.0 key) (terms_of h)) (λ b. stands.carriers b.0 key) (keys_at eui_cmp w.origins.bases node)
-      ∙ (any_any (λ (b : Key) (t : Sealing). carries tools b.0 key t) (keys_at eui_cmp w.origins.bases node) (terms_of h)
-      ∙ list_any_alike (λ (t : Sealing). list_any (λ (b : Key). carries tools b.0 key t) (keys_at eui_cmp w.origins.bases node)) (brings tools (bases h node.0) key)
+      ∙ (any_any (λ (b : Key) (t : Term). carries tools b.0 key t) (keys_at eui_cmp w.origins.bases node) (terms_of h)
+      ∙ list_any_alike (λ (t : Term). list_any (λ (b : Key). carries tools b.0 key t) (keys_at eui_cmp w.origins.bases node)) (brings tools (bases h node.0) key)
       (λ t.
       any_and (λ (b : Key). bytes_eq b.0 t.base) (is_that (carried tools t) key) (keys_at eui_cmp w.origins.bases node)
       ∙ (ap (λ (b : Bool). b && is_that (carried tools t) key)

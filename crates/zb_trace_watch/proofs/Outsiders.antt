@@ -3,8 +3,8 @@ use Rattle.std.proofs.Common.{◌≡◌, ℕ, List, [], ◌∷◌, Bool, true, f
 use Rattle.std.specs.List.{list_any, flat_map}
 use Rattle.std.specs.Option.{IfSome}
 use Rattle.std.proofs.lemmas.List.Folds.{list_any-append}
-use Rattle.zb_model.specs.Data.{Bytes, Sealing, nobody}
-use Rattle.zb_model.specs.Lines.{LogLine}
+use Rattle.zb_model.specs.Data.{Bytes, Term, nobody}
+use Rattle.zb_model.specs.Lines.{Line}
 use Rattle.zb_model.specs.Secrets.{carried, ever, exposed, holds, outside, removed_devices, terms_of, well_known}
 use Rattle.zb_model.specs.Tools.{Tools}
 use Rattle.zb_trace_watch.specs.Closure.{IsClosed, Passes}
@@ -34,14 +34,14 @@ from_outside f S k (d ∷ ds) covers there =
     ]
 
 module _ (tools : Tools) (S : Bytes → Bool) where
-  passes_any : (base key : Bytes) (t : Sealing) (o : Option Bytes) → carried tools t ≡ o → Passes tools S t → S base ≡ true → (bytes_eq base t.base && is_that o key) ≡ true → S key ≡ true
+  passes_any : (base key : Bytes) (t : Term) (o : Option Bytes) → carried tools t ≡ o → Passes tools S t → S base ≡ true → (bytes_eq base t.base && is_that o key) ≡ true → S key ≡ true
   passes_any base key t None is passes known there = cc (and_right (bytes_eq base t.base) false there)
   passes_any base key t (Some k) is passes known there =
       let here : IfSome (carried tools t) (λ (q : Bytes). S q ≡ true) = passes (ap S (sym (same_bytes base t.base (and_left _ _ there))) ∙ known) in
       let it : S k ≡ true = rw is at here in
       ap S (same_bytes key k (and_right _ _ there)) ∙ it
 
-  closed_any : (base key : Bytes) (ts : List Sealing) → IsClosed tools S ts → S base ≡ true → list_any (carries tools base key) ts ≡ true → S key ≡ true
+  closed_any : (base key : Bytes) (ts : List Term) → IsClosed tools S ts → S base ≡ true → list_any (carries tools base key) ts ≡ true → S key ≡ true
   closed_any base key [] closed known there = cc
   closed_any base key (t ∷ ts) closed known there =
       elim (either (carries tools base key t) (list_any (carries tools base key) ts) there) [
@@ -49,11 +49,11 @@ module _ (tools : Tools) (S : Bytes → Bool) where
         | inr later ↦ closed_any base key ts closed.1 known later
       ]
 
-  passes_one : (t : Sealing) (o : Option Bytes) → ((key : Bytes) → S t.base ≡ true → (bytes_eq t.base t.base && is_that o key) ≡ true → S key ≡ true) → S t.base ≡ true → IfSome o (λ (key : Bytes). S key ≡ true)
+  passes_one : (t : Term) (o : Option Bytes) → ((key : Bytes) → S t.base ≡ true → (bytes_eq t.base t.base && is_that o key) ≡ true → S key ≡ true) → S t.base ≡ true → IfSome o (λ (key : Bytes). S key ≡ true)
   passes_one t None carries_all known = tt
   passes_one t (Some k) carries_all known = carries_all k known (both _ _ (itself t.base) (itself k))
 
-  closed_from : (ts : List Sealing) → ((base key : Bytes) → S base ≡ true → list_any (carries tools base key) ts ≡ true → S key ≡ true) → IsClosed tools S ts
+  closed_from : (ts : List Term) → ((base key : Bytes) → S base ≡ true → list_any (carries tools base key) ts ≡ true → S key ≡ true) → IsClosed tools S ts
   closed_from [] carries_all = tt
   closed_from (t ∷ ts) carries_all = (
     passes_one t (carried tools t) (λ key known there. carries_all t.base key known (or_left _ _ there)),
@@ -61,7 +61,7 @@ module _ (tools : Tools) (S : Bytes → Bool) where
   )
 
 -- Where the parts of an exposure are those of a list of lines.
-module _ (tools : Tools) (e : Exposure) (h : List LogLine)
+module _ (tools : Tools) (e : Exposure) (h : List Line)
     (carried_is : (base key : Bytes) → is_carried e.carried base key ≡ list_any (carries tools base key) (terms_of h))
     (ever_is : (node : ℕ) → nat_eq node nobody ≡ false → (key : Bytes) → node_has e.ever node key ≡ holds (ever h node) key)
     (removed_is : (device : ℕ) → was_removed e device ≡ list_any (nat_eq device) (removed_devices h))

@@ -1,4 +1,5 @@
 -- A watch over no lines, its two words, and forms that answers share.
+use Rattle.zb_model.specs.Lines as log
 use Rattle.std.proofs.Common.{◌≡◌, ℕ, List, [], Bool, true, false, not, ◌||◌, ◌&&◌, Option, Some, None, refl, ap, sym, ◌∙◌, bytes_eq, Result, Ok, Err, ◌+◌, ◌<◌, length, get_or, take}
 use Rattle.std.specs.Result.{OnOk}
 use Rattle.std.proofs.lemmas.List.Sums.{fold_more}
@@ -19,15 +20,14 @@ use Rattle.zb_cmd.specs.declared.fault.CmdError.TheVariants as fault
 use Rattle.zb_base.specs.declared.address.Eui.{Eui}
 use Rattle.zb_base.specs.declared.key.Key.{Key}
 use Rattle.zb_model.specs.Data.{Bytes}
-use Rattle.zb_model.specs.Lines.{LogLine}
 use Rattle.zb_model.specs.Readings.{stations_of}
-use Rattle.zb_model.specs.Secrets.{clear_key, key_of_sight, unsealed_key, bases, codes_of, each_line, ever, ideal, network_keys, passes_on, private, removed_devices, terms_of}
+use Rattle.zb_model.specs.Secrets.{clear_key, key_shown, unsealed_key, bases, codes_of, each_line, ever, ideal, network_keys, passes_on, private, removed_devices, terms_of}
 use Rattle.zb_model.specs.Tools.{Tools}
 use Rattle.zb_seal.specs.declared.term.Term.{Term}
 use Rattle.zb_trace_watch.specs.Exposure.{IsSettled, was_removed}
 use Rattle.zb_trace_watch.specs.Nodes.{Declares}
 use Rattle.zb_trace_watch.specs.Sets.{has, is_carried, is_node, node_has}
-use Rattle.zb_trace_watch.specs.Readers.{aps_sight, auxiliary, order_sight, with_readers}
+use Rattle.zb_trace_watch.specs.Readers.{aps_shown, auxiliary, command_shown, with_readers}
 use Rattle.zb_trace_watch.specs.Standing.{FindKeys, Stands, bytes_of}
 use Rattle.zb_trace_watch.specs.Terms.{has_term}
 use Rattle.zb_trace_watch.specs.declared.exposure.Exposure.{Exposure}
@@ -47,7 +47,7 @@ pub on_ok : {T E : Type 0} (r : Result T E) (P Q : Type 0) → (P → Q) → OnO
 on_ok (Ok x) P Q f p = f p
 on_ok (Err e) P Q f p = tt
 
-pub private_is : (tools : Tools) (w : Watch) (h : List LogLine) → Stands tools w h → (w.exposure.based && not w.passing.passed_on) ≡ private tools h
+pub private_is : (tools : Tools) (w : Watch) (h : List log.Line) → Stands tools w h → (w.exposure.based && not w.passing.passed_on) ≡ private tools h
 unfolding private
 private_is tools w h stands = rw (stands.based, stands.passed_on) refl
 
@@ -78,7 +78,7 @@ module _ (tools : Tools) (nodes : Nodes) (origins : Origins) (passing : Passing)
 
 -- The model's tools find what this program's readers find, where they read as these do.
 
-command_found : (r : Result Command CmdError) → key_of_sight (order_sight r) ≡ bytes_of (carrying.key_in r)
+command_found : (r : Result Command CmdError) → key_shown (command_shown r) ≡ bytes_of (carrying.key_in r)
 command_found (Ok (command.TransportNetwork key sequence destination source)) = refl
 command_found (Ok (command.TransportApplication key partner initiator)) = refl
 command_found (Ok (command.TransportLink key destination source)) = refl
@@ -102,7 +102,7 @@ unsealed_found tools f None true = command_found (command_of f.body.items)
 unsealed_found tools f None false = refl
 unsealed_found tools f (Some aux) b = refl
 
-frame_found : (tools : Tools) (r : Result ApsFrame ApsError) → clear_key (with_readers tools) (aps_sight r) ≡ bytes_of (carrying.clear_key r)
+frame_found : (tools : Tools) (r : Result ApsFrame ApsError) → clear_key (with_readers tools) (aps_shown r) ≡ bytes_of (carrying.clear_key r)
 frame_found tools (Ok f) = unsealed_found tools f f.aux (carrying.is_command f.header.control)
 frame_found tools (Err e) = refl
 

@@ -1,4 +1,5 @@
 -- The order of terms tells them apart by all their parts.
+use Rattle.zb_model.specs.State.{same_layer, same_label}
 use Rattle.std.proofs.Common.{◌≡◌, Bool, true, ◌&&◌, refl, ap, sym, ◌∙◌}
 use Rattle.std.specs.Ordering.{is_eq, ordering_then}
 use Rattle.std.specs.declared.cmp.Ordering.{Ordering}
@@ -12,10 +13,9 @@ use Rattle.zb_base.specs.contracts.label.LabelOrd.TheImpl as label_ord
 use Rattle.std.proofs.lemmas.Cmp.{tied_back}
 use Rattle.zb_trace_watch.proofs.Alike.{bytes_alike}
 use Rattle.zb_trace_watch.proofs.Truth.{number_so, same_truth}
-use Rattle.zb_model.specs.Readings.{alike_tier}
-use Rattle.zb_model.specs.Secrets.{same_term, same_label}
-use Rattle.zb_node_types.specs.Changes.{tier}
-use Rattle.zb_seal.specs.Terms.{sealing, purpose}
+use Rattle.zb_model.specs.Secrets.{same_term}
+use Rattle.zb_node_types.specs.Changes.{model_layer}
+use Rattle.zb_seal.specs.Terms.{model_term, model_label}
 use Rattle.zb_seal.specs.declared.term.Term.{Term}
 use Rattle.zb_seal.specs.contracts.term.TermOrd.TheImpl as term_ord
 use Rattle.zb_seal.specs.contracts.term.TermOrd.TheImpl.Laws as term_laws
@@ -33,13 +33,13 @@ equal Less h = cc
 equal Equal h = refl
 equal Greater h = cc
 
-layer_alike : (a b : Layer) → is_eq (layer_ord.cmp-value.it a b) ≡ alike_tier (tier a) (tier b)
+layer_alike : (a b : Layer) → is_eq (layer_ord.cmp-value.it a b) ≡ same_layer (model_layer a) (model_layer b)
 layer_alike layer.Nwk layer.Nwk = refl
 layer_alike layer.Nwk layer.Aps = refl
 layer_alike layer.Aps layer.Nwk = refl
 layer_alike layer.Aps layer.Aps = refl
 
-label_alike : (a b : Label) → is_eq (label_ord.cmp-value.it a b) ≡ same_label (purpose a) (purpose b)
+label_alike : (a b : Label) → is_eq (label_ord.cmp-value.it a b) ≡ same_label (model_label a) (model_label b)
 label_alike label.Data label.Data = refl
 label_alike label.Data label.Network = refl
 label_alike label.Data label.Transport = refl
@@ -60,7 +60,7 @@ label_alike label.Load label.Load = refl
 part : (o p : Ordering) (a b : Bool) → is_eq o ≡ a → is_eq p ≡ b → is_eq (ordering_then o p) ≡ (a && b)
 part o p a b e f = then_alike o p ∙ ap (λ (x : Bool). x && is_eq p) e ∙ ap (λ (x : Bool). a && x) f
 
-pub term_alike : (a b : Term) → is_eq (term_cmp a b) ≡ same_term (sealing a) (sealing b)
+pub term_alike : (a b : Term) → is_eq (term_cmp a b) ≡ same_term (model_term a) (model_term b)
 unfolding same_term
 term_alike a b =
     part _ _ _ _ (layer_alike a.layer b.layer)
@@ -71,19 +71,19 @@ term_alike a b =
     (part _ _ _ _ (number_so a.control b.control)
     (part _ _ _ _ (bytes_alike a.header.items b.header.items) (bytes_alike a.content.items b.content.items)))))))
 
-same_again : (a b : Term) → same_term (sealing a) (sealing b) ≡ true → same_term (sealing b) (sealing a) ≡ true
+same_again : (a b : Term) → same_term (model_term a) (model_term b) ≡ true → same_term (model_term b) (model_term a) ≡ true
 same_again a b h = sym (term_alike b a) ∙ ap is_eq (tied_back term_laws.total-law a b (equal (term_cmp a b) (term_alike a b ∙ h)))
 
-pub term_turned : (a b : Term) → same_term (sealing a) (sealing b) ≡ same_term (sealing b) (sealing a)
+pub term_turned : (a b : Term) → same_term (model_term a) (model_term b) ≡ same_term (model_term b) (model_term a)
 term_turned a b = same_truth _ _ (same_again a b) (same_again b a)
 
-pub same_sealing : (a b : Term) → a.layer ≡ b.layer → a.base ≡ b.base → a.label ≡ b.label → a.source ≡ b.source → a.counter ≡ b.counter → a.control ≡ b.control
-    → a.header.items ≡ b.header.items → a.content.items ≡ b.content.items → sealing a ≡ sealing b
-same_sealing a b layers bases labels sources counters controls headers contents =
+pub same_term : (a b : Term) → a.layer ≡ b.layer → a.base ≡ b.base → a.label ≡ b.label → a.source ≡ b.source → a.counter ≡ b.counter → a.control ≡ b.control
+    → a.header.items ≡ b.header.items → a.content.items ≡ b.content.items → model_term a ≡ model_term b
+same_term a b layers bases labels sources counters controls headers contents =
     λ i. record {
-      layer = tier (layers i);
+      layer = model_layer (layers i);
       base = (bases i).0;
-      label = purpose (labels i);
+      label = model_label (labels i);
       source = (sources i).0;
       counter = counters i;
       control = controls i;

@@ -13,7 +13,7 @@ use Rattle.zb_base.specs.declared.node.Role.TheVariants as role
 use Rattle.zb_model.specs.Data.{Bytes, Station, nobody}
 use Rattle.zb_model.specs.Rules.{station_of}
 use Rattle.zb_model.specs.State.{is_centre}
-use Rattle.zb_trace.specs.Views.{duty}
+use Rattle.zb_trace.specs.Views.{model_role}
 use Rattle.zb_trace_watch.specs.Sets.{eui_cmp}
 use Rattle.zb_trace_watch.specs.declared.nodes.Nodes.{Nodes}
 
@@ -50,12 +50,12 @@ is_first_centre (Some centre) (Some eui) = nat_eq centre.0 eui.0
 -- that stands for nobody.
 pub record Declares (nodes : Nodes) (stations : List Station) : Type 0 where
   pub addresses : (name : ArrayString) → option_map (λ (e : Eui). e.0) (address_of nodes name) ≡ option_map (λ (s : Station). s.eui) (find (λ (s : Station). bytes_eq s.name name.bytes) stations)
-  pub roles : (eui : ℕ) → option_map duty (role_in nodes.roles eui) ≡ option_map (λ (s : Station). s.duty) (station_of stations eui)
-  pub centre : option_map (λ (e : Eui). e.0) nodes.centre ≡ option_map (λ (s : Station). s.eui) (find (λ (s : Station). is_centre s.duty) stations)
+  pub roles : (eui : ℕ) → option_map model_role (role_in nodes.roles eui) ≡ option_map (λ (s : Station). s.role) (station_of stations eui)
+  pub centre : option_map (λ (e : Eui). e.0) nodes.centre ≡ option_map (λ (s : Station). s.eui) (find (λ (s : Station). is_centre s.role) stations)
   pub somebody : AllByRecursion (λ (s : Station). nat_eq s.eui nobody ≡ false) stations
 
 -- the station of these parts
 pub record IsOf (station : Station) (name : Bytes) (eui : ℕ) (r : Role) : Type 0 where
   pub name_is : station.name ≡ name
   pub eui_is : station.eui ≡ eui
-  pub duty_is : station.duty ≡ duty r
+  pub role_is : station.role ≡ model_role r

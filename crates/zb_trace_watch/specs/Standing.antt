@@ -1,17 +1,18 @@
 -- What a watch stands for: a list of transcript lines, by the readings of the model.
+use Rattle.zb_model.specs.Data as model
 use Rattle.std.specs.Prelude.{◌≡◌, ℕ, ◌&&◌, List, [], ◌∷◌, ◌++◌, Bool, true, false, bytes_eq, nat_eq, Option, Some, None, flat_map}
 use Rattle.std.specs.List.{list_any}
 use Rattle.std.specs.Option.{option_map}
-use Rattle.zb_model.specs.Data.{Bytes, Sealing, nobody}
-use Rattle.zb_model.specs.Lines.{LogLine}
+use Rattle.zb_model.specs.Data.{Bytes, nobody}
+use Rattle.zb_model.specs.Lines.{Line}
 use Rattle.zb_model.specs.Readings.{stations_of}
-use Rattle.zb_model.specs.Secrets.{based_line, bases, came_by, carried, clear_key, codes_of, each_line, ever, exposed, forged_in, holds, ideal, key_of_sight, network_keys, outside, passes_on, removed_devices, same_term, terms_of}
+use Rattle.zb_model.specs.Secrets.{based_line, bases, came_by, carried, clear_key, codes_of, each_line, ever, exposed, forged_in, holds, ideal, key_shown, network_keys, outside, passes_on, removed_devices, same_term, terms_of}
 use Rattle.zb_model.specs.Tools.{Tools}
 use Rattle.zb_aps.specs.Reading.{frame_of}
 use Rattle.zb_base.specs.declared.key.Key.{Key}
 use Rattle.zb_transported.specs.Carrying as carrying
 use Rattle.zb_cmd.specs.Reading.{command_of}
-use Rattle.zb_seal.specs.Terms.{sealing}
+use Rattle.zb_seal.specs.Terms.{model_term}
 use Rattle.zb_seal.specs.declared.term.Term.{Term}
 use Rattle.zb_trace_watch.specs.Exposure.{was_removed}
 use Rattle.zb_trace_watch.specs.Nodes.{Declares}
@@ -25,7 +26,7 @@ bytes_of key = option_map (λ (key : Key). key.0) key
 
 -- The model's tools find the keys in frames and commands that this program's readers find.
 pub record FindKeys (tools : Tools) : Type 0 where
-  pub in_command : (bytes : List ℕ) → key_of_sight (tools.read_order bytes) ≡ bytes_of (carrying.key_in (command_of bytes))
+  pub in_command : (bytes : List ℕ) → key_shown (tools.read_command bytes) ≡ bytes_of (carrying.key_in (command_of bytes))
   pub in_frame : (bytes : List ℕ) → clear_key tools (tools.read_aps bytes) ≡ bytes_of (carrying.clear_key (frame_of bytes))
 
 -- whether there is a key, and it is this one
@@ -34,14 +35,14 @@ is_that None key = false
 is_that (Some other) key = bytes_eq key other
 
 -- whether the term carries the key under the base key
-abbrev pub carries : Tools → Bytes → Bytes → Sealing → Bool
+abbrev pub carries : Tools → Bytes → Bytes → model.Term → Bool
 carries tools base key t = bytes_eq base t.base && is_that (carried tools t) key
 
 -- The watch stands for these lines.
-pub record Stands (tools : Tools) (w : Watch) (h : List LogLine) : Type 0 where
+pub record Stands (tools : Tools) (w : Watch) (h : List Line) : Type 0 where
   pub nodes : Declares w.nodes (stations_of h)
   -- the terms of seal and forge lines, and the keys that they carry
-  pub terms : (t : Term) → has_term w.origins.terms t ≡ list_any (same_term (sealing t)) (terms_of h)
+  pub terms : (t : Term) → has_term w.origins.terms t ≡ list_any (same_term (model_term t)) (terms_of h)
   pub carried : (base key : Bytes) → is_carried w.exposure.carried base key ≡ list_any (carries tools base key) (terms_of h)
   -- the keys that each node ever held, those of its code, and those under which it may be sent a key
   pub ever : (node : ℕ) → nat_eq node nobody ≡ false → (key : Bytes) → node_has w.exposure.ever node key ≡ holds (ever h node) key
@@ -57,12 +58,12 @@ pub record Stands (tools : Tools) (w : Watch) (h : List LogLine) : Type 0 where
   pub known : (key : Bytes) → has w.exposure.known key ≡ holds (exposed tools h (outside h)) key
   -- the keys of the network, and those that forged terms carry
   pub network : (key : Bytes) → has w.passing.network key ≡ holds (network_keys h) key
-  pub forged : (key : Bytes) → has w.passing.forged key ≡ list_any (λ (t : Sealing). is_that (Rattle.zb_model.specs.Secrets.carried tools t) key) (flat_map forged_in h)
+  pub forged : (key : Bytes) → has w.passing.forged key ≡ list_any (λ (t : model.Term). is_that (Rattle.zb_model.specs.Secrets.carried tools t) key) (flat_map forged_in h)
   pub passed_on : w.passing.passed_on ≡ passes_on tools h
   -- the two words
   pub ideal : w.origins.ideal ≡ ideal tools h
   pub based : w.exposure.based ≡ each_line (based_line tools) [] h
 
 -- The watch after a line stands for the lines before it and this one.
-abbrev pub Follows : Watch → Watch → LogLine → List LogLine → Tools → Type 0
+abbrev pub Follows : Watch → Watch → Line → List Line → Tools → Type 0
 Follows old new line h tools = FindKeys tools → Stands tools old h → Stands tools new (h ++ line ∷ [])

@@ -1,7 +1,7 @@
 //! Laws of the definitions, on functions that do nothing.
 ghost use Rattle.std.specs.Prelude.{◌≡◌, List, Bool, true};
 ghost use Rattle.zb_model.specs.Data.{Bytes};
-ghost use Rattle.zb_model.specs.Lines.{LogLine};
+ghost use Rattle.zb_model.specs.Lines.{Line};
 ghost use Rattle.zb_model.specs.Secrets.{exposed, holds, terms_of};
 ghost use Rattle.zb_model.specs.Tools.{Tools};
 ghost use Rattle.zb_trace_watch.specs.Closure.{IsClosed};
@@ -12,9 +12,9 @@ ghost use Rattle.zb_trace_watch.specs.Standing.{FindKeys};
 /// set of keys has.
 #[tactic(auto, using(crate::proofs::Exposed::exposed_covers, crate::proofs::Exposed::exposed_closed, crate::proofs::Exposed::exposed_least))]
 pub fn exposed_keys_are_the_least_closed_set()
-    ensures covers { (tools : Tools) (h : List LogLine) (from : List Bytes) (k : Bytes) → holds from k ≡ true → holds (exposed tools h from) k ≡ true }
-    ensures closed { (tools : Tools) (h : List LogLine) (from : List Bytes) → IsClosed tools (holds (exposed tools h from)) (terms_of h) }
-    ensures least { (tools : Tools) (h : List LogLine) (from : List Bytes) (S : Bytes → Bool)
+    ensures covers { (tools : Tools) (h : List Line) (from : List Bytes) (k : Bytes) → holds from k ≡ true → holds (exposed tools h from) k ≡ true }
+    ensures closed { (tools : Tools) (h : List Line) (from : List Bytes) → IsClosed tools (holds (exposed tools h from)) (terms_of h) }
+    ensures least { (tools : Tools) (h : List Line) (from : List Bytes) (S : Bytes → Bool)
         → ((k : Bytes) → holds from k ≡ true → S k ≡ true) → IsClosed tools S (terms_of h)
         → (k : Bytes) → holds (exposed tools h from) k ≡ true → S k ≡ true }
 {}

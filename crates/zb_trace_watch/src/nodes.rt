@@ -4,7 +4,7 @@ ghost use Rattle.std.specs.Option.{option_or};
 ghost use Rattle.arrayvec.specs.ArrayString.{ArrayString};
 ghost use Rattle.zb_model.specs.Data.{Station};
 ghost use Rattle.zb_model.specs.State.{is_centre};
-ghost use Rattle.zb_trace.specs.Views.{duty};
+ghost use Rattle.zb_trace.specs.Views.{model_role};
 ghost use Rattle.zb_trace_watch.specs.Nodes.{address_in, address_of, is_first_centre, is_joiner, role_in, IsOf, Declares};
 
 use std::alloc::{AllocError, Global};
@@ -99,7 +99,7 @@ impl Nodes {
 
 /// The centre, where it was declared before, or is this node.
 fn first_centre(before: Option<Eui>, eui: Eui, role: Role) -> Option<Eui>
-    ensures first { result ≡ option_or before (if is_centre (duty role) then Some eui else None) }
+    ensures first { result ≡ option_or before (if is_centre (model_role role) then Some eui else None) }
     ensures somebody { eui.0 < 2 ^ 64 }
 {
     match before {

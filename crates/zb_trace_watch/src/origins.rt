@@ -1,7 +1,7 @@
 //! Where what was accepted, and the keys that were taken in, came from.
 ghost use Rattle.std.specs.Prelude.{◌≡◌, ◌||◌, ◌&&◌, ◌⊎◌, ℕ, List, OnOk, Some, bytes_eq, false, true, not};
 ghost use Rattle.zb_model.specs.Secrets.{same_term};
-ghost use Rattle.zb_seal.specs.Terms.{sealing};
+ghost use Rattle.zb_seal.specs.Terms.{model_term};
 ghost use Rattle.zb_seal.specs.declared.term.Term.{Term as AnyTerm};
 ghost use Rattle.zb_trace_watch.specs.Origins.{IsTraced, came};
 ghost use Rattle.zb_trace_watch.specs.Sets.{eui_cmp, is_carried, is_key, is_node, key_cmp, keys_at, meet, node_has};
@@ -53,7 +53,7 @@ impl Origins {
 
     /// A term was sealed or forged, which carries a key or none.
     pub fn term(&mut self, alloc: Global, term: &Term, key: Option<Key>) -> Result<(), AllocError>
-        ensures terms { OnOk result ((t : AnyTerm) → has_term self.new.terms t ≡ (has_term self.old.terms t || same_term (sealing t) (sealing term.now))) }
+        ensures terms { OnOk result ((t : AnyTerm) → has_term self.new.terms t ≡ (has_term self.old.terms t || same_term (model_term t) (model_term term.now))) }
         ensures codes { OnOk result (self.new.codes ≡ self.old.codes) }
         ensures bases { OnOk result (self.new.bases ≡ self.old.bases) }
         ensures carriers { OnOk result ((k b : List ℕ) → is_carried self.new.carriers k b ≡ (is_carried self.old.carriers k b || (is_key key k && bytes_eq b term.now.base.0))) }

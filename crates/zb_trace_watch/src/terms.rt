@@ -1,7 +1,7 @@
 //! Sets of terms.
 ghost use Rattle.std.specs.Prelude.{◌≡◌, ◌||◌, OnOk, false};
 ghost use Rattle.zb_model.specs.Secrets.{same_term};
-ghost use Rattle.zb_seal.specs.Terms.{sealing};
+ghost use Rattle.zb_seal.specs.Terms.{model_term};
 ghost use Rattle.zb_seal.specs.declared.term.Term.{Term};
 ghost use Rattle.zb_trace_watch.specs.Terms.{has_term};
 
@@ -34,7 +34,7 @@ impl Terms {
 
     /// Adds a term.
     pub fn add(&mut self, term: &Term) -> Result<(), AllocError>
-        ensures { OnOk result ((t : Term) → has_term self.new t ≡ (has_term self.old t || same_term (sealing t) (sealing term.now))) }
+        ensures { OnOk result ((t : Term) → has_term self.new t ≡ (has_term self.old t || same_term (model_term t) (model_term term.now))) }
     {
         self.terms.insert(term.clone()?)?;
         Ok(())

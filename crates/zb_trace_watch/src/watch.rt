@@ -1,12 +1,13 @@
 //! The watch.
+ghost use Rattle.zb_model.specs.Lines as log;
 ghost use Rattle.std.specs.Prelude.{◌≡◌, ◌&&◌, ◌∷◌, [], ℕ, List, IfOk, OnOk, not};
-ghost use Rattle.zb_node_types.specs.Changes.{trust};
+ghost use Rattle.zb_node_types.specs.Changes.{model_attribute};
 ghost use Rattle.zb_model.specs.Data.{Station, Moved, Draw as drawn, Install as installed, Row as row_of, Pair as pair_of, Removed as removed_it};
-ghost use Rattle.zb_model.specs.Lines.{LogLine, Declared, GivenNet as net_given, GivenLink as link_given, Changed, Accept as accepted, Seal as sealed, Forge as forged};
+ghost use Rattle.zb_model.specs.Lines.{Declared, GivenNet as net_given, GivenLink as link_given, Changed, Accept as accepted, Seal as sealed, Forge as forged};
 ghost use Rattle.zb_model.specs.Readings.{stations_of};
 ghost use Rattle.zb_model.specs.Secrets.{ideal as ideal_of, private as private_of};
 ghost use Rattle.zb_model.specs.Tools.{Tools};
-ghost use Rattle.zb_seal.specs.Terms.{sealing};
+ghost use Rattle.zb_seal.specs.Terms.{model_term};
 ghost use Rattle.zb_trace.specs.Views.{log_of, logged, named};
 ghost use Rattle.zb_trace_watch.specs.Nodes.{IsOf};
 ghost use Rattle.zb_trace_watch.specs.Standing.{FindKeys, Follows, Stands};
@@ -17,10 +18,10 @@ use crate::origins::Origins;
 use crate::passing::Passing;
 use std::alloc::Global;
 use zb_base::{Eui, Key, Name, NoMemory, Role};
-use zb_transported::carried;
 use zb_node_types::Attribute;
 use zb_seal::Term;
 use zb_trace::Line;
+use zb_transported::carried;
 
 /// What is known of a transcript after the lines so far. A watch keeps no line.
 ///
@@ -74,7 +75,7 @@ impl Watch {
     /// code's or came in an earlier term under one of its keys.
     pub fn ideal(&self) -> bool
         ensures value { result ≡ self.now.origins.ideal }
-        ensures ideal { (tools : Tools) (h : List LogLine) → Stands tools self.now h → result ≡ ideal_of tools h }
+        ensures ideal { (tools : Tools) (h : List log.Line) → Stands tools self.now h → result ≡ ideal_of tools h }
     {
         self.origins.ideal
     }
@@ -82,14 +83,14 @@ impl Watch {
     /// Whether outsiders forged only under keys that they may know, and passed on no key of the network.
     pub fn private(&self) -> bool
         ensures value { result ≡ (self.now.exposure.based && not self.now.passing.passed_on) }
-        ensures private { (tools : Tools) (h : List LogLine) → Stands tools self.now h → result ≡ private_of tools h }
+        ensures private { (tools : Tools) (h : List log.Line) → Stands tools self.now h → result ≡ private_of tools h }
     {
         self.exposure.based && !self.passing.passed_on
     }
 
     /// Goes on by one line. After `NoMemory` the watch isn't used further.
     pub fn line(&mut self, alloc: Global, line: &Line) -> Result<(), NoMemory>
-        ensures { OnOk result ((tools : Tools) (h : List LogLine) → Follows self.old self.new (logged (stations_of h) line.now) h tools) }
+        ensures { OnOk result ((tools : Tools) (h : List log.Line) → Follows self.old self.new (logged (stations_of h) line.now) h tools) }
     {
         match line {
             Line::Node {
@@ -127,14 +128,14 @@ impl Watch {
     }
 
     fn declare(&mut self, name: Name, eui: Eui, role: Role) -> Result<(), NoMemory>
-        ensures { OnOk result ((tools : Tools) (h : List LogLine) (station : Station) → IsOf station name.bytes eui.0 role → Follows self.old self.new (Declared station) h tools) }
+        ensures { OnOk result ((tools : Tools) (h : List log.Line) (station : Station) → IsOf station name.bytes eui.0 role → Follows self.old self.new (Declared station) h tools) }
     {
         self.nodes.add(name, eui, role)?;
         Ok(())
     }
 
     fn given_net(&mut self, alloc: Global, node: &Name, key: Key) -> Result<(), NoMemory>
-        ensures { OnOk result ((tools : Tools) (h : List LogLine) (sequence : ℕ) → Follows self.old self.new (net_given (named (stations_of h) node.now.bytes) key.0 sequence) h tools) }
+        ensures { OnOk result ((tools : Tools) (h : List log.Line) (sequence : ℕ) → Follows self.old self.new (net_given (named (stations_of h) node.now.bytes) key.0 sequence) h tools) }
     {
         let node = self.nodes.named(node);
         self.passing.network_key(key)?;
@@ -143,7 +144,7 @@ impl Watch {
     }
 
     fn given_link(&mut self, alloc: Global, node: &Name, key: Key) -> Result<(), NoMemory>
-        ensures { OnOk result ((tools : Tools) (h : List LogLine) (partner : ℕ) → Follows self.old self.new (link_given (named (stations_of h) node.now.bytes) partner key.0) h tools) }
+        ensures { OnOk result ((tools : Tools) (h : List log.Line) (partner : ℕ) → Follows self.old self.new (link_given (named (stations_of h) node.now.bytes) partner key.0) h tools) }
     {
         let node = self.nodes.named(node);
         self.passing.network_key(key)?;
@@ -153,14 +154,14 @@ impl Watch {
     }
 
     fn draw(&mut self, key: Key) -> Result<(), NoMemory>
-        ensures { OnOk result ((tools : Tools) (h : List LogLine) (event centre : ℕ) → Follows self.old self.new (Changed event centre (Moved (drawn key.0))) h tools) }
+        ensures { OnOk result ((tools : Tools) (h : List log.Line) (event centre : ℕ) → Follows self.old self.new (Changed event centre (Moved (drawn key.0))) h tools) }
     {
         self.passing.network_key(key)?;
         Ok(())
     }
 
     fn install(&mut self, alloc: Global, node: &Name, key: Key) -> Result<(), NoMemory>
-        ensures { OnOk result ((tools : Tools) (h : List LogLine) (event sequence : ℕ) → Follows self.old self.new (Changed event (named (stations_of h) node.now.bytes) (Moved (installed key.0 sequence))) h tools) }
+        ensures { OnOk result ((tools : Tools) (h : List log.Line) (event sequence : ℕ) → Follows self.old self.new (Changed event (named (stations_of h) node.now.bytes) (Moved (installed key.0 sequence))) h tools) }
     {
         let node = self.nodes.named(node);
         let joiner = self.nodes.joiner(node);
@@ -177,7 +178,7 @@ impl Watch {
         key: Key,
         attribute: Attribute,
     ) -> Result<(), NoMemory>
-        ensures { OnOk result ((tools : Tools) (h : List LogLine) (event : ℕ) → Follows self.old self.new (Changed event (named (stations_of h) node.now.bytes) (Moved (row_of partner.0 key.0 (trust attribute)))) h tools) }
+        ensures { OnOk result ((tools : Tools) (h : List log.Line) (event : ℕ) → Follows self.old self.new (Changed event (named (stations_of h) node.now.bytes) (Moved (row_of partner.0 key.0 (model_attribute attribute)))) h tools) }
     {
         let node = self.nodes.named(node);
         let joiner = self.nodes.joiner(node);
@@ -191,7 +192,7 @@ impl Watch {
     }
 
     fn pair(&mut self, alloc: Global, first: Eui, second: Eui, key: Key) -> Result<(), NoMemory>
-        ensures { OnOk result ((tools : Tools) (h : List LogLine) (event node : ℕ) → Follows self.old self.new (Changed event node (Moved (pair_of first.0 second.0 key.0))) h tools) }
+        ensures { OnOk result ((tools : Tools) (h : List log.Line) (event node : ℕ) → Follows self.old self.new (Changed event node (Moved (pair_of first.0 second.0 key.0))) h tools) }
     {
         self.exposure.hold(alloc, Some(first), key)?;
         self.exposure.hold(alloc, Some(second), key)?;
@@ -199,20 +200,20 @@ impl Watch {
     }
 
     fn remove(&mut self, alloc: Global, device: Eui) -> Result<(), NoMemory>
-        ensures { OnOk result ((tools : Tools) (h : List LogLine) (event centre : ℕ) → Follows self.old self.new (Changed event centre (Moved (removed_it device.0))) h tools) }
+        ensures { OnOk result ((tools : Tools) (h : List log.Line) (event centre : ℕ) → Follows self.old self.new (Changed event centre (Moved (removed_it device.0))) h tools) }
     {
         self.exposure.remove(alloc, device)?;
         Ok(())
     }
 
     fn accept(&mut self, term: &Term)
-        ensures { (tools : Tools) (h : List LogLine) (event node : ℕ) → Follows self.old self.new (accepted event node (sealing term.now)) h tools }
+        ensures { (tools : Tools) (h : List log.Line) (event node : ℕ) → Follows self.old self.new (accepted event node (model_term term.now)) h tools }
     {
         self.origins.accept(term);
     }
 
     fn seal(&mut self, alloc: Global, term: &Term) -> Result<(), NoMemory>
-        ensures { OnOk result ((tools : Tools) (h : List LogLine) (event node : ℕ) → Follows self.old self.new (sealed event node (sealing term.now)) h tools) }
+        ensures { OnOk result ((tools : Tools) (h : List log.Line) (event node : ℕ) → Follows self.old self.new (sealed event node (model_term term.now)) h tools) }
     {
         let key = carried(term);
         self.exposure.carry(alloc, term.base, key)?;
@@ -221,7 +222,7 @@ impl Watch {
     }
 
     fn forge(&mut self, alloc: Global, term: &Term) -> Result<(), NoMemory>
-        ensures { OnOk result ((tools : Tools) (h : List LogLine) (event : ℕ) → Follows self.old self.new (forged event (sealing term.now)) h tools) }
+        ensures { OnOk result ((tools : Tools) (h : List log.Line) (event : ℕ) → Follows self.old self.new (forged event (model_term term.now)) h tools) }
     {
         let key = carried(term);
         self.exposure.forge(&term.base);

@@ -1,12 +1,12 @@
 -- Two devices get a key of their own and use it.
 use Rattle.std.specs.Prelude.{◌≡◌, true, false, List, [], ◌∷◌, Some, None, refl}
-use Rattle.zb_model.specs.Data.{Duty, Stage, Nwk, Aps, ForData, ForNetwork, ForTransport, ForLoad, Provisional, Unverified, Verified, Station, Draw, DropLink, Install, Active, Row, Pair, Became, Live, Reserve, Floor, Start, Moved, TellTo, DoKnock, DoTimer, AskFor, HasChild, DoProvision, DoShare}
-use Rattle.zb_model.specs.Lines.{LogLine, Declared, GivenNet, GivenLink, Changed, Commit, Accept, Seal, Send, End}
-use Rattle.zb_model.specs.Play.{World, Own, Deliver, start, disk_of, with_disk, stands, leaves_both, stored_lines, told_lines, group_of, cut_of, setting_of, supply, task_step, forged_net, forged_both, forged_open, step_by, step, groups}
+use Rattle.zb_model.specs.Data.{Role, State, Nwk, Aps, ForData, ForNetwork, ForTransport, ForLoad, Provisional, Unverified, Verified, Station, Draw, DropLink, Install, Active, Row, Pair, Became, Live, Reserve, Floor, Start, Moved, TellTo, DoKnock, DoTimer, AskFor, HasChild, DoProvision, DoShare}
+use Rattle.zb_model.specs.Lines.{Line, Declared, GivenNet, GivenLink, Changed, Commit, Accept, Seal, Send, End}
+use Rattle.zb_model.specs.Play.{Schedule, Own, Deliver, start, disk_of, with_disk, stands, leaves_both, stored_lines, told_lines, group_of, cut_of, setting_of, supply, task_step, forged_net, forged_both, forged_open, step_by, step, groups}
 use Rattle.zb_model.specs.Transcript.{end_line, run_lines, transcript}
 use Rattle.zb_model.specs.Answer.{plan_of, part_of, may_seal, out_of, edits_of, answer_by, reserve_of, stored_floor, floor_of, counting_of, answer, answered}
-use Rattle.zb_model.specs.Commands.{take_net_key, take_row, take_link_key, take_app_key, take_switch, take_confirm, take_remove, take_tunnel, take_update, take_request, take_app_request, take_verify, take_order, take_leave}
-use Rattle.zb_model.specs.Fits.{rows_have_room, keys_differ, at_most_two_live, active_is_live, partners_agree, links_are_marked, floors_are_kept, limits_are_started, duty_is_kept, pairs_are_kept, keeps_rules, fits, all_fit}
+use Rattle.zb_model.specs.Commands.{take_net_key, take_row, take_link_key, take_app_key, take_switch, take_confirm, take_remove, take_tunnel, take_update, take_request, take_app_request, take_verify, take_command, take_leave}
+use Rattle.zb_model.specs.Fits.{rows_have_room, keys_differ, at_most_two_live, active_is_live, partners_agree, links_are_marked, floors_are_kept, limits_are_started, role_is_kept, pairs_are_kept, keeps_rules, fits, all_fit}
 use Rattle.zb_model.specs.Judging.{reject, need, judge_net, judge_nwk, candidates, judge_aps}
 use Rattle.zb_model.specs.OwnEvents.{say, knock, rejoin, request_key, verify_key, member_timer, ask, tell, child_of_router, child_of_centre, next_member, is_unfinished, centre_timer, provision, remove_device, roll, switch_over, again, share, own}
 use Rattle.zb_model.specs.Readings.{speaker, after, heard_line, state_of, is_up, air, draws_used, commits_of, stations_of}
@@ -19,19 +19,19 @@ use Rattle.zb_model.proofs.Toy.{x, toy}
 use Rattle.zb_model.proofs.Terms.{term}
 
 abbrev c_station : Station
-c_station = record { name = x "63"; eui = 5149012952875009; short = 0; duty = Duty.Centre; out_block = 16; in_block = 4 }
+c_station = record { name = x "63"; eui = 5149012952875009; short = 0; role = Role.Centre; out_block = 16; in_block = 4 }
 
 abbrev d_station : Station
-d_station = record { name = x "64"; eui = 5149012952875010; short = 6699; duty = Duty.Device; out_block = 16; in_block = 4 }
+d_station = record { name = x "64"; eui = 5149012952875010; short = 6699; role = Role.Device; out_block = 16; in_block = 4 }
 
 abbrev e_station : Station
-e_station = record { name = x "65"; eui = 5149012952875012; short = 24175; duty = Duty.Device; out_block = 16; in_block = 4 }
+e_station = record { name = x "65"; eui = 5149012952875012; short = 24175; role = Role.Device; out_block = 16; in_block = 4 }
 
-abbrev pub world : World
-world = record {
-  members = record { station = c_station; code = None; network = Some (x "000102030405060708090A0B0C0D0E0F", 0); start_nwk = 0; start_aps = 0 } ∷ record { station = d_station; code = Some (x "66B6900981E1EE3CA4206B6B861C02BB"); network = None; start_nwk = 0; start_aps = 0 } ∷ record { station = e_station; code = Some (x "A7576CD720766844FC1422177D9260D0"); network = None; start_nwk = 0; start_aps = 0 } ∷ [];
+abbrev pub schedule : Schedule
+schedule = record {
+  nodes = record { station = c_station; code = None; network = Some (x "000102030405060708090A0B0C0D0E0F", 0); start_nwk = 0; start_aps = 0 } ∷ record { station = d_station; code = Some (x "66B6900981E1EE3CA4206B6B861C02BB"); network = None; start_nwk = 0; start_aps = 0 } ∷ record { station = e_station; code = Some (x "A7576CD720766844FC1422177D9260D0"); network = None; start_nwk = 0; start_aps = 0 } ∷ [];
   draws = x "303132333435363738393A3B3C3D3E3F" ∷ x "404142434445464748494A4B4C4D4E4F" ∷ x "A0A1A2A3A4A5A6A7A8A9AAABACADAEAF" ∷ [];
-  acts =
+  events =
       Own 5149012952875009 (DoProvision 5149012952875010 (x "66B6900981E1EE3CA4206B6B861C02BB")) ∷
       Own 5149012952875010 DoKnock ∷
       Own 5149012952875009 (HasChild 5149012952875010 false) ∷
@@ -62,7 +62,7 @@ world = record {
       [];
 }
 
-abbrev lines : List LogLine
+abbrev lines : List Line
 lines =
     Declared c_station ∷
     Declared d_station ∷
@@ -73,7 +73,7 @@ lines =
     Changed 1 5149012952875009 (Moved (Row 5149012952875010 (x "66B6900981E1EE3CA4206B6B861C02BB") Provisional)) ∷
     Changed 1 5149012952875009 (Moved (Live 5149012952875010)) ∷
     Commit 1 5149012952875009 ∷
-    Changed 2 5149012952875010 (Moved (Became Stage.Knocked)) ∷
+    Changed 2 5149012952875010 (Moved (Became State.Knocked)) ∷
     Commit 2 5149012952875010 ∷
     Changed 3 5149012952875009 (Reserve Aps 16) ∷
     Commit 3 5149012952875009 ∷
@@ -83,7 +83,7 @@ lines =
     Changed 4 5149012952875010 (Moved (Install (x "000102030405060708090A0B0C0D0E0F") 0)) ∷
     Changed 4 5149012952875010 (Moved (Active (x "000102030405060708090A0B0C0D0E0F"))) ∷
     Changed 4 5149012952875010 (Start (x "000102030405060708090A0B0C0D0E0F") 0) ∷
-    Changed 4 5149012952875010 (Moved (Became Stage.Joined)) ∷
+    Changed 4 5149012952875010 (Moved (Became State.Joined)) ∷
     Commit 4 5149012952875010 ∷
     Accept 4 5149012952875010 (term Aps (x "66B6900981E1EE3CA4206B6B861C02BB") ForTransport 5149012952875009 0 53 (x "2100350000000001000000004B1200") (x "0501000102030405060708090A0B0C0D0E0F0002000000004B120001000000004B1200")) ∷
     Changed 5 5149012952875010 (Reserve Nwk 16) ∷
@@ -105,7 +105,7 @@ lines =
     Send 6 (Some 5149012952875009) 3 (x "08022B1A00001E00280000000001000000004B1200002101380100000001000000004B12000504303132333435363738393A3B3C3D3E3F02000000004B120001000000004B1200F2B6900900010203") ∷
     Changed 7 5149012952875010 (Floor Nwk (x "000102030405060708090A0B0C0D0E0F") 5149012952875009 4) ∷
     Changed 7 5149012952875010 (Moved (Row 5149012952875009 (x "303132333435363738393A3B3C3D3E3F") Unverified)) ∷
-    Changed 7 5149012952875010 (Moved (Became Stage.Offered)) ∷
+    Changed 7 5149012952875010 (Moved (Became State.Offered)) ∷
     Commit 7 5149012952875010 ∷
     Accept 7 5149012952875010 (term Nwk (x "000102030405060708090A0B0C0D0E0F") ForNetwork 5149012952875009 0 45 (x "08022B1A00001E002D0000000001000000004B120000") (x "2101380100000001000000004B12000504303132333435363738393A3B3C3D3E3F02000000004B120001000000004B1200F2B69009")) ∷
     Accept 7 5149012952875010 (term Aps (x "66B6900981E1EE3CA4206B6B861C02BB") ForLoad 5149012952875009 1 61 (x "21013D0100000001000000004B1200") (x "0504303132333435363738393A3B3C3D3E3F02000000004B120001000000004B1200")) ∷
@@ -121,14 +121,14 @@ lines =
     Changed 10 5149012952875010 (Floor Aps (x "303132333435363738393A3B3C3D3E3F") 5149012952875009 6) ∷
     Changed 10 5149012952875010 (Moved (DropLink 5149012952875009 (x "66B6900981E1EE3CA4206B6B861C02BB"))) ∷
     Changed 10 5149012952875010 (Moved (Row 5149012952875009 (x "303132333435363738393A3B3C3D3E3F") Verified)) ∷
-    Changed 10 5149012952875010 (Moved (Became Stage.Confirmed)) ∷
+    Changed 10 5149012952875010 (Moved (Became State.Confirmed)) ∷
     Commit 10 5149012952875010 ∷
     Accept 10 5149012952875010 (term Nwk (x "000102030405060708090A0B0C0D0E0F") ForNetwork 5149012952875009 1 45 (x "08022B1A00001E012D0100000001000000004B120000") (x "2102200200000001000000004B120010000402000000004B120030313233")) ∷
     Accept 10 5149012952875010 (term Aps (x "303132333435363738393A3B3C3D3E3F") ForData 5149012952875009 2 37 (x "2102250200000001000000004B1200") (x "10000402000000004B1200")) ∷
     Changed 11 5149012952875009 (Moved (Row 5149012952875012 (x "A7576CD720766844FC1422177D9260D0") Provisional)) ∷
     Changed 11 5149012952875009 (Moved (Live 5149012952875012)) ∷
     Commit 11 5149012952875009 ∷
-    Changed 12 5149012952875012 (Moved (Became Stage.Knocked)) ∷
+    Changed 12 5149012952875012 (Moved (Became State.Knocked)) ∷
     Commit 12 5149012952875012 ∷
     Seal 13 5149012952875009 (term Aps (x "A7576CD720766844FC1422177D9260D0") ForTransport 5149012952875009 3 53 (x "2103350300000001000000004B1200") (x "0501000102030405060708090A0B0C0D0E0F0004000000004B120001000000004B1200")) ∷
     Send 13 (Some 5149012952875009) 6 (x "08006F5E00001E002103300300000001000000004B12000501000102030405060708090A0B0C0D0E0F0004000000004B120001000000004B1200F0576CD7") ∷
@@ -136,7 +136,7 @@ lines =
     Changed 14 5149012952875012 (Moved (Install (x "000102030405060708090A0B0C0D0E0F") 0)) ∷
     Changed 14 5149012952875012 (Moved (Active (x "000102030405060708090A0B0C0D0E0F"))) ∷
     Changed 14 5149012952875012 (Start (x "000102030405060708090A0B0C0D0E0F") 0) ∷
-    Changed 14 5149012952875012 (Moved (Became Stage.Joined)) ∷
+    Changed 14 5149012952875012 (Moved (Became State.Joined)) ∷
     Commit 14 5149012952875012 ∷
     Accept 14 5149012952875012 (term Aps (x "A7576CD720766844FC1422177D9260D0") ForTransport 5149012952875009 3 53 (x "2103350300000001000000004B1200") (x "0501000102030405060708090A0B0C0D0E0F0004000000004B120001000000004B1200")) ∷
     Changed 15 5149012952875012 (Reserve Nwk 16) ∷
@@ -157,7 +157,7 @@ lines =
     Send 16 (Some 5149012952875009) 8 (x "08026F5E00001E02280200000001000000004B1200002104380400000001000000004B12000504404142434445464748494A4B4C4D4E4F04000000004B120001000000004B1200F2576CD700010203") ∷
     Changed 17 5149012952875012 (Floor Nwk (x "000102030405060708090A0B0C0D0E0F") 5149012952875009 6) ∷
     Changed 17 5149012952875012 (Moved (Row 5149012952875009 (x "404142434445464748494A4B4C4D4E4F") Unverified)) ∷
-    Changed 17 5149012952875012 (Moved (Became Stage.Offered)) ∷
+    Changed 17 5149012952875012 (Moved (Became State.Offered)) ∷
     Commit 17 5149012952875012 ∷
     Accept 17 5149012952875012 (term Nwk (x "000102030405060708090A0B0C0D0E0F") ForNetwork 5149012952875009 2 45 (x "08026F5E00001E022D0200000001000000004B120000") (x "2104380400000001000000004B12000504404142434445464748494A4B4C4D4E4F04000000004B120001000000004B1200F2576CD7")) ∷
     Accept 17 5149012952875012 (term Aps (x "A7576CD720766844FC1422177D9260D0") ForLoad 5149012952875009 4 61 (x "21043D0400000001000000004B1200") (x "0504404142434445464748494A4B4C4D4E4F04000000004B120001000000004B1200")) ∷
@@ -173,7 +173,7 @@ lines =
     Changed 20 5149012952875012 (Floor Aps (x "404142434445464748494A4B4C4D4E4F") 5149012952875009 9) ∷
     Changed 20 5149012952875012 (Moved (DropLink 5149012952875009 (x "A7576CD720766844FC1422177D9260D0"))) ∷
     Changed 20 5149012952875012 (Moved (Row 5149012952875009 (x "404142434445464748494A4B4C4D4E4F") Verified)) ∷
-    Changed 20 5149012952875012 (Moved (Became Stage.Confirmed)) ∷
+    Changed 20 5149012952875012 (Moved (Became State.Confirmed)) ∷
     Commit 20 5149012952875012 ∷
     Accept 20 5149012952875012 (term Nwk (x "000102030405060708090A0B0C0D0E0F") ForNetwork 5149012952875009 3 45 (x "08026F5E00001E032D0300000001000000004B120000") (x "2105200500000001000000004B120010000404000000004B120040414243")) ∷
     Accept 20 5149012952875012 (term Aps (x "404142434445464748494A4B4C4D4E4F") ForData 5149012952875009 5 37 (x "2105250500000001000000004B1200") (x "10000404000000004B1200")) ∷
@@ -213,6 +213,6 @@ lines =
     End 27 24 24 0 true true ∷
     []
 
-application_keys : transcript toy world ≡ lines
-unfolding toy plan_of part_of may_seal out_of edits_of answer_by reserve_of stored_floor floor_of counting_of answer answered take_net_key take_row take_link_key take_app_key take_switch take_confirm take_remove take_tunnel take_update take_request take_app_request take_verify take_order take_leave rows_have_room keys_differ at_most_two_live active_is_live partners_agree links_are_marked floors_are_kept limits_are_started duty_is_kept pairs_are_kept keeps_rules fits all_fit reject need judge_net judge_nwk candidates judge_aps say knock rejoin request_key verify_key member_timer ask tell child_of_router child_of_centre next_member is_unfinished centre_timer provision remove_device roll switch_over again share own start disk_of with_disk stands leaves_both stored_lines told_lines group_of cut_of setting_of supply task_step forged_net forged_both forged_open step_by step groups speaker after heard_line state_of is_up air draws_used commits_of stations_of record_of edit_bytes payload unless given choose station_of station_at centre_of short_of spent both_spent drop_partner drop_others drop_old carried terms_of a_round rounds exposed centre_in ever removed_devices outside network_keys each_line same_term bases codes_of came_by ideal_line ideal passes_on private active_row usable_nets usable_active newest usable_of live_of current offered is_live is_known is_told code_row other_user pair_of next_counter stored_limit sender_floor applied applied_all sealed counted heard accepted after_boot shown with_given_net with_given_link with_declared sealing_key end_line run_lines transcript
+application_keys : transcript toy schedule ≡ lines
+unfolding toy plan_of part_of may_seal out_of edits_of answer_by reserve_of stored_floor floor_of counting_of answer answered take_net_key take_row take_link_key take_app_key take_switch take_confirm take_remove take_tunnel take_update take_request take_app_request take_verify take_command take_leave rows_have_room keys_differ at_most_two_live active_is_live partners_agree links_are_marked floors_are_kept limits_are_started role_is_kept pairs_are_kept keeps_rules fits all_fit reject need judge_net judge_nwk candidates judge_aps say knock rejoin request_key verify_key member_timer ask tell child_of_router child_of_centre next_member is_unfinished centre_timer provision remove_device roll switch_over again share own start disk_of with_disk stands leaves_both stored_lines told_lines group_of cut_of setting_of supply task_step forged_net forged_both forged_open step_by step groups speaker after heard_line state_of is_up air draws_used commits_of stations_of record_of edit_bytes payload unless given choose station_of station_at centre_of short_of spent both_spent drop_partner drop_others drop_old carried terms_of a_round rounds exposed centre_in ever removed_devices outside network_keys each_line same_term bases codes_of came_by ideal_line ideal passes_on private active_row usable_nets usable_active newest usable_of live_of current offered is_live is_known is_told code_row other_user pair_of next_counter stored_limit sender_floor applied applied_all sealed counted heard accepted after_boot shown with_given_net with_given_link with_declared sealing_key end_line run_lines transcript
 application_keys = refl

@@ -1,12 +1,12 @@
 -- A forged request under keys that nobody outside may know.
 use Rattle.std.specs.Prelude.{◌≡◌, true, false, List, [], ◌∷◌, Some, None, refl}
-use Rattle.zb_model.specs.Data.{Duty, Stage, Reason, Nwk, Aps, ForData, ForNetwork, ForTransport, ForLoad, Provisional, Unverified, Verified, Station, Draw, DropLink, Install, Active, Row, Became, Live, Reserve, Floor, Start, Moved, AtAps, DoKnock, DoTimer, HasChild, DoProvision}
-use Rattle.zb_model.specs.Lines.{LogLine, Declared, GivenNet, GivenLink, Changed, Commit, Accept, Refuse, Seal, Forge, Send, End}
-use Rattle.zb_model.specs.Play.{World, Own, Deliver, ForgeNetAps, start, disk_of, with_disk, stands, leaves_both, stored_lines, told_lines, group_of, cut_of, setting_of, supply, task_step, forged_net, forged_both, forged_open, step_by, step, groups}
+use Rattle.zb_model.specs.Data.{Role, State, Reason, Nwk, Aps, ForData, ForNetwork, ForTransport, ForLoad, Provisional, Unverified, Verified, Station, Draw, DropLink, Install, Active, Row, Became, Live, Reserve, Floor, Start, Moved, AtAps, DoKnock, DoTimer, HasChild, DoProvision}
+use Rattle.zb_model.specs.Lines.{Line, Declared, GivenNet, GivenLink, Changed, Commit, Accept, Refuse, Seal, Forge, Send, End}
+use Rattle.zb_model.specs.Play.{Schedule, Own, Deliver, ForgeNetAps, start, disk_of, with_disk, stands, leaves_both, stored_lines, told_lines, group_of, cut_of, setting_of, supply, task_step, forged_net, forged_both, forged_open, step_by, step, groups}
 use Rattle.zb_model.specs.Transcript.{end_line, run_lines, transcript}
 use Rattle.zb_model.specs.Answer.{plan_of, part_of, may_seal, out_of, edits_of, answer_by, reserve_of, stored_floor, floor_of, counting_of, answer, answered}
-use Rattle.zb_model.specs.Commands.{take_net_key, take_row, take_link_key, take_app_key, take_switch, take_confirm, take_remove, take_tunnel, take_update, take_request, take_app_request, take_verify, take_order, take_leave}
-use Rattle.zb_model.specs.Fits.{rows_have_room, keys_differ, at_most_two_live, active_is_live, partners_agree, links_are_marked, floors_are_kept, limits_are_started, duty_is_kept, pairs_are_kept, keeps_rules, fits, all_fit}
+use Rattle.zb_model.specs.Commands.{take_net_key, take_row, take_link_key, take_app_key, take_switch, take_confirm, take_remove, take_tunnel, take_update, take_request, take_app_request, take_verify, take_command, take_leave}
+use Rattle.zb_model.specs.Fits.{rows_have_room, keys_differ, at_most_two_live, active_is_live, partners_agree, links_are_marked, floors_are_kept, limits_are_started, role_is_kept, pairs_are_kept, keeps_rules, fits, all_fit}
 use Rattle.zb_model.specs.Judging.{reject, need, judge_net, judge_nwk, candidates, judge_aps}
 use Rattle.zb_model.specs.OwnEvents.{say, knock, rejoin, request_key, verify_key, member_timer, ask, tell, child_of_router, child_of_centre, next_member, is_unfinished, centre_timer, provision, remove_device, roll, switch_over, again, share, own}
 use Rattle.zb_model.specs.Readings.{speaker, after, heard_line, state_of, is_up, air, draws_used, commits_of, stations_of}
@@ -19,19 +19,19 @@ use Rattle.zb_model.proofs.Toy.{x, toy}
 use Rattle.zb_model.proofs.Terms.{term}
 
 abbrev c_station : Station
-c_station = record { name = x "63"; eui = 5149012952875009; short = 0; duty = Duty.Centre; out_block = 16; in_block = 4 }
+c_station = record { name = x "63"; eui = 5149012952875009; short = 0; role = Role.Centre; out_block = 16; in_block = 4 }
 
 abbrev d_station : Station
-d_station = record { name = x "64"; eui = 5149012952875010; short = 6699; duty = Duty.Device; out_block = 16; in_block = 4 }
+d_station = record { name = x "64"; eui = 5149012952875010; short = 6699; role = Role.Device; out_block = 16; in_block = 4 }
 
 abbrev r_station : Station
-r_station = record { name = x "72"; eui = 5149012952875011; short = 15437; duty = Duty.Router; out_block = 16; in_block = 4 }
+r_station = record { name = x "72"; eui = 5149012952875011; short = 15437; role = Role.Router; out_block = 16; in_block = 4 }
 
-abbrev world : World
-world = record {
-  members = record { station = c_station; code = None; network = Some (x "000102030405060708090A0B0C0D0E0F", 0); start_nwk = 0; start_aps = 0 } ∷ record { station = d_station; code = Some (x "66B6900981E1EE3CA4206B6B861C02BB"); network = None; start_nwk = 0; start_aps = 0 } ∷ record { station = r_station; code = None; network = Some (x "000102030405060708090A0B0C0D0E0F", 0); start_nwk = 0; start_aps = 0 } ∷ [];
+abbrev schedule : Schedule
+schedule = record {
+  nodes = record { station = c_station; code = None; network = Some (x "000102030405060708090A0B0C0D0E0F", 0); start_nwk = 0; start_aps = 0 } ∷ record { station = d_station; code = Some (x "66B6900981E1EE3CA4206B6B861C02BB"); network = None; start_nwk = 0; start_aps = 0 } ∷ record { station = r_station; code = None; network = Some (x "000102030405060708090A0B0C0D0E0F", 0); start_nwk = 0; start_aps = 0 } ∷ [];
   draws = x "A0A1A2A3A4A5A6A7A8A9AAABACADAEAF" ∷ [];
-  acts =
+  events =
       Own 5149012952875009 (DoProvision 5149012952875010 (x "66B6900981E1EE3CA4206B6B861C02BB")) ∷
       Own 5149012952875010 DoKnock ∷
       Own 5149012952875011 (HasChild 5149012952875010 false) ∷
@@ -54,7 +54,7 @@ world = record {
       [];
 }
 
-abbrev lines : List LogLine
+abbrev lines : List Line
 lines =
     Declared c_station ∷
     Declared d_station ∷
@@ -65,7 +65,7 @@ lines =
     Changed 1 5149012952875009 (Moved (Row 5149012952875010 (x "66B6900981E1EE3CA4206B6B861C02BB") Provisional)) ∷
     Changed 1 5149012952875009 (Moved (Live 5149012952875010)) ∷
     Commit 1 5149012952875009 ∷
-    Changed 2 5149012952875010 (Moved (Became Stage.Knocked)) ∷
+    Changed 2 5149012952875010 (Moved (Became State.Knocked)) ∷
     Commit 2 5149012952875010 ∷
     Changed 3 5149012952875011 (Reserve Nwk 16) ∷
     Commit 3 5149012952875011 ∷
@@ -87,7 +87,7 @@ lines =
     Changed 6 5149012952875010 (Moved (Install (x "000102030405060708090A0B0C0D0E0F") 0)) ∷
     Changed 6 5149012952875010 (Moved (Active (x "000102030405060708090A0B0C0D0E0F"))) ∷
     Changed 6 5149012952875010 (Start (x "000102030405060708090A0B0C0D0E0F") 0) ∷
-    Changed 6 5149012952875010 (Moved (Became Stage.Joined)) ∷
+    Changed 6 5149012952875010 (Moved (Became State.Joined)) ∷
     Commit 6 5149012952875010 ∷
     Accept 6 5149012952875010 (term Aps (x "66B6900981E1EE3CA4206B6B861C02BB") ForTransport 5149012952875009 0 53 (x "2100350000000001000000004B1200") (x "0501000102030405060708090A0B0C0D0E0F0002000000004B120001000000004B1200")) ∷
     Changed 7 5149012952875010 (Reserve Nwk 16) ∷
@@ -119,7 +119,7 @@ lines =
     Send 11 (Some 5149012952875009) 8 (x "08022B1A00001E02280200000001000000004B1200002102380200000001000000004B12000504A0A1A2A3A4A5A6A7A8A9AAABACADAEAF02000000004B120001000000004B1200F2B6900900010203") ∷
     Changed 12 5149012952875010 (Floor Nwk (x "000102030405060708090A0B0C0D0E0F") 5149012952875009 6) ∷
     Changed 12 5149012952875010 (Moved (Row 5149012952875009 (x "A0A1A2A3A4A5A6A7A8A9AAABACADAEAF") Unverified)) ∷
-    Changed 12 5149012952875010 (Moved (Became Stage.Offered)) ∷
+    Changed 12 5149012952875010 (Moved (Became State.Offered)) ∷
     Commit 12 5149012952875010 ∷
     Accept 12 5149012952875010 (term Nwk (x "000102030405060708090A0B0C0D0E0F") ForNetwork 5149012952875009 2 45 (x "08022B1A00001E022D0200000001000000004B120000") (x "2102380200000001000000004B12000504A0A1A2A3A4A5A6A7A8A9AAABACADAEAF02000000004B120001000000004B1200F2B69009")) ∷
     Accept 12 5149012952875010 (term Aps (x "66B6900981E1EE3CA4206B6B861C02BB") ForLoad 5149012952875009 2 61 (x "21023D0200000001000000004B1200") (x "0504A0A1A2A3A4A5A6A7A8A9AAABACADAEAF02000000004B120001000000004B1200")) ∷
@@ -141,7 +141,7 @@ lines =
     Changed 17 5149012952875010 (Floor Aps (x "A0A1A2A3A4A5A6A7A8A9AAABACADAEAF") 5149012952875009 8) ∷
     Changed 17 5149012952875010 (Moved (DropLink 5149012952875009 (x "66B6900981E1EE3CA4206B6B861C02BB"))) ∷
     Changed 17 5149012952875010 (Moved (Row 5149012952875009 (x "A0A1A2A3A4A5A6A7A8A9AAABACADAEAF") Verified)) ∷
-    Changed 17 5149012952875010 (Moved (Became Stage.Confirmed)) ∷
+    Changed 17 5149012952875010 (Moved (Became State.Confirmed)) ∷
     Commit 17 5149012952875010 ∷
     Accept 17 5149012952875010 (term Nwk (x "000102030405060708090A0B0C0D0E0F") ForNetwork 5149012952875009 4 45 (x "08022B1A00001E042D0400000001000000004B120000") (x "2104200400000001000000004B120010000402000000004B1200A0A1A2A3")) ∷
     Accept 17 5149012952875010 (term Aps (x "A0A1A2A3A4A5A6A7A8A9AAABACADAEAF") ForData 5149012952875009 4 37 (x "2104250400000001000000004B1200") (x "10000402000000004B1200")) ∷
@@ -157,6 +157,6 @@ lines =
     End 19 19 15 1 true false ∷
     []
 
-forged_request : transcript toy world ≡ lines
-unfolding toy plan_of part_of may_seal out_of edits_of answer_by reserve_of stored_floor floor_of counting_of answer answered take_net_key take_row take_link_key take_app_key take_switch take_confirm take_remove take_tunnel take_update take_request take_app_request take_verify take_order take_leave rows_have_room keys_differ at_most_two_live active_is_live partners_agree links_are_marked floors_are_kept limits_are_started duty_is_kept pairs_are_kept keeps_rules fits all_fit reject need judge_net judge_nwk candidates judge_aps say knock rejoin request_key verify_key member_timer ask tell child_of_router child_of_centre next_member is_unfinished centre_timer provision remove_device roll switch_over again share own start disk_of with_disk stands leaves_both stored_lines told_lines group_of cut_of setting_of supply task_step forged_net forged_both forged_open step_by step groups speaker after heard_line state_of is_up air draws_used commits_of stations_of record_of edit_bytes payload unless given choose station_of station_at centre_of short_of spent both_spent drop_partner drop_others drop_old carried terms_of a_round rounds exposed centre_in ever removed_devices outside network_keys each_line same_term bases codes_of came_by ideal_line ideal passes_on private active_row usable_nets usable_active newest usable_of live_of current offered is_live is_known is_told code_row other_user pair_of next_counter stored_limit sender_floor applied applied_all sealed counted heard accepted after_boot shown with_given_net with_given_link with_declared sealing_key end_line run_lines transcript
+forged_request : transcript toy schedule ≡ lines
+unfolding toy plan_of part_of may_seal out_of edits_of answer_by reserve_of stored_floor floor_of counting_of answer answered take_net_key take_row take_link_key take_app_key take_switch take_confirm take_remove take_tunnel take_update take_request take_app_request take_verify take_command take_leave rows_have_room keys_differ at_most_two_live active_is_live partners_agree links_are_marked floors_are_kept limits_are_started role_is_kept pairs_are_kept keeps_rules fits all_fit reject need judge_net judge_nwk candidates judge_aps say knock rejoin request_key verify_key member_timer ask tell child_of_router child_of_centre next_member is_unfinished centre_timer provision remove_device roll switch_over again share own start disk_of with_disk stands leaves_both stored_lines told_lines group_of cut_of setting_of supply task_step forged_net forged_both forged_open step_by step groups speaker after heard_line state_of is_up air draws_used commits_of stations_of record_of edit_bytes payload unless given choose station_of station_at centre_of short_of spent both_spent drop_partner drop_others drop_old carried terms_of a_round rounds exposed centre_in ever removed_devices outside network_keys each_line same_term bases codes_of came_by ideal_line ideal passes_on private active_row usable_nets usable_active newest usable_of live_of current offered is_live is_known is_told code_row other_user pair_of next_counter stored_limit sender_floor applied applied_all sealed counted heard accepted after_boot shown with_given_net with_given_link with_declared sealing_key end_line run_lines transcript
 forged_request = refl

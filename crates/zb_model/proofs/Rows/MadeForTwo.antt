@@ -1,12 +1,12 @@
 -- A made schedule with two devices.
 use Rattle.std.specs.Prelude.{◌≡◌, true, false, List, [], ◌∷◌, Some, None, refl}
-use Rattle.zb_model.specs.Data.{Duty, Stage, Reason, Nwk, Aps, ForData, ForNetwork, ForTransport, ForLoad, Provisional, Unverified, Verified, Station, Draw, DropLink, Install, Active, Row, Became, Live, Removed, Roll, Told, Reserve, Floor, Start, Moved, AtNwk, AtEvent, SayTo, DoKnock, DoTimer, HasChild, DoProvision, DoRemove, DoSwitch}
-use Rattle.zb_model.specs.Lines.{LogLine, Declared, GivenNet, GivenLink, Changed, Commit, Accept, Refuse, Seal, Send, Stopped, DownReset, Boot, End}
-use Rattle.zb_model.specs.Play.{World, Own, RollOver, Deliver, Reset, PowerOn, ArmStop, start, disk_of, with_disk, stands, leaves_both, stored_lines, told_lines, group_of, cut_of, setting_of, supply, task_step, forged_net, forged_both, forged_open, step_by, step, groups}
+use Rattle.zb_model.specs.Data.{Role, State, Reason, Nwk, Aps, ForData, ForNetwork, ForTransport, ForLoad, Provisional, Unverified, Verified, Station, Draw, DropLink, Install, Active, Row, Became, Live, Removed, Roll, Told, Reserve, Floor, Start, Moved, AtNwk, AtEvent, SayTo, DoKnock, DoTimer, HasChild, DoProvision, DoRemove, DoSwitch}
+use Rattle.zb_model.specs.Lines.{Line, Declared, GivenNet, GivenLink, Changed, Commit, Accept, Refuse, Seal, Send, Stopped, DownReset, Boot, End}
+use Rattle.zb_model.specs.Play.{Schedule, Own, RollOver, Deliver, Reset, PowerOn, ArmStop, start, disk_of, with_disk, stands, leaves_both, stored_lines, told_lines, group_of, cut_of, setting_of, supply, task_step, forged_net, forged_both, forged_open, step_by, step, groups}
 use Rattle.zb_model.specs.Transcript.{end_line, run_lines, transcript}
 use Rattle.zb_model.specs.Answer.{plan_of, part_of, may_seal, out_of, edits_of, answer_by, reserve_of, stored_floor, floor_of, counting_of, answer, answered}
-use Rattle.zb_model.specs.Commands.{take_net_key, take_row, take_link_key, take_app_key, take_switch, take_confirm, take_remove, take_tunnel, take_update, take_request, take_app_request, take_verify, take_order, take_leave}
-use Rattle.zb_model.specs.Fits.{rows_have_room, keys_differ, at_most_two_live, active_is_live, partners_agree, links_are_marked, floors_are_kept, limits_are_started, duty_is_kept, pairs_are_kept, keeps_rules, fits, all_fit}
+use Rattle.zb_model.specs.Commands.{take_net_key, take_row, take_link_key, take_app_key, take_switch, take_confirm, take_remove, take_tunnel, take_update, take_request, take_app_request, take_verify, take_command, take_leave}
+use Rattle.zb_model.specs.Fits.{rows_have_room, keys_differ, at_most_two_live, active_is_live, partners_agree, links_are_marked, floors_are_kept, limits_are_started, role_is_kept, pairs_are_kept, keeps_rules, fits, all_fit}
 use Rattle.zb_model.specs.Judging.{reject, need, judge_net, judge_nwk, candidates, judge_aps}
 use Rattle.zb_model.specs.OwnEvents.{say, knock, rejoin, request_key, verify_key, member_timer, ask, tell, child_of_router, child_of_centre, next_member, is_unfinished, centre_timer, provision, remove_device, roll, switch_over, again, share, own}
 use Rattle.zb_model.specs.Readings.{speaker, after, heard_line, state_of, is_up, air, draws_used, commits_of, stations_of}
@@ -19,19 +19,19 @@ use Rattle.zb_model.proofs.Toy.{x, toy}
 use Rattle.zb_model.proofs.Terms.{term}
 
 abbrev c_station : Station
-c_station = record { name = x "63"; eui = 5149012952875009; short = 0; duty = Duty.Centre; out_block = 8; in_block = 4 }
+c_station = record { name = x "63"; eui = 5149012952875009; short = 0; role = Role.Centre; out_block = 8; in_block = 4 }
 
 abbrev d1_station : Station
-d1_station = record { name = x "6431"; eui = 5149012952875265; short = 4097; duty = Duty.Router; out_block = 8; in_block = 4 }
+d1_station = record { name = x "6431"; eui = 5149012952875265; short = 4097; role = Role.Router; out_block = 8; in_block = 4 }
 
 abbrev d2_station : Station
-d2_station = record { name = x "6432"; eui = 5149012952875266; short = 4098; duty = Duty.Device; out_block = 8; in_block = 4 }
+d2_station = record { name = x "6432"; eui = 5149012952875266; short = 4098; role = Role.Device; out_block = 8; in_block = 4 }
 
-abbrev world : World
-world = record {
-  members = record { station = c_station; code = None; network = Some (x "984CE172B9216F419F445367456D5619", 0); start_nwk = 0; start_aps = 0 } ∷ record { station = d1_station; code = Some (x "628E2CC6FC551C67CAC74B32BCA0F1A9"); network = None; start_nwk = 0; start_aps = 0 } ∷ record { station = d2_station; code = Some (x "029506CF2E651662DCAC8DD859D9DE6B"); network = None; start_nwk = 0; start_aps = 0 } ∷ [];
+abbrev schedule : Schedule
+schedule = record {
+  nodes = record { station = c_station; code = None; network = Some (x "984CE172B9216F419F445367456D5619", 0); start_nwk = 0; start_aps = 0 } ∷ record { station = d1_station; code = Some (x "628E2CC6FC551C67CAC74B32BCA0F1A9"); network = None; start_nwk = 0; start_aps = 0 } ∷ record { station = d2_station; code = Some (x "029506CF2E651662DCAC8DD859D9DE6B"); network = None; start_nwk = 0; start_aps = 0 } ∷ [];
   draws = x "314A42A3DA86B001387BFDB80E0CFE42" ∷ x "D2AEFA0DEAA5C151BF0ADB6C01F2A5AD" ∷ x "C0FD581259F9A2AADCF20F8FD566A26B" ∷ [];
-  acts =
+  events =
       Own 5149012952875009 (DoProvision 5149012952875265 (x "628E2CC6FC551C67CAC74B32BCA0F1A9")) ∷
       Own 5149012952875265 DoKnock ∷
       Own 5149012952875009 (HasChild 5149012952875265 false) ∷
@@ -138,7 +138,7 @@ world = record {
       [];
 }
 
-abbrev lines : List LogLine
+abbrev lines : List Line
 lines =
     Declared c_station ∷
     Declared d1_station ∷
@@ -149,7 +149,7 @@ lines =
     Changed 1 5149012952875009 (Moved (Row 5149012952875265 (x "628E2CC6FC551C67CAC74B32BCA0F1A9") Provisional)) ∷
     Changed 1 5149012952875009 (Moved (Live 5149012952875265)) ∷
     Commit 1 5149012952875009 ∷
-    Changed 2 5149012952875265 (Moved (Became Stage.Knocked)) ∷
+    Changed 2 5149012952875265 (Moved (Became State.Knocked)) ∷
     Commit 2 5149012952875265 ∷
     Changed 3 5149012952875009 (Reserve Aps 8) ∷
     Commit 3 5149012952875009 ∷
@@ -159,7 +159,7 @@ lines =
     Changed 4 5149012952875265 (Moved (Install (x "984CE172B9216F419F445367456D5619") 0)) ∷
     Changed 4 5149012952875265 (Moved (Active (x "984CE172B9216F419F445367456D5619"))) ∷
     Changed 4 5149012952875265 (Start (x "984CE172B9216F419F445367456D5619") 0) ∷
-    Changed 4 5149012952875265 (Moved (Became Stage.Joined)) ∷
+    Changed 4 5149012952875265 (Moved (Became State.Joined)) ∷
     Commit 4 5149012952875265 ∷
     Accept 4 5149012952875265 (term Aps (x "628E2CC6FC551C67CAC74B32BCA0F1A9") ForTransport 5149012952875009 0 53 (x "2100350000000001000000004B1200") (x "0501984CE172B9216F419F445367456D56190001010000004B120001000000004B1200")) ∷
     Changed 5 5149012952875265 (Reserve Nwk 8) ∷
@@ -181,7 +181,7 @@ lines =
     Send 6 (Some 5149012952875009) 3 (x "0802011000001E00280000000001000000004B1200002101380100000001000000004B12000504314A42A3DA86B001387BFDB80E0CFE4201010000004B120001000000004B1200F28E2CC6984CE172") ∷
     Changed 7 5149012952875265 (Floor Nwk (x "984CE172B9216F419F445367456D5619") 5149012952875009 4) ∷
     Changed 7 5149012952875265 (Moved (Row 5149012952875009 (x "314A42A3DA86B001387BFDB80E0CFE42") Unverified)) ∷
-    Changed 7 5149012952875265 (Moved (Became Stage.Offered)) ∷
+    Changed 7 5149012952875265 (Moved (Became State.Offered)) ∷
     Commit 7 5149012952875265 ∷
     Accept 7 5149012952875265 (term Nwk (x "984CE172B9216F419F445367456D5619") ForNetwork 5149012952875009 0 45 (x "0802011000001E002D0000000001000000004B120000") (x "2101380100000001000000004B12000504314A42A3DA86B001387BFDB80E0CFE4201010000004B120001000000004B1200F28E2CC6")) ∷
     Accept 7 5149012952875265 (term Aps (x "628E2CC6FC551C67CAC74B32BCA0F1A9") ForLoad 5149012952875009 1 61 (x "21013D0100000001000000004B1200") (x "0504314A42A3DA86B001387BFDB80E0CFE4201010000004B120001000000004B1200")) ∷
@@ -197,14 +197,14 @@ lines =
     Changed 10 5149012952875265 (Floor Aps (x "314A42A3DA86B001387BFDB80E0CFE42") 5149012952875009 6) ∷
     Changed 10 5149012952875265 (Moved (DropLink 5149012952875009 (x "628E2CC6FC551C67CAC74B32BCA0F1A9"))) ∷
     Changed 10 5149012952875265 (Moved (Row 5149012952875009 (x "314A42A3DA86B001387BFDB80E0CFE42") Verified)) ∷
-    Changed 10 5149012952875265 (Moved (Became Stage.Confirmed)) ∷
+    Changed 10 5149012952875265 (Moved (Became State.Confirmed)) ∷
     Commit 10 5149012952875265 ∷
     Accept 10 5149012952875265 (term Nwk (x "984CE172B9216F419F445367456D5619") ForNetwork 5149012952875009 1 45 (x "0802011000001E012D0100000001000000004B120000") (x "2102200200000001000000004B120010000401010000004B1200314A42A3")) ∷
     Accept 10 5149012952875265 (term Aps (x "314A42A3DA86B001387BFDB80E0CFE42") ForData 5149012952875009 2 37 (x "2102250200000001000000004B1200") (x "10000401010000004B1200")) ∷
     Changed 11 5149012952875009 (Moved (Row 5149012952875266 (x "029506CF2E651662DCAC8DD859D9DE6B") Provisional)) ∷
     Changed 11 5149012952875009 (Moved (Live 5149012952875266)) ∷
     Commit 11 5149012952875009 ∷
-    Changed 12 5149012952875266 (Moved (Became Stage.Knocked)) ∷
+    Changed 12 5149012952875266 (Moved (Became State.Knocked)) ∷
     Commit 12 5149012952875266 ∷
     Seal 13 5149012952875009 (term Aps (x "029506CF2E651662DCAC8DD859D9DE6B") ForTransport 5149012952875009 3 53 (x "2103350300000001000000004B1200") (x "0501984CE172B9216F419F445367456D56190002010000004B120001000000004B1200")) ∷
     Send 13 (Some 5149012952875009) 6 (x "0800021000001E002103300300000001000000004B12000501984CE172B9216F419F445367456D56190002010000004B120001000000004B1200F09506CF") ∷
@@ -212,7 +212,7 @@ lines =
     Changed 14 5149012952875266 (Moved (Install (x "984CE172B9216F419F445367456D5619") 0)) ∷
     Changed 14 5149012952875266 (Moved (Active (x "984CE172B9216F419F445367456D5619"))) ∷
     Changed 14 5149012952875266 (Start (x "984CE172B9216F419F445367456D5619") 0) ∷
-    Changed 14 5149012952875266 (Moved (Became Stage.Joined)) ∷
+    Changed 14 5149012952875266 (Moved (Became State.Joined)) ∷
     Commit 14 5149012952875266 ∷
     Accept 14 5149012952875266 (term Aps (x "029506CF2E651662DCAC8DD859D9DE6B") ForTransport 5149012952875009 3 53 (x "2103350300000001000000004B1200") (x "0501984CE172B9216F419F445367456D56190002010000004B120001000000004B1200")) ∷
     Changed 15 5149012952875266 (Reserve Nwk 8) ∷
@@ -233,7 +233,7 @@ lines =
     Send 16 (Some 5149012952875009) 8 (x "0802021000001E02280200000001000000004B1200002104380400000001000000004B12000504D2AEFA0DEAA5C151BF0ADB6C01F2A5AD02010000004B120001000000004B1200F29506CF984CE172") ∷
     Changed 17 5149012952875266 (Floor Nwk (x "984CE172B9216F419F445367456D5619") 5149012952875009 6) ∷
     Changed 17 5149012952875266 (Moved (Row 5149012952875009 (x "D2AEFA0DEAA5C151BF0ADB6C01F2A5AD") Unverified)) ∷
-    Changed 17 5149012952875266 (Moved (Became Stage.Offered)) ∷
+    Changed 17 5149012952875266 (Moved (Became State.Offered)) ∷
     Commit 17 5149012952875266 ∷
     Accept 17 5149012952875266 (term Nwk (x "984CE172B9216F419F445367456D5619") ForNetwork 5149012952875009 2 45 (x "0802021000001E022D0200000001000000004B120000") (x "2104380400000001000000004B12000504D2AEFA0DEAA5C151BF0ADB6C01F2A5AD02010000004B120001000000004B1200F29506CF")) ∷
     Accept 17 5149012952875266 (term Aps (x "029506CF2E651662DCAC8DD859D9DE6B") ForLoad 5149012952875009 4 61 (x "21043D0400000001000000004B1200") (x "0504D2AEFA0DEAA5C151BF0ADB6C01F2A5AD02010000004B120001000000004B1200")) ∷
@@ -249,7 +249,7 @@ lines =
     Changed 20 5149012952875266 (Floor Aps (x "D2AEFA0DEAA5C151BF0ADB6C01F2A5AD") 5149012952875009 9) ∷
     Changed 20 5149012952875266 (Moved (DropLink 5149012952875009 (x "029506CF2E651662DCAC8DD859D9DE6B"))) ∷
     Changed 20 5149012952875266 (Moved (Row 5149012952875009 (x "D2AEFA0DEAA5C151BF0ADB6C01F2A5AD") Verified)) ∷
-    Changed 20 5149012952875266 (Moved (Became Stage.Confirmed)) ∷
+    Changed 20 5149012952875266 (Moved (Became State.Confirmed)) ∷
     Commit 20 5149012952875266 ∷
     Accept 20 5149012952875266 (term Nwk (x "984CE172B9216F419F445367456D5619") ForNetwork 5149012952875009 3 45 (x "0802021000001E032D0300000001000000004B120000") (x "2105200500000001000000004B120010000402010000004B1200D2AEFA0D")) ∷
     Accept 20 5149012952875266 (term Aps (x "D2AEFA0DEAA5C151BF0ADB6C01F2A5AD") ForData 5149012952875009 5 37 (x "2105250500000001000000004B1200") (x "10000402010000004B1200")) ∷
@@ -383,6 +383,6 @@ lines =
     End 103 38 22 36 true true ∷
     []
 
-made_for_two : transcript toy world ≡ lines
-unfolding toy plan_of part_of may_seal out_of edits_of answer_by reserve_of stored_floor floor_of counting_of answer answered take_net_key take_row take_link_key take_app_key take_switch take_confirm take_remove take_tunnel take_update take_request take_app_request take_verify take_order take_leave rows_have_room keys_differ at_most_two_live active_is_live partners_agree links_are_marked floors_are_kept limits_are_started duty_is_kept pairs_are_kept keeps_rules fits all_fit reject need judge_net judge_nwk candidates judge_aps say knock rejoin request_key verify_key member_timer ask tell child_of_router child_of_centre next_member is_unfinished centre_timer provision remove_device roll switch_over again share own start disk_of with_disk stands leaves_both stored_lines told_lines group_of cut_of setting_of supply task_step forged_net forged_both forged_open step_by step groups speaker after heard_line state_of is_up air draws_used commits_of stations_of record_of edit_bytes payload unless given choose station_of station_at centre_of short_of spent both_spent drop_partner drop_others drop_old carried terms_of a_round rounds exposed centre_in ever removed_devices outside network_keys each_line same_term bases codes_of came_by ideal_line ideal passes_on private active_row usable_nets usable_active newest usable_of live_of current offered is_live is_known is_told code_row other_user pair_of next_counter stored_limit sender_floor applied applied_all sealed counted heard accepted after_boot shown with_given_net with_given_link with_declared sealing_key end_line run_lines transcript
+made_for_two : transcript toy schedule ≡ lines
+unfolding toy plan_of part_of may_seal out_of edits_of answer_by reserve_of stored_floor floor_of counting_of answer answered take_net_key take_row take_link_key take_app_key take_switch take_confirm take_remove take_tunnel take_update take_request take_app_request take_verify take_command take_leave rows_have_room keys_differ at_most_two_live active_is_live partners_agree links_are_marked floors_are_kept limits_are_started role_is_kept pairs_are_kept keeps_rules fits all_fit reject need judge_net judge_nwk candidates judge_aps say knock rejoin request_key verify_key member_timer ask tell child_of_router child_of_centre next_member is_unfinished centre_timer provision remove_device roll switch_over again share own start disk_of with_disk stands leaves_both stored_lines told_lines group_of cut_of setting_of supply task_step forged_net forged_both forged_open step_by step groups speaker after heard_line state_of is_up air draws_used commits_of stations_of record_of edit_bytes payload unless given choose station_of station_at centre_of short_of spent both_spent drop_partner drop_others drop_old carried terms_of a_round rounds exposed centre_in ever removed_devices outside network_keys each_line same_term bases codes_of came_by ideal_line ideal passes_on private active_row usable_nets usable_active newest usable_of live_of current offered is_live is_known is_told code_row other_user pair_of next_counter stored_limit sender_floor applied applied_all sealed counted heard accepted after_boot shown with_given_net with_given_link with_declared sealing_key end_line run_lines transcript
 made_for_two = refl

@@ -1,5 +1,5 @@
 use Rattle.std.proofs.Common.{List, arith}
-use Rattle.zb_model.specs.Lines.{LogLine}
+use Rattle.zb_model.specs.Lines.{Line}
 use Rattle.zb_player.specs.Stands.{PrintsAll}
 use Rattle.zb_player.proofs.Runs.{on_err, step, stopped, cut}
 use Rattle.zb_player.proofs.player.answer_all.Goals as goal
@@ -8,7 +8,7 @@ pub returns-in_err-answer-clause-front : goal.returns-in_err-answer-clause-front
 returns-in_err-answer-clause-front g c =
     let before = g.W.Sink.taken c.args.out.now in
     let after = g.W.Sink.taken c.loop-index.out in
-    let front : (h : List LogLine) → PrintsAll h c.args.network.now c.args.says.now before after = λ h.
+    let front : (h : List Line) → PrintsAll h c.args.network.now c.args.says.now before after = λ h.
     stopped h c.args.network.now c.loop-index.network c.args.says.now c.loop-index.index before after (c.loop-index.invariant.answers h) in
     on_err _ _ front
 
@@ -16,7 +16,7 @@ pub returns-in_err-hand_out-clause-front : goal.returns-in_err-hand_out-clause-f
 returns-in_err-hand_out-clause-front g c =
     let before = g.W.Sink.taken c.args.out.now in
     let after = g.W.Sink.taken c.hand_out.new.out in
-    let front : (h : List LogLine) → PrintsAll h c.args.network.now c.args.says.now before after = λ h.
+    let front : (h : List Line) → PrintsAll h c.args.network.now c.args.says.now before after = λ h.
     cut h c.args.network.now c.loop-index.network c.answer.new.self c.args.says.now c.loop-index.index c.index-says-index.result
     before (g.W.Sink.taken c.loop-index.out) after c.loop-index.page.items c.answer.new.page.items
     (omega arith) c.index-says-index.is c.loop-index.invariant.empty (c.loop-index.invariant.answers h) c.in_ok-answer.ensures.answers c.in_err-hand_out.ensures.front.0 in

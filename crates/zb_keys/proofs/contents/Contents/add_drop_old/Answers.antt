@@ -1,6 +1,6 @@
+use Rattle.zb_model.specs.State.{is_active_key}
 use Rattle.std.proofs.Common.{◌∙◌, ap, Some, None, arith, not, ◌&&◌, length}
 use Rattle.std.specs.Prelude.{find, filter}
-use Rattle.zb_model.specs.Rules.{is_active}
 use Rattle.zb_keys.specs.declared.net.NetRow.{NetRow}
 use Rattle.zb_keys.specs.Rows.{net_key}
 use Rattle.zb_keys.specs.Tables.{active_bytes}
@@ -15,11 +15,11 @@ returns-then-count_live-lt2 c =
 pub returns-in-Some : goal.returns-in-Some
 returns-in-Some c =
     let number = c.count_live.ensures ∙ ap (λ l. length {A = NetRow} (filter (λ (r : NetRow). (net_key r).live) l)) c.as_slice.ensures.value in
-    let found = c.in-Some.ensures ∙ ap (find (λ (r : NetRow). (net_key r).live && not (is_active (active_bytes c.args.self.now.active) (net_key r)))) c.as_slice-2.ensures.value in
+    let found = c.in-Some.ensures ∙ ap (find (λ (r : NetRow). (net_key r).live && not (is_active_key (active_bytes c.args.self.now.active) (net_key r).key))) c.as_slice-2.ensures.value in
     adds_as _ 1 _ _ (drop_idle c.args.self.now c.count_live.result (Some c.in-Some.row.now) number c.if-count_live-lt2.false found) (omega arith) c.add.ensures
 
 pub returns-in-None : goal.returns-in-None
 returns-in-None c =
     let number = c.count_live.ensures ∙ ap (λ l. length {A = NetRow} (filter (λ (r : NetRow). (net_key r).live) l)) c.as_slice.ensures.value in
-    let found = c.in-None.ensures ∙ ap (find (λ (r : NetRow). (net_key r).live && not (is_active (active_bytes c.args.self.now.active) (net_key r)))) c.as_slice-2.ensures.value in
+    let found = c.in-None.ensures ∙ ap (find (λ (r : NetRow). (net_key r).live && not (is_active_key (active_bytes c.args.self.now.active) (net_key r).key))) c.as_slice-2.ensures.value in
     adds_as _ 1 _ _ (drop_idle c.args.self.now c.count_live.result None number c.if-count_live-lt2.false found) (omega arith) (adds_nothing 1 c.args.changes.now.items)

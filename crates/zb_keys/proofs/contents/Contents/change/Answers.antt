@@ -1,7 +1,7 @@
 use Rattle.std.proofs.Common.{◌≡◌, arith, true, subst}
 use Rattle.zb_node_types.specs.declared.change.Change.{Change}
 use Rattle.zb_node_types.specs.declared.change.Change.TheVariants as change
-use Rattle.zb_node_types.specs.Changes.{edit, tier}
+use Rattle.zb_node_types.specs.Changes.{edit, model_layer}
 use Rattle.zb_model.specs.Data.{Floor}
 use Rattle.zb_model.specs.State.{applied, shown}
 use Rattle.zb_model.specs.Fits.{keeps_rules}
@@ -12,7 +12,7 @@ use Rattle.zb_keys.proofs.contents.Contents.change.Goals as goal
 pub store-requires-clause-room : goal.store-requires-clause-room
 store-requires-clause-room c = λ at_nwk.
     let kept = subst (λ (x : Change). keeps_rules (shown (applied (edit x) (state_of c.args.self.now))) ≡ true) c.in-Floor.is c.requires.rules in
-    let nwk = subst (λ l. keeps_rules (shown (applied (Floor (tier l) c.in-Floor.key.0 c.in-Floor.sender.0 c.in-Floor.value) (state_of c.args.self.now))) ≡ true) at_nwk kept in
+    let nwk = subst (λ l. keeps_rules (shown (applied (Floor (model_layer l) c.in-Floor.key.0 c.in-Floor.sender.0 c.in-Floor.value) (state_of c.args.self.now))) ≡ true) at_nwk kept in
     floors_room (state_of c.args.self.now) _ _ _ c.requires.sound.forgets nwk
 
 pub install-requires-clause-fits : goal.install-requires-clause-fits

@@ -1,7 +1,7 @@
 use Rattle.std.proofs.Common.{rules, ◌≡◌, ◌∙◌, sym, ap, map, refl, length, ◌<◌, subst, ◌&&◌}
 use Rattle.std.specs.Prelude.{vec_len, vec_capacity}
 use Rattle.std.specs.List.{list_any}
-use Rattle.zb_node_types.specs.Changes.{trust}
+use Rattle.zb_node_types.specs.Changes.{model_attribute}
 use Rattle.zb_model.specs.State.{at_link, applied, is_link, is_live_of, revived}
 use Rattle.zb_keys.specs.declared.link.LinkRow.{LinkRow}
 use Rattle.zb_keys.specs.Rows.{link_key}
@@ -23,7 +23,7 @@ returns-then-has_row c =
     let answer : c.has_row.result ≡ list_any (λ (r : LinkRow). is_link c.args.partner.0 c.args.key.0 (link_key r)) c.args.self.now.links.items = c.has_row.ensures ∙ ap (list_any (λ (r : LinkRow). is_link c.args.partner.0 c.args.key.0 (link_key r))) c.as_slice-2.ensures.value in
     becomes_links _ c.args.self.now c.revive_link.new.rows (c.revive_link.auto.rows ∙ c.deref_mut.ensures.len)
     (linked_state (state_of c.args.self.now) c.args.partner.0 c.args.key.0 _ c.has_told-told.result _ c.requires.forgets told
-    (c.revive_link.ensures ∙ ap (λ l. at_link c.args.partner.0 c.args.key.0 (revived (trust c.args.attribute) c.has_told-told.result) (map link_key l)) c.deref_mut.ensures.value
+    (c.revive_link.ensures ∙ ap (λ l. at_link c.args.partner.0 c.args.key.0 (revived (model_attribute c.args.attribute) c.has_told-told.result) (map link_key l)) c.deref_mut.ensures.value
     ∙ linked_same c.args.partner.0 c.args.key.0 _ _ c.args.self.now.links.items (sym answer ∙ c.if-has_row.true)))
 
 pub returns-else-has_row : goal.returns-else-has_row

@@ -1,12 +1,12 @@
 use Rattle.std.proofs.Common.{◌∙◌, ap}
 use Rattle.zb_model.specs.State.{NodeState, after_boot}
-use Rattle.zb_node_types.specs.Changes.{tier}
+use Rattle.zb_node_types.specs.Changes.{model_layer}
 use Rattle.zb_stored_tables.proofs.InMemory.{boot_of_counted, role_of_counted}
 use Rattle.zb_stored_tables.proofs.Made.{fits_as_stored}
 use Rattle.zb_stored_tables.proofs.stored.StoredTables.sealed.Goals as goal
 
 pub invariant_of-self : goal.invariant_of-self
-invariant_of-self c = fits_as_stored c.self.inside.tables c.sealed.new.self (ap after_boot c.sealed.ensures ∙ boot_of_counted (tier c.args.layer) c.self.inside.tables) c.self.invariant
+invariant_of-self c = fits_as_stored c.self.inside.tables c.sealed.new.self (ap after_boot c.sealed.ensures ∙ boot_of_counted (model_layer c.args.layer) c.self.inside.tables) c.self.invariant
 
 pub returns-clause-role : goal.returns-clause-role
-returns-clause-role c = ap (λ (u : NodeState). u.duty) c.sealed.ensures ∙ role_of_counted (tier c.args.layer) c.self.inside.tables ∙ ap (λ (u : NodeState). u.duty) c.self.view_is
+returns-clause-role c = ap (λ (u : NodeState). u.role) c.sealed.ensures ∙ role_of_counted (model_layer c.args.layer) c.self.inside.tables ∙ ap (λ (u : NodeState). u.role) c.self.view_is

@@ -1,12 +1,12 @@
 use Rattle.std.proofs.Common.{◌≡◌, ◌≤◌, refl, subst}
 use Rattle.zb_model.specs.Data.{Centre}
 use Rattle.zb_stored_tables.specs.Stored.{IsKept}
-use Rattle.zb_table_rows.specs.Sealers.{Sealing}
-use Rattle.zb_table_rows.proofs.Sealing.{rest_plan}
+use Rattle.zb_table_rows.specs.Sealers.{Term}
+use Rattle.zb_table_rows.proofs.Term.{rest_plan}
 use Rattle.zb_table_rows.proofs.sealer.Sealer.rest.Goals as goal
 
 pub returns : goal.returns
 returns c =
-    let own = subst (λ (s : Sealing). (s.tables.duty ≡ Centre) × (1 ≤ s.block)) c.self.view_is c.self.invariant in
-    let kept = subst (λ (s : Sealing). IsKept s.tables) c.self.view_is c.keep_rules.ensures in
+    let own = subst (λ (s : Term). (s.tables.role ≡ Centre) × (1 ≤ s.block)) c.self.view_is c.self.invariant in
+    let kept = subst (λ (s : Term). IsKept s.tables) c.self.view_is c.keep_rules.ensures in
     rest_plan c.args.self.now _ c.new.ensures refl own kept

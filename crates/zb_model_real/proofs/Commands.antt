@@ -16,10 +16,10 @@ use Rattle.zb_cmd.specs.declared.fault.CmdError.TheVariants as fault
 use Rattle.zb_cursor.specs.Reading.{follow, byte_at, bytes_at, number_at, short_at, eui_at, key_at}
 use Rattle.zb_cursor.specs.Spelling.{eui}
 use Rattle.zb_model.specs.Data as model
-use Rattle.zb_model.specs.Data.{Bytes, Order}
-use Rattle.zb_model.specs.Secrets.{key_in, key_of_sight}
+use Rattle.zb_model.specs.Data.{Bytes}
+use Rattle.zb_model.specs.Secrets.{key_in, key_shown}
 use Rattle.zb_model_real.specs.Real.{eui_of, key_of, command_for}
-use Rattle.zb_trace_watch.specs.Readers.{order, order_sight}
+use Rattle.zb_trace_watch.specs.Readers.{model_command, command_shown}
 use Rattle.zb_model_real.proofs.Keys.{none-is, some-same, Reads, follow-reads, Any, any-reads}
 
 abbrev F : Type 0
@@ -28,7 +28,7 @@ F = CmdError
 -- Commands without a key
 
 abbrev NoKey : Command → Type 0
-NoKey c = key_in (order c) ≡ None
+NoKey c = key_in (model_command c) ≡ None
 
 abbrev Keyless : Result (Command × List ℕ) F → Type 0
 Keyless r = Reads F Command NoKey r
@@ -75,17 +75,17 @@ confirm-keyless cut bytes =
     then-keyless ℕ (byte_at cut r) (λ k r. follow (eui_at cut r) (λ d r. Ok (Confirm s k d, r))) (λ k r.
     then-keyless Eui (eui_at cut r) (λ d r. Ok (Confirm s k d, r)) (λ d r. refl)))
 
-error-keyless : (e : F) → key_of_sight (order_sight (Err e)) ≡ None
+error-keyless : (e : F) → key_shown (command_shown (Err e)) ≡ None
 error-keyless (fault.Unknown id) = refl
 error-keyless (fault.KeyType found) = refl
 error-keyless (fault.Short len) = refl
 error-keyless (fault.Trailing len) = refl
 
-ended-keyless : (c : Command) (left : ℕ) (b : Bool) → NoKey c → key_of_sight (order_sight (cond b (Ok c) (Err (fault.Trailing left)))) ≡ None
+ended-keyless : (c : Command) (left : ℕ) (b : Bool) → NoKey c → key_shown (command_shown (cond b (Ok c) (Err (fault.Trailing left)))) ≡ None
 ended-keyless c left true n = n
 ended-keyless c left false n = refl
 
-whole-keyless : (r : Result (Command × List ℕ) F) → Keyless r → key_of_sight (order_sight (whole r)) ≡ None
+whole-keyless : (r : Result (Command × List ℕ) F) → Keyless r → key_shown (command_shown (whole r)) ≡ None
 whole-keyless (Err e) n = error-keyless e
 whole-keyless (Ok x) n = ended-keyless x.0 (length x.1) (length x.1 == 0) n
 
@@ -154,7 +154,7 @@ link-len cut bytes =
 -- The key is the first 16 bytes
 
 abbrev First : List ℕ → Command → Type 0
-First bytes c = key_in (order c) ≡ Some (take 16 bytes)
+First bytes c = key_in (model_command c) ≡ Some (take 16 bytes)
 
 key-by : (cut : F) (bytes : List ℕ) (b : Bool) → Reads F Key (λ k. k.0 ≡ take 16 bytes) (follow (cond {A = Result (List ℕ × List ℕ) F} b (Err cut) (Ok (take 16 bytes, drop 16 bytes))) (λ xs rest. Ok (record { 0 = xs }, rest)))
 key-by cut bytes true = tt
@@ -190,26 +190,26 @@ link-first cut X =
     then-first Eui X (eui_at cut r) (λ s r. Ok (TransportLink k d s, r)) (λ s r. ap Some e)))
 
 -- a key that is read: nothing is left, and it is the first 16 bytes
-by-end : (n : ℕ) (X : List ℕ) (c : Command) (rest : List ℕ) (k : Bytes) (b : Bool) → (length rest == 0) ≡ b → First X c → length X ≡ n + length rest → key_of_sight (order_sight (cond b (Ok c) (Err (fault.Trailing (length rest))))) ≡ Some k → (length X ≡ n) × (take 16 X ≡ k)
+by-end : (n : ℕ) (X : List ℕ) (c : Command) (rest : List ℕ) (k : Bytes) (b : Bool) → (length rest == 0) ≡ b → First X c → length X ≡ n + length rest → key_shown (command_shown (cond b (Ok c) (Err (fault.Trailing (length rest))))) ≡ Some k → (length X ≡ n) × (take 16 X ≡ k)
 by-end n X c rest k true q f l e = (omega (arith, l, eqb-true (length rest) 0 q), some-same Bytes (take 16 X) k (sym f ∙ e))
 by-end n X c rest k false q f l e = absurd (none-is Bytes k e)
 
-own-key : (n : ℕ) (X : List ℕ) (r : Result (Command × List ℕ) F) (k : Bytes) → Reads F Command (First X) r → LenOf Command n X r → key_of_sight (order_sight (whole r)) ≡ Some k → (length X ≡ n) × (take 16 X ≡ k)
+own-key : (n : ℕ) (X : List ℕ) (r : Result (Command × List ℕ) F) (k : Bytes) → Reads F Command (First X) r → LenOf Command n X r → key_shown (command_shown (whole r)) ≡ Some k → (length X ≡ n) × (take 16 X ≡ k)
 own-key n X (Err x) k f l e = absurd (none-is Bytes k (sym (error-keyless x) ∙ e))
 own-key n X (Ok x) k f l e = by-end n X x.0 x.1 k (length x.1 == 0) refl f l e
 
 abbrev cut_of : List ℕ → F
 cut_of bytes = fault.Short (length bytes)
 
-net-key : (X : List ℕ) (k : Bytes) → key_of_sight (order_sight (command_of (5 ∷ 1 ∷ X))) ≡ Some k → (length X ≡ 33) × (take 16 X ≡ k)
+net-key : (X : List ℕ) (k : Bytes) → key_shown (command_shown (command_of (5 ∷ 1 ∷ X))) ≡ Some k → (length X ≡ 33) × (take 16 X ≡ k)
 unfolding command_of command_at body_of transport_at transport_of
 net-key X k e = own-key 33 X (network_at (cut_of (5 ∷ 1 ∷ X)) X) k (network-first (cut_of (5 ∷ 1 ∷ X)) X) (network-len (cut_of (5 ∷ 1 ∷ X)) X) e
 
-app-key : (X : List ℕ) (k : Bytes) → key_of_sight (order_sight (command_of (5 ∷ 3 ∷ X))) ≡ Some k → (length X ≡ 25) × (take 16 X ≡ k)
+app-key : (X : List ℕ) (k : Bytes) → key_shown (command_shown (command_of (5 ∷ 3 ∷ X))) ≡ Some k → (length X ≡ 25) × (take 16 X ≡ k)
 unfolding command_of command_at body_of transport_at transport_of
 app-key X k e = own-key 25 X (application_at (cut_of (5 ∷ 3 ∷ X)) X) k (application-first (cut_of (5 ∷ 3 ∷ X)) X) (application-len (cut_of (5 ∷ 3 ∷ X)) X) e
 
-link-key : (X : List ℕ) (k : Bytes) → key_of_sight (order_sight (command_of (5 ∷ 4 ∷ X))) ≡ Some k → (length X ≡ 32) × (take 16 X ≡ k)
+link-key : (X : List ℕ) (k : Bytes) → key_shown (command_shown (command_of (5 ∷ 4 ∷ X))) ≡ Some k → (length X ≡ 32) × (take 16 X ≡ k)
 unfolding command_of command_at body_of transport_at transport_of
 link-key X k e = own-key 32 X (link_at (cut_of (5 ∷ 4 ∷ X)) X) k (link-first (cut_of (5 ∷ 4 ∷ X)) X) (link-len (cut_of (5 ∷ 4 ∷ X)) X) e
 
@@ -217,43 +217,43 @@ link-key X k e = own-key 32 X (link_at (cut_of (5 ∷ 4 ∷ X)) X) k (link-first
 front : (key tail : Bytes) (n : ℕ) (k : Bytes) → length tail ≡ n → length (key ++ tail) ≡ 16 + n → take 16 (key ++ tail) ≡ k → Some key ≡ Some k
 front key tail n k l e t = ap Some (sym (take_at key tail 16 (omega (arith, l, e, length-append key tail))) ∙ t)
 
-update-none : (X : List ℕ) → key_of_sight (order_sight (command_of (6 ∷ X))) ≡ None
+update-none : (X : List ℕ) → key_shown (command_shown (command_of (6 ∷ X))) ≡ None
 unfolding command_of command_at body_of
 update-none X = whole-keyless (update_at (cut_of (6 ∷ X)) X) (update-keyless (cut_of (6 ∷ X)) X)
 
-remove-none : (X : List ℕ) → key_of_sight (order_sight (command_of (7 ∷ X))) ≡ None
+remove-none : (X : List ℕ) → key_shown (command_shown (command_of (7 ∷ X))) ≡ None
 unfolding command_of command_at body_of
 remove-none X = whole-keyless (remove_at (cut_of (7 ∷ X)) X) (remove-keyless (cut_of (7 ∷ X)) X)
 
-partner-none : (X : List ℕ) → key_of_sight (order_sight (command_of (8 ∷ 2 ∷ X))) ≡ None
+partner-none : (X : List ℕ) → key_shown (command_shown (command_of (8 ∷ 2 ∷ X))) ≡ None
 unfolding command_of command_at body_of request_at request_of
 partner-none X = whole-keyless (partner_at (cut_of (8 ∷ 2 ∷ X)) X) (partner-keyless (cut_of (8 ∷ 2 ∷ X)) X)
 
-request-none : key_of_sight (order_sight (command_of (8 ∷ 4 ∷ []))) ≡ None
+request-none : key_shown (command_shown (command_of (8 ∷ 4 ∷ []))) ≡ None
 unfolding command_of command_at body_of request_at request_of
 request-none = refl
 
-switch-none : (X : List ℕ) → key_of_sight (order_sight (command_of (9 ∷ X))) ≡ None
+switch-none : (X : List ℕ) → key_shown (command_shown (command_of (9 ∷ X))) ≡ None
 unfolding command_of command_at body_of
 switch-none X = whole-keyless (switch_at (cut_of (9 ∷ X)) X) (switch-keyless (cut_of (9 ∷ X)) X)
 
-tunnel-none : (X : List ℕ) → key_of_sight (order_sight (command_of (14 ∷ X))) ≡ None
+tunnel-none : (X : List ℕ) → key_shown (command_shown (command_of (14 ∷ X))) ≡ None
 unfolding command_of command_at body_of
 tunnel-none X = whole-keyless (tunnel_at (cut_of (14 ∷ X)) X) (tunnel-keyless (cut_of (14 ∷ X)) X)
 
-verify-none : (X : List ℕ) → key_of_sight (order_sight (command_of (15 ∷ X))) ≡ None
+verify-none : (X : List ℕ) → key_shown (command_shown (command_of (15 ∷ X))) ≡ None
 unfolding command_of command_at body_of
 verify-none X = whole-keyless (verify_at (cut_of (15 ∷ X)) X) (verify-keyless (cut_of (15 ∷ X)) X)
 
-confirm-none : (X : List ℕ) → key_of_sight (order_sight (command_of (16 ∷ X))) ≡ None
+confirm-none : (X : List ℕ) → key_shown (command_shown (command_of (16 ∷ X))) ≡ None
 unfolding command_of command_at body_of
 confirm-none X = whole-keyless (confirm_at (cut_of (16 ∷ X)) X) (confirm-keyless (cut_of (16 ∷ X)) X)
 
 -- the bytes behind the first
-abbrev rest_of : Order → List ℕ
+abbrev rest_of : model.Command → List ℕ
 rest_of o = drop 1 (command (command_for o))
 
-pub spelled-key : (o : Order) (k : Bytes) → key_of_sight (order_sight (command_of (command (command_for o)))) ≡ Some k → key_in o ≡ Some k
+pub spelled-key : (o : model.Command) (k : Bytes) → key_shown (command_shown (command_of (command (command_for o)))) ≡ Some k → key_in o ≡ Some k
 spelled-key (model.TransportNet key q d s) k e =
     let text : ((key ++ q ∷ []) ++ eui (eui_of d)) ++ eui (eui_of s) ≡ key ++ ((q ∷ []) ++ (eui (eui_of d) ++ eui (eui_of s))) = append_assoc (key ++ q ∷ []) (eui (eui_of d)) (eui (eui_of s)) ∙ append_assoc key (q ∷ []) (eui (eui_of d) ++ eui (eui_of s)) in
     let own = net-key (((key ++ q ∷ []) ++ eui (eui_of d)) ++ eui (eui_of s)) k e in

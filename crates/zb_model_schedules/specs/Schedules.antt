@@ -3,27 +3,27 @@
 -- events of a schedule name no node that they are of: these are the centre's.
 use Rattle.std.specs.Prelude.{ℕ, List, map, find, bytes_eq}
 use Rattle.std.specs.Option.{option_map}
-use Rattle.zb_node_types.specs.Changes.{duty}
+use Rattle.zb_node_types.specs.Changes.{model_role}
 use Rattle.zb_install.specs.Code.{code_key}
 use Rattle.zb_model.specs.Data.{Station, nobody, SayTo, TellTo, DoKnock, DoRejoin, DoTimer, AskFor, HasChild, DoProvision, DoRemove, DoSwitch, DoAgain, DoShare}
 use Rattle.zb_model.specs.Play as model
 use Rattle.zb_model.specs.Rules.{centre_of, eui_or}
-use Rattle.zb_sched.specs.Plan.{Member, Plan}
-use Rattle.zb_sched_line.specs.Said.{Bytes, Act, Says, Delivers, Ticks, Knocks, Rejoins, Adopts, Provisions, Repeats, Rolls, Switches, Removes, Resets, Boots, Dumps, Stops, Fails, Injects, ForgesNet, ForgesBoth, ForgesOpen, Asks, Shares, Tells}
-use Rattle.zb_seal.specs.Terms.{purpose}
+use Rattle.zb_sched.specs.Plan.{Node, Plan}
+use Rattle.zb_sched_line.specs.Said.{Bytes, Event, Says, Delivers, Ticks, Knocks, Rejoins, Adopts, Provisions, Repeats, Rolls, Switches, Removes, Resets, Boots, Dumps, Stops, Fails, Injects, ForgesNet, ForgesBoth, ForgesOpen, Asks, Shares, Tells}
+use Rattle.zb_seal.specs.Terms.{model_label}
 
 -- Nodes
 
 -- a node as it is declared
-abbrev pub station_for : Member → Station
-station_for m = record { name = m.name; eui = m.eui; short = m.short; duty = duty m.role; out_block = m.out_block; in_block = m.in_block }
+abbrev pub station_for : Node → Station
+station_for m = record { name = m.name; eui = m.eui; short = m.short; role = model_role m.role; out_block = m.out_block; in_block = m.in_block }
 
 abbrev pub stations_for : Plan → List Station
-stations_for p = map station_for p.members
+stations_for p = map station_for p.nodes
 
 -- A node with what it holds at the start: the link key of its install code, its network key with the sequence, and its stored
 -- outgoing limits.
-abbrev pub member_for : Member → model.Member
+abbrev pub member_for : Node → model.Node
 member_for m = record { station = station_for m; code = option_map code_key m.code; network = m.network; start_nwk = m.start_nwk; start_aps = m.start_aps }
 
 -- the EUI of the node of a name
@@ -32,7 +32,7 @@ named nodes name = eui_or nobody (find (λ (s : Station). bytes_eq s.name name) 
 
 -- Events, one clause for each form of line
 
-unfoldable pub act_for : List Station → Act → model.Act
+unfoldable pub act_for : List Station → Event → model.Event
 -- of each node
 act_for nodes (Says name to bytes) = model.Own (named nodes name) (SayTo to bytes)
 act_for nodes (Delivers frame name) = model.Deliver frame (named nodes name)
@@ -61,8 +61,8 @@ act_for nodes (Fails name call) = model.ArmFail (named nodes name) call
 act_for nodes (Injects bytes) = model.InjectBytes bytes
 act_for nodes (ForgesNet to from source key sequence counter content) = model.ForgeNet to from source key sequence counter content
 act_for nodes (ForgesBoth to from source key sequence counter label base aps_counter command) =
-    model.ForgeNetAps to from source key sequence counter (purpose label) base aps_counter command
-act_for nodes (ForgesOpen to from source label base aps_counter command) = model.ForgeOpen to from source (purpose label) base aps_counter command
+    model.ForgeNetAps to from source key sequence counter (model_label label) base aps_counter command
+act_for nodes (ForgesOpen to from source label base aps_counter command) = model.ForgeOpen to from source (model_label label) base aps_counter command
 
-unfoldable pub world_of : Plan → model.World
-world_of p = record { members = map member_for p.members; draws = p.draws; acts = map (act_for (stations_for p)) p.acts }
+unfoldable pub schedule_of : Plan → model.Schedule
+schedule_of p = record { nodes = map member_for p.nodes; draws = p.draws; events = map (act_for (stations_for p)) p.events }
