@@ -6,8 +6,8 @@ ghost use Rattle.zb_record.specs.Redoing.{Redoes, change_redone, changes_redone,
 
 use crate::Tables;
 use crate::contents::Contents;
-use zb_node_types::KeyError;
 use zb_cursor::Reader;
+use zb_node_types::KeyError;
 use zb_record::{Version, read_change};
 
 impl Contents {

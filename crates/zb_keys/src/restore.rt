@@ -17,8 +17,8 @@ use crate::{LinkRow, NetRow, Pair, SenderFloor, Tables};
 use arrayvec::ArrayVec;
 use std::alloc::Global;
 use zb_base::{Key, NoMemory, OrMemory, Role};
-use zb_node_types::KeyError;
 use zb_counter::Floor;
+use zb_node_types::KeyError;
 use zb_record::{LinkRecord, NetRecord, PairRecord, Record, SenderRecord, read_record};
 
 /// The floors of a record, as they are after a boot.

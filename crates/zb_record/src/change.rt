@@ -7,8 +7,8 @@ ghost use Rattle.zb_model.specs.Record.{edit_bytes};
 ghost use Rattle.zb_record.specs.Changes.{reserve_at, floor_at, drop_net_at, drop_link_at, install_at, active_at, row_at, became_at, roll_at, told_at, untold_at, live_at, removed_at, start_at, pair_at, later_of, fields_of, change_at};
 
 use crate::field::{read_attribute, read_layer, read_rollover, read_state};
-use zb_node_types::Change;
 use zb_cursor::Reader;
+use zb_node_types::Change;
 
 /// A layer, and the limit up to which its counter is reserved.
 #[tactic(auto, unfolding(crate::specs::Changes::reserve_at, zb_model::specs::Record::edit_bytes))]

@@ -6,8 +6,7 @@ ghost use Rattle.zb_cursor.specs.Reading.{Gives};
 ghost use Rattle.zb_model.specs.Record.{duty_byte, tier_byte, trust_byte, stage_byte, worth};
 ghost use Rattle.zb_record.specs.Fields.{role_at, layer_at, attribute_at, state_at, rollover_at};
 
-use zb_base::{Layer, Role};
-use zb_node_types::{Attribute, Rollover, State};
+use zb_base::{Attribute, Layer, Role, Rollover, State};
 use zb_cursor::Reader;
 
 /// A layer: 00 network, 01 application support.

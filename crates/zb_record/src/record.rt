@@ -17,8 +17,7 @@ use crate::place::begin;
 use crate::sender::read_all_floors;
 use crate::version::{Version, read_version};
 use std::alloc::Global;
-use zb_base::{OrMemory, Role};
-use zb_node_types::{Rollover, State};
+use zb_base::{OrMemory, Role, Rollover, State};
 use zb_cursor::Reader;
 
 /// What a record says of its node first.

@@ -3,8 +3,7 @@ ghost use Rattle.std.specs.Prelude.{◌≡◌, not, fold, filter, map, option_ma
 ghost use Rattle.zb_keys.specs.Rows.{link_key};
 ghost use Rattle.zb_model.specs.OwnEvents.{is_unfinished, is_waiting, least, next_member};
 
-use zb_base::Eui;
-use zb_node_types::Rollover;
+use zb_base::{Eui, Rollover};
 use zb_keys::{LinkRow, Tables};
 
 /// The device that is sent the new network key next: that of the smallest address among the live ones that weren't.

@@ -5,8 +5,8 @@ ghost use Rattle.zb_node_types.specs.Changes.{edits};
 ghost use Rattle.zb_model.specs.Record.{payload};
 ghost use Rattle.zb_record.specs.Ranges.{InRange};
 
-use zb_node_types::{Change, Changes};
 use zb_keys::Tables;
+use zb_node_types::{Change, Changes};
 
 /// Writes the payload of changes, which has at most 481 bytes, and answers its length. There are 481 bytes of room.
 pub fn change_bytes(changes: &Changes, into: &mut [u8]) -> u32

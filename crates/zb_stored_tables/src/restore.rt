@@ -10,8 +10,8 @@ ghost use Rattle.zb_stored_tables.specs.Stored.{behind, is_of_other, state_given
 
 use std::alloc::Global;
 use zb_base::{NoMemory, OrMemory, Role};
-use zb_node_types::KeyError;
 use zb_keys::Tables;
+use zb_node_types::KeyError;
 use zb_record::{Version, version_of};
 
 // The byte of a role in a record.

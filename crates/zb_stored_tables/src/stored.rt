@@ -14,8 +14,8 @@ use crate::restore::restore;
 use std::alloc::Global;
 use std::marker::Model;
 use zb_base::{Eui, Layer, OrMemory, Role};
-use zb_node_types::{Changes, KeyError};
 use zb_keys::Tables;
+use zb_node_types::{Changes, KeyError};
 
 /// A node's tables, as the core of a host keeps them: what a record and the entries behind it gave, and what plans made of
 /// it since. Their values fit the widths of a record.

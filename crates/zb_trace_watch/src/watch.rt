@@ -16,11 +16,10 @@ use crate::nodes::Nodes;
 use crate::origins::Origins;
 use crate::passing::Passing;
 use std::alloc::Global;
-use zb_base::{Eui, Key, Name, NoMemory, Role};
-use zb_transported::carried;
-use zb_node_types::Attribute;
+use zb_base::{Attribute, Eui, Key, Name, NoMemory, Role};
 use zb_seal::Term;
 use zb_trace::Line;
+use zb_transported::carried;
 
 /// What is known of a transcript after the lines so far. A watch keeps no line.
 ///
