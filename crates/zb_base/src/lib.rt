@@ -1,5 +1,5 @@
-//! What every crate of the security plane speaks of: addresses, keys, frames, the roles of nodes, a node's
-//! configuration, and the two traits by which the program reads and writes.
+//! What every crate of the security plane speaks of: addresses, keys, frames, the roles and states of nodes, a
+//! node's configuration, and the two traits by which the program reads and writes.
 #![tactic(auto)]
 
 pub mod address;
@@ -12,6 +12,7 @@ pub mod node;
 mod numbers;
 pub mod sink;
 pub mod source;
+mod state;
 #[cfg(test)]
 mod tests;
 
@@ -24,3 +25,4 @@ pub use list::List;
 pub use node::{Config, Peer, Role};
 pub use sink::{MemSink, NullSink, Sink, StdSink};
 pub use source::{MemSource, Source, StdSource};
+pub use state::{Attribute, Rollover, State};

@@ -19,9 +19,9 @@ use crate::net::{
 };
 use crate::pair::{drop_pairs, has_pair};
 use crate::{LinkRow, NetRow, Pair};
-use zb_base::{Eui, Key, Layer, Role};
+use zb_base::{Attribute, Eui, Key, Layer, Role, Rollover, State};
 use zb_counter::Outgoing;
-use zb_node_types::{Attribute, Change, Rollover, State};
+use zb_node_types::Change;
 
 /// The stable state of a node, with the next counters and the floors in memory.
 #[derive(Debug, Drop)]

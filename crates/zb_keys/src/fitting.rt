@@ -16,8 +16,8 @@ use crate::net::{has_key, key_row};
 use crate::pair::pair_row;
 use crate::planning::{count_live, is_key};
 use crate::{LinkRow, NetRow, SenderFloor};
-use zb_base::{Eui, Key, Layer, Role};
-use zb_node_types::{Attribute, Change, Rollover, State};
+use zb_base::{Attribute, Eui, Key, Layer, Role, Rollover, State};
+use zb_node_types::Change;
 
 impl Contents {
     /// Whether a change fits.

@@ -7,9 +7,8 @@ ghost use Rattle.zb_model.specs.Fits.{most_links};
 ghost use Rattle.zb_keys.specs.Rows.{link_key};
 ghost use Rattle.zb_model.specs.State.{at_link, is_link, has_link, is_live_of, dropped_link, link_floor, link_kept, revived, new_link, told_as, with_told, is_unverified, is_verified, same_key};
 
-use zb_base::{Eui, Key, Role};
+use zb_base::{Attribute, Eui, Key, Role};
 use zb_counter::Floor;
-use zb_node_types::Attribute;
 
 /// A link key shared with a partner. A row is never taken away: a key that comes again for its partner revives it.
 #[derive(Clone, Copy, Debug, PartialEq, Eq)]

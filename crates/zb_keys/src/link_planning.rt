@@ -15,9 +15,9 @@ use crate::contents::Contents;
 use crate::link::{has_row, link_room, live_row, other_row};
 use crate::planning::add;
 use arrayvec::ArrayVec;
-use zb_base::{Eui, Key, Role};
+use zb_base::{Attribute, Eui, Key, Role};
 use zb_mmo::verify_hash;
-use zb_node_types::{Attribute, Change, Changes, KeyError};
+use zb_node_types::{Change, Changes, KeyError};
 
 /// Whether that row has the key.
 fn has_the_key(row: Option<&LinkRow>, key: &Key) -> bool

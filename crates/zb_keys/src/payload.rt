@@ -7,8 +7,8 @@ ghost use Rattle.zb_model.specs.Record.{edit_bytes, payload, is_stored, eight_by
 
 use crate::Tables;
 use crate::writing::put;
-use zb_base::{Eui, Key, Layer};
-use zb_node_types::{Attribute, Change, Changes, Rollover, State};
+use zb_base::{Attribute, Eui, Key, Layer, Rollover, State};
+use zb_node_types::{Change, Changes};
 
 /// The byte of a layer.
 fn layer_byte(layer: Layer) -> u8

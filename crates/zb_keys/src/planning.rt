@@ -15,8 +15,8 @@ use crate::NetRow;
 use crate::contents::Contents;
 use crate::net::{has_key, key_row};
 use arrayvec::ArrayVec;
-use zb_base::Key;
-use zb_node_types::{Change, Changes, KeyError, State};
+use zb_base::{Key, State};
+use zb_node_types::{Change, Changes, KeyError};
 
 /// Adds a change, for which there is room.
 pub fn add(changes: &mut Changes, change: Change)

@@ -9,9 +9,8 @@ ghost use Rattle.zb_model.specs.State.{next_counter, stored_limit, counted, with
 
 use crate::pair::pair_row;
 use crate::{LinkRow, NetRow, Pair, Tables};
-use zb_base::{Eui, Key, Layer, Role};
+use zb_base::{Eui, Key, Layer, Role, Rollover, State};
 use zb_counter::{Floor, Outgoing};
-use zb_node_types::{Rollover, State};
 
 impl Tables {
     /// The part that the node plays.

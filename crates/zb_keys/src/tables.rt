@@ -4,8 +4,8 @@ use crate::link::link_room;
 use crate::{LinkRow, NetRow, Pair};
 use std::alloc::Global;
 use std::marker::Model;
-use zb_base::{NoMemory, Role};
-use zb_node_types::{Changes, Rollover, State};
+use zb_base::{NoMemory, Role, Rollover, State};
+use zb_node_types::Changes;
 
 /// What a node keeps: its network keys with their floors, its link keys, its counters and, at the centre, the keys of
 /// pairs of devices. All room is taken when the tables are made.

@@ -1,34 +1,9 @@
--- How states, attributes, rollovers, the place of a refusal and the refusals of tables are printed. The words are those of
--- transcripts.
+-- How the place of a refusal and the refusals of tables are printed. The words are those of transcripts.
 use Rattle.std.specs.Prelude.{List, ℕ, ◌++◌, codes, decimal}
 use Rattle.zb_node_types.specs.declared.fault.KeyError.{KeyError}
 use Rattle.zb_node_types.specs.declared.fault.KeyError.TheVariants.{KeyOld, KeysFull, RowsFull, KeyInUse, NoRow, WrongHash, BadRecord}
-use Rattle.zb_node_types.specs.declared.state.State.{State}
-use Rattle.zb_node_types.specs.declared.state.State.TheVariants as state
-use Rattle.zb_node_types.specs.declared.state.Attribute.{Attribute}
-use Rattle.zb_node_types.specs.declared.state.Attribute.TheVariants as attribute
-use Rattle.zb_node_types.specs.declared.state.Rollover.{Rollover}
-use Rattle.zb_node_types.specs.declared.state.Rollover.TheVariants as rollover
 use Rattle.zb_node_types.specs.declared.refusal.Place.{Place}
 use Rattle.zb_node_types.specs.declared.refusal.Place.TheVariants as place
-
-abbrev pub attribute_text : Attribute → List ℕ
-attribute_text attribute.Provisional = codes "provisional"
-attribute_text attribute.Unverified = codes "unverified"
-attribute_text attribute.Verified = codes "verified"
-
-abbrev pub state_text : State → List ℕ
-state_text state.Fresh = codes "fresh"
-state_text state.Knocked = codes "knocked"
-state_text state.Joined = codes "joined"
-state_text state.Offered = codes "offered"
-state_text state.Confirmed = codes "confirmed"
-state_text state.Rejoining = codes "rejoining"
-state_text state.Gone = codes "gone"
-
-abbrev pub rollover_text : Rollover → List ℕ
-rollover_text rollover.Sending = codes "sending"
-rollover_text rollover.Idle = codes "idle"
 
 abbrev pub place_text : Place → List ℕ
 place_text place.Nwk = codes "nwk"

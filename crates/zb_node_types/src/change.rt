@@ -1,7 +1,6 @@
 //! The changes of a node's stable state.
-use crate::{Attribute, Rollover, State};
 use arrayvec::ArrayVec;
-use zb_base::{Eui, Key, Layer};
+use zb_base::{Attribute, Eui, Key, Layer, Rollover, State};
 
 /// One change of what a node keeps over a reset.
 #[derive(Clone, Copy, Debug, PartialEq, Eq)]

@@ -7,9 +7,7 @@
 pub mod change;
 pub mod fault;
 pub mod refusal;
-pub mod state;
 
 pub use change::{Change, Changes};
 pub use fault::KeyError;
 pub use refusal::{Place, Refusal};
-pub use state::{Attribute, Rollover, State};

@@ -3,12 +3,12 @@ use Rattle.std.proofs.Common.{◌≡◌, ℕ, ◌^◌, true, List, [], ◌∷◌
 use Rattle.std.specs.Int.{w32}
 use Rattle.zb_base.specs.declared.label.Layer.{Layer}
 use Rattle.zb_base.specs.declared.label.Layer.TheVariants as layer
-use Rattle.zb_node_types.specs.declared.state.State.{State}
-use Rattle.zb_node_types.specs.declared.state.State.TheVariants as state
-use Rattle.zb_node_types.specs.declared.state.Attribute.{Attribute}
-use Rattle.zb_node_types.specs.declared.state.Attribute.TheVariants as attribute
-use Rattle.zb_node_types.specs.declared.state.Rollover.{Rollover}
-use Rattle.zb_node_types.specs.declared.state.Rollover.TheVariants as rollover
+use Rattle.zb_base.specs.declared.state.State.{State}
+use Rattle.zb_base.specs.declared.state.State.TheVariants as state
+use Rattle.zb_base.specs.declared.state.Attribute.{Attribute}
+use Rattle.zb_base.specs.declared.state.Attribute.TheVariants as attribute
+use Rattle.zb_base.specs.declared.state.Rollover.{Rollover}
+use Rattle.zb_base.specs.declared.state.Rollover.TheVariants as rollover
 use Rattle.zb_node_types.specs.declared.change.Change.{Change}
 use Rattle.zb_node_types.specs.declared.change.Change.TheVariants as change
 use Rattle.zb_node_types.specs.Changes.{edit, model_layer, model_attribute, model_state, is_sending}

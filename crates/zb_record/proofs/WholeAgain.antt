@@ -6,10 +6,10 @@ use Rattle.std.specs.Int.{w16, w32}
 use Rattle.std.proofs.lemmas.Bool.{le-leb, lt-ltb, eqb-true}
 use Rattle.zb_base.specs.declared.node.Role.{Role}
 use Rattle.zb_base.specs.declared.node.Role.TheVariants as role
-use Rattle.zb_node_types.specs.declared.state.State.{State}
-use Rattle.zb_node_types.specs.declared.state.State.TheVariants as state
-use Rattle.zb_node_types.specs.declared.state.Rollover.{Rollover}
-use Rattle.zb_node_types.specs.declared.state.Rollover.TheVariants as rollover
+use Rattle.zb_base.specs.declared.state.State.{State}
+use Rattle.zb_base.specs.declared.state.State.TheVariants as state
+use Rattle.zb_base.specs.declared.state.Rollover.{Rollover}
+use Rattle.zb_base.specs.declared.state.Rollover.TheVariants as rollover
 use Rattle.zb_node_types.specs.Changes.{model_role, model_state, is_sending}
 use Rattle.zb_cursor.specs.Reading.{number_at}
 use Rattle.zb_cursor.proofs.ReadAgain.{wide16, wide32, number_again}

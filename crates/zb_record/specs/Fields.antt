@@ -6,12 +6,12 @@ use Rattle.zb_base.specs.declared.node.Role.{Role}
 use Rattle.zb_base.specs.declared.node.Role.TheVariants as role
 use Rattle.zb_record.specs.declared.version.Version.{Version}
 use Rattle.zb_record.specs.declared.version.Version.TheVariants as version
-use Rattle.zb_node_types.specs.declared.state.State.{State}
-use Rattle.zb_node_types.specs.declared.state.State.TheVariants as state
-use Rattle.zb_node_types.specs.declared.state.Attribute.{Attribute}
-use Rattle.zb_node_types.specs.declared.state.Attribute.TheVariants as attribute
-use Rattle.zb_node_types.specs.declared.state.Rollover.{Rollover}
-use Rattle.zb_node_types.specs.declared.state.Rollover.TheVariants as rollover
+use Rattle.zb_base.specs.declared.state.State.{State}
+use Rattle.zb_base.specs.declared.state.State.TheVariants as state
+use Rattle.zb_base.specs.declared.state.Attribute.{Attribute}
+use Rattle.zb_base.specs.declared.state.Attribute.TheVariants as attribute
+use Rattle.zb_base.specs.declared.state.Rollover.{Rollover}
+use Rattle.zb_base.specs.declared.state.Rollover.TheVariants as rollover
 use Rattle.zb_cursor.specs.Reading.{Reading, ◌>>=◌, byte_at}
 
 -- a value, where there is one

@@ -7,8 +7,8 @@ use Rattle.zb_base.specs.declared.fault.OrMemory.TheVariants.{Fault, NoMemory}
 use Rattle.zb_base.specs.declared.node.Role.{Role}
 use Rattle.zb_node_types.specs.declared.fault.KeyError.{KeyError}
 use Rattle.zb_node_types.specs.declared.fault.KeyError.TheVariants.{KeyOld, KeysFull, RowsFull, KeyInUse, NoRow, WrongHash, BadRecord}
-use Rattle.zb_node_types.specs.declared.state.State.{State}
-use Rattle.zb_node_types.specs.declared.state.Rollover.{Rollover}
+use Rattle.zb_base.specs.declared.state.State.{State}
+use Rattle.zb_base.specs.declared.state.Rollover.{Rollover}
 use Rattle.zb_node_types.specs.Changes.{model_role, model_state, is_sending}
 use Rattle.zb_cursor.specs.Reading.{number_at}
 use Rattle.zb_model.specs.Data.{Bytes}

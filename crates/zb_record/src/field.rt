@@ -6,9 +6,8 @@ ghost use Rattle.zb_cursor.specs.Reading.{Gives};
 ghost use Rattle.zb_model.specs.Record.{role_byte, layer_byte, attribute_byte, state_byte, worth};
 ghost use Rattle.zb_record.specs.Fields.{role_at, layer_at, attribute_at, state_at, rollover_at};
 
-use zb_base::{Layer, Role};
+use zb_base::{Attribute, Layer, Role, Rollover, State};
 use zb_cursor::Reader;
-use zb_node_types::{Attribute, Rollover, State};
 
 /// A layer: 00 network, 01 application support.
 #[tactic(auto, unfolding(crate::specs::Fields::layer_at))]

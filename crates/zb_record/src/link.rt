@@ -13,9 +13,8 @@ ghost use Rattle.zb_record.specs.Rows.{link_seen, link_row, is_new_link, kinds_a
 use crate::field::read_attribute;
 use crate::place::begin;
 use std::alloc::Global;
-use zb_base::{Eui, Key, OrMemory, Role};
+use zb_base::{Attribute, Eui, Key, OrMemory, Role};
 use zb_cursor::{Reader, has_bit};
-use zb_node_types::Attribute;
 
 /// A link key in a record: partner 8, key 16, attribute 1, flags 1 (bit 0 live, bit 1 from a code, bit 2 told), floor 4.
 #[derive(Clone, Copy, Debug, PartialEq, Eq)]

@@ -17,9 +17,8 @@ use crate::place::begin;
 use crate::sender::read_all_floors;
 use crate::version::{Version, read_version};
 use std::alloc::Global;
-use zb_base::{OrMemory, Role};
+use zb_base::{OrMemory, Role, Rollover, State};
 use zb_cursor::Reader;
-use zb_node_types::{Rollover, State};
 
 /// What a record says of its node first.
 #[derive(Clone, Copy, Debug, PartialEq, Eq)]

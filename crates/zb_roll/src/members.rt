@@ -3,9 +3,8 @@ ghost use Rattle.std.specs.Prelude.{◌≡◌, not, fold, filter, map, option_ma
 ghost use Rattle.zb_keys.specs.Rows.{link_key};
 ghost use Rattle.zb_model.specs.OwnEvents.{is_unfinished, is_waiting, least, next_member};
 
-use zb_base::Eui;
+use zb_base::{Eui, Rollover};
 use zb_keys::{LinkRow, Tables};
-use zb_node_types::Rollover;
 
 /// The device that is sent the new network key next: that of the smallest address among the live ones that weren't.
 pub fn next_member(tables: &Tables) -> Option<Eui>

@@ -7,9 +7,9 @@ ghost use Rattle.zb_model.specs.OwnEvents.{is_unfinished};
 ghost use Rattle.zb_model.specs.State.{active_row, has_net, is_live, is_told, newest};
 
 use arrayvec::ArrayVec;
-use zb_base::{Eui, Key};
+use zb_base::{Eui, Key, Rollover};
 use zb_keys::{Tables, add};
-use zb_node_types::{Change, Changes, KeyError, Rollover};
+use zb_node_types::{Change, Changes, KeyError};
 
 /// What it changes that a rollover begins with a new key: where two network keys are in use, the one that isn't active is
 /// dropped; the new one is installed with the sequence number after the active one's, and no device was told. There is an

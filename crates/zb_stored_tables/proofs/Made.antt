@@ -4,7 +4,7 @@ use Rattle.std.specs.Prelude.{nat_eq, nat_lt, filter}
 use Rattle.std.specs.List.{AllByRecursion, list_any}
 use Rattle.zb_node_types.specs.declared.change.Change.{Change}
 use Rattle.zb_node_types.specs.declared.change.Change.TheVariants as change
-use Rattle.zb_node_types.specs.declared.state.Rollover.TheVariants as rollover
+use Rattle.zb_base.specs.declared.state.Rollover.TheVariants as rollover
 use Rattle.zb_base.specs.declared.label.Layer.TheVariants as layer
 use Rattle.zb_node_types.specs.Changes.{edit, edits, model_attribute}
 use Rattle.zb_model.specs.Data.{Bytes, Attribute}

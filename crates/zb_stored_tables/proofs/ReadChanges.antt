@@ -7,9 +7,9 @@ use Rattle.zb_base.specs.declared.key.Key.{Key}
 use Rattle.zb_base.specs.declared.label.Layer.{Layer}
 use Rattle.zb_node_types.specs.declared.change.Change.{Change}
 use Rattle.zb_node_types.specs.declared.change.Change.TheVariants.{Reserve, Floor, DropNet, DropLink, Install, Active, Row, State, Roll, Told, Untold, Live, Removed, Start, Pair}
-use Rattle.zb_node_types.specs.declared.state.State.{State as NodeStage}
-use Rattle.zb_node_types.specs.declared.state.Attribute.{Attribute}
-use Rattle.zb_node_types.specs.declared.state.Rollover.{Rollover}
+use Rattle.zb_base.specs.declared.state.State.{State as NodeStage}
+use Rattle.zb_base.specs.declared.state.Attribute.{Attribute}
+use Rattle.zb_base.specs.declared.state.Rollover.{Rollover}
 use Rattle.zb_cursor.specs.Reading.{Reading, follow, ◌>>=◌, give, byte_at, number_at, eui_at, key_at}
 use Rattle.zb_record.specs.Fields.{layer_of, attribute_of, state_of, rollover_of, layer_at, attribute_at, state_at, rollover_at}
 use Rattle.zb_record.specs.Changes.{reserve_at, floor_at, drop_net_at, drop_link_at, install_at, active_at, row_at, became_at, roll_at, told_at, untold_at, live_at, removed_at, start_at, pair_at, later_of, fields_of, change_at}

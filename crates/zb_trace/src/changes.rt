@@ -6,8 +6,7 @@ ghost use Rattle.zb_trace.specs.declared.line.Line.TheVariants as line;
 use crate::parts::{begin, begin_of};
 use crate::spelling::{attribute_text, layer_text, rollover_text, state_text};
 use std::alloc::AllocError;
-use zb_base::{Eui, Key, Layer, Name};
-use zb_node_types::{Attribute, Rollover, State};
+use zb_base::{Attribute, Eui, Key, Layer, Name, Rollover, State};
 use zb_text::page::{add_eui, add_key, add_number, add_word, end_line};
 
 /// A reserved outgoing counter.

@@ -1,6 +1,6 @@
 //! The lines of a transcript.
-use zb_base::{Eui, Frame, Key, Layer, List, Name, Role, Short};
-use zb_node_types::{Attribute, Refusal, Rollover, State};
+use zb_base::{Attribute, Eui, Frame, Key, Layer, List, Name, Role, Rollover, Short, State};
+use zb_node_types::Refusal;
 use zb_seal::Term;
 
 /// One line of a transcript. `event` is the number of the event that gave the line, from 1; the lines of the start

@@ -2,8 +2,8 @@
 ghost use Rattle.std.specs.Prelude.{◌≡◌};
 ghost use Rattle.zb_trace.specs.Text as spec;
 
-use zb_base::{Label, Layer, Role};
-use zb_node_types::{Attribute, Place, Rollover, State};
+use zb_base::{Attribute, Label, Layer, Role, Rollover, State};
+use zb_node_types::Place;
 
 pub(crate) fn role_text(role: Role) -> &'static [u8]
     ensures { result.now ≡ spec.role_text role }

@@ -12,12 +12,12 @@ use Rattle.zb_base.specs.declared.label.Layer.{Layer}
 use Rattle.zb_base.specs.declared.label.Layer.TheVariants as layer
 use Rattle.zb_base.specs.declared.label.Label.{Label}
 use Rattle.zb_base.specs.declared.label.Label.TheVariants as label
-use Rattle.zb_node_types.specs.declared.state.State.{State}
-use Rattle.zb_node_types.specs.declared.state.State.TheVariants as state
-use Rattle.zb_node_types.specs.declared.state.Attribute.{Attribute}
-use Rattle.zb_node_types.specs.declared.state.Attribute.TheVariants as attribute
-use Rattle.zb_node_types.specs.declared.state.Rollover.{Rollover}
-use Rattle.zb_node_types.specs.declared.state.Rollover.TheVariants as rollover
+use Rattle.zb_base.specs.declared.state.State.{State}
+use Rattle.zb_base.specs.declared.state.State.TheVariants as state
+use Rattle.zb_base.specs.declared.state.Attribute.{Attribute}
+use Rattle.zb_base.specs.declared.state.Attribute.TheVariants as attribute
+use Rattle.zb_base.specs.declared.state.Rollover.{Rollover}
+use Rattle.zb_base.specs.declared.state.Rollover.TheVariants as rollover
 use Rattle.zb_node_types.specs.declared.refusal.Place.{Place}
 use Rattle.zb_node_types.specs.declared.refusal.Place.TheVariants as place
 use Rattle.zb_node_types.specs.declared.refusal.Refusal.{Refusal}

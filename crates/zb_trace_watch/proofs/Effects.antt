@@ -12,8 +12,8 @@ use Rattle.zb_base.specs.declared.label.Layer.TheVariants as layer
 use Rattle.zb_base.specs.declared.node.Role.{Role}
 use Rattle.zb_transported.specs.Carrying as carrying
 use Rattle.zb_node_types.specs.Changes.{model_layer, model_attribute}
-use Rattle.zb_node_types.specs.declared.state.Attribute.{Attribute}
-use Rattle.zb_node_types.specs.declared.state.Attribute.TheVariants as attribute
+use Rattle.zb_base.specs.declared.state.Attribute.{Attribute}
+use Rattle.zb_base.specs.declared.state.Attribute.TheVariants as attribute
 use Rattle.zb_cmd.specs.Reading.{command_of}
 use Rattle.zb_model.specs.Data as model
 use Rattle.zb_model.specs.Data.{Bytes, Station, nobody}

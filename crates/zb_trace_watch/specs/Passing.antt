@@ -1,8 +1,8 @@
 -- The network's keys.
 use Rattle.std.specs.Prelude.{Bool, true, false, Option, Some, None}
 use Rattle.zb_base.specs.declared.key.Key.{Key}
-use Rattle.zb_node_types.specs.declared.state.Attribute.{Attribute}
-use Rattle.zb_node_types.specs.declared.state.Attribute.TheVariants.{Provisional}
+use Rattle.zb_base.specs.declared.state.Attribute.{Attribute}
+use Rattle.zb_base.specs.declared.state.Attribute.TheVariants.{Provisional}
 use Rattle.zb_trace_watch.specs.Sets.{has}
 use Rattle.zb_trace_watch.specs.declared.keys.Keys.{Keys}
 

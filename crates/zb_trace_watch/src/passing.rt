@@ -5,8 +5,7 @@ ghost use Rattle.zb_trace_watch.specs.Sets.{has, is_key};
 
 use crate::keys::Keys;
 use std::alloc::{AllocError, Global};
-use zb_base::Key;
-use zb_node_types::Attribute;
+use zb_base::{Attribute, Key};
 
 /// The network's keys, and those that forged terms carry.
 #[derive(Drop)]

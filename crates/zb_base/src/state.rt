@@ -45,7 +45,7 @@ pub enum Rollover {
 
 impl fmt::Display for State {
     ghost use Rattle.std.specs.Prelude.{Some};
-    ghost use Rattle.zb_node_types.specs.Texts.{state_text};
+    ghost use Rattle.zb_base.specs.Texts.{state_text};
 
     ghost output = { λ it. Some (state_text it) };
 
@@ -64,7 +64,7 @@ impl fmt::Display for State {
 
 impl fmt::Display for Attribute {
     ghost use Rattle.std.specs.Prelude.{Some};
-    ghost use Rattle.zb_node_types.specs.Texts.{attribute_text};
+    ghost use Rattle.zb_base.specs.Texts.{attribute_text};
 
     ghost output = { λ it. Some (attribute_text it) };
 
@@ -79,7 +79,7 @@ impl fmt::Display for Attribute {
 
 impl fmt::Display for Rollover {
     ghost use Rattle.std.specs.Prelude.{Some};
-    ghost use Rattle.zb_node_types.specs.Texts.{rollover_text};
+    ghost use Rattle.zb_base.specs.Texts.{rollover_text};
 
     ghost output = { λ it. Some (rollover_text it) };
 
