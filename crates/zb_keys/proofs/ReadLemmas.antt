@@ -6,7 +6,7 @@ use Rattle.zb_counter.specs.declared.sending.Outgoing.{Outgoing}
 use Rattle.zb_model.specs.Data.{Nwk}
 use Rattle.zb_model.specs.State as model
 use Rattle.zb_model.specs.State.{NodeState, NetKey, same_key, counted, active_row, net_of_active, next_counter, stored_limit, with_declared, declared_at, sender_floor, floor_of_sender}
-use Rattle.zb_model.specs.Fits.{keeps_rules, rows_have_room, keys_differ, at_most_two_live, active_is_live, partners_agree, links_are_marked, floors_are_kept, limits_are_started, duty_is_kept, pairs_are_kept}
+use Rattle.zb_model.specs.Fits.{keeps_rules, rows_have_room, keys_differ, at_most_two_live, active_is_live, partners_agree, links_are_marked, floors_are_kept, limits_are_started, role_is_kept, pairs_are_kept}
 use Rattle.zb_keys.specs.declared.contents.Contents.{Contents}
 use Rattle.zb_keys.specs.declared.net.NetRow.{NetRow}
 use Rattle.zb_keys.specs.declared.net.SenderFloor.{SenderFloor}
@@ -51,11 +51,11 @@ unfolding sender_floor
 floor_found r sender f found = ap (λ o. floor_of_sender sender o) (ap (option_map heard_floor) found ∙ sym (find_map (λ (x : model.SenderFloor). nat_eq x.sender sender) heard_floor r.floors.items))
 
 same_rules_declared : (s : NodeState) (n : ℕ) → keeps_rules s ≡ true → keeps_rules (record s { declared = n }) ≡ true
-unfolding keeps_rules rows_have_room keys_differ at_most_two_live active_is_live partners_agree links_are_marked floors_are_kept limits_are_started duty_is_kept pairs_are_kept
+unfolding keeps_rules rows_have_room keys_differ at_most_two_live active_is_live partners_agree links_are_marked floors_are_kept limits_are_started role_is_kept pairs_are_kept
 same_rules_declared s n kept = kept
 
 same_rules_aps : (s : NodeState) (n : ℕ) → keeps_rules s ≡ true → keeps_rules (record s { aps_next = n }) ≡ true
-unfolding keeps_rules rows_have_room keys_differ at_most_two_live active_is_live partners_agree links_are_marked floors_are_kept limits_are_started duty_is_kept pairs_are_kept
+unfolding keeps_rules rows_have_room keys_differ at_most_two_live active_is_live partners_agree links_are_marked floors_are_kept limits_are_started role_is_kept pairs_are_kept
 same_rules_aps s n kept = kept
 
 pub declared_sound : (a : Contents) (n : ℕ) → IsSound a → IsSound (record a { declared = n })

@@ -25,7 +25,7 @@ abbrev pub link_key : LinkRow → LinkKey
 link_key r = record {
   partner = r.partner.0;
   key = r.key.0;
-  model_attribute = model_attribute r.attribute;
+  attribute = model_attribute r.attribute;
   live = r.live;
   code = r.code;
   told = r.told;

@@ -16,8 +16,8 @@ active_bytes (Some key) = Some key.0
 
 abbrev pub state_of : Contents → NodeState
 state_of a = record {
-  model_role = model_role a.role;
-  model_state = model_state a.state;
+  role = model_role a.role;
+  state = model_state a.state;
   declared = a.declared;
   aps_limit = a.aps_limit;
   aps_next = a.aps_next;

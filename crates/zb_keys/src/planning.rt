@@ -52,7 +52,7 @@ pub(crate) fn is_key(active: &Option<Key>, key: &Key) -> bool
     ensures { result ≡ is_active_key (active_bytes active.now) key.now.0 }
 {
     match active {
-        Some(active) => *key == *active,
+        Some(active) => *active == *key,
         None => false,
     }
 }

@@ -71,7 +71,7 @@ same_key a b = bytes_eq a b
 -- whether a key is that of the active row
 abbrev pub is_active_key : Option Bytes → Bytes → Bool
 is_active_key None key = false
-is_active_key (Some active) key = same_key key active
+is_active_key (Some active) key = same_key active key
 
 abbrev pub same_layer : Layer → Layer → Bool
 same_layer Nwk Nwk = true

@@ -361,19 +361,19 @@ verify-fits tools c s m kind device hash = un s _ _ _ (un s _ _ _ (un s _ _ _ (u
     (λ e. gi s _ _ _ (λ row f. (none-fits s.nets (drop_row (current s device) ++ (Row device row.key _ ∷ [])) (all-append NoActive (drop_row (current s device)) _ (row-drops (current s device)) (tt, tt)), tt)))
     (λ e. ch s _ _ _ (λ f. gi s _ _ _ (λ row g. (tt, tt))) (λ f. tt))))))
 
-command-fits : (tools : Tools) (c : Setting) (s : NodeState) (draw : Option Bytes) (m : Heard) (o : Command) → Fits s (take_command tools c s draw m o)
+take-command-fits : (tools : Tools) (c : Setting) (s : NodeState) (draw : Option Bytes) (m : Heard) (o : Command) → Fits s (take_command tools c s draw m o)
 unfolding take_command
-command-fits tools c s draw m (TransportNet key q destination source) = net-key-fits c s m key q destination source
-command-fits tools c s draw m (TransportApp key partner initiator) = app-key-fits c s m key partner
-command-fits tools c s draw m (TransportLink key destination source) = link-key-fits c s m key destination source
-command-fits tools c s draw m (UpdateDevice device short status) = update-fits c s m device status
-command-fits tools c s draw m (RemoveDevice target) = take-remove-fits c s m target
-command-fits tools c s draw m (RequestApp partner) = app-request-fits c s m draw partner
-command-fits tools c s draw m RequestLink = request-fits c s m draw
-command-fits tools c s draw m (SwitchKey q) = take-switch-fits c s m q
-command-fits tools c s draw m (Tunnel destination inner) = tunnel-fits c s m destination inner
-command-fits tools c s draw m (VerifyKey kind source hash) = verify-fits tools c s m kind source hash
-command-fits tools c s draw m (ConfirmKey status kind destination) = confirm-fits c s m status kind destination
+take-command-fits tools c s draw m (TransportNet key q destination source) = net-key-fits c s m key q destination source
+take-command-fits tools c s draw m (TransportApp key partner initiator) = app-key-fits c s m key partner
+take-command-fits tools c s draw m (TransportLink key destination source) = link-key-fits c s m key destination source
+take-command-fits tools c s draw m (UpdateDevice device short status) = update-fits c s m device status
+take-command-fits tools c s draw m (RemoveDevice target) = take-remove-fits c s m target
+take-command-fits tools c s draw m (RequestApp partner) = app-request-fits c s m draw partner
+take-command-fits tools c s draw m RequestLink = request-fits c s m draw
+take-command-fits tools c s draw m (SwitchKey q) = take-switch-fits c s m q
+take-command-fits tools c s draw m (Tunnel destination inner) = tunnel-fits c s m destination inner
+take-command-fits tools c s draw m (VerifyKey kind source hash) = verify-fits tools c s m kind source hash
+take-command-fits tools c s draw m (ConfirmKey status kind destination) = confirm-fits c s m status kind destination
 
 leave-fits : (c : Setting) (s : NodeState) (t : Term) (options : ℕ) → Fits s (take_leave c t options)
 unfolding take_leave
@@ -389,7 +389,7 @@ either-plan s true p q f g = f
 either-plan s false p q f g = g
 
 command-fits : (tools : Tools) (c : Setting) (s : NodeState) (draw : Option Bytes) (ts : List Term) (m : Heard) (o : CommandShown) → PlanFits s (aps_command tools c s draw ts m o)
-command-fits tools c s draw ts m (Known command) = command-fits tools c s draw m command
+command-fits tools c s draw ts m (Known command) = take-command-fits tools c s draw m command
 command-fits tools c s draw ts m Unknown = tt
 command-fits tools c s draw ts m Broken = tt
 

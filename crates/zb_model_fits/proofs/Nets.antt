@@ -8,7 +8,7 @@ use Rattle.std.proofs.lemmas.List.Elements.{filter-append}
 use Rattle.std.proofs.lemmas.List.Folds.{list_all-append}
 use Rattle.zb_model.specs.Data.{Bytes}
 use Rattle.zb_model.specs.State.{NodeState, SenderFloor, NetKey, same_key, live_nets, at_net, has_net, reserved, started_at, dropped_net, new_net, of_active, is_active_key}
-use Rattle.zb_model.specs.Fits.{keeps_rules, active_is_live, duty_is_kept, row_is_live, live_net, most_nets, all_apart}
+use Rattle.zb_model.specs.Fits.{keeps_rules, active_is_live, role_is_kept, row_is_live, live_net, most_nets, all_apart}
 use Rattle.zb_model_fits.proofs.Tests.{both, never, same_both, all_map, fewer, apart_map, apart_snoc}
 use Rattle.zb_model_fits.proofs.Parts.{Rules, rules_of, rules_back, floors_rule, limit_rule, nets_alike, same_key_is}
 
@@ -42,7 +42,7 @@ still_active g mild s None none kept = rw none refl
 still_active g mild s (Some key) is kept = rw is (found_live g mild.key key (λ r e. mild.live r) s.nets ∙ rw is at kept)
 
 pub mild_kept : (g : NetKey → NetKey) → Mild g → (s : NodeState) → Rules s → list_all floors_rule (map g s.nets) ≡ true → keeps_rules (record s { nets = map g s.nets }) ≡ true
-unfolding duty_is_kept
+unfolding role_is_kept
 mild_kept g mild s r floors =
     rules_back (record s { nets = map g s.nets }) (record {
       nets_room = omega (arith, r.nets_room, length-map s.nets g);
@@ -57,7 +57,7 @@ mild_kept g mild s r floors =
       marks = r.marks;
       floors = floors;
       limits = all_map limit_rule limit_rule g mild.limit s.nets r.limits;
-      duty_kept = r.duty_kept;
+      role_kept = r.role_kept;
       pairs = r.pairs;
       pair_names = r.pair_names;
     })
@@ -163,7 +163,7 @@ dropped_breaks key s (Some k) is kept = at_test (same_key k key) refl (rw is at 
     at_test false same e = refl
 
 pub dropped_net_kept : (key : Bytes) (s : NodeState) → Rules s → keeps_rules (record s { nets = at_net key dropped_net s.nets }) ≡ not (is_active_key s.active key)
-unfolding duty_is_kept
+unfolding role_is_kept
 dropped_net_kept key s r =
     let now : NodeState = record s { nets = at_net key dropped_net s.nets } in
     same_both (keeps_rules now) (not (is_active_key s.active key))
@@ -181,7 +181,7 @@ dropped_net_kept key s r =
       marks = r.marks;
       floors = floors_left key dropped_net (λ x. refl) s.nets r.floors;
       limits = all_map limit_rule limit_rule (dropped_at key) (dropped_limit key) s.nets r.limits;
-      duty_kept = r.duty_kept;
+      role_kept = r.role_kept;
       pairs = r.pairs;
       pair_names = r.pair_names;
     }))
@@ -204,7 +204,7 @@ installed_active more s (Some k) is kept = rw is (found_first k s.nets more (rw 
 
 pub installed_kept : (key : Bytes) (sequence : ℕ) (s : NodeState) → Rules s → has_net key s.nets ≡ false
     → keeps_rules (record s { nets = s.nets ++ new_net key sequence ∷ [] }) ≡ (nat_lt (length s.nets) most_nets && nat_lt (length (live_nets s)) 2)
-unfolding duty_is_kept
+unfolding role_is_kept
 installed_kept key sequence s r absent =
     let row : NetKey = new_net key sequence in
     let now : NodeState = record s { nets = s.nets ++ row ∷ [] } in
@@ -232,14 +232,14 @@ installed_kept key sequence s r absent =
       marks = r.marks;
       floors = list_all-append floors_rule s.nets (row ∷ []) ∙ rw r.floors refl;
       limits = list_all-append limit_rule s.nets (row ∷ []) ∙ rw r.limits refl;
-      duty_kept = r.duty_kept;
+      role_kept = r.role_kept;
       pairs = r.pairs;
       pair_names = r.pair_names;
     }))
 
 -- A live network key becomes active.
 pub activated_kept : (key : Bytes) (s : NodeState) → Rules s → live_net key s ≡ true → keeps_rules (record s { active = Some key }) ≡ true
-unfolding duty_is_kept active_is_live
+unfolding role_is_kept active_is_live
 activated_kept key s r live =
     rules_back (record s { active = Some key }) (record {
       nets_room = r.nets_room;
@@ -254,7 +254,7 @@ activated_kept key s r live =
       marks = r.marks;
       floors = r.floors;
       limits = r.limits;
-      duty_kept = r.duty_kept;
+      role_kept = r.role_kept;
       pairs = r.pairs;
       pair_names = r.pair_names;
     })

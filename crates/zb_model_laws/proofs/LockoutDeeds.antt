@@ -625,19 +625,19 @@ take-verify-fits tools c s task m heard kind device hash =
     replaces : (row : LinkKey) → offered s device ≡ Some row → not (is_live s device) ≡ false → AllByRecursion (Quiet s) (drop_row (current s device) ++ (Row device row.key Verified ∷ []))
     replaces row g b = drop-quiet (current s device) (Row device row.key Verified ∷ []) ((has-row s device row.key (offered-live s device row g), not-false (is_live s device) b), tt)
 
-command-fits : (tools : Tools) (c : Setting) (s : NodeState) (bytes : Bytes) (draw : Option Bytes) (m : Heard) → IsHeard c m → (o : Command) → OutcomeFits c s (Received bytes draw) (take_command tools c s draw m o)
+take-command-fits : (tools : Tools) (c : Setting) (s : NodeState) (bytes : Bytes) (draw : Option Bytes) (m : Heard) → IsHeard c m → (o : Command) → OutcomeFits c s (Received bytes draw) (take_command tools c s draw m o)
 unfolding take_command
-command-fits tools c s bytes draw m heard (TransportNet key sequence destination source) = net-key-fits c s (Received bytes draw) m key sequence destination source
-command-fits tools c s bytes draw m heard (TransportApp key partner initiator) = app-key-fits c s (Received bytes draw) m key partner
-command-fits tools c s bytes draw m heard (TransportLink key destination source) = link-key-fits c s (Received bytes draw) m key destination source
-command-fits tools c s bytes draw m heard (UpdateDevice device short status) = take-update-fits c s (Received bytes draw) m device status
-command-fits tools c s bytes draw m heard (RemoveDevice target) = take-remove-fits c s (Received bytes draw) m target
-command-fits tools c s bytes draw m heard (RequestApp partner) = take-app-request-fits c s bytes draw m partner
-command-fits tools c s bytes draw m heard RequestLink = take-request-fits c s bytes draw m
-command-fits tools c s bytes draw m heard (SwitchKey sequence) = take-switch-fits c s (Received bytes draw) m sequence
-command-fits tools c s bytes draw m heard (Tunnel destination inner) = take-tunnel-fits c s (Received bytes draw) m destination inner
-command-fits tools c s bytes draw m heard (VerifyKey kind source hash) = take-verify-fits tools c s (Received bytes draw) m heard kind source hash
-command-fits tools c s bytes draw m heard (ConfirmKey status kind destination) = take-confirm-fits c s (Received bytes draw) m status kind destination
+take-command-fits tools c s bytes draw m heard (TransportNet key sequence destination source) = net-key-fits c s (Received bytes draw) m key sequence destination source
+take-command-fits tools c s bytes draw m heard (TransportApp key partner initiator) = app-key-fits c s (Received bytes draw) m key partner
+take-command-fits tools c s bytes draw m heard (TransportLink key destination source) = link-key-fits c s (Received bytes draw) m key destination source
+take-command-fits tools c s bytes draw m heard (UpdateDevice device short status) = take-update-fits c s (Received bytes draw) m device status
+take-command-fits tools c s bytes draw m heard (RemoveDevice target) = take-remove-fits c s (Received bytes draw) m target
+take-command-fits tools c s bytes draw m heard (RequestApp partner) = take-app-request-fits c s bytes draw m partner
+take-command-fits tools c s bytes draw m heard RequestLink = take-request-fits c s bytes draw m
+take-command-fits tools c s bytes draw m heard (SwitchKey sequence) = take-switch-fits c s (Received bytes draw) m sequence
+take-command-fits tools c s bytes draw m heard (Tunnel destination inner) = take-tunnel-fits c s (Received bytes draw) m destination inner
+take-command-fits tools c s bytes draw m heard (VerifyKey kind source hash) = take-verify-fits tools c s (Received bytes draw) m heard kind source hash
+take-command-fits tools c s bytes draw m heard (ConfirmKey status kind destination) = take-confirm-fits c s (Received bytes draw) m status kind destination
 
 leave-fits : (c : Setting) (s : NodeState) (task : Task) (term : Term) (options : ℕ) → OutcomeFits c s task (take_leave c term options)
 unfolding take_leave
@@ -672,7 +672,7 @@ source-declared c None d n e = absurd (no-number n e)
 source-declared c (Some t) d n e = subst (λ x. is_declared c x ≡ true) (some-number t.source n e) d
 
 command-fits : (tools : Tools) (c : Setting) (s : NodeState) (bytes : Bytes) (draw : Option Bytes) (accepts : List Term) (m : Heard) → IsHeard c m → (o : CommandShown) → PlanFits c s (Received bytes draw) (aps_command tools c s draw accepts m o)
-command-fits tools c s bytes draw accepts m heard (Known command) = command-fits tools c s bytes draw m heard command
+command-fits tools c s bytes draw accepts m heard (Known command) = take-command-fits tools c s bytes draw m heard command
 command-fits tools c s bytes draw accepts m heard Unknown = tt
 command-fits tools c s bytes draw accepts m heard Broken = tt
 

@@ -235,7 +235,7 @@ BodyCarries x h secured _ = Unit {0}
 
 command-carries : (x : Case) → ShowsKeys x.tools → (h : List Line) (label : Label) (key : Bytes) (command : Command) (me aps : ℕ) → CommandCarries x h key command → Carries x h (aps_term sealed_command label key me aps (x.tools.spelled command))
 unfolding carried
-command-carries x shows h label key command me aps c k e = c k (shows.command command k e)
+command-carries x shows h label key command me aps c k e = c k (shows.spelled command k e)
 
 part-carries : (x : Case) → ShowsKeys x.tools → (h : List Line) (me to nwk aps : ℕ) (secured : Bool) (body : Body) → BodyCarries x h secured body → AllByRecursion (Carries x h) (part_of x.tools me to nwk aps body).seals
 unfolding part_of carried
@@ -259,7 +259,7 @@ sealed-none tools a (Some aux) e = refl
 
 no-shown : (tools : Tools) (command : Command) (o : Option Bytes) → ShowsKeys tools → key_in command ≡ None → key_shown (tools.read_command (tools.spelled command)) ≡ o → o ≡ None
 no-shown tools command None shows e q = refl
-no-shown tools command (Some k) shows e q = absurd (no-key k (sym e ∙ shows.command command k q))
+no-shown tools command (Some k) shows e q = absurd (no-key k (sym e ∙ shows.spelled command k q))
 
 command-none : (tools : Tools) (command : Command) → ShowsKeys tools → key_in command ≡ None → (a : ApsShown) (o : Option ApsAuxiliary) → a.body ≡ tools.spelled command → unsealed_key tools a o ≡ None
 command-none tools command shows e a None b = by-test a.is_command

@@ -9,7 +9,7 @@ use Rattle.zb_model.specs.Data.{Bytes, Role, Centre, Router, Device, State, Fres
 use Rattle.zb_model.specs.State.{SenderFloor, NetKey, LinkKey, PairKey, NodeState, same_key, booted_floor, booted_net, booted_link, after_boot, shown_net, shown}
 use Rattle.zb_model.specs.Fits.{all_apart, keys_differ}
 use Rattle.zb_model.specs.Record.{role_byte, state_byte, attribute_byte, worth, place_from, net_bytes, sender_bytes, floors_bytes, link_bytes, pair_bytes, record_of}
-use Rattle.zb_model_laws.specs.Records.{Taking, follow, chosen, a_byte, some_bytes, a_number, so_many, role_of, state_of, attribute_of, yes_or_no, only, two_flags, three_flags, net_at, sender_at, floors_at, with_floors, link_at, pair_at, active_at, record_at, whole, state_in}
+use Rattle.zb_model_laws.specs.Records.{Taking, follow, chosen, a_byte, some_bytes, a_number, so_many, role_of_byte, state_of_byte, attribute_of_byte, yes_or_no, only, two_flags, three_flags, net_at, sender_at, floors_at, with_floors, link_at, pair_at, active_at, record_at, whole, state_in}
 use Rattle.zb_model_laws.proofs.Basics.{same_key-refl, append-nil'}
 use Rattle.zb_model_laws.proofs.RecordLaws.{bare, booted_row, place_by, spelled, record-bytes, map-map}
 
@@ -118,15 +118,15 @@ number-back : (w : Width) → Spells w → Back ℕ (a_number w) (to_le_bytes w)
 unfolding a_number
 number-back w sp bytes n rest s e = (number-by w sp bytes n rest s (nat_lt (length bytes) (byte_len w)) refl e, tt)
 
-role-back : (b : ℕ) (d : Role) → role_of b ≡ Some d → b ≡ role_byte d
-unfolding role_of
+role-back : (b : ℕ) (d : Role) → role_of_byte b ≡ Some d → b ≡ role_byte d
+unfolding role_of_byte
 role-back zero d e = ap role_byte (some-same Role Centre d e)
 role-back (suc zero) d e = ap role_byte (some-same Role Router d e)
 role-back (suc (suc zero)) d e = ap role_byte (some-same Role Device d e)
 role-back (suc (suc (suc b))) d e = absurd (none-is Role d e)
 
-state-back : (b : ℕ) (g : State) → state_of b ≡ Some g → b ≡ state_byte g
-unfolding state_of
+state-back : (b : ℕ) (g : State) → state_of_byte b ≡ Some g → b ≡ state_byte g
+unfolding state_of_byte
 state-back zero g e = ap state_byte (some-same State Fresh g e)
 state-back (suc zero) g e = ap state_byte (some-same State Knocked g e)
 state-back (suc (suc zero)) g e = ap state_byte (some-same State Joined g e)
@@ -136,8 +136,8 @@ state-back (suc (suc (suc (suc (suc zero))))) g e = ap state_byte (some-same Sta
 state-back (suc (suc (suc (suc (suc (suc zero)))))) g e = ap state_byte (some-same State Gone g e)
 state-back (suc (suc (suc (suc (suc (suc (suc b))))))) g e = absurd (none-is State g e)
 
-attribute-back : (b : ℕ) (t : Attribute) → attribute_of b ≡ Some t → b ≡ attribute_byte t
-unfolding attribute_of
+attribute-back : (b : ℕ) (t : Attribute) → attribute_of_byte b ≡ Some t → b ≡ attribute_byte t
+unfolding attribute_of_byte
 attribute-back zero t e = ap attribute_byte (some-same Attribute Provisional t e)
 attribute-back (suc zero) t e = ap attribute_byte (some-same Attribute Unverified t e)
 attribute-back (suc (suc zero)) t e = ap attribute_byte (some-same Attribute Verified t e)
@@ -327,7 +327,7 @@ link-back bytes r rest s e =
             | Went k_v k_m k_t k_s k_h k_l ↦
                 elim (step ℕ LinkKey a_byte one (Any ℕ) byte-back k_m _ r rest k_s k_l) [
                   | Went a_v a_m a_t a_s a_h a_l ↦
-                      elim (pick Attribute LinkKey (attribute_of a_v) a_m _ r rest a_l) [
+                      elim (pick Attribute LinkKey (attribute_of_byte a_v) a_m _ r rest a_l) [
                         | Picked t_v t_i t_l ↦
                             elim (step ℕ LinkKey a_byte one (Any ℕ) byte-back a_m _ r rest a_s t_l) [
                               | Went b_v b_m b_t b_s b_h b_l ↦
@@ -444,11 +444,11 @@ found bytes s rest small e =
             | Picked three_v three_i three_l ↦
                 elim (step ℕ NodeState a_byte one (Any ℕ) byte-back v_m _ s rest v_s three_l) [
                   | Went ro_v ro_m ro_t ro_s ro_h ro_l ↦
-                      elim (pick Role NodeState (role_of ro_v) ro_m _ s rest ro_l) [
+                      elim (pick Role NodeState (role_of_byte ro_v) ro_m _ s rest ro_l) [
                         | Picked role_v role_i role_l ↦
                             elim (step ℕ NodeState a_byte one (Any ℕ) byte-back ro_m _ s rest ro_s role_l) [
                               | Went st_v st_m st_t st_s st_h st_l ↦
-                                  elim (pick State NodeState (state_of st_v) st_m _ s rest st_l) [
+                                  elim (pick State NodeState (state_of_byte st_v) st_m _ s rest st_l) [
                                     | Picked state_v state_i state_l ↦
                                         elim (step ℕ NodeState (a_number w32) (to_le_bytes w32) (Any ℕ) (number-back w32 spells32) st_m _ s rest st_s state_l) [
                                           | Went declared_v declared_m declared_t declared_s declared_h declared_l ↦

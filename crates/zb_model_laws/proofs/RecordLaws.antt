@@ -8,7 +8,7 @@ use Rattle.std.specs.List.{AllByRecursion}
 use Rattle.zb_model.specs.Data.{Bytes, Role, Centre, Router, Device, State, Fresh, Knocked, Joined, Offered, Confirmed, Rejoining, Gone, Attribute, Provisional, Unverified, Verified}
 use Rattle.zb_model.specs.State.{SenderFloor, NetKey, LinkKey, PairKey, NodeState, same_key, live_nets, booted_floor, booted_net, booted_link, after_boot, shown_net, shown}
 use Rattle.zb_model.specs.Record.{role_byte, state_byte, attribute_byte, worth, place_from, active_place, net_bytes, sender_bytes, floors_bytes, link_bytes, pair_bytes, four_bytes, record_of}
-use Rattle.zb_model_laws.specs.Records.{Taking, follow, chosen, some_bytes, a_number, so_many, role_of, state_of, attribute_of, yes_or_no, two_flags, three_flags, net_at, sender_at, floors_at, with_floors, link_at, pair_at, active_at, record_at, whole, state_in, NetFits, LinkFits, PairFits, HasActive, FitsRecord}
+use Rattle.zb_model_laws.specs.Records.{Taking, follow, chosen, some_bytes, a_number, so_many, role_of_byte, state_of_byte, attribute_of_byte, yes_or_no, two_flags, three_flags, net_at, sender_at, floors_at, with_floors, link_at, pair_at, active_at, record_at, whole, state_in, NetFits, LinkFits, PairFits, HasActive, FitsRecord}
 use Rattle.zb_model.specs.Lines.{Line, Boot}
 use Rattle.zb_model.specs.Readings.{state_of, heard_line, after, speaker}
 use Rattle.zb_model_laws.proofs.Basics.{same_key-eq, append-nil', nat_eq-refl, state-snoc}
@@ -51,14 +51,14 @@ four-again n rest lt = number-again w32 (2 ^ 32) wide32 n rest lt
 eight-again : (n : ℕ) (rest : Bytes) → n < 2 ^ 64 → a_number w64 (to_le_bytes w64 n ++ rest) ≡ Some (n, rest)
 eight-again n rest lt = number-again w64 (2 ^ 64) wide64 n rest lt
 
-role-again : (d : Role) → role_of (role_byte d) ≡ Some d
-unfolding role_of
+role-again : (d : Role) → role_of_byte (role_byte d) ≡ Some d
+unfolding role_of_byte
 role-again Centre = refl
 role-again Router = refl
 role-again Device = refl
 
-state-again : (g : State) → state_of (state_byte g) ≡ Some g
-unfolding state_of
+state-again : (g : State) → state_of_byte (state_byte g) ≡ Some g
+unfolding state_of_byte
 state-again Fresh = refl
 state-again Knocked = refl
 state-again Joined = refl
@@ -67,8 +67,8 @@ state-again Confirmed = refl
 state-again Rejoining = refl
 state-again Gone = refl
 
-attribute-again : (t : Attribute) → attribute_of (attribute_byte t) ≡ Some t
-unfolding attribute_of
+attribute-again : (t : Attribute) → attribute_of_byte (attribute_byte t) ≡ Some t
+unfolding attribute_of_byte
 attribute-again Provisional = refl
 attribute-again Unverified = refl
 attribute-again Verified = refl

@@ -231,19 +231,19 @@ unfolding take_verify
 take-verify-fits tools c s m kind device hash =
     un s _ _ _ (λ e. tt) (un s _ _ _ (λ e. tt) (un s _ _ _ (λ e. tt) (both s _ (ch s _ _ _ (gi s (offered s device) _ _ tt (λ row. tt)) (ch s _ _ _ (gi s (verified_current s device) _ _ tt (λ row. tt)) tt)))))
 
-command-fits : (tools : Tools) (c : Setting) (s : NodeState) (draw : Option Bytes) (m : Heard) (o : Command) → Fits s (take_command tools c s draw m o)
+take-command-fits : (tools : Tools) (c : Setting) (s : NodeState) (draw : Option Bytes) (m : Heard) (o : Command) → Fits s (take_command tools c s draw m o)
 unfolding take_command
-command-fits tools c s draw m (TransportNet key sequence destination source) = net-key-fits c s m key sequence destination source
-command-fits tools c s draw m (TransportApp key partner initiator) = app-key-fits c s m key partner
-command-fits tools c s draw m (TransportLink key destination source) = link-key-fits c s m key destination source
-command-fits tools c s draw m (UpdateDevice device short status) = take-update-fits c s m device status
-command-fits tools c s draw m (RemoveDevice target) = take-remove-fits c s m target
-command-fits tools c s draw m (RequestApp partner) = take-app-request-fits c s m draw partner
-command-fits tools c s draw m RequestLink = take-request-fits c s m draw
-command-fits tools c s draw m (SwitchKey sequence) = take-switch-fits c s m sequence
-command-fits tools c s draw m (Tunnel destination inner) = take-tunnel-fits c s m destination inner
-command-fits tools c s draw m (VerifyKey kind source hash) = take-verify-fits tools c s m kind source hash
-command-fits tools c s draw m (ConfirmKey status kind destination) = take-confirm-fits c s m status kind destination
+take-command-fits tools c s draw m (TransportNet key sequence destination source) = net-key-fits c s m key sequence destination source
+take-command-fits tools c s draw m (TransportApp key partner initiator) = app-key-fits c s m key partner
+take-command-fits tools c s draw m (TransportLink key destination source) = link-key-fits c s m key destination source
+take-command-fits tools c s draw m (UpdateDevice device short status) = take-update-fits c s m device status
+take-command-fits tools c s draw m (RemoveDevice target) = take-remove-fits c s m target
+take-command-fits tools c s draw m (RequestApp partner) = take-app-request-fits c s m draw partner
+take-command-fits tools c s draw m RequestLink = take-request-fits c s m draw
+take-command-fits tools c s draw m (SwitchKey sequence) = take-switch-fits c s m sequence
+take-command-fits tools c s draw m (Tunnel destination inner) = take-tunnel-fits c s m destination inner
+take-command-fits tools c s draw m (VerifyKey kind source hash) = take-verify-fits tools c s m kind source hash
+take-command-fits tools c s draw m (ConfirmKey status kind destination) = take-confirm-fits c s m status kind destination
 
 leave-fits : (c : Setting) (s : NodeState) (term : Term) (options : ℕ) → Fits s (take_leave c term options)
 unfolding take_leave
@@ -294,7 +294,7 @@ either-plan s true p q a b = a
 either-plan s false p q a b = b
 
 command-fits : (tools : Tools) (c : Setting) (s : NodeState) (draw : Option Bytes) (ts : List Term) (m : Heard) (o : CommandShown) → Fits s (aps_command tools c s draw ts m o).outcome
-command-fits tools c s draw ts m (Known command) = command-fits tools c s draw m command
+command-fits tools c s draw ts m (Known command) = take-command-fits tools c s draw m command
 command-fits tools c s draw ts m Unknown = tt
 command-fits tools c s draw ts m Broken = tt
 

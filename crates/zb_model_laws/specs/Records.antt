@@ -44,27 +44,27 @@ so_many read (suc n) bytes = follow (read bytes) (λ x rest. follow (so_many rea
 
 -- Bytes that stand for one of a few values
 
-unfoldable pub role_of : ℕ → Option Role
-role_of zero = Some Centre
-role_of (suc zero) = Some Router
-role_of (suc (suc zero)) = Some Device
-role_of _ = None
+unfoldable pub role_of_byte : ℕ → Option Role
+role_of_byte zero = Some Centre
+role_of_byte (suc zero) = Some Router
+role_of_byte (suc (suc zero)) = Some Device
+role_of_byte _ = None
 
-unfoldable pub state_of : ℕ → Option State
-state_of zero = Some Fresh
-state_of (suc zero) = Some Knocked
-state_of (suc (suc zero)) = Some Joined
-state_of (suc (suc (suc zero))) = Some Offered
-state_of (suc (suc (suc (suc zero)))) = Some Confirmed
-state_of (suc (suc (suc (suc (suc zero))))) = Some Rejoining
-state_of (suc (suc (suc (suc (suc (suc zero)))))) = Some Gone
-state_of _ = None
+unfoldable pub state_of_byte : ℕ → Option State
+state_of_byte zero = Some Fresh
+state_of_byte (suc zero) = Some Knocked
+state_of_byte (suc (suc zero)) = Some Joined
+state_of_byte (suc (suc (suc zero))) = Some Offered
+state_of_byte (suc (suc (suc (suc zero)))) = Some Confirmed
+state_of_byte (suc (suc (suc (suc (suc zero))))) = Some Rejoining
+state_of_byte (suc (suc (suc (suc (suc (suc zero)))))) = Some Gone
+state_of_byte _ = None
 
-unfoldable pub attribute_of : ℕ → Option Attribute
-attribute_of zero = Some Provisional
-attribute_of (suc zero) = Some Unverified
-attribute_of (suc (suc zero)) = Some Verified
-attribute_of _ = None
+unfoldable pub attribute_of_byte : ℕ → Option Attribute
+attribute_of_byte zero = Some Provisional
+attribute_of_byte (suc zero) = Some Unverified
+attribute_of_byte (suc (suc zero)) = Some Verified
+attribute_of_byte _ = None
 
 unfoldable pub yes_or_no : ℕ → Option Bool
 yes_or_no zero = Some false
@@ -131,7 +131,7 @@ link_at = do
   partner ← a_number w64
   key ← some_bytes 16
   attribute ← a_byte
-  model_attribute ← chosen (attribute_of attribute)
+  model_attribute ← chosen (attribute_of_byte attribute)
   byte ← a_byte
   flags ← chosen (three_flags byte)
   stored ← a_number w32
@@ -156,9 +156,9 @@ record_at = do
   version ← a_byte
   three ← chosen (only 3 version)
   role ← a_byte
-  model_role ← chosen (role_of role)
+  model_role ← chosen (role_of_byte role)
   step ← a_byte
-  state ← chosen (state_of step)
+  state ← chosen (state_of_byte step)
   declared ← a_number w32
   aps ← a_number w32
   roll ← a_byte

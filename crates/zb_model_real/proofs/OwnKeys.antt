@@ -6,4 +6,4 @@ use Rattle.zb_model_real.proofs.Commands.{spelled-key}
 
 pub shows-keys : ShowsKeys real
 unfolding real
-shows-keys = record { command = spelled-key; plain = shows-plain; clear = shows-clear; command = shows-command; telling = shows-telling }
+shows-keys = record { spelled = spelled-key; plain = shows-plain; clear = shows-clear; command = shows-command; telling = shows-telling }

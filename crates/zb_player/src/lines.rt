@@ -3,8 +3,8 @@ ghost use Rattle.std.specs.Prelude.{◌≡◌, ◌++◌, [], Some, OnOk, codes};
 ghost use Rattle.zb_model.specs.Data.{AtEvent, NoKey};
 ghost use Rattle.zb_model.specs.FirstPath.{Tally, end_of};
 ghost use Rattle.zb_model.specs.Lines as line;
-ghost use Rattle.zb_player.specs.Text.{line_text, duty_text, answer_text};
-ghost use Rattle.zb_player.specs.Views.{duty_of, station_of};
+ghost use Rattle.zb_player.specs.Text.{line_text, role_text, answer_text};
+ghost use Rattle.zb_player.specs.Views.{role_of, station_of};
 
 use crate::script::{NetworkKey, Node};
 use std::alloc::AllocError;
@@ -13,7 +13,7 @@ use zb_text::numbers::put_number;
 use zb_text::page::{add_bytes, add_eui, add_key, add_number, add_short, add_word, end_line, put};
 
 fn role_word(role: Role) -> &'static [u8]
-    ensures { result.now ≡ duty_text (duty_of role) }
+    ensures { result.now ≡ role_text (role_of role) }
 {
     match role {
         Role::Centre => b"centre".as_slice(),

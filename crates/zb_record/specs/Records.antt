@@ -66,8 +66,8 @@ key_of (suc place) (r ∷ rs) = key_of place rs
 -- the state that a record stands for, after a boot
 abbrev pub state_from : Head → List NetKey → List LinkKey → List PairKey → NodeState
 state_from h nets links pairs = record {
-  model_role = model_role h.node.role;
-  model_state = model_state h.node.state;
+  role = model_role h.node.role;
+  state = model_state h.node.state;
   declared = h.declared;
   aps_limit = h.aps_limit;
   aps_next = h.aps_limit;

@@ -39,7 +39,7 @@ abbrev pub link_seen : LinkRecord → LinkKey
 link_seen r = record {
   partner = r.partner.0;
   key = r.key.0;
-  model_attribute = model_attribute r.attribute;
+  attribute = model_attribute r.attribute;
   live = r.live;
   code = r.code;
   told = r.told;
@@ -132,7 +132,7 @@ abbrev pub link_row : ℕ → Bytes → Attribute → ℕ → LinkKey
 link_row partner key t flags = record {
   partner = partner;
   key = key;
-  model_attribute = t;
+  attribute = t;
   live = bit flags 0;
   code = bit flags 1;
   told = bit flags 2;

@@ -7,7 +7,7 @@ use Rattle.zb_base.specs.declared.key.Key.{Key}
 use Rattle.zb_base.specs.declared.label.Layer.{Layer}
 use Rattle.zb_node_types.specs.declared.change.Change.{Change}
 use Rattle.zb_node_types.specs.declared.change.Change.TheVariants.{Reserve, Floor, DropNet, DropLink, Install, Active, Row, State, Roll, Told, Untold, Live, Removed, Start, Pair}
-use Rattle.zb_base.specs.declared.state.State.{State as NodeStage}
+use Rattle.zb_base.specs.declared.state.State.{State as NodeState}
 use Rattle.zb_base.specs.declared.state.Attribute.{Attribute}
 use Rattle.zb_base.specs.declared.state.Rollover.{Rollover}
 use Rattle.zb_cursor.specs.Reading.{Reading, follow, ◌>>=◌, give, byte_at, number_at, eui_at, key_at}
@@ -43,9 +43,9 @@ attribute_keeps : Keeps Attribute (Any Attribute) attribute_at
 unfolding attribute_at
 attribute_keeps = pick_keeps Attribute attribute_of
 
-state_keeps : Keeps NodeStage (Any NodeStage) state_at
+state_keeps : Keeps NodeState (Any NodeState) state_at
 unfolding state_at
-state_keeps = pick_keeps NodeStage state_of
+state_keeps = pick_keeps NodeState state_of
 
 rollover_keeps : Keeps Rollover (Any Rollover) rollover_at
 unfolding rollover_at
@@ -73,7 +73,7 @@ after_number more = then_keeps Below32 InRange number32 more
 later_keeps : (kind : ℕ) → Keeps Change InRange (later_of kind)
 unfolding later_of became_at roll_at told_at untold_at live_at removed_at start_at pair_at
 later_keeps kind =
-    either (kind == 8) (then_keeps (Any NodeStage) InRange state_keeps (λ s p. ends (State s) tt))
+    either (kind == 8) (then_keeps (Any NodeState) InRange state_keeps (λ s p. ends (State s) tt))
     (either (kind == 9) (then_keeps (Any Rollover) InRange rollover_keeps (λ r p. ends (Roll r) tt))
     (either (kind == 10) (after_eui (λ d p. ends (Told d) p))
     (either (kind == 11) (after_eui (λ d p. ends (Untold d) p))

@@ -17,7 +17,7 @@ use Rattle.zb_cursor.specs.Reading.{Reading, byte_at, bytes_at, number_at, eui_a
 use Rattle.zb_cursor.specs.Reading as cursor
 use Rattle.zb_model.specs.State.{SenderFloor, NetKey, LinkKey, PairKey, NodeState}
 use Rattle.zb_model.specs.Record.{record_of}
-use Rattle.zb_model_laws.specs.Records.{Taking, follow, a_byte, some_bytes, a_number, so_many, role_of, state_of, attribute_of, yes_or_no, only, two_flags, three_flags, with_floors, active_at, state_in, whole as whole_of}
+use Rattle.zb_model_laws.specs.Records.{Taking, follow, a_byte, some_bytes, a_number, so_many, role_of_byte, state_of_byte, attribute_of_byte, yes_or_no, only, two_flags, three_flags, with_floors, active_at, state_in, whole as whole_of}
 use Rattle.zb_model_laws.specs.Records as laws
 use Rattle.zb_record.specs.declared.version.Version.{Version}
 use Rattle.zb_record.specs.declared.version.Version.TheVariants.{Third}
@@ -124,15 +124,15 @@ picked {A} pick cut (b ∷ bytes) rest x e = by_value (pick b) refl e
 apart : (a b : ℕ) → (a ≡ b → ⊥) → (a == b) ≡ false
 apart a b differ = ne_eqb a b differ
 
-role_same : (b : ℕ) (x : Role) → role_of b ≡ Some x → role_of b ≡ Some (model_role x)
-unfolding role_of
+role_same : (b : ℕ) (x : Role) → role_of b ≡ Some x → role_of_byte b ≡ Some (model_role x)
+unfolding role_of_byte
 role_same zero x e = ap (option_map model_role) e
 role_same (suc zero) x e = ap (option_map model_role) e
 role_same (suc (suc zero)) x e = ap (option_map model_role) e
 role_same (suc (suc (suc n))) x e = absurd (let none : role_of (suc (suc (suc n))) ≡ None = rw (apart (suc (suc (suc n))) 0 (λ q. omega (arith, q)), apart (suc (suc (suc n))) 1 (λ q. omega (arith, q)), apart (suc (suc (suc n))) 2 (λ q. omega (arith, q))) refl in let bad : None ≡ Some x = sym none ∙ e in cc)
 
-state_same : (b : ℕ) (x : State) → state_of b ≡ Some x → state_of b ≡ Some (model_state x)
-unfolding state_of
+state_same : (b : ℕ) (x : State) → state_of b ≡ Some x → state_of_byte b ≡ Some (model_state x)
+unfolding state_of_byte
 state_same zero x e = ap (option_map model_state) e
 state_same (suc zero) x e = ap (option_map model_state) e
 state_same (suc (suc zero)) x e = ap (option_map model_state) e
@@ -142,8 +142,8 @@ state_same (suc (suc (suc (suc (suc zero))))) x e = ap (option_map model_state) 
 state_same (suc (suc (suc (suc (suc (suc zero)))))) x e = ap (option_map model_state) e
 state_same (suc (suc (suc (suc (suc (suc (suc n))))))) x e = absurd (let none : state_of (suc (suc (suc (suc (suc (suc (suc n))))))) ≡ None = rw (apart (suc (suc (suc (suc (suc (suc (suc n))))))) 0 (λ q. omega (arith, q)), apart (suc (suc (suc (suc (suc (suc (suc n))))))) 1 (λ q. omega (arith, q)), apart (suc (suc (suc (suc (suc (suc (suc n))))))) 2 (λ q. omega (arith, q)), apart (suc (suc (suc (suc (suc (suc (suc n))))))) 3 (λ q. omega (arith, q)), apart (suc (suc (suc (suc (suc (suc (suc n))))))) 4 (λ q. omega (arith, q)), apart (suc (suc (suc (suc (suc (suc (suc n))))))) 5 (λ q. omega (arith, q)), apart (suc (suc (suc (suc (suc (suc (suc n))))))) 6 (λ q. omega (arith, q))) refl in let bad : None ≡ Some x = sym none ∙ e in cc)
 
-attribute_same : (b : ℕ) (x : Attribute) → attribute_of b ≡ Some x → attribute_of b ≡ Some (model_attribute x)
-unfolding attribute_of
+attribute_same : (b : ℕ) (x : Attribute) → attribute_of b ≡ Some x → attribute_of_byte b ≡ Some (model_attribute x)
+unfolding attribute_of_byte
 attribute_same zero x e = ap (option_map model_attribute) e
 attribute_same (suc zero) x e = ap (option_map model_attribute) e
 attribute_same (suc (suc zero)) x e = ap (option_map model_attribute) e
@@ -407,8 +407,8 @@ record Nodes (node : Node) (bytes rest : List ℕ) : Type 0 where
   two : a_byte after_version ≡ taken role after_role
   three : a_byte after_role ≡ taken state rest
   version_is : version_of version ≡ Some node.version
-  role_is : role_of role ≡ Some (model_role node.role)
-  state_is : state_of state ≡ Some (model_state node.state)
+  role_is : role_of_byte role ≡ Some (model_role node.role)
+  state_is : state_of_byte state ≡ Some (model_state node.state)
 
 node_says : (bytes rest : List ℕ) (node : Node) → node_at bytes ≡ found node rest → Nodes node bytes rest
 unfolding node_at version_at role_at state_at

@@ -10,7 +10,7 @@ use Rattle.zb_trace_watch.proofs.watch.Watch.line.Goals as goal
 pub returns-in-Node : goal.returns-in-Node
 returns-in-Node c =
     on_ok c.declare.result _ _
-    (λ all tools h. subst (λ (l : Line). Follows c.args.self.now c.declare.new.self (logged (stations_of h) l) h tools) (sym c.in-Node.is) (all tools h _ (record { name_is = refl; eui_is = refl; duty_is = refl })))
+    (λ all tools h. subst (λ (l : Line). Follows c.args.self.now c.declare.new.self (logged (stations_of h) l) h tools) (sym c.in-Node.is) (all tools h _ (record { name_is = refl; eui_is = refl; role_is = refl })))
     c.declare.ensures
 
 pub returns-in-GivenNet : goal.returns-in-GivenNet
