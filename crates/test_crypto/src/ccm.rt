@@ -1,0 +1,137 @@
+//! The published examples, and texts of both ways of opening.
+ghost use Rattle.std.specs.Prelude.{◌≤◌};
+
+use crate::counting::counting;
+use zb_base::Key;
+use zb_ccm::{BadMic, open, seal, seal8};
+
+// The key of all examples here.
+const KEY: Key = Key([
+    0xc0, 0xc1, 0xc2, 0xc3, 0xc4, 0xc5, 0xc6, 0xc7, 0xc8, 0xc9, 0xca, 0xcb, 0xcc, 0xcd, 0xce, 0xcf,
+]);
+
+const NONCE: [u8; 13] = [
+    0xa0, 0xa1, 0xa2, 0xa3, 0xa4, 0xa5, 0xa6, 0xa7, 0x03, 0x02, 0x01, 0x00, 0x06,
+];
+
+// A published packet with a code of 8 bytes. Authenticated data and message count up from 0.
+struct Packet {
+    nonce: [u8; 13],
+    // How many bytes are authenticated only, and where the message behind them ends.
+    associated: usize,
+    end: usize,
+    // The cipher text, filled up with zeros, and the code.
+    sealed: [u8; 24],
+    mic: [u8; 8],
+}
+
+// RFC 3610, section 8, packet vectors 1, 2 and 4, and 05-3474-21, annex C.2.
+const PACKETS: [Packet; 4] = [
+    Packet {
+        nonce: [
+            0x00, 0x00, 0x00, 0x03, 0x02, 0x01, 0x00, 0xa0, 0xa1, 0xa2, 0xa3, 0xa4, 0xa5,
+        ],
+        associated: 8,
+        end: 31,
+        sealed: [
+            0x58, 0x8c, 0x97, 0x9a, 0x61, 0xc6, 0x63, 0xd2, 0xf0, 0x66, 0xd0, 0xc2, 0xc0, 0xf9,
+            0x89, 0x80, 0x6d, 0x5f, 0x6b, 0x61, 0xda, 0xc3, 0x84, 0,
+        ],
+        mic: [0x17, 0xe8, 0xd1, 0x2c, 0xfd, 0xf9, 0x26, 0xe0],
+    },
+    Packet {
+        nonce: [
+            0x00, 0x00, 0x00, 0x04, 0x03, 0x02, 0x01, 0xa0, 0xa1, 0xa2, 0xa3, 0xa4, 0xa5,
+        ],
+        associated: 8,
+        end: 32,
+        sealed: [
+            0x72, 0xc9, 0x1a, 0x36, 0xe1, 0x35, 0xf8, 0xcf, 0x29, 0x1c, 0xa8, 0x94, 0x08, 0x5c,
+            0x87, 0xe3, 0xcc, 0x15, 0xc4, 0x39, 0xc9, 0xe4, 0x3a, 0x3b,
+        ],
+        mic: [0xa0, 0x91, 0xd5, 0x6e, 0x10, 0x40, 0x09, 0x16],
+    },
+    Packet {
+        nonce: [
+            0x00, 0x00, 0x00, 0x06, 0x05, 0x04, 0x03, 0xa0, 0xa1, 0xa2, 0xa3, 0xa4, 0xa5,
+        ],
+        associated: 12,
+        end: 31,
+        sealed: [
+            0xa2, 0x8c, 0x68, 0x65, 0x93, 0x9a, 0x9a, 0x79, 0xfa, 0xaa, 0x5c, 0x4c, 0x2a, 0x9d,
+            0x4a, 0x91, 0xcd, 0xac, 0x8c, 0, 0, 0, 0, 0,
+        ],
+        mic: [0x96, 0xc8, 0x61, 0xb9, 0xc9, 0xe6, 0x1e, 0xf1],
+    },
+    Packet {
+        nonce: NONCE,
+        associated: 8,
+        end: 31,
+        sealed: [
+            0x1a, 0x55, 0xa3, 0x6a, 0xbb, 0x6c, 0x61, 0x0d, 0x06, 0x6b, 0x33, 0x75, 0x64, 0x9c,
+            0xef, 0x10, 0xd4, 0x66, 0x4e, 0xca, 0xd8, 0x54, 0xa8, 0,
+        ],
+        mic: [0x0a, 0x89, 0x5c, 0xc1, 0xd8, 0xff, 0x94, 0x69],
+    },
+];
+
+// The packet under seal, filled up with zeros, and its code.
+fn sealed_packet(packet: &Packet) -> ([u8; 24], [u8; 8])
+    requires order { packet.now.associated ≤ packet.now.end }
+    requires fits { packet.now.end ≤ packet.now.associated + 24 }
+    requires counts { packet.now.end ≤ 200 }
+{
+    let bytes = counting();
+    let mut sealed = [0; 24];
+    let text = &mut sealed[..packet.end - packet.associated];
+    text.copy_from_slice(&bytes[packet.associated..packet.end]);
+    let mic = seal8(&KEY, &packet.nonce, &bytes[..packet.associated], text);
+    (sealed, mic)
+}
+
+#[test]
+fn published_packets(rt: HostRuntime) {
+    for packet in &PACKETS {
+        assert!(rt; packet.associated <= packet.end);
+        assert!(rt; packet.end - packet.associated <= 24 && packet.end <= 200);
+        assert_eq!(rt; sealed_packet(packet), (packet.sealed, packet.mic));
+    }
+}
+
+// Expected values by another program.
+#[test]
+fn short_text(rt: HostRuntime) {
+    let bytes = counting();
+    let sealed = [
+        0x12, 0x5d, 0xab, 0x62, 0xb3, 0x64, 0x69, 0x05, 0x1e, 0x73, 0x2b, 0x6d, 0x7c, 0x84, 0xf7,
+        0x08, 0xdc, 0x6e, 0x46, 0xc2, 0xd0, 0x5c, 0xa0, 0x22, 0x5e, 0x38, 0x5c, 0x18, 0xb6, 0xdb,
+        0x34, 0x08, 0x34, 0x27, 0x0d, 0x51, 0xb6, 0xbb, 0x6a, 0x19,
+    ];
+    let mut text = [0; 40];
+    text.copy_from_slice(&bytes[..40]);
+    let mic = seal(&KEY, &NONCE, &bytes[..20], &mut text);
+    assert_eq!(rt; text, sealed);
+    assert_eq!(rt; mic, [0x76, 0xd3, 0xdd, 0x2e]);
+    let refused = open(&KEY, &NONCE, &bytes[..20], &mut text, &[0, 1, 2, 3]);
+    assert_eq!(rt; refused, Err(BadMic));
+    assert_eq!(rt; open(&KEY, &NONCE, &bytes[..20], &mut text, &mic), Ok(()));
+}
+
+// The same of a text that is opened in its place.
+#[test]
+fn long_text(rt: HostRuntime) {
+    let bytes = counting();
+    let mut text = counting();
+    let mic = seal(&KEY, &NONCE, &bytes[..7], &mut text);
+    assert_eq!(rt; mic, [0x89, 0x7e, 0x56, 0x14]);
+    assert!(rt;
+        text[184..]
+            == [
+                0x0e, 0x4e, 0x88, 0x16, 0xfa, 0xfa, 0xe2, 0x01, 0x9c, 0x44, 0x40, 0x01, 0xe6, 0xdf,
+                0x6e, 0x37
+            ]
+    );
+    let refused = open(&KEY, &NONCE, &bytes[..8], &mut text, &mic);
+    assert_eq!(rt; refused, Err(BadMic));
+    assert_eq!(rt; open(&KEY, &NONCE, &bytes[..7], &mut text, &mic), Ok(()));
+}
