@@ -1,7 +1,7 @@
 //! The published examples, and texts of both ways of opening.
-ghost use Rattle.std.specs.Prelude.{◌≤◌};
+ghost use Rattle.std.specs.Prelude.{◌≤◌, ◌+◌};
 
-use crate::counting::counting;
+use crate::counting::COUNTING;
 use zb_base::Key;
 use zb_ccm::{BadMic, open, seal, seal8};
 
@@ -81,11 +81,10 @@ fn sealed_packet(packet: &Packet) -> ([u8; 24], [u8; 8])
     requires fits { packet.now.end ≤ packet.now.associated + 24 }
     requires counts { packet.now.end ≤ 200 }
 {
-    let bytes = counting();
     let mut sealed = [0; 24];
     let text = &mut sealed[..packet.end - packet.associated];
-    text.copy_from_slice(&bytes[packet.associated..packet.end]);
-    let mic = seal8(&KEY, &packet.nonce, &bytes[..packet.associated], text);
+    text.copy_from_slice(&COUNTING[packet.associated..packet.end]);
+    let mic = seal8(&KEY, &packet.nonce, &COUNTING[..packet.associated], text);
     (sealed, mic)
 }
 
@@ -101,28 +100,29 @@ fn published_packets(rt: HostRuntime) {
 // Expected values by another program.
 #[test]
 fn short_text(rt: HostRuntime) {
-    let bytes = counting();
     let sealed = [
         0x12, 0x5d, 0xab, 0x62, 0xb3, 0x64, 0x69, 0x05, 0x1e, 0x73, 0x2b, 0x6d, 0x7c, 0x84, 0xf7,
         0x08, 0xdc, 0x6e, 0x46, 0xc2, 0xd0, 0x5c, 0xa0, 0x22, 0x5e, 0x38, 0x5c, 0x18, 0xb6, 0xdb,
         0x34, 0x08, 0x34, 0x27, 0x0d, 0x51, 0xb6, 0xbb, 0x6a, 0x19,
     ];
     let mut text = [0; 40];
-    text.copy_from_slice(&bytes[..40]);
-    let mic = seal(&KEY, &NONCE, &bytes[..20], &mut text);
+    text.copy_from_slice(&COUNTING[..40]);
+    let mic = seal(&KEY, &NONCE, &COUNTING[..20], &mut text);
     assert_eq!(rt; text, sealed);
     assert_eq!(rt; mic, [0x76, 0xd3, 0xdd, 0x2e]);
-    let refused = open(&KEY, &NONCE, &bytes[..20], &mut text, &[0, 1, 2, 3]);
+    let refused = open(&KEY, &NONCE, &COUNTING[..20], &mut text, &[0, 1, 2, 3]);
     assert_eq!(rt; refused, Err(BadMic));
-    assert_eq!(rt; open(&KEY, &NONCE, &bytes[..20], &mut text, &mic), Ok(()));
+    assert_eq!(rt;
+        open(&KEY, &NONCE, &COUNTING[..20], &mut text, &mic),
+        Ok(())
+    );
 }
 
 // The same of a text that is opened in its place.
 #[test]
 fn long_text(rt: HostRuntime) {
-    let bytes = counting();
-    let mut text = counting();
-    let mic = seal(&KEY, &NONCE, &bytes[..7], &mut text);
+    let mut text = COUNTING;
+    let mic = seal(&KEY, &NONCE, &COUNTING[..7], &mut text);
     assert_eq!(rt; mic, [0x89, 0x7e, 0x56, 0x14]);
     assert!(rt;
         text[184..]
@@ -131,7 +131,7 @@ fn long_text(rt: HostRuntime) {
                 0x6e, 0x37
             ]
     );
-    let refused = open(&KEY, &NONCE, &bytes[..8], &mut text, &mic);
+    let refused = open(&KEY, &NONCE, &COUNTING[..8], &mut text, &mic);
     assert_eq!(rt; refused, Err(BadMic));
-    assert_eq!(rt; open(&KEY, &NONCE, &bytes[..7], &mut text, &mic), Ok(()));
+    assert_eq!(rt; open(&KEY, &NONCE, &COUNTING[..7], &mut text, &mic), Ok(()));
 }

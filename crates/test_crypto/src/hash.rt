@@ -1,6 +1,6 @@
 //! The published example of the keyed hash, the hash of nothing, the lengths at which the padding grows by a block, and
 //! the keys derived by it.
-use crate::counting::counting;
+use crate::counting::COUNTING;
 use zb_base::Key;
 use zb_mmo::{hash, keyed, load_key, transport_key, verify_hash};
 
@@ -61,9 +61,8 @@ const HASHES: [(usize, [u8; 16]); 5] = [
 
 #[test]
 fn lengths_about_a_block(rt: HostRuntime) {
-    let bytes = counting();
     for (len, value) in HASHES {
-        assert_eq!(rt; hash(&bytes[..len.min(200)]), value);
+        assert_eq!(rt; hash(&COUNTING[..len.min(200)]), value);
     }
 }
 
