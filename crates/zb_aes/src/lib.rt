@@ -14,18 +14,18 @@ pub use state::State;
 mod schedule;
 mod state;
 mod tables;
-#[cfg(test)]
-mod tests;
 mod word;
 
-/// Enciphers one block of 16 bytes. Where several blocks have one key, make a `Cipher` of it once.
+/// Enciphers one block of 16 bytes.
+///
+/// Where several blocks have one key, make a `Cipher` of it once.
 pub fn encrypt(key: &[u8; 16], block: &[u8; 16]) -> [u8; 16]
     ensures { result ≡ enciphered key.now block.now }
 {
     Cipher::new(key).encrypt(block)
 }
 
-/// The sum of two blocks, byte by byte.
+/// Adds two blocks, byte by byte.
 pub fn sum(a: &[u8; 16], b: &[u8; 16]) -> [u8; 16]
     ensures { result ≡ xored a.now b.now }
 {

@@ -10,7 +10,9 @@ use std::marker::Model;
 /// The constants of the rounds from 1 on.
 static CONSTANTS: [u8; 10] = [0x01, 0x02, 0x04, 0x08, 0x10, 0x20, 0x40, 0x80, 0x1b, 0x36];
 
-/// A key that was expanded once, for any number of blocks. A contract sees it as its key of 16 bytes.
+/// A key that was expanded once, for any number of blocks.
+///
+/// A contract sees it as its key of 16 bytes.
 #[derive(Drop)]
 pub struct Cipher {
     keys: [State; 11],

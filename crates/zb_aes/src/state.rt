@@ -7,13 +7,24 @@ ghost use Rattle.zb_aes.specs.Columns.{state_bytes};
 
 use crate::word::{mixed_column, packed, substituted_column, sum, turned_word};
 
-/// A block, the state of the cipher, or a round key, as its four columns: each is a word whose highest byte is the one of
-/// row 0. A contract sees its 16 bytes, column after column, by `state_bytes`.
+/// A block, the state of the cipher, or a round key, as its four columns.
+///
+/// Each column is a word whose highest byte is the one of row 0. A contract sees the 16 bytes, column after column, by
+/// `state_bytes`.
 #[derive(Clone, Copy)]
-pub struct State(pub u32, pub u32, pub u32, pub u32);
+pub struct State(
+    /// The first column.
+    pub u32,
+    /// The second column.
+    pub u32,
+    /// The third column.
+    pub u32,
+    /// The fourth column.
+    pub u32,
+);
 
 impl State {
-    /// The state whose bytes these are, column after column.
+    /// Makes the state whose bytes these are, column after column.
     pub fn read(bytes: &[u8; 16]) -> State
         ensures { state_bytes result ≡ bytes.now }
     {
@@ -26,7 +37,7 @@ impl State {
         )
     }
 
-    /// The bytes of the state, column after column.
+    /// Answers the bytes of the state, column after column.
     pub fn bytes(self) -> [u8; 16]
         ensures { result ≡ state_bytes self }
     {
@@ -37,7 +48,7 @@ impl State {
         [a, b, c, d, e, f, g, h, i, j, k, l, m, n, o, p]
     }
 
-    /// The sum of two states.
+    /// Adds two states.
     #[inline(always)]
     pub fn plus(self, key: State) -> State
         ensures { state_bytes result ≡ xored (state_bytes self) (state_bytes key) }
@@ -50,7 +61,7 @@ impl State {
         )
     }
 
-    /// A round before the last.
+    /// Makes a round before the last.
     #[inline(always)]
     pub fn round(self, key: State) -> State
         ensures { state_bytes result ≡ round (state_bytes key) (state_bytes self) }
@@ -63,7 +74,7 @@ impl State {
         )
     }
 
-    /// The last round.
+    /// Makes the last round, which mixes no columns.
     #[inline(always)]
     pub fn last_round(self, key: State) -> State
         ensures { state_bytes result ≡ last_round (state_bytes key) (state_bytes self) }
@@ -76,7 +87,7 @@ impl State {
         )
     }
 
-    /// The round key after this one, with the constant of its round.
+    /// Answers the round key after this one, with the constant of its round.
     pub fn next_key(self, constant: u8) -> State
         ensures { state_bytes result ≡ next_key constant (state_bytes self) }
     {

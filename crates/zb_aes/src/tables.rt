@@ -20,9 +20,10 @@ pub static SUBSTITUTION: [u8; 256] = [
     0x8c, 0xa1, 0x89, 0x0d, 0xbf, 0xe6, 0x42, 0x68, 0x41, 0x99, 0x2d, 0x0f, 0xb0, 0x54, 0xbb, 0x16,
 ];
 
-/// FIPS 197, 5.1.3: the columns that bytes become once they are substituted and mixed, the byte of row 0 highest: 256 for
-/// the bytes of row 0, and behind them as many for each of the rows 1 to 3. They stand in one table, so that one address is
-/// enough to look up all of them.
+/// FIPS 197, 5.1.3: the columns that bytes become once they are substituted and mixed, the byte of row 0 highest.
+///
+/// There are 256 for the bytes of row 0, and behind them as many for each of the rows 1 to 3. They stand in one table,
+/// so that one address is enough to look up all of them.
 pub static MIXED: [u32; 1024] = [
     0xc66363a5, 0xf87c7c84, 0xee777799, 0xf67b7b8d, 0xfff2f20d, 0xd66b6bbd, 0xde6f6fb1, 0x91c5c554,
     0x60303050, 0x02010103, 0xce6767a9, 0x562b2b7d, 0xe7fefe19, 0xb5d7d762, 0x4dababe6, 0xec76769a,

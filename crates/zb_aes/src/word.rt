@@ -49,7 +49,7 @@ fn fourth(byte: u8) -> u32
     MIXED[768 + byte as usize]
 }
 
-/// The sum of two columns.
+/// Adds two columns.
 #[inline(always)]
 #[tactic(auto, using(crate::proofs::Words::words))]
 pub fn sum(a: u32, b: u32) -> u32
@@ -58,7 +58,7 @@ pub fn sum(a: u32, b: u32) -> u32
     a ^ b
 }
 
-/// A word whose bytes are these, the first of them highest.
+/// Makes the word whose bytes are these, the first of them highest.
 #[inline(always)]
 #[tactic(auto, using(crate::proofs::Words::words))]
 pub fn packed(a: u8, b: u8, c: u8, d: u8) -> u32
@@ -109,7 +109,9 @@ fn mixed(a: u8, b: u8, c: u8, d: u8) -> u32
     sum(sum(first(a), second(b)), sum(third(c), fourth(d)))
 }
 
-/// A column of a round's new state, from the old columns that its rows 0 to 3 come from, and a word of the round key.
+/// Makes a column of a round's new state.
+///
+/// It comes from the old columns that its rows 0 to 3 come from, and a word of the round key.
 #[inline(always)]
 pub fn mixed_column(a: u32, b: u32, c: u32, d: u32, key: u32) -> u32
     ensures { word_bytes result
@@ -160,7 +162,7 @@ fn substituted_bytes(a: u8, b: u8, c: u8, d: u8) -> u32
     sum(sum(alone_0(a), alone_1(b)), sum(alone_2(c), alone_3(d)))
 }
 
-/// The same in the last round, which mixes no columns.
+/// Makes a column of the last round's new state, which mixes no columns.
 #[inline(always)]
 pub fn substituted_column(a: u32, b: u32, c: u32, d: u32, key: u32) -> u32
     ensures { word_bytes result
@@ -172,7 +174,7 @@ pub fn substituted_column(a: u32, b: u32, c: u32, d: u32, key: u32) -> u32
     )
 }
 
-/// FIPS 197, 5.2: a word of the key, rotated by a byte, substituted, and added to the constant of its round.
+/// Rotates a word of the key by a byte, substitutes it, and adds the constant of its round (FIPS 197, 5.2).
 pub fn turned_word(constant: u8, word: u32) -> u32
     ensures { word_bytes result ≡ turned constant (word_bytes word) }
 {

@@ -6,7 +6,7 @@ use std::alloc::{AllocError, AllocFailed};
 use std::error::Error;
 use std::fmt;
 
-/// A call on an outside object (a source, a sink, a disk) failed. The object's count of faults rose.
+/// The fault of a call on an outside object: a source, a sink or a disk. The object's count of faults rose.
 #[derive(Clone, Copy, Debug, PartialEq, Eq)]
 pub struct Failed;
 
@@ -23,7 +23,7 @@ impl fmt::Display for Failed {
 
 impl Error for Failed {}
 
-/// There was no memory left.
+/// The fault of a call for which there was no memory left.
 #[derive(Clone, Copy, Debug, PartialEq, Eq)]
 pub struct NoMemory;
 

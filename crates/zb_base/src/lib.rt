@@ -2,19 +2,17 @@
 //! node's configuration, and the two traits by which the program reads and writes.
 #![tactic(auto)]
 
-pub mod address;
-pub mod fault;
-pub mod frame;
-pub mod key;
-pub mod label;
-pub mod list;
-pub mod node;
+mod address;
+mod fault;
+mod frame;
+mod key;
+mod label;
+mod list;
+mod node;
 mod numbers;
-pub mod sink;
-pub mod source;
+mod sink;
+mod source;
 mod state;
-#[cfg(test)]
-mod tests;
 
 pub use address::{Eui, Short};
 pub use fault::{Failed, NoMemory, OrMemory};

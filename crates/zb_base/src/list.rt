@@ -18,21 +18,21 @@ impl<T> Model for List<T> {
 }
 
 impl<T> List<T> {
-    /// The list of a vector's items.
+    /// Makes the list of a vector's items.
     pub fn from_vec(items: Vec<T>) -> List<T>
         ensures { result ≡ items.items }
     {
         List { items }
     }
 
-    /// The items, in their order.
+    /// Answers the items, in their order.
     pub fn as_slice(&self) -> &[T]
         ensures { result.now ≡ self.now }
     {
         self.items.as_slice()
     }
 
-    /// The vector of the list's items.
+    /// Answers the vector of the list's items.
     pub fn into_vec(self) -> Vec<T>
         ensures { result.items ≡ self }
     {

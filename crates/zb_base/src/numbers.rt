@@ -2,7 +2,7 @@
 ghost use Rattle.std.specs.Prelude.{◌≡◌, ◌+◌, length, min, take};
 ghost use Rattle.zb_base.specs.Outside.{has_number as has};
 
-/// Whether the numbers have this one.
+/// Answers whether the numbers have this one.
 pub(crate) fn has_number(numbers: &[u32], number: u64) -> bool
     ensures { result ≡ has numbers.now number }
 {

@@ -20,8 +20,9 @@ pub trait Sink {
     // How many of its calls failed. The count of an adapter stops at 2^64 - 1.
     ghost faults: { Self → ℕ };
 
-    /// Appends the whole piece. `Failed` comes only where the count of faults rose, and then a prefix of the piece
-    /// was appended.
+    /// Appends the whole piece.
+    ///
+    /// Errors: `Failed` only where the count of faults rose; then a prefix of the piece was appended.
     fn write(&mut self, piece: &[u8]) -> Result<(), Failed>
         ensures whole { OnOk result (Appends (taken self.old) (taken self.new) piece.now) }
         ensures front { OnErr result (AppendsFront (taken self.old) (taken self.new) piece.now) }
@@ -44,14 +45,21 @@ impl Model for MemSink {
 
     ghost Value = { Intake };
 
-    ghost view = { λ s. record { taken = s.bytes.items; room = s.room; fails = s.fails.items; calls = s.calls; faults = s.faults } };
+    ghost view = { λ s. record {
+      taken = s.bytes.items;
+      room = s.room;
+      fails = s.fails.items;
+      calls = s.calls;
+      faults = s.faults;
+    } };
 
     ghost invariant = { λ s. (vec_len s.bytes ≤ s.room) × (s.room ≤ vec_capacity s.bytes) };
 }
 
 impl MemSink {
-    /// A sink with room for so many bytes, taken now, whose calls of the numbers in `fails`, counted from 1, are to
-    /// fail.
+    /// Makes a sink with room for so many bytes, taken now, some of whose calls are to fail.
+    ///
+    /// Those are the calls of the numbers in `fails`, counted from 1.
     pub fn new(alloc: Global, room: u32, fails: &[u32]) -> Result<MemSink, NoMemory>
         ensures { IfOk result (λ s. s ≡ record { taken = []; room = room; fails = fails.now; calls = 0; faults = 0 }) }
     {
@@ -64,7 +72,7 @@ impl MemSink {
         })
     }
 
-    /// The bytes that the sink took so far.
+    /// Answers the bytes that the sink took so far.
     pub fn taken(&self) -> &[u8]
         ensures { result.now ≡ self.now.taken }
     {
@@ -83,7 +91,8 @@ impl Sink for MemSink {
         ensures cause { HasCause self.old.faults self.new.faults result }
         // It fails exactly at the listed calls and past its room.
         ensures listed { is_err result ≡
-            (has self.old.fails (risen self.old.calls 1) || nat_lt self.old.room (length self.old.taken + length piece.now)) }
+            (has self.old.fails (risen self.old.calls 1)
+            || nat_lt self.old.room (length self.old.taken + length piece.now)) }
         ensures counted { self.new.calls ≡ risen self.old.calls 1 }
         ensures kept { OnErr result (self.new.taken ≡ self.old.taken) }
     {
@@ -104,7 +113,7 @@ impl Sink for MemSink {
 pub struct NullSink;
 
 impl NullSink {
-    /// The one sink of this kind.
+    /// Makes the one sink of this kind.
     pub fn new() -> NullSink
         ensures { result ≡ record {} }
     {
@@ -122,8 +131,10 @@ impl Sink for NullSink {
     }
 }
 
-/// A sink over any writer of std, such as standard output. It tells nothing of content, and contracts see it as its
-/// count of faults: one for each call of the writer that failed, or that took none of some bytes.
+/// A sink over any writer of std, such as standard output.
+///
+/// It tells nothing of content, and contracts see it as its count of faults: one for each call of the writer that
+/// failed, or that took none of some bytes.
 #[derive(Debug, Drop)]
 pub struct StdSink<W> {
     inner: W,
@@ -137,7 +148,7 @@ impl<W> Model for StdSink<W> {
 }
 
 impl<W> StdSink<W> {
-    /// A sink that writes to this writer.
+    /// Makes a sink that writes to this writer.
     pub fn new(inner: W) -> StdSink<W>
         ensures { result ≡ 0 }
     {
@@ -146,7 +157,9 @@ impl<W> StdSink<W> {
 }
 
 impl<W: Write> StdSink<W> {
-    /// Hands on what the writer still holds back. `Failed` comes only where the count of faults rose.
+    /// Hands on what the writer still holds back.
+    ///
+    /// Errors: `Failed` only where the count of faults rose.
     pub fn flush(&mut self) -> Result<(), Failed>
         ensures { self.new ≡ (if is_err result then risen self.old 1 else self.old) }
     {

@@ -20,8 +20,11 @@ pub trait Source {
     // How many of its calls failed. The count of an adapter stops at 2^64 - 1.
     ghost faults: { Self → ℕ };
 
-    /// Puts the next bytes into the front of `buf` and answers how many. 0 into a buffer that isn't empty is the
-    /// end of the input. `Failed` comes only where the count of faults rose, and leaves the rest as it was.
+    /// Puts the next bytes into the front of `buf` and answers how many.
+    ///
+    /// 0 into a buffer that isn't empty is the end of the input.
+    ///
+    /// Errors: `Failed` only where the count of faults rose; the rest stays as it was.
     fn read(&mut self, buf: &mut [u8]) -> Result<usize, Failed>
         ensures bound { ReadsAtMost result buf.new }
         ensures bytes { ReadConsumes (rest self.old) (rest self.new) result buf.new }
@@ -44,13 +47,20 @@ impl Model for MemSource {
 
     ghost Value = { Supply };
 
-    ghost view = { λ s. record { rest = drop s.at s.bytes.items; fails = s.fails.items; calls = s.calls; faults = s.faults } };
+    ghost view = { λ s. record {
+      rest = drop s.at s.bytes.items;
+      fails = s.fails.items;
+      calls = s.calls;
+      faults = s.faults;
+    } };
 
     ghost invariant = { λ s. s.at ≤ vec_len s.bytes };
 }
 
 impl MemSource {
-    /// A source of these bytes, whose calls of the numbers in `fails`, counted from 1, are to fail.
+    /// Makes a source of these bytes, some of whose calls are to fail.
+    ///
+    /// Those are the calls of the numbers in `fails`, counted from 1.
     pub fn new(alloc: Global, bytes: &[u8], fails: &[u32]) -> Result<MemSource, NoMemory>
         ensures { IfOk result (λ s. s ≡ record { rest = bytes.now; fails = fails.now; calls = 0; faults = 0 }) }
     {
@@ -64,8 +74,9 @@ impl MemSource {
     }
 }
 
-/// A source over any reader of std, such as standard input. It tells nothing of content, and contracts see it as
-/// its count of faults.
+/// A source over any reader of std, such as standard input.
+///
+/// It tells nothing of content, and contracts see it as its count of faults.
 #[derive(Debug, Drop)]
 pub struct StdSource<R> {
     inner: R,
@@ -79,7 +90,7 @@ impl<R> Model for StdSource<R> {
 }
 
 impl<R> StdSource<R> {
-    /// A source that reads what this reader gives.
+    /// Makes a source that reads what this reader gives.
     pub fn new(inner: R) -> StdSource<R>
         ensures { result ≡ 0 }
     {

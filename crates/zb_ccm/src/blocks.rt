@@ -7,7 +7,7 @@ ghost use Rattle.zb_aes.specs.Columns.{state_bytes};
 
 use zb_aes::State;
 
-/// The first 16 bytes of a text, filled up with zeros, as a block.
+/// Answers the first 16 bytes of a text, filled up with zeros, as a block.
 pub fn block_of(bytes: &[u8]) -> State
     ensures { state_bytes result ≡ take 16 (bytes.now ++ replicate 16 0) }
 {
@@ -17,7 +17,7 @@ pub fn block_of(bytes: &[u8]) -> State
     }
 }
 
-/// The first 16 bytes of a text, filled up with zeros.
+/// Answers the first 16 bytes of a text, filled up with zeros.
 pub fn filled(bytes: &[u8]) -> [u8; 16]
     ensures { result ≡ take 16 (bytes.now ++ replicate 16 0) }
 {
@@ -27,7 +27,7 @@ pub fn filled(bytes: &[u8]) -> [u8; 16]
     block
 }
 
-/// Adds a block to a piece of text that is no longer.
+/// Adds a block to a piece of text that is no longer than it.
 #[tactic(auto, using(crate::proofs::Arrays::whole_block, crate::proofs::Arrays::length_state))]
 pub fn add(piece: &mut [u8], block: State)
     requires { length piece.old ≤ 16 }
@@ -50,7 +50,7 @@ fn add_part(piece: &mut [u8], block: &[u8; 16])
     }
 }
 
-/// A block with flags, nonce and a number, its high byte first.
+/// Makes a block of flags, nonce and a number, its high byte first.
 pub fn numbered(flags: u8, nonce: &[u8; 13], number: u16) -> State
     ensures { state_bytes result ≡ flags ∷ nonce.now ++ to_be_bytes w16 number }
 {

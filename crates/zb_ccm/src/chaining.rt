@@ -21,7 +21,7 @@ fn chained_bytes(cipher: &Cipher, start: State, bytes: &[u8]) -> State
     value
 }
 
-// The first block of the authenticated data, which begins with their length.
+// Makes the first block of the authenticated data, which begins with their length.
 fn first_associated(associated: &[u8]) -> State
     requires some { 0 < length associated.now }
     requires fits { length associated.now < 65280 }
@@ -44,7 +44,7 @@ fn chained_associated(cipher: &Cipher, value: State, associated: &[u8]) -> State
     chained_bytes(cipher, first, &associated[associated.len().min(14)..])
 }
 
-// The flags of the first block.
+// Answers the flags of the first block.
 fn flags_of(associated: &[u8], size: u8) -> u8
     requires low { 2 ≤ size }
     requires high { size ≤ 16 }
@@ -58,7 +58,7 @@ fn flags_of(associated: &[u8], size: u8) -> u8
     }
 }
 
-/// The code of a message and the data authenticated with it: its first `size` bytes count.
+/// Computes the code of a message and the data authenticated with it: its first `size` bytes count.
 pub fn code_of(
     cipher: &Cipher,
     nonce: &[u8; 13],

@@ -8,7 +8,7 @@ ghost use Rattle.zb_ccm.specs.Ccm.{crypted, stream, stream_block};
 use crate::blocks::{add, numbered};
 use zb_aes::{Cipher, State};
 
-/// A block of the key stream.
+/// Makes a block of the key stream.
 #[tactic(auto, unfolding(crate::specs::Ccm::stream_block))]
 pub fn stream_block_of(cipher: &Cipher, nonce: &[u8; 13], number: u16) -> State
     ensures { state_bytes result ≡ stream_block cipher.now nonce.now number }

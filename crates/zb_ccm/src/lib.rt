@@ -1,5 +1,5 @@
-//! CCM*, the authenticated encryption of Zigbee (05-3474-21, annex A), with a nonce of 13 bytes and codes of 4 bytes. With
-//! codes of 8 bytes it is the CCM of RFC 3610, whose packets serve as its test.
+//! CCM*, the authenticated encryption of Zigbee (05-3474-21, annex A), with a nonce of 13 bytes and codes of 4 bytes.
+//! With codes of 8 bytes it is the CCM of RFC 3610, whose packets serve as its test.
 //!
 //! Each call comes in two forms: with a key, and with a `Cipher` that was made of the key once.
 #![tactic(auto)]
@@ -10,22 +10,23 @@ ghost use Rattle.zb_ccm.specs.Ccm.{sealed, opens};
 mod blocks;
 mod chaining;
 mod keystream;
-pub mod laws;
+mod laws;
 mod opening;
-#[cfg(test)]
-mod tests;
 
 use chaining::code_of;
 use keystream::crypt;
+pub use laws::{a_sealed_message_opens, what_opens_was_sealed};
 use opening::{COPIED, open_copy, open_in_place};
 use zb_aes::Cipher;
 use zb_base::Key;
 
-/// The code of a message isn't the one that its key, nonce and authenticated data give.
+/// The fault of a code that isn't the one that key, nonce, authenticated data and message give.
 #[derive(Clone, Copy, Debug, PartialEq, Eq)]
 pub struct BadMic;
 
 /// Replaces `message` by its cipher text, and answers its code of 4 bytes.
+///
+/// Requires fewer than 65,280 bytes of message and of authenticated data each.
 pub fn seal(key: &Key, nonce: &[u8; 13], associated: &[u8], message: &mut [u8]) -> [u8; 4]
     requires associated_fits { length associated.now < 65280 }
     requires message_fits { length message.old < 65280 }
@@ -35,7 +36,9 @@ pub fn seal(key: &Key, nonce: &[u8; 13], associated: &[u8], message: &mut [u8]) 
     seal_with(&Cipher::new(&key.0), nonce, associated, message)
 }
 
-/// The same with a code of 8 bytes, as in RFC 3610.
+/// Replaces `message` by its cipher text, and answers its code of 8 bytes, as in RFC 3610.
+///
+/// Requires fewer than 65,280 bytes of message and of authenticated data each.
 pub fn seal8(key: &Key, nonce: &[u8; 13], associated: &[u8], message: &mut [u8]) -> [u8; 8]
     requires associated_fits { length associated.now < 65280 }
     requires message_fits { length message.old < 65280 }
@@ -45,7 +48,11 @@ pub fn seal8(key: &Key, nonce: &[u8; 13], associated: &[u8], message: &mut [u8])
     seal8_with(&Cipher::new(&key.0), nonce, associated, message)
 }
 
-/// Replaces `text` by the message that it holds where `mic` is the code of that message. Otherwise `text` stays as it was.
+/// Replaces `text` by the message that it holds.
+///
+/// Requires fewer than 65,280 bytes of text and of authenticated data each.
+///
+/// Errors: `BadMic` where `mic` isn't the code of that message; `text` then stays as it was.
 pub fn open(
     key: &Key,
     nonce: &[u8; 13],
@@ -62,7 +69,7 @@ pub fn open(
     open_with(&Cipher::new(&key.0), nonce, associated, text, mic)
 }
 
-/// `seal` with a key that was expanded before.
+/// Seals as `seal` does, with a key that was expanded before.
 pub fn seal_with(
     cipher: &Cipher,
     nonce: &[u8; 13],
@@ -79,7 +86,7 @@ pub fn seal_with(
     [mic[0], mic[1], mic[2], mic[3]]
 }
 
-/// `seal8` with a key that was expanded before.
+/// Seals as `seal8` does, with a key that was expanded before.
 pub fn seal8_with(
     cipher: &Cipher,
     nonce: &[u8; 13],
@@ -98,7 +105,7 @@ pub fn seal8_with(
     ]
 }
 
-/// `open` with a key that was expanded before.
+/// Opens as `open` does, with a key that was expanded before.
 pub fn open_with(
     cipher: &Cipher,
     nonce: &[u8; 13],

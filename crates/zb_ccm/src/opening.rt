@@ -9,10 +9,10 @@ use crate::chaining::code_of;
 use crate::keystream::crypt;
 use zb_aes::Cipher;
 
-/// Up to this length a text is opened in a copy, so that one that doesn't open is deciphered once.
+/// The greatest length of a text that is opened in a copy, so that one that doesn't open is deciphered once.
 pub const COPIED: usize = 128;
 
-// Whether `mic` is the code of the message.
+// Answers whether `mic` is the code of the message.
 fn is_code(
     cipher: &Cipher,
     nonce: &[u8; 13],
@@ -72,7 +72,7 @@ pub fn open_copy(
     open_through(cipher, nonce, associated, text, mic, &mut copy[..len])
 }
 
-/// Opens a text of any length. One that doesn't open is enciphered again.
+/// Opens a text of any length in its place; one that doesn't open is enciphered again.
 pub fn open_in_place(
     cipher: &Cipher,
     nonce: &[u8; 13],

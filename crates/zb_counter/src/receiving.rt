@@ -10,7 +10,7 @@ pub struct Floor {
     pub stored: u32,
 }
 
-/// How a received number is judged.
+/// The answer to a received number.
 #[derive(Clone, Copy, Debug, PartialEq, Eq)]
 pub enum Judge {
     /// It may be accepted, once `store_to` has been stored as the floor, if it is there.
@@ -31,7 +31,9 @@ impl Floor {
     ghost use Rattle.zb_counter.specs.Outgoing.{last_counter};
     ghost use Rattle.zb_counter.specs.Floor.{judge_of};
 
-    /// A floor as a boot finds it: it stands at the stored one, since any number below may have been accepted.
+    /// Makes a floor as a boot finds it: at the stored one.
+    ///
+    /// Any number below may have been accepted.
     pub fn after_boot(stored: u32) -> Floor
         ensures { result ≡ record { kept = stored; stored = stored } }
     {
@@ -41,7 +43,9 @@ impl Floor {
         }
     }
 
-    /// Judges a received number. `block` is how far above the number a new stored floor lies.
+    /// Judges a received number.
+    ///
+    /// A new stored floor lies `block` above the number.
     pub fn judge(&self, counter: u32, block: u32) -> Judge
         ensures { result ≡ judge_of self.now counter block }
     {
@@ -58,7 +62,9 @@ impl Floor {
         Judge::Fresh { store_to }
     }
 
-    /// Takes a number that was judged fresh, and whose floor is stored: it and those below are refused from now on.
+    /// Takes a number: it and those below are refused from now on.
+    ///
+    /// Requires that the number was judged fresh. Call it once the floor that the judgement names is stored.
     pub fn accepted(&mut self, counter: u32)
         requires below_last { counter < last_counter }
         requires not_stale { self.old.kept ≤ counter }

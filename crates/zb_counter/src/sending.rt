@@ -1,7 +1,9 @@
 //! Outgoing counters: numbers from a block whose end was stored.
 ghost use Rattle.std.specs.Prelude.{◌≡◌, ◌≤◌};
 
-/// An outgoing frame counter. The numbers from `next` up to, but not with, `limit` are reserved.
+/// An outgoing frame counter.
+///
+/// The numbers from `next` up to, but not with, `limit` are reserved.
 #[derive(Clone, Copy, Debug, PartialEq, Eq)]
 pub struct Outgoing {
     /// The number of the next frame.
@@ -12,7 +14,7 @@ pub struct Outgoing {
     pub block: u32,
 }
 
-/// What a draw answers.
+/// The answer to a draw.
 #[derive(Clone, Copy, Debug, PartialEq, Eq)]
 pub enum Draw {
     /// The number for a frame.
@@ -29,7 +31,9 @@ pub enum Draw {
 impl Outgoing {
     ghost use Rattle.zb_counter.specs.Outgoing.{draw_of, after_draw};
 
-    /// A counter as a boot finds it: it goes on from the stored limit, since any number below may have been used.
+    /// Makes a counter as a boot finds it: it goes on from the stored limit.
+    ///
+    /// Any number below may have been used.
     pub fn after_boot(limit: u32, block: u32) -> Outgoing
         ensures { result ≡ record { next = limit; limit = limit; block = block } }
     {
@@ -40,7 +44,9 @@ impl Outgoing {
         }
     }
 
-    /// The next number, if it is reserved. Otherwise the counter stays as it is.
+    /// Draws the next number, if it is reserved.
+    ///
+    /// Otherwise the counter stays as it is.
     pub fn draw(&mut self) -> Draw
         ensures answer { result ≡ draw_of self.old }
         ensures after { self.new ≡ after_draw self.old }
@@ -58,6 +64,8 @@ impl Outgoing {
     }
 
     /// Raises the limit to one that has been stored.
+    ///
+    /// Requires that it is not below the limit so far.
     pub fn reserved(&mut self, limit: u32)
         requires { self.old.limit ≤ limit }
         ensures { self.new ≡ record self.old { limit = limit } }

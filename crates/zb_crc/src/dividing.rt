@@ -4,7 +4,7 @@ ghost use Rattle.zb_crc.specs.Division.{added, bits_from, divided, number_of, re
 
 use crate::remainders::REMAINDERS;
 
-/// Eight steps of the division: the register takes in the bits of a byte, from the lowest on.
+/// Makes eight steps of the division: the register takes in the bits of a byte, from the lowest on.
 fn after_byte(register: u16, byte: u8) -> u16
     ensures { (n : ℕ) (rest : List ℕ) → divided (n + 8) (added (bits_from 8 byte ++ rest) (bits_from 16 register))
         ≡ divided n (added rest (bits_from 16 result)) }
@@ -13,8 +13,10 @@ fn after_byte(register: u16, byte: u8) -> u16
     (register >> 8) ^ REMAINDERS[low as usize]
 }
 
-/// The remainder of the bytes of a message, as a number whose lowest bit is that of the highest power. The division begins
-/// with the bits of `start` added to the highest powers.
+/// Divides the bytes of a message, and answers the remainder.
+///
+/// The lowest bit of the number is that of the highest power. The division begins with the bits of `start` added to
+/// the highest powers.
 pub fn divide(start: u16, bytes: &[u8]) -> u16
     ensures bits { bits_from 16 result ≡ remainder start bytes.now }
     ensures number { result ≡ number_of (remainder start bytes.now) }

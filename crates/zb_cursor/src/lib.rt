@@ -1,5 +1,7 @@
 //! Fields of bytes both ways: a `Reader` that takes fields from the front of bytes, and writing at the end of a
-//! frame of 127 bytes. Numbers stand least significant byte first.
+//! frame of 127 bytes.
+//!
+//! Numbers stand least significant byte first.
 #![tactic(auto)]
 
 mod bits;
@@ -14,6 +16,3 @@ pub use writing::{
     TooLong, frame_from, put, put_byte, put_eui, put_key, put_number16, put_number32, put_number64,
     put_optional_byte, put_optional_eui, put_optional_number16, put_short, put_shorts,
 };
-
-#[cfg(test)]
-mod tests;

@@ -1,4 +1,4 @@
-//! Reading fields from the front of bytes.
+//! Reading fields from the front of bytes: a `Reader` stands at a place and moves on field by field.
 ghost use Rattle.std.specs.Prelude.{◌≡◌, [], ◌+◌, ◌*◌, ◌<◌, ◌≤◌, ◌^◌, ◌++◌, length, IfOk, OnOk, OnErr, IfSome, is_some};
 ghost use Rattle.std.specs.Int.{w16, w32, w64};
 ghost use Rattle.zb_cursor.specs.Spelling.{byte, number, short, eui, key, optional};
@@ -9,8 +9,11 @@ use crate::writing::frame_from;
 use arrayvec::ArrayVec;
 use zb_base::{Eui, Frame, Key, Short};
 
-/// A place in bytes that are read field by field from the front. Each method answers the next field and moves
-/// behind it, or answers `cut` and stays where it was.
+/// A place in bytes that are read field by field from the front.
+///
+/// Each method answers the next field and moves behind it.
+///
+/// Errors: `cut` where the bytes run out; the place then stays as it was, but for `shorts`.
 #[derive(Drop)]
 pub struct Reader<'a, E> {
     /// The bytes that are still to be read.
@@ -20,7 +23,7 @@ pub struct Reader<'a, E> {
 }
 
 impl<'a, E: Copy + Drop> Reader<'a, E> {
-    /// One byte.
+    /// Reads one byte.
     pub fn byte(&mut self) -> Result<u8, E>
         ensures exact { Gives result self.new.rest.now (byte_at self.old.cut self.old.rest.now) }
         ensures spelled { IfOk result (λ x. self.old.rest.now ≡ byte x ++ self.new.rest.now) }
@@ -38,10 +41,11 @@ impl<'a, E: Copy + Drop> Reader<'a, E> {
         }
     }
 
-    /// The next `count` bytes, as they stand.
+    /// Reads the next `count` bytes, as they stand.
     #[tactic(auto, unfolding(crate::specs::Reading::bytes_at))]
     pub fn bytes(&mut self, count: usize) -> Result<&'a [u8], E>
-        ensures exact { GivesBy (λ xs. xs.now) result self.new.rest.now (bytes_at count self.old.cut self.old.rest.now) }
+        ensures exact { GivesBy (λ xs. xs.now) result self.new.rest.now
+            (bytes_at count self.old.cut self.old.rest.now) }
         ensures spelled { IfOk result (λ xs. self.old.rest.now ≡ xs.now ++ self.new.rest.now) }
         ensures length { IfOk result (λ xs. length xs.now ≡ count) }
         ensures stays { OnErr result (self.new.rest.now ≡ self.old.rest.now) }
@@ -56,7 +60,7 @@ impl<'a, E: Copy + Drop> Reader<'a, E> {
         Ok(front)
     }
 
-    /// All bytes that are left.
+    /// Reads all bytes that are left.
     pub fn all(&mut self) -> &'a [u8]
         ensures spelled { result.now ≡ self.old.rest.now }
         ensures nothing { self.new.rest.now ≡ [] }
@@ -67,11 +71,14 @@ impl<'a, E: Copy + Drop> Reader<'a, E> {
         rest
     }
 
-    /// All bytes that are left: a body, and behind it a message integrity code of 4 bytes.
+    /// Reads all bytes that are left as a body and the message integrity code of 4 bytes behind it.
+    ///
+    /// Requires at most 127 bytes to be left.
     #[tactic(auto, unfolding(crate::specs::Reading::body_and_mic_at))]
     pub fn body_and_mic(&mut self) -> Result<(Frame, [u8; 4]), E>
         requires { length self.old.rest.now ≤ 127 }
-        ensures exact { GivesBy (λ x. (x.0.items, x.1)) result self.new.rest.now (body_and_mic_at self.old.cut self.old.rest.now) }
+        ensures exact { GivesBy (λ x. (x.0.items, x.1)) result self.new.rest.now
+            (body_and_mic_at self.old.cut self.old.rest.now) }
         ensures spelled { IfOk result (λ x. self.old.rest.now ≡ x.0.items ++ x.1) }
         ensures mic { IfOk result (λ x. length x.1 ≡ 4) }
         ensures stays { OnErr result (self.new.rest.now ≡ self.old.rest.now) }
@@ -87,7 +94,7 @@ impl<'a, E: Copy + Drop> Reader<'a, E> {
         Ok((frame_from(body), code))
     }
 
-    /// A number of 2 bytes.
+    /// Reads a number of 2 bytes.
     #[tactic(auto, unfolding(crate::specs::Reading::number_at))]
     pub fn number16(&mut self) -> Result<u16, E>
         ensures exact { Gives result self.new.rest.now (number_at w16 self.old.cut self.old.rest.now) }
@@ -105,7 +112,7 @@ impl<'a, E: Copy + Drop> Reader<'a, E> {
         Ok(u16::from_le_bytes([front[0], front[1]]))
     }
 
-    /// A number of 4 bytes.
+    /// Reads a number of 4 bytes.
     #[tactic(auto, unfolding(crate::specs::Reading::number_at))]
     pub fn number32(&mut self) -> Result<u32, E>
         ensures exact { Gives result self.new.rest.now (number_at w32 self.old.cut self.old.rest.now) }
@@ -123,7 +130,7 @@ impl<'a, E: Copy + Drop> Reader<'a, E> {
         Ok(u32::from_le_bytes([front[0], front[1], front[2], front[3]]))
     }
 
-    /// A number of 8 bytes.
+    /// Reads a number of 8 bytes.
     #[tactic(auto, unfolding(crate::specs::Reading::number_at))]
     pub fn number64(&mut self) -> Result<u64, E>
         ensures exact { Gives result self.new.rest.now (number_at w64 self.old.cut self.old.rest.now) }
@@ -143,7 +150,7 @@ impl<'a, E: Copy + Drop> Reader<'a, E> {
         ]))
     }
 
-    /// A short address.
+    /// Reads a short address.
     #[tactic(auto, unfolding(crate::specs::Reading::short_at))]
     pub fn short(&mut self) -> Result<Short, E>
         ensures exact { Gives result self.new.rest.now (short_at self.old.cut self.old.rest.now) }
@@ -157,7 +164,7 @@ impl<'a, E: Copy + Drop> Reader<'a, E> {
         Ok(Short(number))
     }
 
-    /// An IEEE address.
+    /// Reads an IEEE address.
     #[tactic(auto, unfolding(crate::specs::Reading::eui_at))]
     pub fn eui(&mut self) -> Result<Eui, E>
         ensures exact { Gives result self.new.rest.now (eui_at self.old.cut self.old.rest.now) }
@@ -171,7 +178,7 @@ impl<'a, E: Copy + Drop> Reader<'a, E> {
         Ok(Eui(number))
     }
 
-    /// A key, in the order of its bytes.
+    /// Reads a key, in the order of its bytes.
     #[tactic(auto, unfolding(crate::specs::Reading::key_at))]
     pub fn key(&mut self) -> Result<Key, E>
         ensures exact { Gives result self.new.rest.now (key_at self.old.cut self.old.rest.now) }
@@ -187,7 +194,7 @@ impl<'a, E: Copy + Drop> Reader<'a, E> {
         Ok(Key(key))
     }
 
-    /// One byte, where it is present.
+    /// Reads one byte, where it is present.
     pub fn optional_byte(&mut self, present: bool) -> Result<Option<u8>, E>
         ensures exact { Gives result self.new.rest.now (optional_at present byte_at self.old.cut self.old.rest.now) }
         ensures spelled { IfOk result (λ o. self.old.rest.now ≡ optional byte o ++ self.new.rest.now) }
@@ -204,9 +211,10 @@ impl<'a, E: Copy + Drop> Reader<'a, E> {
         Ok(Some(field))
     }
 
-    /// A number of 2 bytes, where it is present.
+    /// Reads a number of 2 bytes, where it is present.
     pub fn optional_number16(&mut self, present: bool) -> Result<Option<u16>, E>
-        ensures exact { Gives result self.new.rest.now (optional_at present (number_at w16) self.old.cut self.old.rest.now) }
+        ensures exact { Gives result self.new.rest.now
+            (optional_at present (number_at w16) self.old.cut self.old.rest.now) }
         ensures spelled { IfOk result (λ o. self.old.rest.now ≡ optional (number w16) o ++ self.new.rest.now) }
         ensures present { IfOk result (λ o. is_some o ≡ present) }
         ensures in_range { IfOk result (λ o. IfSome o (λ x. x < 2 ^ 16)) }
@@ -221,7 +229,7 @@ impl<'a, E: Copy + Drop> Reader<'a, E> {
         Ok(Some(field))
     }
 
-    /// An IEEE address, where it is present.
+    /// Reads an IEEE address, where it is present.
     pub fn optional_eui(&mut self, present: bool) -> Result<Option<Eui>, E>
         ensures exact { Gives result self.new.rest.now (optional_at present eui_at self.old.cut self.old.rest.now) }
         ensures spelled { IfOk result (λ o. self.old.rest.now ≡ optional eui o ++ self.new.rest.now) }
@@ -238,11 +246,15 @@ impl<'a, E: Copy + Drop> Reader<'a, E> {
         Ok(Some(field))
     }
 
-    /// The next `count` short addresses, for which there is room. Where the bytes run out the reader stands behind
-    /// the last address that is whole.
+    /// Reads the next `count` short addresses.
+    ///
+    /// Requires that the array has room for all that the bytes to come can hold.
+    ///
+    /// Errors: `cut` where the bytes run out; the reader then stands behind the last address that is whole.
     pub fn shorts<const N: usize>(&mut self, count: u8) -> Result<ArrayVec<Short, N>, E>
         requires { length self.old.rest.now ≤ 2 * N + 1 }
-        ensures exact { GivesBy (λ v. v.items) result self.new.rest.now (times_at short_at count self.old.cut self.old.rest.now) }
+        ensures exact { GivesBy (λ v. v.items) result self.new.rest.now
+            (times_at short_at count self.old.cut self.old.rest.now) }
         ensures spelled { IfOk result (λ v. self.old.rest.now ≡ flat_map short v.items ++ self.new.rest.now) }
         ensures number { IfOk result (λ v. length v.items ≡ count) }
         ensures in_range { IfOk result (λ v. AllByRecursion (λ s. s.0 < 2 ^ 16) v.items) }

@@ -1,4 +1,4 @@
-//! Writing fields at the end of a frame.
+//! Writing fields at the end of a frame of 127 bytes.
 ghost use Rattle.std.specs.Prelude.{◌≡◌, ◌≤◌, length, OnErr};
 ghost use Rattle.std.specs.List.{flat_map};
 ghost use Rattle.std.specs.Int.{w16, w32, w64};
@@ -10,7 +10,7 @@ use std::error::Error;
 use std::fmt;
 use zb_base::{Eui, Frame, Key, Short};
 
-/// The bytes have no room in a frame of 127.
+/// The fault of bytes that have no room in a frame of 127.
 #[derive(Clone, Copy, Debug, PartialEq, Eq)]
 pub struct TooLong;
 
@@ -27,7 +27,9 @@ impl fmt::Display for TooLong {
 
 impl Error for TooLong {}
 
-/// Puts the bytes at the end of the frame, or refuses them where they do not fit and leaves the frame as it was.
+/// Puts the bytes at the end of the frame.
+///
+/// Errors: `TooLong` where they don't fit; the frame then stays as it was.
 pub fn put(out: &mut Frame, piece: &[u8]) -> Result<(), TooLong>
     ensures appends { Appends out.old.items piece.now out.new.items result }
     ensures stays { OnErr result (out.new.items ≡ out.old.items) }
@@ -38,7 +40,9 @@ pub fn put(out: &mut Frame, piece: &[u8]) -> Result<(), TooLong>
     }
 }
 
-/// The frame of these bytes.
+/// Makes the frame of these bytes.
+///
+/// Requires at most 127 of them.
 pub fn frame_from(bytes: &[u8]) -> Frame
     requires { length bytes.now ≤ 127 }
     ensures { result.items ≡ bytes.now }
@@ -48,7 +52,9 @@ pub fn frame_from(bytes: &[u8]) -> Frame
     frame
 }
 
-/// One byte.
+/// Puts one byte at the end of the frame.
+///
+/// Errors: `TooLong` where it doesn't fit.
 pub fn put_byte(out: &mut Frame, value: u8) -> Result<(), TooLong>
     ensures { Appends out.old.items (byte value) out.new.items result }
 {
@@ -56,7 +62,9 @@ pub fn put_byte(out: &mut Frame, value: u8) -> Result<(), TooLong>
     Ok(())
 }
 
-/// A number of 2 bytes.
+/// Puts a number of 2 bytes at the end of the frame.
+///
+/// Errors: `TooLong` where it doesn't fit.
 pub fn put_number16(out: &mut Frame, value: u16) -> Result<(), TooLong>
     ensures { Appends out.old.items (number w16 value) out.new.items result }
 {
@@ -64,7 +72,9 @@ pub fn put_number16(out: &mut Frame, value: u16) -> Result<(), TooLong>
     Ok(())
 }
 
-/// A number of 4 bytes.
+/// Puts a number of 4 bytes at the end of the frame.
+///
+/// Errors: `TooLong` where it doesn't fit.
 pub fn put_number32(out: &mut Frame, value: u32) -> Result<(), TooLong>
     ensures { Appends out.old.items (number w32 value) out.new.items result }
 {
@@ -72,7 +82,9 @@ pub fn put_number32(out: &mut Frame, value: u32) -> Result<(), TooLong>
     Ok(())
 }
 
-/// A number of 8 bytes.
+/// Puts a number of 8 bytes at the end of the frame.
+///
+/// Errors: `TooLong` where it doesn't fit.
 pub fn put_number64(out: &mut Frame, value: u64) -> Result<(), TooLong>
     ensures { Appends out.old.items (number w64 value) out.new.items result }
 {
@@ -80,7 +92,9 @@ pub fn put_number64(out: &mut Frame, value: u64) -> Result<(), TooLong>
     Ok(())
 }
 
-/// A short address.
+/// Puts a short address at the end of the frame.
+///
+/// Errors: `TooLong` where it doesn't fit.
 pub fn put_short(out: &mut Frame, value: Short) -> Result<(), TooLong>
     ensures { Appends out.old.items (short value) out.new.items result }
 {
@@ -88,7 +102,9 @@ pub fn put_short(out: &mut Frame, value: Short) -> Result<(), TooLong>
     Ok(())
 }
 
-/// An IEEE address.
+/// Puts an IEEE address at the end of the frame.
+///
+/// Errors: `TooLong` where it doesn't fit.
 pub fn put_eui(out: &mut Frame, value: Eui) -> Result<(), TooLong>
     ensures { Appends out.old.items (eui value) out.new.items result }
 {
@@ -96,7 +112,9 @@ pub fn put_eui(out: &mut Frame, value: Eui) -> Result<(), TooLong>
     Ok(())
 }
 
-/// A key, in the order of its bytes.
+/// Puts a key at the end of the frame, in the order of its bytes.
+///
+/// Errors: `TooLong` where it doesn't fit.
 pub fn put_key(out: &mut Frame, value: &Key) -> Result<(), TooLong>
     ensures { Appends out.old.items (key value.now) out.new.items result }
 {
@@ -104,7 +122,9 @@ pub fn put_key(out: &mut Frame, value: &Key) -> Result<(), TooLong>
     Ok(())
 }
 
-/// The field, where there is one.
+/// Puts a byte at the end of the frame, where there is one.
+///
+/// Errors: `TooLong` where it doesn't fit.
 pub fn put_optional_byte(out: &mut Frame, value: Option<u8>) -> Result<(), TooLong>
     ensures { Appends out.old.items (optional byte value) out.new.items result }
 {
@@ -115,7 +135,9 @@ pub fn put_optional_byte(out: &mut Frame, value: Option<u8>) -> Result<(), TooLo
     Ok(())
 }
 
-/// The field, where there is one.
+/// Puts a number of 2 bytes at the end of the frame, where there is one.
+///
+/// Errors: `TooLong` where it doesn't fit.
 pub fn put_optional_number16(out: &mut Frame, value: Option<u16>) -> Result<(), TooLong>
     ensures { Appends out.old.items (optional (number w16) value) out.new.items result }
 {
@@ -126,7 +148,9 @@ pub fn put_optional_number16(out: &mut Frame, value: Option<u16>) -> Result<(), 
     Ok(())
 }
 
-/// The field, where there is one.
+/// Puts an IEEE address at the end of the frame, where there is one.
+///
+/// Errors: `TooLong` where it doesn't fit.
 pub fn put_optional_eui(out: &mut Frame, value: Option<Eui>) -> Result<(), TooLong>
     ensures { Appends out.old.items (optional eui value) out.new.items result }
 {
@@ -137,7 +161,9 @@ pub fn put_optional_eui(out: &mut Frame, value: Option<Eui>) -> Result<(), TooLo
     Ok(())
 }
 
-/// The addresses one after the other. Where they do not all fit, some of them may stand.
+/// Puts the addresses at the end of the frame, one after the other.
+///
+/// Errors: `TooLong` where they don't all fit; some of them may then stand.
 pub fn put_shorts(out: &mut Frame, shorts: &[Short]) -> Result<(), TooLong>
     ensures { Appends out.old.items (flat_map short shorts.now) out.new.items result }
 {

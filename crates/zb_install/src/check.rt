@@ -4,7 +4,7 @@ ghost use Rattle.zb_install.specs.Crc.{crc};
 
 use zb_crc::divide;
 
-/// The CRC of the bytes of a code.
+/// Computes the CRC of the bytes of a code.
 pub fn crc(bytes: &[u8]) -> u16
     ensures { result ≡ crc bytes.now }
 {

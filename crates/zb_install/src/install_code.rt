@@ -1,4 +1,4 @@
-//! A code with its CRC.
+//! A code with its CRC, taken from digits or bytes, and its link key.
 
 ghost use Rattle.std.specs.Prelude.{◌≡◌, ◌<◌, ◌≤◌, ◌-◌, ◌*◌, ◌^◌, [], IsTrue, length, None};
 ghost use Rattle.hex.specs.Hex.{decode_of};
@@ -14,7 +14,9 @@ use std::marker::Model;
 use zb_base::Key;
 use zb_mmo::hash;
 
-/// A code of 6, 8, 12 or 16 bytes and its CRC. A contract sees it as both together.
+/// A code of 6, 8, 12 or 16 bytes and its CRC.
+///
+/// A contract sees it as both together.
 #[derive(Drop)]
 pub struct InstallCode {
     bytes: ArrayVec<u8, 18>,
@@ -32,7 +34,7 @@ impl Model for InstallCode {
         × (length code.bytes.items ≤ 18) };
 }
 
-// Whether a code and its CRC have this length together.
+// Answers whether a code and its CRC have this length together.
 fn is_code_length(len: usize) -> bool
     ensures value { result ≡ is_code_length len }
     ensures bounds { IsTrue result → (8 ≤ len) × (len ≤ 18) }
@@ -40,7 +42,7 @@ fn is_code_length(len: usize) -> bool
     len == 8 || len == 10 || len == 14 || len == 18
 }
 
-// The bytes in an array that holds the longest code.
+// Copies the bytes into an array that holds the longest code.
 fn array_of(bytes: &[u8]) -> ArrayVec<u8, 18>
     requires { length bytes.now ≤ 18 }
     ensures { result.items ≡ bytes.now }
@@ -52,7 +54,7 @@ fn array_of(bytes: &[u8]) -> ArrayVec<u8, 18>
     }
 }
 
-// How many characters a text has.
+// Counts the characters of a text.
 fn count_characters(text: &str) -> usize
     ensures value { result ≡ length (chars text.now) }
     ensures bound { result ≤ length text.now }
@@ -60,14 +62,14 @@ fn count_characters(text: &str) -> usize
     text.chars().count()
 }
 
-// The place of the first character that is no hexadecimal digit.
+// Finds the place of the first character that is no hexadecimal digit.
 fn find_no_digit(text: &str) -> Option<usize>
     ensures { result ≡ position is_no_digit (chars text.now) }
 {
     text.chars().position(|c| !c.is_ascii_hexdigit())
 }
 
-// The code that the digits of a text spell, by way of as many bytes.
+// Takes the code that the digits of a text spell, by way of as many bytes.
 fn spelled(text: &str, bytes: &mut [u8]) -> Result<InstallCode, CodeError>
     requires digits { position is_no_digit (chars text.now) ≡ None }
     requires pairs { length (chars text.now) ≡ 2 * length bytes.old }
@@ -80,6 +82,10 @@ fn spelled(text: &str, bytes: &mut [u8]) -> Result<InstallCode, CodeError>
 
 impl InstallCode {
     /// Takes a code and its CRC as hexadecimal digits, in either case.
+    ///
+    /// Requires fewer than 2^32 - 1 bytes of text.
+    ///
+    /// Errors: a `CodeError`, the first of its kinds that holds.
     pub fn from_hex(text: &str) -> Result<InstallCode, CodeError>
         requires { length text.now < 2 ^ 32 - 1 }
         ensures { result ≡ code_of_text text.now }
@@ -100,6 +106,10 @@ impl InstallCode {
     }
 
     /// Takes a code and its CRC as bytes.
+    ///
+    /// Requires fewer than 2^32 - 1 of them.
+    ///
+    /// Errors: a `CodeError`, the first of its kinds that holds, but for `NotHex`.
     pub fn from_bytes(bytes: &[u8]) -> Result<InstallCode, CodeError>
         requires { length bytes.now < 2 ^ 32 - 1 }
         ensures { result ≡ code_of bytes.now }
@@ -119,14 +129,14 @@ impl InstallCode {
         })
     }
 
-    /// Code and CRC together, as they were taken.
+    /// Answers code and CRC together, as they were taken.
     pub fn bytes(&self) -> &[u8]
         ensures { result.now ≡ self.now }
     {
         self.bytes.as_slice()
     }
 
-    /// The link key that the code gives: the hash of code and CRC together.
+    /// Derives the link key that the code gives: the hash of code and CRC together.
     pub fn link_key(&self) -> Key
         ensures { result.0 ≡ code_key self.now }
     {

@@ -1,4 +1,5 @@
-//! Install codes (Base Device Behavior): the code that is printed on a device, with its CRC, and the link key that it gives.
+//! Install codes (Base Device Behavior): the code that is printed on a device, with its CRC, and the link key that it
+//! gives.
 #![tactic(auto)]
 
 pub use check::crc;
@@ -8,5 +9,3 @@ pub use install_code::InstallCode;
 mod check;
 mod code_error;
 mod install_code;
-#[cfg(test)]
-mod tests;

@@ -6,14 +6,14 @@ ghost use Rattle.zb_mmo.specs.Hash.{blocks_of, mixed, mixed_all, padding, zeros}
 
 use zb_aes::{encrypt, sum};
 
-/// The value after a block.
+/// Answers the value after a block.
 pub fn mix(value: &[u8; 16], block: &[u8; 16]) -> [u8; 16]
     ensures { result ≡ mixed value.now block.now }
 {
     sum(&encrypt(value, block), block)
 }
 
-// Fewer than 16 bytes, with the bit that begins the padding, filled up with zeros.
+// Fills fewer than 16 bytes up, with the bit that begins the padding and zeros.
 fn marked(bytes: &[u8]) -> [u8; 16]
     requires { length bytes.now < 16 }
     ensures { result ≡ bytes.now ++ 0x80 ∷ replicate (15 - length bytes.now) 0 }
@@ -24,7 +24,7 @@ fn marked(bytes: &[u8]) -> [u8; 16]
     block
 }
 
-// A block that ends with a number of bits.
+// Ends a block with a number of bits.
 fn ended(block: &[u8; 16], bits: u16) -> [u8; 16]
     ensures { result ≡ take 14 block.now ++ to_be_bytes w16 bits }
 {
@@ -33,7 +33,7 @@ fn ended(block: &[u8; 16], bits: u16) -> [u8; 16]
     [a, b, c, d, e, f, g, h, i, j, k, l, m, n, high, low]
 }
 
-// The value after the bytes that fill no block and the padding.
+// Answers the value after the bytes that fill no block and the padding.
 fn padded_end(value: &[u8; 16], bytes: &[u8], bits: u16) -> [u8; 16]
     requires { length bytes.now < 16 }
     ensures { result ≡ mixed_all value.now
@@ -47,7 +47,9 @@ fn padded_end(value: &[u8; 16], bytes: &[u8], bits: u16) -> [u8; 16]
     }
 }
 
-/// The value after the end of a message and its padding, where `before` bytes in whole blocks led to `value`.
+/// Answers the value after the end of a message and its padding.
+///
+/// Requires that the `before` bytes that led to `value` are whole blocks, and at most 8,191 bytes in all.
 pub fn finished(value: [u8; 16], before: usize, bytes: &[u8]) -> [u8; 16]
     requires whole { before % 16 ≡ 0 }
     requires fits { before + length bytes.now ≤ 8191 }

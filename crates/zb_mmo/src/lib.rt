@@ -9,13 +9,13 @@ pub use pads::KeyPads;
 
 mod blocks;
 mod pads;
-#[cfg(test)]
-mod tests;
 
 use blocks::finished;
 use zb_base::Key;
 
-/// The hash of a message of at most 8,191 bytes.
+/// Hashes a message.
+///
+/// Requires at most 8,191 bytes.
 pub fn hash(bytes: &[u8]) -> [u8; 16]
     requires { length bytes.now ≤ 8191 }
     ensures { result ≡ hash bytes.now }
@@ -23,7 +23,9 @@ pub fn hash(bytes: &[u8]) -> [u8; 16]
     finished([0; 16], 0, bytes)
 }
 
-/// The keyed hash of a message of at most 8,175 bytes.
+/// Hashes a message with a key.
+///
+/// Requires at most 8,175 bytes. Where one key serves for several hashes, make its `KeyPads` once.
 pub fn keyed(key: &Key, bytes: &[u8]) -> [u8; 16]
     requires { length bytes.now ≤ 8175 }
     ensures { result ≡ keyed key.now.0 bytes.now }
@@ -31,21 +33,21 @@ pub fn keyed(key: &Key, bytes: &[u8]) -> [u8; 16]
     KeyPads::new(key).keyed(bytes)
 }
 
-/// The key that seals the transport of a network key under this link key.
+/// Derives the key that seals the transport of a network key under this link key.
 pub fn transport_key(key: &Key) -> Key
     ensures { result.0 ≡ transport_key key.now.0 }
 {
     KeyPads::new(key).transport_key()
 }
 
-/// The key that seals the transport of a link key under this link key.
+/// Derives the key that seals the transport of a link key under this link key.
 pub fn load_key(key: &Key) -> Key
     ensures { result.0 ≡ load_key key.now.0 }
 {
     KeyPads::new(key).load_key()
 }
 
-/// What a node sends to prove that it knows this link key.
+/// Computes what a node sends to prove that it knows this link key.
 pub fn verify_hash(key: &Key) -> [u8; 16]
     ensures { result ≡ verify_hash key.now.0 }
 {

@@ -7,7 +7,9 @@ use crate::blocks::{finished, mix};
 use std::marker::Model;
 use zb_base::Key;
 
-/// A key with the values of its inner and its outer pad. A contract sees it as its key of 16 bytes.
+/// A key with the values of its inner and its outer pad.
+///
+/// A contract sees it as its key of 16 bytes.
 #[derive(Drop)]
 pub struct KeyPads {
     key: Key,
@@ -28,7 +30,7 @@ impl Model for KeyPads {
         × (pads.outer ≡ mixed (replicate 16 0) (outer_pad pads.key.0)) × (length pads.key.0 ≡ 16) };
 }
 
-// Each byte added to `other`.
+// Adds `other` to each byte.
 fn padded_with(key: &[u8; 16], other: u8) -> [u8; 16]
     ensures { result ≡ map (λ b. bit_xor b other) key.now }
 {
@@ -51,7 +53,9 @@ impl KeyPads {
         }
     }
 
-    /// The keyed hash of a message of at most 8,175 bytes.
+    /// Hashes a message with the key.
+    ///
+    /// Requires at most 8,175 bytes.
     pub fn keyed(&self, bytes: &[u8]) -> [u8; 16]
         requires { length bytes.now ≤ 8175 }
         ensures { result ≡ keyed self.now bytes.now }
@@ -59,21 +63,21 @@ impl KeyPads {
         finished(self.outer, 16, &finished(self.inner, 16, bytes))
     }
 
-    /// The key that seals the transport of a network key.
+    /// Derives the key that seals the transport of a network key.
     pub fn transport_key(&self) -> Key
         ensures { result.0 ≡ transport_key self.now }
     {
         Key(self.keyed(&[0]))
     }
 
-    /// The key that seals the transport of a link key.
+    /// Derives the key that seals the transport of a link key.
     pub fn load_key(&self) -> Key
         ensures { result.0 ≡ load_key self.now }
     {
         Key(self.keyed(&[2]))
     }
 
-    /// What proves that a node knows the key.
+    /// Computes what a node sends to prove that it knows the key.
     pub fn verify_hash(&self) -> [u8; 16]
         ensures { result ≡ verify_hash self.now }
     {

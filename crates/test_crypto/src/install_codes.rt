@@ -1,72 +1,68 @@
 //! Published codes, codes that are none, and forty codes by a second way of computing.
-
 ghost use Rattle.std.specs.Prelude.{◌≤◌, length};
 
-use crate::{CodeError, InstallCode, crc};
 use zb_aes::{encrypt, sum};
 use zb_base::Key;
+use zb_install::{CodeError, InstallCode, crc};
 
-// The key that a text gives.
-fn key_of(text: &str) -> Option<Key> {
-    if text.len() > 100 {
-        return None;
-    }
-    match InstallCode::from_hex(text) {
-        Ok(code) => Some(code.link_key()),
-        Err(_) => None,
-    }
+// The key that a text gives, or why it is no code.
+fn key_of(text: &str) -> Result<Key, CodeError>
+    requires { length text.now ≤ 100 }
+{
+    let code = InstallCode::from_hex(text)?;
+    Ok(code.link_key())
 }
 
-// Why a text is no code.
-fn refusal(text: &str) -> Option<CodeError> {
-    if text.len() > 100 {
-        return None;
-    }
-    InstallCode::from_hex(text).err()
-}
+const LONG_KEY: Key = Key([
+    0x66, 0xb6, 0x90, 0x09, 0x81, 0xe1, 0xee, 0x3c, 0xa4, 0x20, 0x6b, 0x6b, 0x86, 0x1c, 0x02, 0xbb,
+]);
+
+const SHORT_KEY: Key = Key([
+    0xcd, 0x4f, 0xa0, 0x64, 0x77, 0x3f, 0x46, 0x94, 0x1e, 0xc9, 0x86, 0xc0, 0x99, 0x63, 0xd1, 0xa8,
+]);
+
+// Texts, and the key of each or why it is no code.
+const TEXTS: [(&str, Result<Key, CodeError>); 10] = [
+    ("83FED3407A939723A5C639B26916D505C3B5", Ok(LONG_KEY)),
+    ("83fed3407a939723a5c639b26916d505c3b5", Ok(LONG_KEY)),
+    ("83FED3407A932B70", Ok(SHORT_KEY)),
+    (
+        "83FED3407A939723A5C639B26916D505C3B4",
+        Err(CodeError::Crc {
+            kept: 0xb4c3,
+            found: 0xb5c3,
+        }),
+    ),
+    (
+        "83FED3407A939723A5C639B26916D505C3",
+        Err(CodeError::Length { len: 17 }),
+    ),
+    (
+        "83FED3407A939723A5C639B26916D505C3B",
+        Err(CodeError::NotHex { at: 35 }),
+    ),
+    ("83FED3407A932B7G", Err(CodeError::NotHex { at: 15 })),
+    ("", Err(CodeError::Length { len: 0 })),
+    ("8é", Err(CodeError::NotHex { at: 1 })),
+    ("é", Err(CodeError::NotHex { at: 1 })),
+];
 
 #[test]
-fn published_code(rt: HostRuntime) {
+fn published_codes_and_texts_that_are_none(rt: HostRuntime) {
+    for (text, key) in TEXTS {
+        assert!(rt; text.len() <= 100);
+        assert_eq!(rt; key_of(text), key, "at {text}");
+    }
+}
+
+// The CRC of the published code of 16 bytes.
+#[test]
+fn published_crc(rt: HostRuntime) {
     let code = [
         0x83, 0xfe, 0xd3, 0x40, 0x7a, 0x93, 0x97, 0x23, 0xa5, 0xc6, 0x39, 0xb2, 0x69, 0x16, 0xd5,
         0x05,
     ];
     assert_eq!(rt; crc(&code), 0xb5c3);
-    let key = Key([
-        0x66, 0xb6, 0x90, 0x09, 0x81, 0xe1, 0xee, 0x3c, 0xa4, 0x20, 0x6b, 0x6b, 0x86, 0x1c, 0x02,
-        0xbb,
-    ]);
-    assert_eq!(rt; key_of("83FED3407A939723A5C639B26916D505C3B5"), Some(key));
-    assert_eq!(rt; key_of("83fed3407a939723a5c639b26916d505c3b5"), Some(key));
-    let short = Key([
-        0xcd, 0x4f, 0xa0, 0x64, 0x77, 0x3f, 0x46, 0x94, 0x1e, 0xc9, 0x86, 0xc0, 0x99, 0x63, 0xd1,
-        0xa8,
-    ]);
-    assert_eq!(rt; key_of("83FED3407A932B70"), Some(short));
-}
-
-#[test]
-fn texts_that_are_no_codes(rt: HostRuntime) {
-    let crc = CodeError::Crc {
-        kept: 0xb4c3,
-        found: 0xb5c3,
-    };
-    assert_eq!(rt; refusal("83FED3407A939723A5C639B26916D505C3B4"), Some(crc));
-    assert_eq!(rt;
-        refusal("83FED3407A939723A5C639B26916D505C3"),
-        Some(CodeError::Length { len: 17 })
-    );
-    assert_eq!(rt;
-        refusal("83FED3407A939723A5C639B26916D505C3B"),
-        Some(CodeError::NotHex { at: 35 })
-    );
-    assert_eq!(rt;
-        refusal("83FED3407A932B7G"),
-        Some(CodeError::NotHex { at: 15 })
-    );
-    assert_eq!(rt; refusal(""), Some(CodeError::Length { len: 0 }));
-    assert_eq!(rt; refusal("8é"), Some(CodeError::NotHex { at: 1 }));
-    assert_eq!(rt; refusal("é"), Some(CodeError::NotHex { at: 1 }));
 }
 
 // The CRC in its other form: the highest power at the top, and the bits turned round at the end.

@@ -1,7 +1,7 @@
-//! The objects in memory, with faults, and the adapters over readers and writers of std that fail.
-use crate::{Failed, MemSink, MemSource, NullSink, OrMemory, Sink, Source, StdSink, StdSource};
+//! Sources and sinks in memory, with faults, and the adapters over readers and writers of std that fail.
 use std::io::{Cursor, Error, ErrorKind, Read, Write};
 use std::test::Fail;
+use zb_base::{Failed, MemSink, MemSource, Sink, Source, StdSink, StdSource};
 
 /// A reader whose every call fails.
 #[derive(Drop)]
@@ -60,11 +60,6 @@ fn a_sink_in_memory_fails_where_it_is_told_and_past_its_room(rt: HostRuntime) ->
 }
 
 #[test]
-fn a_null_sink_takes_all(rt: HostRuntime) {
-    assert_eq!(rt; NullSink::new().write(b"abc"), Ok(()));
-}
-
-#[test]
 fn an_adapter_reads_what_its_reader_gives(rt: HostRuntime) {
     let mut source = StdSource::new(Cursor::new(b"abc".as_slice()));
     let mut buf = [0; 2];
@@ -82,10 +77,4 @@ fn an_adapter_writes_the_whole_piece_or_fails(rt: HostRuntime) {
     assert_eq!(rt; sink.write(b""), Ok(()));
     assert_eq!(rt; sink.write(b"de"), Err(Failed));
     assert_eq!(rt; sink.flush(), Err(Failed));
-}
-
-#[test]
-fn want_of_memory_keeps_its_name(rt: HostRuntime) {
-    let lacks: OrMemory<Failed> = OrMemory::from(crate::NoMemory);
-    assert_eq!(rt; lacks, OrMemory::NoMemory);
 }
