@@ -57,7 +57,7 @@ pub enum Command {
         device: Eui,
         /// The network address of the device.
         short: Short,
-        /// What the device did: a secured rejoin (00), an unsecured join (01), a leave (02), a trust centre rejoin (03).
+        /// What it did: a secured rejoin (00), an unsecured join (01), a leave (02), a trust centre rejoin (03).
         status: u8,
     },
     /// Remove-Device (07).
