@@ -7,3 +7,5 @@ mod aps;
 mod commands;
 #[cfg(test)]
 mod nwk;
+#[cfg(test)]
+mod seals;
