@@ -16,13 +16,14 @@ use zb_cursor::{Reader, TooLong, has_bit, put_byte, put_number32, put_optional_e
 pub struct ApsAux {
     /// The byte as on the air. Bits 0 to 2: level; 3 and 4: key identifier; 5: extended nonce; the others are free.
     pub control: u8,
+    /// The frame counter of the node that sealed.
     pub counter: u32,
-    /// There exactly where the extended nonce bit is 1.
+    /// The IEEE address of the node that sealed, there exactly where the extended nonce bit is 1.
     pub source: Option<Eui>,
 }
 
 impl ApsAux {
-    /// Whether the reader takes the key identifier, and the source is there where the control byte tells it.
+    /// Tells whether the reader takes the key identifier, and the source is there where the control byte tells it.
     pub fn shape_ok(&self) -> bool
         ensures { IsTrue result ↔ IsAux self.now }
     {
@@ -30,7 +31,7 @@ impl ApsAux {
     }
 }
 
-/// The control byte of a header that does not name the network key.
+/// Reads the control byte of a header that does not name the network key.
 #[tactic(auto, unfolding(crate::specs::Reading::aux_control_at))]
 fn read_aux_control(reader: &mut Reader<ApsError>) -> Result<u8, ApsError>
     ensures exact { Gives result reader.new.rest.now (aux_control_at reader.old.cut reader.old.rest.now) }
@@ -48,6 +49,7 @@ fn read_aux_control(reader: &mut Reader<ApsError>) -> Result<u8, ApsError>
     Ok(control)
 }
 
+/// Reads an auxiliary header.
 #[tactic(auto, unfolding(crate::specs::Reading::aux_at))]
 pub(crate) fn read_aux(reader: &mut Reader<ApsError>) -> Result<ApsAux, ApsError>
     ensures exact { Gives result reader.new.rest.now (aux_at reader.old.cut reader.old.rest.now) }
@@ -67,6 +69,7 @@ pub(crate) fn read_aux(reader: &mut Reader<ApsError>) -> Result<ApsAux, ApsError
     })
 }
 
+/// Writes an auxiliary header at the end.
 pub(crate) fn put_aux(out: &mut Frame, value: &ApsAux) -> Result<(), TooLong>
     ensures { Appends out.old.items (aux value.now) out.new.items result }
 {

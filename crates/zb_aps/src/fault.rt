@@ -2,20 +2,33 @@
 use std::error::Error;
 use std::fmt;
 
-/// The first fault of bytes that are no APS frame: `TooLong` before all others, and then what is met as the fields
-/// are walked from the front.
+/// The first fault of bytes that are no APS frame.
+///
+/// `TooLong` comes before all others. Then the first counts that is met as the fields are walked from the front.
 #[derive(Clone, Copy, Debug, PartialEq, Eq)]
 pub enum ApsError {
     /// More than 127 bytes.
     TooLong,
-    /// A field is not whole; `at` is the number of all bytes.
-    Short { at: u32 },
+    /// A field is not whole.
+    Short {
+        /// The number of all bytes.
+        at: u32,
+    },
     /// The frame type is neither data (0), command (1) nor ack (2).
-    FrameType { found: u8 },
+    FrameType {
+        /// The type that stands there.
+        found: u8,
+    },
     /// The delivery mode is neither unicast (0), broadcast (2) nor group (3).
-    Delivery { found: u8 },
+    Delivery {
+        /// The delivery mode that stands there.
+        found: u8,
+    },
     /// The auxiliary header names the network key (1).
-    KeyId { found: u8 },
+    KeyId {
+        /// The key identifier that stands there.
+        found: u8,
+    },
 }
 
 impl fmt::Display for ApsError {

@@ -1,4 +1,4 @@
-//! The APS header.
+//! The header of an APS frame, read and written.
 ghost use Rattle.std.specs.Prelude.{◌≡◌, ◌+◌, ◌≤◌, ◌^◌, ◌<◌, ◌∷◌, ◌++◌, ◌&&◌, not, length, IfOk, IfSome, IsTrue, ◌↔◌, is_some};
 ghost use Rattle.std.specs.Int.{w16};
 ghost use Rattle.zb_cursor.specs.Spelling.{byte, number, optional, bit};
@@ -33,12 +33,17 @@ pub struct ApsHeader {
     pub control: u8,
     /// The endpoint that the frame goes to, where it goes to no group.
     pub endpoint: Option<u8>,
-    /// The group that it goes to.
+    /// The group that the frame goes to.
     pub group: Option<u16>,
+    /// The cluster that the frame is of.
     pub cluster: Option<u16>,
+    /// The profile that the frame is of.
     pub profile: Option<u16>,
+    /// The endpoint that the frame comes from.
     pub source_endpoint: Option<u8>,
+    /// The APS counter that the source gave the frame.
     pub counter: u8,
+    /// The extended header.
     pub extended: Option<Extended>,
 }
 
@@ -54,14 +59,14 @@ fn to_group(control: u8) -> bool
     (control >> 2) & 3 == 3
 }
 
-/// Whether the frame says its endpoints, cluster and profile: data, and an ack whose ack format is 0.
+/// Tells whether the frame says its endpoints, cluster and profile: data, and an ack whose ack format is 0.
 fn is_addressed(control: u8) -> bool
     ensures { result ≡ addressed control }
 {
     control & 3 == 0 || (is_ack(control) && !has_bit(u16::from(control), 4))
 }
 
-/// Whether an extended header has a block number.
+/// Tells whether an extended header has a block number.
 fn is_block(control: u8) -> bool
     ensures { result ≡ block control }
 {
@@ -89,8 +94,7 @@ impl ApsHeader {
             && self.source_endpoint.is_some() == addressed
     }
 
-    /// Whether the reader takes the type and the delivery mode, and the options are those that the control byte
-    /// tells.
+    /// Tells whether the reader takes type and delivery mode, and the options are those of the control byte.
     pub fn shape_ok(&self) -> bool
         ensures { IsTrue result ↔ IsHeader self.now }
     {
@@ -105,7 +109,7 @@ impl ApsHeader {
     }
 }
 
-/// The control byte of a frame of a known type and delivery mode.
+/// Reads the control byte of a frame of a known type and delivery mode.
 #[tactic(auto, unfolding(crate::specs::Reading::control_at))]
 fn read_control(reader: &mut Reader<ApsError>) -> Result<u8, ApsError>
     ensures exact { Gives result reader.new.rest.now (control_at reader.old.cut reader.old.rest.now) }
@@ -151,7 +155,8 @@ fn read_optional_extended(
     present: bool,
     in_ack: bool,
 ) -> Result<Option<Extended>, ApsError>
-    ensures exact { Gives result reader.new.rest.now (optional_at present (extended_at in_ack) reader.old.cut reader.old.rest.now) }
+    ensures exact { Gives result reader.new.rest.now
+        (optional_at present (extended_at in_ack) reader.old.cut reader.old.rest.now) }
     ensures spelled { IfOk result (λ x. reader.old.rest.now ≡ optional extended x ++ reader.new.rest.now) }
     ensures present { IfOk result (λ x. is_some x ≡ present) }
     ensures shaped { IfOk result (λ x. IfSome x (IsExtended in_ack)) }
@@ -166,7 +171,7 @@ fn read_optional_extended(
     Ok(Some(extended))
 }
 
-/// The fields behind a control byte.
+/// Reads the fields behind a control byte.
 #[tactic(auto, unfolding(crate::specs::Reading::fields_at))]
 fn read_fields(reader: &mut Reader<ApsError>, control: u8) -> Result<ApsHeader, ApsError>
     requires { IsControl control }
@@ -198,6 +203,7 @@ fn read_fields(reader: &mut Reader<ApsError>, control: u8) -> Result<ApsHeader, 
     })
 }
 
+/// Reads a header.
 #[tactic(auto, unfolding(crate::specs::Reading::header_at))]
 pub(crate) fn read_header(reader: &mut Reader<ApsError>) -> Result<ApsHeader, ApsError>
     ensures exact { Gives result reader.new.rest.now (header_at reader.old.cut reader.old.rest.now) }
@@ -231,7 +237,7 @@ fn put_optional_extended(out: &mut Frame, value: &Option<Extended>) -> Result<()
     Ok(())
 }
 
-/// The control byte and where the frame goes.
+/// Writes the control byte and where the frame goes.
 fn put_addressing(out: &mut Frame, value: &ApsHeader) -> Result<(), TooLong>
     ensures { Appends out.old.items (addressing value.now) out.new.items result }
 {
@@ -242,6 +248,7 @@ fn put_addressing(out: &mut Frame, value: &ApsHeader) -> Result<(), TooLong>
     Ok(())
 }
 
+/// Writes a header at the end.
 pub(crate) fn put_header(out: &mut Frame, value: &ApsHeader) -> Result<(), TooLong>
     ensures { Appends out.old.items (header value.now) out.new.items result }
 {

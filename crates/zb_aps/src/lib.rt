@@ -14,6 +14,3 @@ pub use frame::{ApsFrame, read, write};
 pub use header::{ApsHeader, Extended};
 pub use laws::round_trips;
 pub use zb_cursor::TooLong;
-
-#[cfg(test)]
-mod tests;

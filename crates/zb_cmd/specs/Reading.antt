@@ -1,13 +1,14 @@
 -- Reading a command field by field, with the first fault that is met.
-use Rattle.std.specs.Prelude.{ℕ, List, length, take, drop, min, Result, Ok, Err, ◌==◌, if◌then◌else◌}
-use Rattle.zb_cursor.specs.Reading.{Reading, follow, ◌>>=◌, give, refuse, byte_at, bytes_at, short_at, eui_at, key_at}
+use Rattle.std.specs.Prelude.{◌≡◌, ◌≤◌, ℕ, List, ◌++◌, IfOk, length, take, drop, min, Result, Ok, Err, ◌==◌, if◌then◌else◌}
+use Rattle.zb_cursor.specs.Reading.{Reading, Gives, follow, ◌>>=◌, give, refuse, byte_at, bytes_at, short_at, eui_at, key_at}
 use Rattle.arrayvec.specs.ArrayVec.{ArrayVec}
 use Rattle.zb_cmd.specs.declared.fault.CmdError.{CmdError}
 use Rattle.zb_cmd.specs.declared.fault.CmdError.TheVariants.{Unknown, KeyType, Short, Trailing}
 use Rattle.zb_cmd.specs.declared.command.Command.{Command}
 use Rattle.zb_cmd.specs.declared.command.Command.TheVariants.{TransportNetwork, TransportApplication, TransportLink, Update, Remove, RequestApplication, RequestLink, Switch, Tunnel, Verify, Confirm}
 use Rattle.zb_cmd.specs.declared.leave.Leave.{Leave}
-use Rattle.zb_cmd.specs.Shape.{is_inner}
+use Rattle.zb_cmd.specs.Spelling.{command}
+use Rattle.zb_cmd.specs.Shape.{is_inner, InRange, IsCommand, IsSmall}
 
 unfoldable pub network_at : Reading CmdError Command
 network_at = do
@@ -113,6 +114,15 @@ unfoldable pub command_at : Reading CmdError Command
 command_at = do
   id ← byte_at
   body_of id
+
+-- What a reader of the fields behind `front` returned, and what it left of the bytes: all that reading says, and of a command that it is spelled so.
+pub record IsRead (reading : Reading CmdError Command) (front : List ℕ) (cut : CmdError) (old new : List ℕ) (result : Result Command CmdError) : Type 0 where
+  pub exact : Gives result new (reading cut old)
+  pub spelled : IfOk result (λ c. front ++ old ≡ command c ++ new)
+  pub shaped : IfOk result (λ c. IsCommand c)
+  pub in_range : IfOk result (λ c. InRange c)
+  pub small : IfOk result (λ c. IsSmall c)
+  pub shorter : length new ≤ length old
 
 -- all of the bytes
 abbrev pub whole : {A : Type 0} → Result (A × List ℕ) CmdError → Result A CmdError

@@ -1,4 +1,4 @@
-//! The commands.
+//! The commands of the APS security services: the value, the reader of bytes and the writer.
 ghost use Rattle.std.specs.Prelude.{◌≡◌, ◌≢◌, ◌≤◌, ◌<◌, ◌^◌, ◌∷◌, ◌++◌, [], length, IfOk, OnErr, Ok, Err, IsTrue, ◌↔◌, true};
 ghost use Rattle.zb_cursor.specs.Spelling.{byte, short, eui, key};
 ghost use Rattle.zb_cursor.specs.Reading.{Gives};
@@ -8,7 +8,7 @@ ghost use Rattle.zb_cmd.specs.Shape.{InRange, IsCommand, IsSmall};
 ghost use Rattle.zb_cmd.specs.declared.fault.CmdError.{CmdError};
 ghost use Rattle.zb_cmd.specs.declared.command.Command.{Command};
 ghost use Rattle.zb_cmd.specs.Shape.{Spells};
-ghost use Rattle.zb_cmd.specs.Reading.{update_at, remove_at, switch_at, verify_at, confirm_at, body_of, command_at, command_of};
+ghost use Rattle.zb_cmd.specs.Reading.{update_at, remove_at, switch_at, verify_at, confirm_at, body_of, command_at, command_of, IsRead};
 ghost use Rattle.zb_cmd.specs.Faults.{HasFault};
 
 use crate::fault::CmdError;
@@ -24,70 +24,89 @@ use zb_cursor::{Reader, TooLong, put, put_byte, put_eui, put_short};
 pub enum Command {
     /// Transport-Key (05) of a network key (01).
     TransportNetwork {
+        /// The network key.
         key: Key,
+        /// The sequence number of the key.
         sequence: u8,
+        /// The device that the key is for.
         destination: Eui,
+        /// The trust centre that hands it out.
         source: Eui,
     },
     /// Transport-Key (05) of an application link key (03).
     TransportApplication {
+        /// The application link key.
         key: Key,
+        /// The device with which the receiver shares it.
         partner: Eui,
+        /// 1 where the receiver asked for the key, else 0.
         initiator: u8,
     },
     /// Transport-Key (05) of a trust centre link key (04).
     TransportLink {
+        /// The trust centre link key.
         key: Key,
+        /// The device that the key is for.
         destination: Eui,
+        /// The trust centre that hands it out.
         source: Eui,
     },
     /// Update-Device (06).
     Update {
+        /// The device whose state changed.
         device: Eui,
+        /// The network address of the device.
         short: Short,
+        /// What it did: a secured rejoin (00), an unsecured join (01), a leave (02), a trust centre rejoin (03).
         status: u8,
     },
     /// Remove-Device (07).
     Remove {
+        /// The device that is to leave.
         target: Eui,
     },
     /// Request-Key (08) of an application link key (02) with a partner.
     RequestApplication {
+        /// The device with which the key is to be shared.
         partner: Eui,
     },
     /// Request-Key (08) of the trust centre link key (04).
     RequestLink,
     /// Switch-Key (09).
     Switch {
+        /// The sequence number of the network key that is to be used from now on.
         sequence: u8,
     },
-    /// Tunnel (0E): a sealed frame for `inner_ok`.
+    /// Tunnel (0E).
     Tunnel {
+        /// The device that the frame is for.
         destination: Eui,
+        /// The sealed frame, which `inner_ok` takes.
         inner: Frame,
     },
     /// Verify-Key (0F).
     Verify {
+        /// The key type of the key that is shown to be known, as in Transport-Key.
         kind: u8,
+        /// The device that shows it.
         source: Eui,
+        /// The keyed hash of 03 under the key.
         hash: [u8; 16],
     },
     /// Confirm-Key (10).
     Confirm {
+        /// 00 where the key is verified, else why it is not.
         status: u8,
+        /// The key type of the key, as in Verify-Key.
         kind: u8,
+        /// The device that is answered.
         destination: Eui,
     },
 }
 
 #[tactic(auto, unfolding(crate::specs::Reading::update_at))]
 fn read_update(reader: &mut Reader<CmdError>) -> Result<Command, CmdError>
-    ensures exact { Gives result reader.new.rest.now (update_at reader.old.cut reader.old.rest.now) }
-    ensures spelled { IfOk result (λ c. 6 ∷ reader.old.rest.now ≡ command c ++ reader.new.rest.now) }
-    ensures shaped { IfOk result (λ c. IsCommand c) }
-    ensures in_range { IfOk result (λ c. InRange c) }
-    ensures small { IfOk result (λ c. IsSmall c) }
-    ensures shorter { length reader.new.rest.now ≤ length reader.old.rest.now }
+    ensures read { IsRead update_at (6 ∷ []) reader.old.cut reader.old.rest.now reader.new.rest.now result }
     ensures cut { reader.new.cut ≡ reader.old.cut }
 {
     let device = reader.eui()?;
@@ -102,12 +121,7 @@ fn read_update(reader: &mut Reader<CmdError>) -> Result<Command, CmdError>
 
 #[tactic(auto, unfolding(crate::specs::Reading::remove_at))]
 fn read_remove(reader: &mut Reader<CmdError>) -> Result<Command, CmdError>
-    ensures exact { Gives result reader.new.rest.now (remove_at reader.old.cut reader.old.rest.now) }
-    ensures spelled { IfOk result (λ c. 7 ∷ reader.old.rest.now ≡ command c ++ reader.new.rest.now) }
-    ensures shaped { IfOk result (λ c. IsCommand c) }
-    ensures in_range { IfOk result (λ c. InRange c) }
-    ensures small { IfOk result (λ c. IsSmall c) }
-    ensures shorter { length reader.new.rest.now ≤ length reader.old.rest.now }
+    ensures read { IsRead remove_at (7 ∷ []) reader.old.cut reader.old.rest.now reader.new.rest.now result }
     ensures cut { reader.new.cut ≡ reader.old.cut }
 {
     let target = reader.eui()?;
@@ -116,12 +130,7 @@ fn read_remove(reader: &mut Reader<CmdError>) -> Result<Command, CmdError>
 
 #[tactic(auto, unfolding(crate::specs::Reading::switch_at))]
 fn read_switch(reader: &mut Reader<CmdError>) -> Result<Command, CmdError>
-    ensures exact { Gives result reader.new.rest.now (switch_at reader.old.cut reader.old.rest.now) }
-    ensures spelled { IfOk result (λ c. 9 ∷ reader.old.rest.now ≡ command c ++ reader.new.rest.now) }
-    ensures shaped { IfOk result (λ c. IsCommand c) }
-    ensures in_range { IfOk result (λ c. InRange c) }
-    ensures small { IfOk result (λ c. IsSmall c) }
-    ensures shorter { length reader.new.rest.now ≤ length reader.old.rest.now }
+    ensures read { IsRead switch_at (9 ∷ []) reader.old.cut reader.old.rest.now reader.new.rest.now result }
     ensures cut { reader.new.cut ≡ reader.old.cut }
 {
     let sequence = reader.byte()?;
@@ -130,12 +139,7 @@ fn read_switch(reader: &mut Reader<CmdError>) -> Result<Command, CmdError>
 
 #[tactic(auto, unfolding(crate::specs::Reading::verify_at))]
 fn read_verify(reader: &mut Reader<CmdError>) -> Result<Command, CmdError>
-    ensures exact { Gives result reader.new.rest.now (verify_at reader.old.cut reader.old.rest.now) }
-    ensures spelled { IfOk result (λ c. 15 ∷ reader.old.rest.now ≡ command c ++ reader.new.rest.now) }
-    ensures shaped { IfOk result (λ c. IsCommand c) }
-    ensures in_range { IfOk result (λ c. InRange c) }
-    ensures small { IfOk result (λ c. IsSmall c) }
-    ensures shorter { length reader.new.rest.now ≤ length reader.old.rest.now }
+    ensures read { IsRead verify_at (15 ∷ []) reader.old.cut reader.old.rest.now reader.new.rest.now result }
     ensures cut { reader.new.cut ≡ reader.old.cut }
 {
     let kind = reader.byte()?;
@@ -148,12 +152,7 @@ fn read_verify(reader: &mut Reader<CmdError>) -> Result<Command, CmdError>
 
 #[tactic(auto, unfolding(crate::specs::Reading::confirm_at))]
 fn read_confirm(reader: &mut Reader<CmdError>) -> Result<Command, CmdError>
-    ensures exact { Gives result reader.new.rest.now (confirm_at reader.old.cut reader.old.rest.now) }
-    ensures spelled { IfOk result (λ c. 16 ∷ reader.old.rest.now ≡ command c ++ reader.new.rest.now) }
-    ensures shaped { IfOk result (λ c. IsCommand c) }
-    ensures in_range { IfOk result (λ c. InRange c) }
-    ensures small { IfOk result (λ c. IsSmall c) }
-    ensures shorter { length reader.new.rest.now ≤ length reader.old.rest.now }
+    ensures read { IsRead confirm_at (16 ∷ []) reader.old.cut reader.old.rest.now reader.new.rest.now result }
     ensures cut { reader.new.cut ≡ reader.old.cut }
 {
     let status = reader.byte()?;
@@ -166,15 +165,10 @@ fn read_confirm(reader: &mut Reader<CmdError>) -> Result<Command, CmdError>
     })
 }
 
-/// What stands behind the identifier.
+/// Reads what stands behind the identifier.
 #[tactic(auto, unfolding(crate::specs::Reading::body_of))]
 fn read_body(reader: &mut Reader<CmdError>, id: u8) -> Result<Command, CmdError>
-    ensures exact { Gives result reader.new.rest.now (body_of id reader.old.cut reader.old.rest.now) }
-    ensures spelled { IfOk result (λ c. id ∷ reader.old.rest.now ≡ command c ++ reader.new.rest.now) }
-    ensures shaped { IfOk result (λ c. IsCommand c) }
-    ensures in_range { IfOk result (λ c. InRange c) }
-    ensures small { IfOk result (λ c. IsSmall c) }
-    ensures shorter { length reader.new.rest.now ≤ length reader.old.rest.now }
+    ensures read { IsRead (body_of id) (id ∷ []) reader.old.cut reader.old.rest.now reader.new.rest.now result }
     ensures cut { reader.new.cut ≡ reader.old.cut }
 {
     match id {
@@ -192,12 +186,7 @@ fn read_body(reader: &mut Reader<CmdError>, id: u8) -> Result<Command, CmdError>
 
 #[tactic(auto, unfolding(crate::specs::Reading::command_at))]
 fn read_front(reader: &mut Reader<CmdError>) -> Result<Command, CmdError>
-    ensures exact { Gives result reader.new.rest.now (command_at reader.old.cut reader.old.rest.now) }
-    ensures spelled { IfOk result (λ c. reader.old.rest.now ≡ command c ++ reader.new.rest.now) }
-    ensures shaped { IfOk result (λ c. IsCommand c) }
-    ensures in_range { IfOk result (λ c. InRange c) }
-    ensures small { IfOk result (λ c. IsSmall c) }
-    ensures shorter { length reader.new.rest.now ≤ length reader.old.rest.now }
+    ensures read { IsRead command_at [] reader.old.cut reader.old.rest.now reader.new.rest.now result }
     ensures cut { reader.new.cut ≡ reader.old.cut }
 {
     let id = reader.byte()?;
@@ -226,7 +215,11 @@ fn read_whole(bytes: &[u8]) -> Result<Command, CmdError>
     Ok(command)
 }
 
-/// The command that all of the bytes are, or their first fault.
+/// Reads the command that all of the bytes are. Requires fewer than 2^32 bytes.
+///
+/// # Errors
+///
+/// The first fault of the bytes, where they are no command.
 pub fn read_command(bytes: &[u8]) -> Result<Command, CmdError>
     requires { length bytes.now < 2 ^ 32 }
     // What is read is spelled so, and what is spelled so is read.
@@ -314,7 +307,11 @@ fn put_command(out: &mut Frame, value: &Command) -> Result<(), TooLong>
     Ok(())
 }
 
-/// The one spelling of the command.
+/// Writes the one spelling of a command. Requires that `inner_ok` takes the frame in a Tunnel.
+///
+/// # Errors
+///
+/// `TooLong` where the spelling has more than 127 bytes, as only that of a Tunnel can.
 pub fn write_command(value: &Command) -> Result<Frame, TooLong>
     requires { IsCommand value.now }
     ensures text { IfOk result (λ bytes. bytes.items ≡ command value.now) }

@@ -2,17 +2,31 @@
 use std::error::Error;
 use std::fmt;
 
-/// The first fault of bytes that are no command: `Unknown`, then `KeyType`, then `Short`, then `Trailing`.
+/// The first fault of bytes that are no command.
+///
+/// `Unknown` comes first, then `KeyType`, then `Short`, then `Trailing`.
 #[derive(Clone, Copy, Debug, PartialEq, Eq)]
 pub enum CmdError {
     /// No command has this identifier.
-    Unknown { id: u8 },
+    Unknown {
+        /// The identifier that stands there.
+        id: u8,
+    },
     /// A Transport-Key or a Request-Key of a key type that it does not have.
-    KeyType { found: u8 },
-    /// A field is not whole, or the frame in a Tunnel has no extended nonce; `at` is the number of all bytes.
-    Short { at: u32 },
-    /// So many bytes stand behind the command.
-    Trailing { count: u32 },
+    KeyType {
+        /// The key type that stands there.
+        found: u8,
+    },
+    /// A field is not whole, or the frame in a Tunnel has no extended nonce.
+    Short {
+        /// The number of all bytes.
+        at: u32,
+    },
+    /// Bytes stand behind the command.
+    Trailing {
+        /// How many they are.
+        count: u32,
+    },
 }
 
 impl fmt::Display for CmdError {

@@ -8,14 +8,17 @@ ghost use Rattle.zb_cmd.specs.Spelling.{command, leave};
 ghost use Rattle.zb_cmd.specs.Shape.{InRange, IsCommand, Spells, SpellsLeave};
 ghost use Rattle.zb_cmd.specs.Reading.{command_of, leave_of};
 
-/// What `read_command` and `write_command` are to each other, and likewise for a Leave.
+/// Says what `read_command` and `write_command` are to each other, and likewise for a Leave.
 pub fn round_trips()
     ensures one_value { (bytes : List ℕ) (c d : Command) → Spells bytes c → Spells bytes d → c ≡ d }
-    ensures one_spelling { (bytes other : List ℕ) (c : Command) → Spells bytes c → Spells other c → bytes ≡ other }
+    ensures one_spelling { (bytes other : List ℕ) (c : Command) → Spells bytes c → Spells other c
+        → bytes ≡ other }
     // Reading what was written gives the command.
-    ensures written_is_read { (c : Command) → InRange c → IsCommand c → length (command c) ≤ 127 → command_of (command c) ≡ Ok c }
+    ensures written_is_read { (c : Command) → InRange c → IsCommand c → length (command c) ≤ 127
+        → command_of (command c) ≡ Ok c }
     // Writing what was read gives the bytes.
-    ensures read_is_written { (bytes : List ℕ) (c : Command) → IsBytes bytes → command_of bytes ≡ Ok c → IsCommand c × (command c ≡ bytes) }
+    ensures read_is_written { (bytes : List ℕ) (c : Command) → IsBytes bytes → command_of bytes ≡ Ok c
+        → IsCommand c × (command c ≡ bytes) }
     ensures one_leave { (bytes : List ℕ) (l m : Leave) → SpellsLeave bytes l → SpellsLeave bytes m → l ≡ m }
     ensures written_leave_is_read { (l : Leave) → l.options < 2 ^ 8 → leave_of (leave l) ≡ Ok l }
     ensures read_leave_is_written { (bytes : List ℕ) (l : Leave) → leave_of bytes ≡ Ok l → leave l ≡ bytes }

@@ -1,4 +1,4 @@
-//! Leave, the command by which a node is told to leave the network.
+//! Leave, the NWK command by which a node is told to leave the network: the value, the reader and the writer.
 ghost use Rattle.std.specs.Prelude.{◌≡◌, ◌∷◌, ◌++◌, ◌≤◌, ◌<◌, length, ◌^◌, IfOk, Ok, Err, ◌↔◌};
 ghost use Rattle.zb_cursor.specs.Reading.{Gives};
 ghost use Rattle.zb_cmd.specs.declared.fault.CmdError.{CmdError};
@@ -15,7 +15,7 @@ use zb_cursor::{Reader, frame_from};
 /// The NWK command Leave (05-3474-21, 3.4.4), without the NWK header that carries it.
 #[derive(Clone, Copy, Debug, PartialEq, Eq)]
 pub struct Leave {
-    /// Bit 5: rejoin; 6: request; 7: remove children; the others are free.
+    /// The option byte. Bit 5: rejoin; 6: request; 7: remove children; the others are free.
     pub options: u8,
 }
 
@@ -68,7 +68,11 @@ fn read_whole(bytes: &[u8]) -> Result<Leave, CmdError>
     Ok(leave)
 }
 
-/// The Leave that all of the bytes are, or their first fault.
+/// Reads the Leave that all of the bytes are. Requires fewer than 2^32 bytes.
+///
+/// # Errors
+///
+/// The first fault of the bytes, where they are no Leave.
 pub fn read_leave(bytes: &[u8]) -> Result<Leave, CmdError>
     requires { length bytes.now < 2 ^ 32 }
     // What is read is spelled so, and what is spelled so is read.
@@ -81,7 +85,7 @@ pub fn read_leave(bytes: &[u8]) -> Result<Leave, CmdError>
     read_whole(bytes)
 }
 
-/// The one spelling of the Leave.
+/// Writes the one spelling of a Leave.
 pub fn write_leave(value: &Leave) -> Frame
     ensures { result.items ≡ leave value.now }
 {

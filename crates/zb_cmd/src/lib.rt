@@ -16,6 +16,3 @@ pub use laws::round_trips;
 pub use leave::{Leave, read_leave, write_leave};
 pub use tunnel::inner_ok;
 pub use zb_cursor::TooLong;
-
-#[cfg(test)]
-mod tests;

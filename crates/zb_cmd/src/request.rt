@@ -5,7 +5,7 @@ ghost use Rattle.zb_cursor.specs.Reading.{Gives};
 ghost use Rattle.zb_cursor.specs.Writing.{Appends};
 ghost use Rattle.zb_cmd.specs.Spelling.{command};
 ghost use Rattle.zb_cmd.specs.Shape.{InRange, IsCommand, IsSmall};
-ghost use Rattle.zb_cmd.specs.Reading.{partner_at, request_of, request_at};
+ghost use Rattle.zb_cmd.specs.Reading.{partner_at, request_of, request_at, IsRead};
 
 use crate::command::Command;
 use crate::fault::CmdError;
@@ -14,12 +14,7 @@ use zb_cursor::{Reader, TooLong, put, put_eui};
 
 #[tactic(auto, unfolding(crate::specs::Reading::partner_at))]
 fn read_partner(reader: &mut Reader<CmdError>) -> Result<Command, CmdError>
-    ensures exact { Gives result reader.new.rest.now (partner_at reader.old.cut reader.old.rest.now) }
-    ensures spelled { IfOk result (λ c. 8 ∷ 2 ∷ reader.old.rest.now ≡ command c ++ reader.new.rest.now) }
-    ensures shaped { IfOk result (λ c. IsCommand c) }
-    ensures in_range { IfOk result (λ c. InRange c) }
-    ensures small { IfOk result (λ c. IsSmall c) }
-    ensures shorter { length reader.new.rest.now ≤ length reader.old.rest.now }
+    ensures read { IsRead partner_at (8 ∷ 2 ∷ []) reader.old.cut reader.old.rest.now reader.new.rest.now result }
     ensures cut { reader.new.cut ≡ reader.old.cut }
 {
     let partner = reader.eui()?;
@@ -28,12 +23,8 @@ fn read_partner(reader: &mut Reader<CmdError>) -> Result<Command, CmdError>
 
 #[tactic(auto, unfolding(crate::specs::Reading::request_of))]
 fn read_of_kind(reader: &mut Reader<CmdError>, kind: u8) -> Result<Command, CmdError>
-    ensures exact { Gives result reader.new.rest.now (request_of kind reader.old.cut reader.old.rest.now) }
-    ensures spelled { IfOk result (λ c. 8 ∷ kind ∷ reader.old.rest.now ≡ command c ++ reader.new.rest.now) }
-    ensures shaped { IfOk result (λ c. IsCommand c) }
-    ensures in_range { IfOk result (λ c. InRange c) }
-    ensures small { IfOk result (λ c. IsSmall c) }
-    ensures shorter { length reader.new.rest.now ≤ length reader.old.rest.now }
+    ensures read { IsRead (request_of kind) (8 ∷ kind ∷ []) reader.old.cut reader.old.rest.now reader.new.rest.now
+        result }
     ensures cut { reader.new.cut ≡ reader.old.cut }
 {
     match kind {
@@ -45,12 +36,7 @@ fn read_of_kind(reader: &mut Reader<CmdError>, kind: u8) -> Result<Command, CmdE
 
 #[tactic(auto, unfolding(crate::specs::Reading::request_at))]
 pub(crate) fn read_request(reader: &mut Reader<CmdError>) -> Result<Command, CmdError>
-    ensures exact { Gives result reader.new.rest.now (request_at reader.old.cut reader.old.rest.now) }
-    ensures spelled { IfOk result (λ c. 8 ∷ reader.old.rest.now ≡ command c ++ reader.new.rest.now) }
-    ensures shaped { IfOk result (λ c. IsCommand c) }
-    ensures in_range { IfOk result (λ c. InRange c) }
-    ensures small { IfOk result (λ c. IsSmall c) }
-    ensures shorter { length reader.new.rest.now ≤ length reader.old.rest.now }
+    ensures read { IsRead request_at (8 ∷ []) reader.old.cut reader.old.rest.now reader.new.rest.now result }
     ensures cut { reader.new.cut ≡ reader.old.cut }
 {
     let kind = reader.byte()?;

@@ -5,7 +5,7 @@ ghost use Rattle.zb_cursor.specs.Reading.{Gives};
 ghost use Rattle.zb_cursor.specs.Writing.{Appends};
 ghost use Rattle.zb_cmd.specs.Spelling.{command};
 ghost use Rattle.zb_cmd.specs.Shape.{InRange, IsCommand, IsSmall};
-ghost use Rattle.zb_cmd.specs.Reading.{network_at, application_at, link_at, transport_of, transport_at};
+ghost use Rattle.zb_cmd.specs.Reading.{network_at, application_at, link_at, transport_of, transport_at, IsRead};
 
 use crate::command::Command;
 use crate::fault::CmdError;
@@ -14,12 +14,7 @@ use zb_cursor::{Reader, TooLong, put, put_byte, put_eui, put_key};
 
 #[tactic(auto, unfolding(crate::specs::Reading::network_at))]
 fn read_network(reader: &mut Reader<CmdError>) -> Result<Command, CmdError>
-    ensures exact { Gives result reader.new.rest.now (network_at reader.old.cut reader.old.rest.now) }
-    ensures spelled { IfOk result (λ c. 5 ∷ 1 ∷ reader.old.rest.now ≡ command c ++ reader.new.rest.now) }
-    ensures shaped { IfOk result (λ c. IsCommand c) }
-    ensures in_range { IfOk result (λ c. InRange c) }
-    ensures small { IfOk result (λ c. IsSmall c) }
-    ensures shorter { length reader.new.rest.now ≤ length reader.old.rest.now }
+    ensures read { IsRead network_at (5 ∷ 1 ∷ []) reader.old.cut reader.old.rest.now reader.new.rest.now result }
     ensures cut { reader.new.cut ≡ reader.old.cut }
 {
     let key = reader.key()?;
@@ -36,12 +31,7 @@ fn read_network(reader: &mut Reader<CmdError>) -> Result<Command, CmdError>
 
 #[tactic(auto, unfolding(crate::specs::Reading::application_at))]
 fn read_application(reader: &mut Reader<CmdError>) -> Result<Command, CmdError>
-    ensures exact { Gives result reader.new.rest.now (application_at reader.old.cut reader.old.rest.now) }
-    ensures spelled { IfOk result (λ c. 5 ∷ 3 ∷ reader.old.rest.now ≡ command c ++ reader.new.rest.now) }
-    ensures shaped { IfOk result (λ c. IsCommand c) }
-    ensures in_range { IfOk result (λ c. InRange c) }
-    ensures small { IfOk result (λ c. IsSmall c) }
-    ensures shorter { length reader.new.rest.now ≤ length reader.old.rest.now }
+    ensures read { IsRead application_at (5 ∷ 3 ∷ []) reader.old.cut reader.old.rest.now reader.new.rest.now result }
     ensures cut { reader.new.cut ≡ reader.old.cut }
 {
     let key = reader.key()?;
@@ -56,12 +46,7 @@ fn read_application(reader: &mut Reader<CmdError>) -> Result<Command, CmdError>
 
 #[tactic(auto, unfolding(crate::specs::Reading::link_at))]
 fn read_link(reader: &mut Reader<CmdError>) -> Result<Command, CmdError>
-    ensures exact { Gives result reader.new.rest.now (link_at reader.old.cut reader.old.rest.now) }
-    ensures spelled { IfOk result (λ c. 5 ∷ 4 ∷ reader.old.rest.now ≡ command c ++ reader.new.rest.now) }
-    ensures shaped { IfOk result (λ c. IsCommand c) }
-    ensures in_range { IfOk result (λ c. InRange c) }
-    ensures small { IfOk result (λ c. IsSmall c) }
-    ensures shorter { length reader.new.rest.now ≤ length reader.old.rest.now }
+    ensures read { IsRead link_at (5 ∷ 4 ∷ []) reader.old.cut reader.old.rest.now reader.new.rest.now result }
     ensures cut { reader.new.cut ≡ reader.old.cut }
 {
     let key = reader.key()?;
@@ -76,12 +61,8 @@ fn read_link(reader: &mut Reader<CmdError>) -> Result<Command, CmdError>
 
 #[tactic(auto, unfolding(crate::specs::Reading::transport_of))]
 fn read_of_kind(reader: &mut Reader<CmdError>, kind: u8) -> Result<Command, CmdError>
-    ensures exact { Gives result reader.new.rest.now (transport_of kind reader.old.cut reader.old.rest.now) }
-    ensures spelled { IfOk result (λ c. 5 ∷ kind ∷ reader.old.rest.now ≡ command c ++ reader.new.rest.now) }
-    ensures shaped { IfOk result (λ c. IsCommand c) }
-    ensures in_range { IfOk result (λ c. InRange c) }
-    ensures small { IfOk result (λ c. IsSmall c) }
-    ensures shorter { length reader.new.rest.now ≤ length reader.old.rest.now }
+    ensures read { IsRead (transport_of kind) (5 ∷ kind ∷ []) reader.old.cut reader.old.rest.now reader.new.rest.now
+        result }
     ensures cut { reader.new.cut ≡ reader.old.cut }
 {
     match kind {
@@ -94,12 +75,7 @@ fn read_of_kind(reader: &mut Reader<CmdError>, kind: u8) -> Result<Command, CmdE
 
 #[tactic(auto, unfolding(crate::specs::Reading::transport_at))]
 pub(crate) fn read_transport(reader: &mut Reader<CmdError>) -> Result<Command, CmdError>
-    ensures exact { Gives result reader.new.rest.now (transport_at reader.old.cut reader.old.rest.now) }
-    ensures spelled { IfOk result (λ c. 5 ∷ reader.old.rest.now ≡ command c ++ reader.new.rest.now) }
-    ensures shaped { IfOk result (λ c. IsCommand c) }
-    ensures in_range { IfOk result (λ c. InRange c) }
-    ensures small { IfOk result (λ c. IsSmall c) }
-    ensures shorter { length reader.new.rest.now ≤ length reader.old.rest.now }
+    ensures read { IsRead transport_at (5 ∷ []) reader.old.cut reader.old.rest.now reader.new.rest.now result }
     ensures cut { reader.new.cut ≡ reader.old.cut }
 {
     let kind = reader.byte()?;
@@ -114,7 +90,8 @@ pub(crate) fn put_network(
     destination: Eui,
     source: Eui,
 ) -> Result<(), TooLong>
-    ensures { Appends out.old.items (5 ∷ 1 ∷ (key value.now ++ byte sequence ++ eui destination ++ eui source)) out.new.items result }
+    ensures { Appends out.old.items (5 ∷ 1 ∷ (key value.now ++ byte sequence ++ eui destination ++ eui source))
+        out.new.items result }
 {
     put(out, &[5, 1])?;
     put_key(out, value)?;
@@ -130,7 +107,8 @@ pub(crate) fn put_application(
     partner: Eui,
     initiator: u8,
 ) -> Result<(), TooLong>
-    ensures { Appends out.old.items (5 ∷ 3 ∷ (key value.now ++ eui partner ++ byte initiator)) out.new.items result }
+    ensures { Appends out.old.items (5 ∷ 3 ∷ (key value.now ++ eui partner ++ byte initiator))
+        out.new.items result }
 {
     put(out, &[5, 3])?;
     put_key(out, value)?;
@@ -145,7 +123,8 @@ pub(crate) fn put_link(
     destination: Eui,
     source: Eui,
 ) -> Result<(), TooLong>
-    ensures { Appends out.old.items (5 ∷ 4 ∷ (key value.now ++ eui destination ++ eui source)) out.new.items result }
+    ensures { Appends out.old.items (5 ∷ 4 ∷ (key value.now ++ eui destination ++ eui source))
+        out.new.items result }
 {
     put(out, &[5, 4])?;
     put_key(out, value)?;

@@ -6,22 +6,24 @@ ghost use Rattle.zb_cursor.specs.Writing.{Appends};
 ghost use Rattle.zb_cmd.specs.Spelling.{command};
 ghost use Rattle.zb_cmd.specs.Shape.{InRange, IsCommand, IsSmall};
 ghost use Rattle.zb_cmd.specs.Shape.{is_inner};
-ghost use Rattle.zb_cmd.specs.Reading.{inner_at, tunnel_at};
+ghost use Rattle.zb_cmd.specs.Reading.{inner_at, tunnel_at, IsRead};
 
 use crate::command::Command;
 use crate::fault::CmdError;
 use zb_base::{Eui, Frame};
 use zb_cursor::{Reader, TooLong, frame_from, has_bit, put, put_byte, put_eui};
 
-/// Whether the frame may stand in a Tunnel: an APS header of 2 bytes, an auxiliary header of 13 with the extended
-/// nonce, and a code of 4 behind the ciphertext. No other place of it is judged.
+/// Tells whether a frame may stand in a Tunnel.
+///
+/// It has an APS header of 2 bytes, an auxiliary header of 13 with the extended nonce, and a code of 4 behind the
+/// cipher text. No other place of it is judged.
 pub fn inner_ok(inner: &Frame) -> bool
     ensures { result ≡ is_inner inner.now.items }
 {
     inner.len() >= 19 && has_bit(u16::from(inner[2]), 5)
 }
 
-/// The frame in a Tunnel: all that is left, up to the 127th byte of the command.
+/// Reads the frame in a Tunnel: all that is left, up to the 127th byte of the command.
 #[tactic(auto, unfolding(crate::specs::Reading::inner_at))]
 fn read_inner(reader: &mut Reader<CmdError>) -> Result<Frame, CmdError>
     ensures exact { Gives result reader.new.rest.now (inner_at reader.old.cut reader.old.rest.now) }
@@ -43,12 +45,7 @@ fn read_inner(reader: &mut Reader<CmdError>) -> Result<Frame, CmdError>
 
 #[tactic(auto, unfolding(crate::specs::Reading::tunnel_at))]
 pub(crate) fn read_tunnel(reader: &mut Reader<CmdError>) -> Result<Command, CmdError>
-    ensures exact { Gives result reader.new.rest.now (tunnel_at reader.old.cut reader.old.rest.now) }
-    ensures spelled { IfOk result (λ c. 14 ∷ reader.old.rest.now ≡ command c ++ reader.new.rest.now) }
-    ensures shaped { IfOk result (λ c. IsCommand c) }
-    ensures in_range { IfOk result (λ c. InRange c) }
-    ensures small { IfOk result (λ c. IsSmall c) }
-    ensures shorter { length reader.new.rest.now ≤ length reader.old.rest.now }
+    ensures read { IsRead tunnel_at (14 ∷ []) reader.old.cut reader.old.rest.now reader.new.rest.now result }
     ensures cut { reader.new.cut ≡ reader.old.cut }
 {
     let destination = reader.eui()?;

@@ -16,13 +16,16 @@ use zb_cursor::{Reader, TooLong, has_bit, put_byte, put_eui, put_number32};
 pub struct NwkAux {
     /// The byte as on the air. Bits 0 to 2: level; 3 and 4: key identifier; 5: extended nonce; the others are free.
     pub control: u8,
+    /// The frame counter of the node that sealed.
     pub counter: u32,
+    /// The IEEE address of the node that sealed.
     pub source: Eui,
+    /// The sequence number of the network key that seals.
     pub key_sequence: u8,
 }
 
 impl NwkAux {
-    /// Whether the reader takes the control byte: the network key, with the extended nonce.
+    /// Tells whether the reader takes the control byte: the network key, with the extended nonce.
     pub fn shape_ok(&self) -> bool
         ensures { IsTrue result ↔ IsAuxControl self.now.control }
     {
@@ -30,7 +33,7 @@ impl NwkAux {
     }
 }
 
-/// The control byte of a header with the network key and the extended nonce.
+/// Reads the control byte of a header with the network key and the extended nonce.
 #[tactic(auto, unfolding(crate::specs::Reading::aux_control_at))]
 fn read_aux_control(reader: &mut Reader<NwkError>) -> Result<u8, NwkError>
     ensures exact { Gives result reader.new.rest.now (aux_control_at reader.old.cut reader.old.rest.now) }
@@ -51,6 +54,7 @@ fn read_aux_control(reader: &mut Reader<NwkError>) -> Result<u8, NwkError>
     Ok(control)
 }
 
+/// Reads an auxiliary header.
 #[tactic(auto, unfolding(crate::specs::Reading::aux_at))]
 pub(crate) fn read_aux(reader: &mut Reader<NwkError>) -> Result<NwkAux, NwkError>
     ensures exact { Gives result reader.new.rest.now (aux_at reader.old.cut reader.old.rest.now) }
@@ -72,6 +76,7 @@ pub(crate) fn read_aux(reader: &mut Reader<NwkError>) -> Result<NwkAux, NwkError
     })
 }
 
+/// Writes an auxiliary header at the end.
 pub(crate) fn put_aux(out: &mut Frame, value: &NwkAux) -> Result<(), TooLong>
     ensures { Appends out.old.items (aux value.now) out.new.items result }
 {

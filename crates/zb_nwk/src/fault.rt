@@ -2,20 +2,33 @@
 use std::error::Error;
 use std::fmt;
 
-/// The first fault of bytes that are no NWK frame: `TooLong` before all others, and then what is met as the fields
-/// are walked from the front.
+/// The first fault of bytes that are no NWK frame.
+///
+/// `TooLong` comes before all others. Then the first counts that is met as the fields are walked from the front.
 #[derive(Clone, Copy, Debug, PartialEq, Eq)]
 pub enum NwkError {
     /// More than 127 bytes.
     TooLong,
-    /// A field is not whole; `at` is the number of all bytes.
-    Short { at: u32 },
+    /// A field is not whole.
+    Short {
+        /// The number of all bytes.
+        at: u32,
+    },
     /// The frame type is neither data (0) nor command (1); an inter-PAN frame is 3.
-    FrameType { found: u8 },
+    FrameType {
+        /// The type that stands there.
+        found: u8,
+    },
     /// The version of the protocol is not 2.
-    Version { found: u8 },
+    Version {
+        /// The version that stands there.
+        found: u8,
+    },
     /// The auxiliary header does not name the network key (1).
-    KeyId { found: u8 },
+    KeyId {
+        /// The key identifier that stands there.
+        found: u8,
+    },
     /// The auxiliary header has no source address, as its extended nonce bit is 0.
     NoSource,
 }

@@ -1,12 +1,13 @@
-//! NWK frames.
+//! NWK frames: the value, the reader of bytes and the writer.
 ghost use Rattle.std.specs.Prelude.{◌≡◌, ◌≤◌, ◌<◌, ◌++◌, length, IfOk, OnErr, Ok, Err, IsTrue, ◌↔◌};
 ghost use Rattle.zb_cursor.specs.Reading.{Gives};
 ghost use Rattle.zb_cursor.specs.Writing.{Appends};
 ghost use Rattle.zb_nwk.specs.declared.fault.NwkError.{NwkError};
 ghost use Rattle.zb_nwk.specs.declared.frame.NwkFrame.{NwkFrame};
-ghost use Rattle.zb_nwk.specs.Spelling.{frame, content};
-ghost use Rattle.zb_nwk.specs.Shape.{IsShaped, IsFrame, Spells};
-ghost use Rattle.zb_nwk.specs.Reading.{frame_at, frame_of};
+ghost use Rattle.zb_nwk.specs.Spelling.{frame, content, header as header_of};
+ghost use Rattle.zb_nwk.specs.Shape.{IsShaped, IsFrame, IsHeader, HeaderInRange, Spells};
+ghost use Rattle.zb_cursor.specs.Spelling.{bit};
+ghost use Rattle.zb_nwk.specs.Reading.{content_at, frame_at, frame_of};
 ghost use Rattle.zb_nwk.specs.Faults.{HasFault};
 
 use crate::auxiliary::{NwkAux, put_aux, read_aux};
@@ -16,20 +17,24 @@ use arrayvec::ArrayVec;
 use zb_base::Frame;
 use zb_cursor::{Reader, TooLong, frame_from, has_bit, put};
 
-/// A NWK frame. A secured one has an auxiliary header, and its body is the ciphertext.
+/// A NWK frame (05-3474-21, 3.3.1). A secured one has an auxiliary header, and its body is the cipher text.
 #[derive(Debug, Drop, PartialEq, Eq)]
 pub struct NwkFrame {
+    /// The header, which is never encrypted.
     pub header: NwkHeader,
-    /// There exactly where bit 9 of the control word is 1.
+    /// The auxiliary header, there exactly where bit 9 of the control word is 1.
     pub aux: Option<NwkAux>,
+    /// The payload, or its cipher text where the frame is secured.
     pub body: Frame,
     /// The message integrity code, which is zero in a frame that is not secured.
     pub mic: [u8; 4],
 }
 
 impl NwkFrame {
-    /// Whether this is a frame: the reader takes the type, the version and the auxiliary control, the options agree
-    /// with the control word, and the code is zero where there is no security.
+    /// Tells whether this value is a frame that the reader can answer.
+    ///
+    /// The reader takes the type, the version and the auxiliary control, the options agree with the control word, and
+    /// the code is zero where there is no security.
     pub fn shape_ok(&self) -> bool
         ensures { IsTrue result ↔ IsShaped self.now }
     {
@@ -42,13 +47,16 @@ impl NwkFrame {
     }
 }
 
-#[tactic(auto, unfolding(crate::specs::Reading::frame_at, crate::specs::Reading::secured_at, crate::specs::Reading::unsecured_at))]
-fn read_frame(reader: &mut Reader<NwkError>) -> Result<NwkFrame, NwkError>
-    requires { length reader.old.rest.now ≤ 127 }
-    ensures exact { Gives result reader.new.rest.now (frame_at reader.old.cut reader.old.rest.now) }
-    ensures found { IfOk result (λ f. IsFrame reader.old.rest.now f) }
+/// Reads what stands behind a header.
+#[tactic(auto, unfolding(crate::specs::Reading::secured_at, crate::specs::Reading::unsecured_at))]
+fn read_content(reader: &mut Reader<NwkError>, header: NwkHeader) -> Result<NwkFrame, NwkError>
+    requires fits { length reader.old.rest.now ≤ 127 }
+    requires shaped { IsHeader header }
+    requires in_range { HeaderInRange header }
+    ensures exact { Gives result reader.new.rest.now
+        (content_at (bit header.control 9) header reader.old.cut reader.old.rest.now) }
+    ensures found { IfOk result (λ f. IsFrame (header_of header ++ reader.old.rest.now) f) }
 {
-    let header = read_header(reader)?;
     if !has_bit(header.control, 9) {
         let body = frame_from(reader.all());
         return Ok(NwkFrame {
@@ -66,6 +74,17 @@ fn read_frame(reader: &mut Reader<NwkError>) -> Result<NwkFrame, NwkError>
         body,
         mic,
     })
+}
+
+#[tactic(auto, unfolding(crate::specs::Reading::frame_at))]
+fn read_frame(reader: &mut Reader<NwkError>) -> Result<NwkFrame, NwkError>
+    requires { length reader.old.rest.now ≤ 127 }
+    ensures exact { Gives result reader.new.rest.now (frame_at reader.old.cut reader.old.rest.now) }
+    ensures found { IfOk result (λ f. IsFrame reader.old.rest.now f) }
+{
+    let header = read_header(reader)?;
+    let frame = read_content(reader, header)?;
+    Ok(frame)
 }
 
 #[tactic(auto, unfolding(crate::specs::Reading::frame_of))]
@@ -86,7 +105,11 @@ fn read_whole(bytes: &[u8]) -> Result<NwkFrame, NwkError>
     Ok(frame)
 }
 
-/// The NWK frame that all of the bytes are, or their first fault.
+/// Reads the NWK frame that all of the bytes are.
+///
+/// # Errors
+///
+/// The first fault of the bytes, where they are no frame.
 pub fn read(bytes: &[u8]) -> Result<NwkFrame, NwkError>
     // What is read is spelled so, and what is spelled so is read.
     ensures found { IfOk result (λ f. Spells bytes.now f) }
@@ -112,7 +135,11 @@ fn put_content(out: &mut Frame, value: &NwkFrame) -> Result<(), TooLong>
     Ok(())
 }
 
-/// The one spelling of the frame.
+/// Writes the one spelling of a frame. Requires that the value is one, as `shape_ok` tells.
+///
+/// # Errors
+///
+/// `TooLong` where the spelling has more than 127 bytes.
 pub fn write(value: &NwkFrame) -> Result<Frame, TooLong>
     requires { IsShaped value.now }
     ensures text { IfOk result (λ bytes. bytes.items ≡ frame value.now) }

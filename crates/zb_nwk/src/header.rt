@@ -1,4 +1,4 @@
-//! The NWK header.
+//! The header of a NWK frame, read and written.
 ghost use Rattle.std.specs.Prelude.{◌≡◌, ◌+◌, ◌≤◌, ◌^◌, ◌<◌, ◌++◌, length, IfOk, OnOk, IfSome, IsTrue, ◌↔◌, is_some};
 ghost use Rattle.std.specs.Int.{w16};
 ghost use Rattle.zb_cursor.specs.Spelling.{number, short, optional, bit};
@@ -16,10 +16,12 @@ use zb_cursor::{
     put_short, put_shorts,
 };
 
-/// A source route (05-3474-21, 3.3.1.9): the relays that the frame passes, and the place of the next one among them.
+/// A source route (05-3474-21, 3.3.1.9): the relays that the frame passes.
 #[derive(Debug, Drop, PartialEq, Eq)]
 pub struct Route {
+    /// The place of the next relay.
     pub index: u8,
+    /// The network addresses of the relays.
     pub relays: ArrayVec<Short, 60>,
 }
 
@@ -29,18 +31,26 @@ pub struct NwkHeader {
     /// Bits 0 and 1: frame type; 2 to 5: version; 6 and 7: discover route; 8: multicast; 9: security; 10: source
     /// route; 11: destination IEEE; 12: source IEEE; 13: end device initiator; the others are free.
     pub control: u16,
+    /// The network address that the frame goes to.
     pub destination: Short,
+    /// The network address that the frame comes from.
     pub source: Short,
+    /// How many hops are left.
     pub radius: u8,
+    /// The sequence number that the source gave the frame.
     pub sequence: u8,
+    /// The IEEE address of the destination.
     pub destination_eui: Option<Eui>,
+    /// The IEEE address of the source.
     pub source_eui: Option<Eui>,
+    /// The multicast control byte.
     pub multicast: Option<u8>,
+    /// The source route.
     pub route: Option<Route>,
 }
 
 impl NwkHeader {
-    /// Whether the reader takes the type and the version, and the options are those that the control word tells.
+    /// Tells whether the reader takes type and version, and the options are those of the control word.
     pub fn shape_ok(&self) -> bool
         ensures { IsTrue result ↔ IsHeader self.now }
     {
@@ -53,7 +63,7 @@ impl NwkHeader {
     }
 }
 
-/// The control word of a data or command frame of version 2.
+/// Reads the control word of a data or command frame of version 2.
 #[tactic(auto, unfolding(crate::specs::Reading::control_at))]
 fn read_control(reader: &mut Reader<NwkError>) -> Result<u16, NwkError>
     ensures exact { Gives result reader.new.rest.now (control_at reader.old.cut reader.old.rest.now) }
@@ -110,13 +120,14 @@ fn read_optional_route(
     Ok(Some(route))
 }
 
-/// The fields behind a control word.
+/// Reads the fields behind a control word.
 #[tactic(auto, unfolding(crate::specs::Reading::fields_at))]
 fn read_fields(reader: &mut Reader<NwkError>, control: u16) -> Result<NwkHeader, NwkError>
     requires room { length reader.old.rest.now ≤ 125 }
     requires shaped { IsControl control }
     ensures exact { Gives result reader.new.rest.now (fields_at control reader.old.cut reader.old.rest.now) }
-    ensures spelled { IfOk result (λ x. number w16 control ++ reader.old.rest.now ≡ header x ++ reader.new.rest.now) }
+    ensures spelled { IfOk result
+        (λ x. number w16 control ++ reader.old.rest.now ≡ header x ++ reader.new.rest.now) }
     ensures shaped { IfOk result (λ x. IsHeader x) }
     ensures in_range { IfOk result (λ x. HeaderInRange x) }
     ensures control { IfOk result (λ x. x.control ≡ control) }
@@ -144,6 +155,7 @@ fn read_fields(reader: &mut Reader<NwkError>, control: u16) -> Result<NwkHeader,
     })
 }
 
+/// Reads a header.
 #[tactic(auto, unfolding(crate::specs::Reading::header_at))]
 pub(crate) fn read_header(reader: &mut Reader<NwkError>) -> Result<NwkHeader, NwkError>
     requires { length reader.old.rest.now ≤ 127 }
@@ -178,7 +190,7 @@ fn put_optional_route(out: &mut Frame, value: &Option<Route>) -> Result<(), TooL
     Ok(())
 }
 
-/// The fields that each header has.
+/// Writes the fields that each header has.
 fn put_addresses(out: &mut Frame, value: &NwkHeader) -> Result<(), TooLong>
     ensures { Appends out.old.items (addresses value.now) out.new.items result }
 {
@@ -190,6 +202,7 @@ fn put_addresses(out: &mut Frame, value: &NwkHeader) -> Result<(), TooLong>
     Ok(())
 }
 
+/// Writes a header at the end.
 pub(crate) fn put_header(out: &mut Frame, value: &NwkHeader) -> Result<(), TooLong>
     ensures { Appends out.old.items (header value.now) out.new.items result }
 {

@@ -7,12 +7,15 @@ ghost use Rattle.zb_nwk.specs.Spelling.{frame};
 ghost use Rattle.zb_nwk.specs.Shape.{InRange, IsShaped, Spells};
 ghost use Rattle.zb_nwk.specs.Reading.{frame_of};
 
-/// What `read` and `write` are to each other.
+/// Says what `read` and `write` are to each other.
 pub fn round_trips()
     ensures one_value { (bytes : List ℕ) (f g : NwkFrame) → Spells bytes f → Spells bytes g → f ≡ g }
-    ensures one_spelling { (bytes other : List ℕ) (f : NwkFrame) → Spells bytes f → Spells other f → bytes ≡ other }
+    ensures one_spelling { (bytes other : List ℕ) (f : NwkFrame) → Spells bytes f → Spells other f
+        → bytes ≡ other }
     // Reading what was written gives the frame.
-    ensures written_is_read { (f : NwkFrame) → InRange f → IsShaped f → length (frame f) ≤ 127 → frame_of (frame f) ≡ Ok f }
+    ensures written_is_read { (f : NwkFrame) → InRange f → IsShaped f → length (frame f) ≤ 127
+        → frame_of (frame f) ≡ Ok f }
     // Writing what was read gives the bytes.
-    ensures read_is_written { (bytes : List ℕ) (f : NwkFrame) → IsBytes bytes → frame_of bytes ≡ Ok f → IsShaped f × (frame f ≡ bytes) }
+    ensures read_is_written { (bytes : List ℕ) (f : NwkFrame) → IsBytes bytes → frame_of bytes ≡ Ok f
+        → IsShaped f × (frame f ≡ bytes) }
 {}

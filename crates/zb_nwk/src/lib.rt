@@ -14,6 +14,3 @@ pub use frame::{NwkFrame, read, write};
 pub use header::{NwkHeader, Route};
 pub use laws::round_trips;
 pub use zb_cursor::TooLong;
-
-#[cfg(test)]
-mod tests;

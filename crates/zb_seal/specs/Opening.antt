@@ -22,6 +22,7 @@ use Rattle.zb_aps.specs.Reading as aps_reading
 use Rattle.zb_aps.specs.Spelling as aps
 use Rattle.zb_aps.specs.Shape as aps_shape
 use Rattle.zb_seal.specs.declared.envelope.Envelope.{Envelope}
+use Rattle.zb_seal.specs.declared.envelope.NwkEnvelope.{NwkEnvelope}
 use Rattle.zb_seal.specs.declared.envelope.OpenError.{OpenError}
 use Rattle.zb_seal.specs.declared.envelope.OpenError.TheVariants.{Frame, NotSecured, NoSource, BadMic}
 use Rattle.zb_seal.specs.declared.term.Term.{Term}
@@ -39,9 +40,9 @@ leveled_nwk a = record a { control = real_level a.control }
 abbrev pub leveled_aps : ApsAux → ApsAux
 leveled_aps a = record a { control = real_level a.control }
 
-abbrev pub nwk_envelope : NwkFrame → Option NwkAux → Result Envelope OpenError
-nwk_envelope f None = Err NotSecured
-nwk_envelope f (Some a) = Ok (record {
+-- the secured layer of a NWK frame that has this auxiliary header
+abbrev pub nwk_layer : NwkFrame → NwkAux → Envelope
+nwk_layer f a = record {
   layer = Nwk;
   label = Network;
   source = Some a.source;
@@ -50,7 +51,17 @@ nwk_envelope f (Some a) = Ok (record {
   header = record { items = nwk.header f.header ++ nwk.aux (leveled_nwk a) };
   text = f.body;
   mic = f.mic;
-})
+}
+
+abbrev pub nwk_envelope : NwkFrame → Option NwkAux → Result Envelope OpenError
+nwk_envelope f None = Err NotSecured
+nwk_envelope f (Some a) = Ok (nwk_layer f a)
+
+-- the same, with how the frame is addressed and which network key seals it
+abbrev pub nwk_closed : NwkFrame → Option NwkAux → Result NwkEnvelope OpenError
+nwk_closed f None = Err NotSecured
+nwk_closed f (Some a) =
+    Ok (record { destination = f.header.destination; source = f.header.source; key_sequence = a.key_sequence; envelope = nwk_layer f a })
 
 abbrev pub nwk_seen : Result NwkFrame NwkError → Result Envelope OpenError
 nwk_seen (Err e) = Err (Frame (Some e) None)

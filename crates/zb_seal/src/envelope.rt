@@ -11,15 +11,17 @@ use std::error::Error;
 use std::fmt;
 use zb_aes::Cipher;
 use zb_aps::ApsError;
-use zb_base::{Eui, Frame, Key, Label, Layer};
+use zb_base::{Eui, Frame, Key, Label, Layer, Short};
 use zb_nwk::NwkError;
 
 /// Why a frame does not open, in the order in which it is judged.
 #[derive(Clone, Copy, Debug, PartialEq, Eq)]
 pub enum OpenError {
-    /// The bytes are no frame: the fault of the one reader that was used.
+    /// The bytes are no frame. One of both faults is there: that of the reader that was used.
     Frame {
+        /// The fault of the reader of NWK frames.
         nwk: Option<NwkError>,
+        /// The fault of the reader of APS frames.
         aps: Option<ApsError>,
     },
     /// The frame is not secured.
@@ -55,7 +57,8 @@ fn open_frame(
     text: &mut Frame,
     mic: &[u8; 4],
 ) -> Result<(), OpenError>
-    ensures opened { OnOk result (opens cipher.now nonce.now header.now.items text.old.items mic.now ≡ Some text.new.items) }
+    ensures opened { OnOk result
+        (opens cipher.now nonce.now header.now.items text.old.items mic.now ≡ Some text.new.items) }
     ensures refused { OnErr result (opens cipher.now nonce.now header.now.items text.old.items mic.now ≡ None) }
     ensures bad_mic { OnErr result (result ≡ Err BadMic) }
     ensures kept { OnErr result (text.new ≡ text.old) }
@@ -69,11 +72,13 @@ fn open_frame(
 /// A secured layer of a frame, closed: all but the key and the content.
 #[derive(Debug, Drop, PartialEq, Eq)]
 pub struct Envelope {
+    /// The layer that is secured.
     pub layer: Layer,
     /// Which key of a base key seals it.
     pub label: Label,
     /// The source in the auxiliary header, which only an APS frame may leave out.
     pub source: Option<Eui>,
+    /// The frame counter of the auxiliary header.
     pub counter: u32,
     /// The auxiliary control byte with the real level.
     pub control: u8,
@@ -85,9 +90,26 @@ pub struct Envelope {
     pub mic: [u8; 4],
 }
 
+/// A secured NWK frame, closed: how it is addressed, which network key seals it, and its envelope.
+#[derive(Debug, Drop, PartialEq, Eq)]
+pub struct NwkEnvelope {
+    /// The network address that the frame goes to.
+    pub destination: Short,
+    /// The network address that the frame comes from.
+    pub source: Short,
+    /// The sequence number of the network key that seals the frame.
+    pub key_sequence: u8,
+    /// The secured layer.
+    pub envelope: Envelope,
+}
+
 impl Envelope {
-    /// Opens in place under an expanded sealing key: `text` becomes the content. Where the code is not that of a
-    /// content under this key and source, all stays as it was, for the next key.
+    /// Opens the envelope in place under an expanded sealing key: `text` becomes the content.
+    ///
+    /// # Errors
+    ///
+    /// `BadMic` where the code is not that of a content under this key and source. Then all stays as it was, for the
+    /// next key.
     pub fn unseal(&mut self, cipher: &Cipher, source: Eui) -> Result<(), OpenError>
         ensures opened { OnOk result (content_of self.old cipher.now source ≡ Some self.new.text.items) }
         ensures refused { OnErr result (content_of self.old cipher.now source ≡ None) }
@@ -100,7 +122,7 @@ impl Envelope {
         Ok(())
     }
 
-    /// The source in the frame, else the one that is given.
+    /// Answers the source in the frame, else the one that is given.
     pub fn source_or(&self, given: Option<Eui>) -> Option<Eui>
         ensures { result ≡ source_of self.now.source given }
     {
@@ -110,7 +132,7 @@ impl Envelope {
         }
     }
 
-    /// The term of an envelope that was unsealed under a key of this base key, for this source.
+    /// Makes the term of an envelope that was unsealed under a key of this base key, for this source.
     pub fn into_term(self, base: &Key, source: Eui) -> Term
         ensures { result ≡ term_of self base.now source }
     {
@@ -126,8 +148,12 @@ impl Envelope {
         }
     }
 
-    /// What the envelope opens to under this base key, whose sealing key for the label was expanded before. `given`
+    /// Opens the envelope under a base key. Requires its sealing key for the label, which was expanded before. `given`
     /// is the source where the frame names none.
+    ///
+    /// # Errors
+    ///
+    /// `NoSource` where the source is not known, then `BadMic` where the code is not that of a content.
     #[tactic(auto, unfolding(crate::specs::Opening::opened))]
     pub fn open_with(
         self,

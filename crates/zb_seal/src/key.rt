@@ -1,4 +1,4 @@
-//! From a base key to the keys that seal.
+//! From a base key to the keys that seal, the level bits, and the nonce.
 ghost use Rattle.std.specs.Prelude.{◌≡◌, ℕ, ◌+◌, ◌*◌, ◌/◌, length};
 ghost use Rattle.zb_seal.specs.Keys.{sealing_key as key_of};
 ghost use Rattle.zb_seal.specs.Wire.{zero_level as cleared, real_level as restored, nonce as nonce_of};
@@ -6,7 +6,8 @@ ghost use Rattle.zb_seal.specs.Wire.{zero_level as cleared, real_level as restor
 use zb_base::{Eui, Key, Label};
 use zb_mmo::{load_key, transport_key};
 
-/// The key that seals with a label (05-3474-21, 4.5.3): the base key itself, or its key-transport or key-load key.
+/// Derives the key that seals with a label: the base key itself, or its key-transport or key-load key (05-3474-21,
+/// 4.5.3).
 pub fn sealing_key(label: Label, base: &Key) -> Key
     ensures { result.0 ≡ key_of label base.now.0 }
 {
@@ -17,21 +18,21 @@ pub fn sealing_key(label: Label, base: &Key) -> Key
     }
 }
 
-/// The control byte as on the air, with level bits 000.
+/// Answers a control byte as on the air, with level bits 000.
 pub fn zero_level(control: u8) -> u8
     ensures { result ≡ cleared control }
 {
     control / 8 * 8
 }
 
-/// The control byte as it counts, with level 5.
+/// Answers a control byte as it counts, with level 5.
 pub fn real_level(control: u8) -> u8
     ensures { result ≡ restored control }
 {
     control / 8 * 8 + 5
 }
 
-/// Source, counter and control byte (05-3474-21, 4.5.2.2).
+/// Makes the nonce of a frame: source, counter and control byte (05-3474-21, 4.5.2.2).
 pub fn nonce(source: Eui, counter: u32, control: u8) -> [u8; 13]
     ensures { result ≡ nonce_of source counter control }
 {

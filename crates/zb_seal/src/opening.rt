@@ -1,5 +1,5 @@
-//! From the bytes on the air to a term.
-ghost use Rattle.std.specs.Prelude.{◌≡◌, ◌+◌, ◌-◌, ◌≤◌, ◌<◌, ◌++◌, length, take, IfOk, IfSome, Some, None, Ok};
+//! From the bytes on the air to a term, by way of an envelope.
+ghost use Rattle.std.specs.Prelude.{◌≡◌, ◌+◌, ◌-◌, ◌≤◌, ◌<◌, ◌++◌, length, take, IfOk, IfErr, IfSome, Some, None, Ok, Err};
 ghost use Rattle.zb_base.specs.declared.label.Label.TheVariants.{Network};
 ghost use Rattle.zb_nwk.specs.Shape.{Spells as SpellsNwk};
 ghost use Rattle.zb_aps.specs.Shape.{key_id, Spells as SpellsAps};
@@ -7,12 +7,12 @@ ghost use Rattle.zb_seal.specs.Keys.{sealing_key as key_of};
 ghost use Rattle.zb_seal.specs.Wire.{at_place, real_level as restored};
 ghost use Rattle.zb_nwk.specs.Spelling.{header as header_of_nwk, aux as aux_of_nwk};
 ghost use Rattle.zb_aps.specs.Spelling.{header as header_of_aps, aux as aux_of_aps};
-ghost use Rattle.zb_seal.specs.Opening.{leveled_nwk, leveled_aps, aps_size as size_of_aps, nwk_envelope as envelope_of_nwk, aps_envelope as envelope_of_aps, seen_nwk, seen_aps, label_of as label_of_id, opened_nwk, opened_aps, OpensNwk, OpensAps};
+ghost use Rattle.zb_seal.specs.Opening.{leveled_nwk, leveled_aps, aps_size as size_of_aps, nwk_envelope as envelope_of_nwk, aps_envelope as envelope_of_aps, nwk_closed, seen_nwk, seen_aps, label_of as label_of_id, opened_nwk, opened_aps, OpensNwk, OpensAps};
 ghost use Rattle.zb_seal.specs.declared.term.Term.{Term};
 
-use crate::ciphers::Ciphers;
-use crate::envelope::{Envelope, OpenError};
+use crate::envelope::{Envelope, NwkEnvelope, OpenError};
 use crate::key::{real_level, sealing_key};
+use crate::sealing_keys::SealingKeys;
 use crate::term::Term;
 use zb_aes::Cipher;
 use zb_aps::{ApsAux, ApsFrame};
@@ -34,7 +34,8 @@ fn authenticated(bytes: &[u8], body: usize, size: usize) -> Frame
     requires some { 0 < size }
     requires room { size + body + 4 ≤ length bytes.now }
     requires fits { length bytes.now ≤ 127 }
-    ensures { result.items ≡ at_place restored (length bytes.now - 4 - body - size) (take (length bytes.now - 4 - body) bytes.now) }
+    ensures { result.items
+        ≡ at_place restored (length bytes.now - 4 - body - size) (take (length bytes.now - 4 - body) bytes.now) }
 {
     let front = bytes.len() - 4 - body;
     let mut header = frame_from(&bytes[..front]);
@@ -50,30 +51,46 @@ fn nwk_header(bytes: &[u8], frame: &NwkFrame, aux: &NwkAux) -> Frame
     authenticated(bytes, frame.body.len(), 14)
 }
 
-fn nwk_envelope(bytes: &[u8], frame: NwkFrame) -> Result<Envelope, OpenError>
-    requires { SpellsNwk bytes.now frame }
-    ensures exact { result ≡ envelope_of_nwk frame frame.aux }
-    ensures label { IfOk result (λ s. s.label ≡ Network) }
+/// Says how a NWK frame that was read is addressed, and what it says of itself before any key is tried.
+///
+/// Requires the bytes that the frame was read from.
+///
+/// # Errors
+///
+/// `NotSecured` where the frame is not secured.
+pub fn envelope_nwk(bytes: &[u8], frame: &NwkFrame) -> Result<NwkEnvelope, OpenError>
+    requires { SpellsNwk bytes.now frame.now }
+    ensures exact { result ≡ nwk_closed frame.now frame.now.aux }
+    // Its envelope is that which `look_nwk` answers for the bytes.
+    ensures envelope { IfOk result (λ x. envelope_of_nwk frame.now frame.now.aux ≡ Ok x.envelope) }
+    ensures refused { IfErr result (λ e. envelope_of_nwk frame.now frame.now.aux ≡ Err e) }
+    ensures label { IfOk result (λ x. x.envelope.label ≡ Network) }
 {
-    match frame.aux {
+    match &frame.aux {
         None => Err(OpenError::NotSecured),
-        Some(aux) => {
-            let header = nwk_header(bytes, &frame, &aux);
-            Ok(Envelope {
+        Some(aux) => Ok(NwkEnvelope {
+            destination: frame.header.destination,
+            source: frame.header.source,
+            key_sequence: aux.key_sequence,
+            envelope: Envelope {
                 layer: Layer::Nwk,
                 label: Label::Network,
                 source: Some(aux.source),
                 counter: aux.counter,
                 control: real_level(aux.control),
-                header,
-                text: frame.body,
+                header: nwk_header(bytes, frame, aux),
+                text: frame_from(frame.body.as_slice()),
                 mic: frame.mic,
-            })
-        }
+            },
+        }),
     }
 }
 
-/// What a NWK frame says of itself before any key is tried.
+/// Says what the bytes of a NWK frame say of it before any key is tried.
+///
+/// # Errors
+///
+/// `Frame` where the bytes are no NWK frame, then `NotSecured` where it is not secured.
 #[tactic(auto, unfolding(crate::specs::Opening::seen_nwk))]
 pub fn look_nwk(bytes: &[u8]) -> Result<Envelope, OpenError>
     ensures exact { result ≡ seen_nwk bytes.now }
@@ -84,10 +101,14 @@ pub fn look_nwk(bytes: &[u8]) -> Result<Envelope, OpenError>
             nwk: Some(fault),
             aps: None,
         }),
-        Ok(frame) => nwk_envelope(bytes, frame),
+        Ok(frame) => {
+            let closed = envelope_nwk(bytes, &frame)?;
+            Ok(closed.envelope)
+        }
     }
 }
 
+/// Answers the label that an auxiliary control byte names.
 fn label_of(control: u8) -> Label
     ensures { result ≡ label_of_id (key_id control) }
 {
@@ -118,29 +139,37 @@ fn aps_header(bytes: &[u8], frame: &ApsFrame, aux: &ApsAux) -> Frame
     authenticated(bytes, frame.body.len(), aps_size(aux.source))
 }
 
-fn aps_envelope(bytes: &[u8], frame: ApsFrame) -> Result<Envelope, OpenError>
-    requires { SpellsAps bytes.now frame }
-    ensures exact { result ≡ envelope_of_aps frame frame.aux }
+/// Says what an APS frame that was read says of itself before any key is tried.
+///
+/// Requires the bytes that the frame was read from.
+///
+/// # Errors
+///
+/// `NotSecured` where the frame is not secured.
+pub fn envelope_aps(bytes: &[u8], frame: &ApsFrame) -> Result<Envelope, OpenError>
+    requires { SpellsAps bytes.now frame.now }
+    ensures exact { result ≡ envelope_of_aps frame.now frame.now.aux }
 {
-    match frame.aux {
+    match &frame.aux {
         None => Err(OpenError::NotSecured),
-        Some(aux) => {
-            let header = aps_header(bytes, &frame, &aux);
-            Ok(Envelope {
-                layer: Layer::Aps,
-                label: label_of(aux.control),
-                source: aux.source,
-                counter: aux.counter,
-                control: real_level(aux.control),
-                header,
-                text: frame.body,
-                mic: frame.mic,
-            })
-        }
+        Some(aux) => Ok(Envelope {
+            layer: Layer::Aps,
+            label: label_of(aux.control),
+            source: aux.source,
+            counter: aux.counter,
+            control: real_level(aux.control),
+            header: aps_header(bytes, frame, aux),
+            text: frame_from(frame.body.as_slice()),
+            mic: frame.mic,
+        }),
     }
 }
 
-/// What an APS frame says of itself before any key is tried.
+/// Says what the bytes of an APS frame say of it before any key is tried.
+///
+/// # Errors
+///
+/// `Frame` where the bytes are no APS frame, then `NotSecured` where it is not secured.
 #[tactic(auto, unfolding(crate::specs::Opening::seen_aps))]
 pub fn look_aps(bytes: &[u8]) -> Result<Envelope, OpenError>
     ensures exact { result ≡ seen_aps bytes.now }
@@ -150,11 +179,15 @@ pub fn look_aps(bytes: &[u8]) -> Result<Envelope, OpenError>
             nwk: None,
             aps: Some(fault),
         }),
-        Ok(frame) => aps_envelope(bytes, frame),
+        Ok(frame) => envelope_aps(bytes, &frame),
     }
 }
 
-/// The term of a NWK frame under a network key that was expanded before.
+/// Opens a NWK frame under a network key. Requires the cipher of the key, which was expanded before.
+///
+/// # Errors
+///
+/// As for `open_nwk`.
 #[tactic(auto, unfolding(crate::specs::Opening::opened_nwk))]
 pub fn open_nwk_with(bytes: &[u8], key: &Key, cipher: &Cipher) -> Result<Term, OpenError>
     requires { cipher.now ≡ key.now.0 }
@@ -165,7 +198,12 @@ pub fn open_nwk_with(bytes: &[u8], key: &Key, cipher: &Cipher) -> Result<Term, O
     Ok(term)
 }
 
-/// The term of a NWK frame under a network key.
+/// Opens a NWK frame under a network key.
+///
+/// # Errors
+///
+/// `Frame` where the bytes are no NWK frame, then `NotSecured` where it is not secured, then `BadMic` where its code is
+/// not that of a content under the key.
 pub fn open_nwk(bytes: &[u8], key: &Key) -> Result<Term, OpenError>
     ensures exact { result ≡ opened_nwk bytes.now key.now }
     // What is answered is what the bytes open to, and what the bytes open to is answered.
@@ -176,18 +214,23 @@ pub fn open_nwk(bytes: &[u8], key: &Key) -> Result<Term, OpenError>
     open_nwk_with(bytes, key, &Cipher::new(&key.0))
 }
 
-/// The term of an APS frame under a link key whose sealing keys were expanded before.
+/// Opens an APS frame under a link key whose sealing keys were expanded before. `source` is the source where the frame
+/// names none.
+///
+/// # Errors
+///
+/// As for `open_aps`.
 #[tactic(auto, unfolding(crate::specs::Opening::opened_aps))]
 pub fn open_aps_with(
     bytes: &[u8],
-    ciphers: &Ciphers,
+    keys: &SealingKeys,
     source: Option<Eui>,
 ) -> Result<Term, OpenError>
-    ensures exact { result ≡ opened_aps bytes.now ciphers.now source }
+    ensures exact { result ≡ opened_aps bytes.now keys.now source }
 {
     let envelope = look_aps(bytes)?;
-    let cipher = ciphers.of(envelope.label);
-    let term = envelope.open_with(ciphers.base(), cipher, source)?;
+    let cipher = keys.of(envelope.label);
+    let term = envelope.open_with(keys.base(), cipher, source)?;
     Ok(term)
 }
 
@@ -201,7 +244,12 @@ fn open_aps_once(bytes: &[u8], base: &Key, source: Option<Eui>) -> Result<Term, 
     Ok(term)
 }
 
-/// The term of an APS frame under a link key. `source` is the source where the frame names none.
+/// Opens an APS frame under a link key. `source` is the source where the frame names none.
+///
+/// # Errors
+///
+/// `Frame` where the bytes are no APS frame, then `NotSecured` where it is not secured, then `NoSource` where its
+/// source is not known, then `BadMic` where its code is not that of a content under the key.
 pub fn open_aps(bytes: &[u8], base: &Key, source: Option<Eui>) -> Result<Term, OpenError>
     ensures exact { result ≡ opened_aps bytes.now base.now source }
     // What is answered is what the bytes open to, and what the bytes open to is answered.

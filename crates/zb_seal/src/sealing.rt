@@ -59,7 +59,11 @@ fn seal_content(cipher: &Cipher, term: &Term) -> (Frame, [u8; 4])
     (text, mic)
 }
 
-/// The bytes on the air of a term whose sealing key was expanded before.
+/// Seals a term: answers its bytes on the air. Requires its sealing key, which was expanded before.
+///
+/// # Errors
+///
+/// `TooLong` where they are more than 127 bytes.
 pub fn wire_with(term: &Term, cipher: &Cipher) -> Result<Frame, TooLong>
     requires { cipher.now ≡ key_of term.now.label term.now.base.0 }
     ensures text { IfOk result (λ bytes. bytes.items ≡ wire_of term.now) }
@@ -73,7 +77,11 @@ pub fn wire_with(term: &Term, cipher: &Cipher) -> Result<Frame, TooLong>
     Ok(out)
 }
 
-/// The bytes on the air of a term: its header with level bits 000, the cipher text, the code.
+/// Seals a term: answers its header with level bits 000, the cipher text and the code.
+///
+/// # Errors
+///
+/// `TooLong` where they are more than 127 bytes.
 pub fn wire(term: &Term) -> Result<Frame, TooLong>
     ensures text { IfOk result (λ bytes. bytes.items ≡ wire_of term.now) }
     ensures fits { IfOk result (λ bytes. length (wire_of term.now) ≤ 127) }

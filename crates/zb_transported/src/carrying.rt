@@ -1,4 +1,4 @@
-//! The key in what was sealed.
+//! The key in what was sealed, and in what was heard in clear.
 ghost use Rattle.std.specs.Prelude.{◌≡◌, ◌≤◌, length};
 ghost use Rattle.zb_aps.specs.Reading.{frame_of};
 ghost use Rattle.zb_cmd.specs.Reading.{command_of};
@@ -9,8 +9,10 @@ use zb_base::{Key, Layer};
 use zb_cmd::{Command, read_command};
 use zb_seal::Term;
 
-/// The key that a term carries, if any: that of a Transport-Key which is its content, sealed at the application support
-/// layer as a command, or standing in clear in a network frame (05-3474-21, 4.4.9.2).
+/// Answers the key that a term carries, if any (05-3474-21, 4.4.9.2).
+///
+/// It is that of a Transport-Key which is the content of the term: sealed at the application support layer as a command,
+/// or standing in clear in a network frame.
 #[tactic(auto, unfolding(crate::specs::Carrying::carried))]
 pub fn carried(term: &Term) -> Option<Key>
     ensures { result ≡ carried term.now }
@@ -27,7 +29,7 @@ pub fn carried(term: &Term) -> Option<Key>
     }
 }
 
-/// Whether a header is that of an APS command.
+/// Tells whether a header is that of an APS command.
 fn is_command_header(header: &[u8]) -> bool
     ensures { result ≡ is_command_header header.now }
 {
@@ -37,13 +39,14 @@ fn is_command_header(header: &[u8]) -> bool
     }
 }
 
+/// Tells whether an APS frame control is that of a command.
 fn is_command(control: u8) -> bool
     ensures { result ≡ is_command control }
 {
     control % 4 == 1
 }
 
-/// The key in a whole APS command without APS security.
+/// Answers the key in a whole APS command without APS security.
 fn key_in_clear(bytes: &[u8]) -> Option<Key>
     ensures { result ≡ clear_key (frame_of bytes.now) }
 {
@@ -59,13 +62,14 @@ fn key_in_clear(bytes: &[u8]) -> Option<Key>
     }
 }
 
+/// Tells whether a frame is an APS command without APS security.
 fn is_clear_command(frame: &ApsFrame) -> bool
     ensures { result ≡ is_clear_command frame.now }
 {
     frame.aux.is_none() && is_command(frame.header.control)
 }
 
-/// The key in a Transport-Key, of any of its three types.
+/// Answers the key in a Transport-Key, of any of its three types.
 fn transported(bytes: &[u8]) -> Option<Key>
     requires { length bytes.now ≤ 127 }
     ensures { result ≡ key_in (command_of bytes.now) }

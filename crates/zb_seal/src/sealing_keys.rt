@@ -7,16 +7,18 @@ use std::marker::Model;
 use zb_aes::Cipher;
 use zb_base::{Key, Label};
 
-/// A base key whose three sealing keys were expanded once, for any number of frames. A contract sees it as its key.
+/// A base key whose three sealing keys were expanded once, for any number of frames.
+///
+/// A contract sees it as its base key.
 #[derive(Drop)]
-pub struct Ciphers {
+pub struct SealingKeys {
     base: Key,
     plain: Cipher,
     transport: Cipher,
     load: Cipher,
 }
 
-impl Model for Ciphers {
+impl Model for SealingKeys {
     ghost use Rattle.std.specs.Prelude.{◌≡◌};
     ghost use Rattle.zb_base.specs.declared.key.Key.{Key};
     ghost use Rattle.zb_base.specs.declared.label.Label.TheVariants.{Data, Transport, Load};
@@ -24,18 +26,18 @@ impl Model for Ciphers {
 
     ghost Value = { Key };
 
-    ghost view = { λ c. c.base };
+    ghost view = { λ keys. keys.base };
 
-    ghost invariant = { λ c. (c.plain ≡ sealing_key Data c.base.0) × (c.transport ≡ sealing_key Transport c.base.0)
-        × (c.load ≡ sealing_key Load c.base.0) };
+    ghost invariant = { λ keys. (keys.plain ≡ sealing_key Data keys.base.0)
+        × (keys.transport ≡ sealing_key Transport keys.base.0) × (keys.load ≡ sealing_key Load keys.base.0) };
 }
 
-impl Ciphers {
+impl SealingKeys {
     /// Derives and expands the sealing keys of a base key.
-    pub fn new(base: &Key) -> Ciphers
+    pub fn new(base: &Key) -> SealingKeys
         ensures { result ≡ base.now }
     {
-        Ciphers {
+        SealingKeys {
             base: *base,
             plain: Cipher::new(&base.0),
             transport: Cipher::new(&sealing_key(Label::Transport, base).0),
@@ -43,14 +45,14 @@ impl Ciphers {
         }
     }
 
-    /// The base key.
+    /// Answers the base key.
     pub fn base(&self) -> &Key
         ensures { result.now ≡ self.now }
     {
         &self.base
     }
 
-    /// The sealing key of a label.
+    /// Answers the sealing key of a label.
     pub fn of(&self, label: Label) -> &Cipher
         ensures { result.now ≡ key_of label self.now.0 }
     {
