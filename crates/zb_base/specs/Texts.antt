@@ -1,5 +1,8 @@
--- How the two faults that no caller can rule out are printed, and the states of nodes, link keys and rollovers.
+-- How the two faults that no caller can rule out are printed; the states of nodes, link keys and rollovers; the places
+-- of refusals.
 use Rattle.std.specs.Prelude.{List, ℕ, codes}
+use Rattle.zb_base.specs.declared.place.Place.{Place}
+use Rattle.zb_base.specs.declared.place.Place.TheVariants as place
 use Rattle.zb_base.specs.declared.state.State.{State}
 use Rattle.zb_base.specs.declared.state.State.TheVariants as state
 use Rattle.zb_base.specs.declared.state.Attribute.{Attribute}
@@ -30,3 +33,8 @@ state_text state.Gone = codes "gone"
 abbrev pub rollover_text : Rollover → List ℕ
 rollover_text rollover.Sending = codes "sending"
 rollover_text rollover.Idle = codes "idle"
+
+abbrev pub place_text : Place → List ℕ
+place_text place.Nwk = codes "nwk"
+place_text place.Aps = codes "aps"
+place_text place.Event = codes "event"

@@ -12,8 +12,8 @@ use Rattle.zb_base.specs.declared.state.Rollover.{Rollover}
 use Rattle.zb_base.specs.declared.state.Rollover.TheVariants as rollover
 use Rattle.zb_node_types.specs.declared.change.Change.{Change}
 use Rattle.zb_node_types.specs.declared.change.Change.TheVariants as change
-use Rattle.zb_node_types.specs.declared.refusal.Place.{Place}
-use Rattle.zb_node_types.specs.declared.refusal.Place.TheVariants as place
+use Rattle.zb_base.specs.declared.place.Place.{Place}
+use Rattle.zb_base.specs.declared.place.Place.TheVariants as place
 use Rattle.zb_node_types.specs.declared.refusal.Refusal.{Refusal}
 use Rattle.zb_node_types.specs.declared.refusal.Refusal.TheVariants as refusal
 use Rattle.zb_model.specs.Data as model

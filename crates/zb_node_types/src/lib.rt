@@ -10,4 +10,4 @@ pub mod refusal;
 
 pub use change::{Change, Changes};
 pub use fault::KeyError;
-pub use refusal::{Place, Refusal};
+pub use refusal::Refusal;

@@ -1,32 +1,5 @@
 //! Why an event of a node is refused.
-use std::fmt;
-use zb_base::Eui;
-
-/// Where an event is refused.
-#[derive(Clone, Copy, Debug, PartialEq, Eq, PartialOrd, Ord, Hash)]
-pub enum Place {
-    /// In the network layer of a frame.
-    Nwk,
-    /// In the application support part of a frame, after its network layer was accepted.
-    Aps,
-    /// In an event of the node's own.
-    Event,
-}
-
-impl fmt::Display for Place {
-    ghost use Rattle.std.specs.Prelude.{Some};
-    ghost use Rattle.zb_node_types.specs.Texts.{place_text};
-
-    ghost output = { λ it. Some (place_text it) };
-
-    fn fmt<W: fmt::Write>(&self, f: &mut fmt::Formatter<W>) -> fmt::Result {
-        f.write_str(match self {
-            Place::Nwk => "nwk",
-            Place::Aps => "aps",
-            Place::Event => "event",
-        })
-    }
-}
+use zb_base::{Eui, Place};
 
 /// The reasons, in the order in which they are tried, but for `NoFrame`, which is tried right after `Down`.
 #[derive(Clone, Copy, Debug, PartialEq, Eq)]

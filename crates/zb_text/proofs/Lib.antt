@@ -1,3 +1,4 @@
+pub mod ChoiceLemmas
 pub mod Cuts
 pub mod Digits
 pub mod LineCuts

@@ -25,3 +25,5 @@ over limit number (b ∷ bs) lt =
 
 pub digit_over : (limit number i : ℕ) (bs : List ℕ) → limit < number → up_to limit (digits_after number (drop i bs)) ≡ None
 digit_over limit number i bs lt = over limit number (drop i bs) lt
+
+pub ruleset one_more_digit = (digit_read, digit_none, digit_over)

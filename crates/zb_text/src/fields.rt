@@ -10,7 +10,7 @@ use crate::hexadecimal::{fixed, put_digits};
 use std::alloc::AllocError;
 use zb_base::{Eui, Key, Name, Short};
 
-/// The name that a word is: 1 to 16 characters of a to z and 0 to 9.
+/// Reads a name: 1 to 16 characters of a to z and 0 to 9.
 #[tactic(auto, using(crate::proofs::NameLemmas::name_is_text))]
 pub fn name(word: &[u8]) -> Option<Name>
     ensures value { Shows (λ name. name.bytes) result (name_of word.now) }
@@ -37,7 +37,7 @@ fn has_name_bytes(word: &[u8]) -> bool
         .all(|byte| byte.is_ascii_lowercase() || byte.is_ascii_digit())
 }
 
-/// The IEEE address that a word of 16 hexadecimal digits spells.
+/// Reads an IEEE address of 16 hexadecimal digits.
 pub fn eui(word: &[u8]) -> Option<Eui>
     ensures value { Shows (λ eui. eui.0) result (eui_of word.now) }
     ensures fits { IfSome result (λ eui. eui.0 < 2 ^ 64) }
@@ -46,7 +46,7 @@ pub fn eui(word: &[u8]) -> Option<Eui>
     Some(Eui(u64::from_be_bytes(bytes)))
 }
 
-/// The network address that a word of 4 hexadecimal digits spells.
+/// Reads a network address of 4 hexadecimal digits.
 pub fn short(word: &[u8]) -> Option<Short>
     ensures value { Shows (λ short. short.0) result (short_of word.now) }
     ensures fits { IfSome result (λ short. short.0 < 2 ^ 16) }
@@ -55,7 +55,7 @@ pub fn short(word: &[u8]) -> Option<Short>
     Some(Short(u16::from_be_bytes(bytes)))
 }
 
-/// The key that a word of 32 hexadecimal digits spells.
+/// Reads a key of 32 hexadecimal digits.
 pub fn key(word: &[u8]) -> Option<Key>
     ensures value { Shows (λ key. key.0) result (key_of word.now) }
     ensures fits { IfSome result (λ key. (length key.0 ≡ 16) × IsBytes key.0) }

@@ -9,7 +9,7 @@ ghost use Rattle.zb_text.specs.Hexadecimal.{fixed_of, bytes_of, bytes_text, byte
 use arrayvec::ArrayVec;
 use std::alloc::AllocError;
 
-/// The bytes that a word of exactly two digits for each of them spells.
+/// Reads exactly `N` bytes of two hexadecimal digits each.
 pub fn fixed<const N: usize>(word: &[u8]) -> Option<[u8; N]>
     ensures value { result ≡ fixed_of N word.now }
     ensures fits { IfSome result (λ bytes. (length bytes ≡ N) × IsBytes bytes) }
@@ -25,7 +25,7 @@ fn known_bytes(bytes: &[u8])
     ensures { IsBytes bytes.now }
 {}
 
-/// The bytes that a word spells, where they are at most `N`: `-` is no bytes, others have two digits each.
+/// Reads at most `N` bytes: `-` for none, or two hexadecimal digits each.
 pub fn bytes<const N: usize>(word: &[u8]) -> Option<ArrayVec<u8, N>>
     ensures value { option_map (λ found. found.items) result ≡ bytes_of N word.now }
     ensures fits { IfSome result (λ found. (length found.items ≤ N) × IsBytes found.items) }
@@ -97,7 +97,7 @@ fn pair_value(high: u8, low: u8) -> Option<u8>
 }
 
 /// Prints bytes in two digits each.
-#[tactic(auto, using(crate::proofs::Digits::encode_upper_more, std::proofs::Common::append_assoc), unfolding(hex::specs::Hex::encode_with))]
+#[tactic(auto, using(crate::proofs::Digits::one_more_byte), unfolding(hex::specs::Hex::encode_with))]
 pub fn put_digits(out: &mut Vec<u8>, bytes: &[u8]) -> Result<(), AllocError>
     ensures { OnOk result (out.new.items ≡ out.old.items ++ encode_upper bytes.now) }
 {

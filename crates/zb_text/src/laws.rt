@@ -4,19 +4,20 @@ ghost use Rattle.std.specs.Prelude.{◌≡◌, ◌^◌, ◌<◌, ◌≤◌, ℕ,
 ghost use Rattle.std.specs.List.{AllByRecursion};
 ghost use Rattle.std.specs.Str.Lines.{lines};
 ghost use Rattle.hex.specs.Hex.{encode_upper, IsBytes};
+ghost use Rattle.zb_text.specs.Choices.{role_of, role_text, layer_of, layer_text, label_of, label_text, attribute_of, attribute_text, state_of, state_text, rollover_of, rollover_text, place_of, place_text, answer_of, answer_text, IsBothWays};
 ghost use Rattle.zb_text.specs.Fields.{is_name, name_of, eui_of, eui_text, short_of, short_text};
 ghost use Rattle.zb_text.specs.Hexadecimal.{fixed_of, bytes_of, bytes_text};
 ghost use Rattle.zb_text.specs.Numbers.{number_of};
 ghost use Rattle.zb_text.specs.Pages.{IsWord, IsLine, line_of_words, page};
 ghost use Rattle.zb_text.specs.Words.{words};
 
-/// The lines of a page of lines are those lines.
+/// Says that the lines of a page of lines are those lines.
 #[tactic(auto, using(crate::proofs::ReadAgain::lines_again))]
 pub fn printed_lines_read()
     ensures { (texts : List (List ℕ)) → AllByRecursion IsLine texts → lines (page texts) ≡ texts }
 {}
 
-/// The words of a line of words are those words, and words make a line.
+/// Says that the words of a line of words are those words, and that words make a line.
 #[tactic(auto, using(crate::proofs::ReadAgain::words_again, crate::proofs::ReadAgain::lines_of_words))]
 pub fn printed_words_read()
     ensures reads { (word : List ℕ) (more : List (List ℕ)) → IsWord word → AllByRecursion IsWord more
@@ -24,35 +25,36 @@ pub fn printed_words_read()
     ensures line { (texts : List (List ℕ)) → AllByRecursion IsWord texts → IsLine (line_of_words texts) }
 {}
 
-/// A number reads as itself, and is a word.
+/// Says that a number reads as itself and is a word.
 #[tactic(auto, using(crate::proofs::ReadAgain::number_again, crate::proofs::ReadAgain::decimal_words))]
 pub fn printed_number_reads()
-    ensures reads { (limit number : ℕ) → number ≤ limit → number < 2 ^ 64 → number_of limit (decimal number) ≡ Some number }
+    ensures reads { (limit number : ℕ) → number ≤ limit → number < 2 ^ 64
+        → number_of limit (decimal number) ≡ Some number }
     ensures word { (number : ℕ) → number < 2 ^ 64 → IsWord (decimal number) }
 {}
 
-/// A name reads as itself, and is a word.
+/// Says that a name reads as itself and is a word.
 #[tactic(auto, using(crate::proofs::ReadAgain::name_again, crate::proofs::ReadAgain::name_words))]
 pub fn printed_name_reads()
     ensures reads { (name : List ℕ) → is_name name ≡ true → name_of name ≡ Some name }
     ensures word { (name : List ℕ) → is_name name ≡ true → IsWord name }
 {}
 
-/// An IEEE address reads as itself, and is a word.
+/// Says that an IEEE address reads as itself and is a word.
 #[tactic(auto, using(crate::proofs::ReadAgain::eui_again, crate::proofs::ReadAgain::eui_words))]
 pub fn printed_eui_reads()
     ensures reads { (eui : ℕ) → eui < 2 ^ 64 → eui_of (eui_text eui) ≡ Some eui }
     ensures word { (eui : ℕ) → IsWord (eui_text eui) }
 {}
 
-/// A network address reads as itself, and is a word.
+/// Says that a network address reads as itself and is a word.
 #[tactic(auto, using(crate::proofs::ReadAgain::short_again, crate::proofs::ReadAgain::short_words))]
 pub fn printed_short_reads()
     ensures reads { (short : ℕ) → short < 2 ^ 16 → short_of (short_text short) ≡ Some short }
     ensures word { (short : ℕ) → IsWord (short_text short) }
 {}
 
-/// As many bytes as the word has room for, as those of a key, read as themselves, and are a word.
+/// Says that bytes of a fixed number, as those of a key, read as themselves and are a word.
 #[tactic(auto, using(crate::proofs::ReadAgain::fixed_again, crate::proofs::ReadAgain::digit_words))]
 pub fn printed_digits_read()
     ensures reads { (bytes : List ℕ) (count : ℕ) → length bytes ≡ count → IsBytes bytes
@@ -60,10 +62,22 @@ pub fn printed_digits_read()
     ensures word { (bytes : List ℕ) → IsBytes bytes → IsWord (encode_upper bytes) }
 {}
 
-/// Any bytes, none included, read as themselves, and are a word.
+/// Says that any bytes, none included, read as themselves and are a word.
 #[tactic(auto, using(crate::proofs::ReadAgain::bytes_again, crate::proofs::ReadAgain::byte_words))]
 pub fn printed_bytes_read()
     ensures reads { (limit : ℕ) (bytes : List ℕ) → length bytes ≤ limit → IsBytes bytes
         → bytes_of limit (bytes_text bytes) ≡ Some bytes }
     ensures word { (bytes : List ℕ) → IsBytes bytes → IsWord (bytes_text bytes) }
+{}
+
+/// Says that the word for each of a few things reads as that, and that no other word does.
+pub fn printed_choices_read()
+    ensures role { IsBothWays role_text role_of }
+    ensures layer { IsBothWays layer_text layer_of }
+    ensures label { IsBothWays label_text label_of }
+    ensures attribute { IsBothWays attribute_text attribute_of }
+    ensures state { IsBothWays state_text state_of }
+    ensures rollover { IsBothWays rollover_text rollover_of }
+    ensures place { IsBothWays place_text place_of }
+    ensures answer { IsBothWays answer_text answer_of }
 {}

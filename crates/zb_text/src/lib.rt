@@ -5,12 +5,17 @@
 //! feed. Words are separated by one space.
 #![tactic(auto)]
 
+pub mod choices;
 pub mod fields;
 pub mod hexadecimal;
-pub mod laws;
+mod laws;
 pub mod lines;
 pub mod numbers;
 pub mod page;
-#[cfg(test)]
-mod tests;
 pub mod words;
+
+pub use laws::{
+    printed_bytes_read, printed_choices_read, printed_digits_read, printed_eui_reads,
+    printed_lines_read, printed_name_reads, printed_number_reads, printed_short_reads,
+    printed_words_read,
+};

@@ -6,8 +6,9 @@ ghost use Rattle.zb_text.specs.Words.{first_of, Shows};
 
 use crate::words::cut;
 
+/// Takes the first line off a text: answers the line without its end, and the text after it. None where nothing is
+/// left.
 #[tactic(auto, using(crate::proofs::LineCuts::lines_front, crate::proofs::LineCuts::lines_last))]
-/// Takes the first line off a text: the line without its end, and the text after it. None where nothing is left.
 pub fn next_line(text: &[u8]) -> Option<(&[u8], &[u8])>
     ensures value { Shows (λ taken. (taken.0.now, lines taken.1.now)) result (first_of (lines text.now)) }
     ensures shorter { IfSome result (λ taken. length taken.1.now < length text.now) }

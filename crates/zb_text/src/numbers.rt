@@ -6,8 +6,8 @@ ghost use Rattle.zb_text.specs.Numbers.{digits_after, is_ill_begun, number_of, u
 use itoa::Buffer;
 use std::alloc::AllocError;
 
-/// The number that a word spells in decimal digits without leading zeros, where that is at most `limit`.
-#[tactic(auto, using(crate::proofs::NumberLemmas::digit_read, crate::proofs::NumberLemmas::digit_none, crate::proofs::NumberLemmas::digit_over))]
+/// Reads a number of at most `limit` in decimal digits, without leading zeros.
+#[tactic(auto, using(crate::proofs::NumberLemmas::one_more_digit))]
 pub fn number(limit: u32, word: &[u8]) -> Option<u32>
     ensures value { result ≡ number_of limit word.now }
     ensures fits { IfSome result (λ number. number ≤ limit) }

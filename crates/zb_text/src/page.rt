@@ -95,7 +95,8 @@ pub fn add_bytes(out: &mut Vec<u8>, bytes: &[u8]) -> Result<(), AllocError>
 /// Hands a page out into a sink, and empties it. After `Failed` the page is as it was.
 pub fn hand_out<W: Sink>(page: &mut Vec<u8>, out: &mut W) -> Result<(), Failed>
     ensures whole { OnOk result (Appends (W.taken out.old) (W.taken out.new) page.old.items × (page.new.items ≡ [])) }
-    ensures front { OnErr result (AppendsFront (W.taken out.old) (W.taken out.new) page.old.items × (page.new.items ≡ page.old.items)) }
+    ensures front { OnErr result (AppendsFront (W.taken out.old) (W.taken out.new) page.old.items
+        × (page.new.items ≡ page.old.items)) }
     ensures cause { HasCause (W.faults out.old) (W.faults out.new) result }
 {
     out.write(page.as_slice())?;

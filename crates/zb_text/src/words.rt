@@ -3,11 +3,11 @@
 ghost use Rattle.std.specs.Prelude.{◌≡◌, ◌==◌, ◌<◌, [], ◌∷◌, length, position, IfSome, MatchOption};
 ghost use Rattle.zb_text.specs.Words.{parts};
 
-use crate::{fields, hexadecimal, numbers};
+use crate::{choices, fields, hexadecimal, numbers};
 use arrayvec::ArrayVec;
-use zb_base::{Eui, Key, Name, Short};
+use zb_base::{Attribute, Eui, Key, Label, Layer, Name, Place, Role, Rollover, Short, State};
 
-/// A reader of the words of one line, from the first to the last.
+/// Reads the words of one line, from the first to the last.
 #[derive(Clone, Copy, Debug)]
 pub struct Words<'a> {
     /// What is left of the line, or None behind its last word.
@@ -17,12 +17,13 @@ pub struct Words<'a> {
 impl<'a> Words<'a> {
     ghost use Rattle.std.specs.Prelude.{◌≡◌, ◌<◌, ◌≤◌, ◌^◌, length, Some, IfSome, IsTrue};
     ghost use Rattle.hex.specs.Hex.{IsBytes};
+    ghost use Rattle.zb_text.specs.Choices.{role_of, layer_of, label_of, attribute_of, state_of, rollover_of, place_of, answer_of};
     ghost use Rattle.zb_text.specs.Fields.{is_name, name_of, eui_of, short_of, key_of};
     ghost use Rattle.zb_text.specs.Hexadecimal.{bytes_of};
     ghost use Rattle.zb_text.specs.Numbers.{number_of};
     ghost use Rattle.zb_text.specs.Words.{words, left, first_of, field, nothing, Takes};
 
-    /// A reader of all words of a line.
+    /// Makes a reader of all words of a line.
     pub fn new(line: &'a [u8]) -> Words<'a>
         ensures { left result ≡ words (Some line.now) }
     {
@@ -106,6 +107,78 @@ impl<'a> Words<'a> {
         Some(bytes)
     }
 
+    /// Takes a role: `centre`, `router` or `device`.
+    pub fn role(&mut self) -> Option<Role>
+        ensures { Takes (λ role. role) result (left self.new) (field role_of (left self.old)) }
+    {
+        let word = self.word()?;
+        let role = choices::role(word)?;
+        Some(role)
+    }
+
+    /// Takes a layer: `nwk` or `aps`.
+    pub fn layer(&mut self) -> Option<Layer>
+        ensures { Takes (λ layer. layer) result (left self.new) (field layer_of (left self.old)) }
+    {
+        let word = self.word()?;
+        let layer = choices::layer(word)?;
+        Some(layer)
+    }
+
+    /// Takes a key identifier: `data`, `network`, `transport` or `load`.
+    pub fn label(&mut self) -> Option<Label>
+        ensures { Takes (λ label. label) result (left self.new) (field label_of (left self.old)) }
+    {
+        let word = self.word()?;
+        let label = choices::label(word)?;
+        Some(label)
+    }
+
+    /// Takes a link key's attribute: `provisional`, `unverified` or `verified`.
+    pub fn attribute(&mut self) -> Option<Attribute>
+        ensures { Takes (λ attribute. attribute) result (left self.new) (field attribute_of (left self.old)) }
+    {
+        let word = self.word()?;
+        let attribute = choices::attribute(word)?;
+        Some(attribute)
+    }
+
+    /// Takes a node's state, one of seven words from `fresh` to `gone`.
+    pub fn state(&mut self) -> Option<State>
+        ensures { Takes (λ state. state) result (left self.new) (field state_of (left self.old)) }
+    {
+        let word = self.word()?;
+        let state = choices::state(word)?;
+        Some(state)
+    }
+
+    /// Takes a rollover: `sending` or `idle`.
+    pub fn rollover(&mut self) -> Option<Rollover>
+        ensures { Takes (λ rollover. rollover) result (left self.new) (field rollover_of (left self.old)) }
+    {
+        let word = self.word()?;
+        let rollover = choices::rollover(word)?;
+        Some(rollover)
+    }
+
+    /// Takes the place of a refusal: `nwk`, `aps` or `event`.
+    pub fn place(&mut self) -> Option<Place>
+        ensures { Takes (λ place. place) result (left self.new) (field place_of (left self.old)) }
+    {
+        let word = self.word()?;
+        let place = choices::place(word)?;
+        Some(place)
+    }
+
+    /// Takes an answer: `yes` or `no`.
+    pub fn answer(&mut self) -> Option<bool>
+        ensures { Takes (λ answer. answer) result (left self.new) (field answer_of (left self.old)) }
+    {
+        let word = self.word()?;
+        let answer = choices::answer(word)?;
+        Some(answer)
+    }
+
     /// Answers Some where no word is left.
     #[tactic(auto, using(crate::proofs::Cuts::parts_are_some))]
     pub fn end(&self) -> Option<()>
@@ -121,7 +194,8 @@ impl<'a> Words<'a> {
 /// What stands before the first of some byte, and what stands behind it; None where there is no such byte.
 #[tactic(auto, using(crate::proofs::Cuts::cut_none, crate::proofs::Cuts::cut_some))]
 pub(crate) fn cut(text: &[u8], separator: u8) -> Option<(&[u8], &[u8])>
-    ensures parts { MatchOption result (parts separator text.now ≡ text.now ∷ []) (λ found. parts separator text.now ≡ found.0.now ∷ parts separator found.1.now) }
+    ensures parts { MatchOption result (parts separator text.now ≡ text.now ∷ [])
+        (λ found. parts separator text.now ≡ found.0.now ∷ parts separator found.1.now) }
     ensures shorter { IfSome result (λ found. length found.1.now < length text.now) }
 {
     let at = place(text, separator)?;

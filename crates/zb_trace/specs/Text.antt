@@ -8,9 +8,8 @@ use Rattle.zb_base.specs.declared.label.Layer.{Layer}
 use Rattle.zb_base.specs.declared.label.Layer.TheVariants as layer
 use Rattle.zb_base.specs.declared.label.Label.{Label}
 use Rattle.zb_base.specs.declared.label.Label.TheVariants as label
-pub use Rattle.zb_base.specs.Texts.{attribute_text, rollover_text, state_text}
-pub use Rattle.zb_node_types.specs.Texts.{place_text}
-use Rattle.zb_node_types.specs.declared.refusal.Place.{Place}
+use Rattle.zb_base.specs.declared.place.Place.{Place}
+pub use Rattle.zb_base.specs.Texts.{attribute_text, place_text, rollover_text, state_text}
 use Rattle.zb_node_types.specs.declared.refusal.Refusal.{Refusal}
 use Rattle.zb_node_types.specs.declared.refusal.Refusal.TheVariants as refusal
 use Rattle.zb_seal.specs.declared.term.Term.{Term}

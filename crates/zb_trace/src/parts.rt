@@ -6,8 +6,8 @@ ghost use Rattle.zb_trace.specs.Text.{opening, opening_of, trailing, term_words,
 
 use crate::spelling::{label_text, layer_text, place_text};
 use std::alloc::AllocError;
-use zb_base::{Eui, Name};
-use zb_node_types::{Place, Refusal};
+use zb_base::{Eui, Name, Place};
+use zb_node_types::Refusal;
 use zb_seal::Term;
 use zb_text::numbers::put_number;
 use zb_text::page::{add_bytes, add_eui, add_key, add_number, add_word};

@@ -2,8 +2,7 @@
 ghost use Rattle.std.specs.Prelude.{◌≡◌};
 ghost use Rattle.zb_trace.specs.Text as spec;
 
-use zb_base::{Attribute, Label, Layer, Role, Rollover, State};
-use zb_node_types::Place;
+use zb_base::{Attribute, Label, Layer, Place, Role, Rollover, State};
 
 pub(crate) fn role_text(role: Role) -> &'static [u8]
     ensures { result.now ≡ spec.role_text role }

@@ -7,8 +7,7 @@ ghost use Rattle.zb_trace.specs.Text as spec;
 ghost use Rattle.zb_trace.specs.Text.{Chosen, CalledOrNobody, Address, ShortAddress, Secret, Octet, Octets, AllOctets, counted, sequenced};
 ghost use Rattle.zb_trace_read.specs.Grammar.{OneOf, ANameOrDash, AnAddress, AShort, AKey, AByte, SomeBytes, AllBytes, a_count, a_sequence, value_of};
 
-use zb_base::{Attribute, Eui, Frame, Key, Label, Layer, Name, Role, Rollover, Short, State};
-use zb_node_types::Place;
+use zb_base::{Attribute, Eui, Frame, Key, Label, Layer, Name, Place, Role, Rollover, Short, State};
 use zb_text::hexadecimal;
 use zb_text::words::Words;
 

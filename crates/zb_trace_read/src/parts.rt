@@ -7,7 +7,8 @@ ghost use Rattle.zb_trace.specs.Text.{Chosen, Fixed, MayStand, place_text, place
 ghost use Rattle.zb_trace_read.specs.Grammar.{AnAddress, a_count, a_refusal, a_term, plain_reason, policy_reason, shaped};
 
 use crate::fields::{count, eui, key, label, layer, octet, place, some_bytes};
-use zb_node_types::{Place, Refusal};
+use zb_base::Place;
+use zb_node_types::Refusal;
 use zb_seal::Term;
 use zb_text::words::Words;
 
