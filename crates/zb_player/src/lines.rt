@@ -47,7 +47,8 @@ pub(crate) fn put_given(
     network: &NetworkKey,
 ) -> Result<(), AllocError>
     ensures { OnOk result (page.new.items ≡ page.old.items
-        ++ line_text node.now.peer.name.bytes (line.GivenNet node.now.peer.eui.0 network.now.key.0 network.now.sequence)) }
+        ++ line_text node.now.peer.name.bytes (line.GivenNet node.now.peer.eui.0 network.now.key.0
+        network.now.sequence)) }
 {
     put_number(page, 0)?;
     add_word(page, b"given")?;
@@ -93,7 +94,13 @@ pub(crate) fn put_end(
     refusals: u32,
 ) -> Result<(), AllocError>
     ensures { OnOk result (page.new.items ≡ page.old.items
-        ++ line_text (codes "-") (end_of events (record { seals = seals; accepts = 0; refusals = refusals; frames = seals }))) }
+        ++ line_text (codes "-") (end_of events (record {
+          seals = seals;
+          accepts = 0;
+          refusals = refusals;
+          frames =
+              seals;
+        }))) }
 {
     put(page, b"end")?;
     add_number(page, events)?;
