@@ -1,10 +1,10 @@
 use Rattle.zb_ccm.proofs.chaining.chained_associated.Goals as goal
 use Rattle.std.proofs.Common.{rules}
 use Rattle.zb_aes.specs.Columns.{state_bytes}
-use Rattle.zb_ccm.proofs.Chains.{chain-counted_none, chain-counted_some}
+use Rattle.zb_ccm.proofs.Chains.{chain-with_length_none, chain-counted_some}
 
 pub returns-then-is_empty : goal.returns-then-is_empty
-returns-then-is_empty c = chain-counted_none c.args.cipher.now (state_bytes c.args.value) c.args.associated.now (search rules)
+returns-then-is_empty c = chain-with_length_none c.args.cipher.now (state_bytes c.args.value) c.args.associated.now (search rules)
 
 pub returns : goal.returns
 returns c =
