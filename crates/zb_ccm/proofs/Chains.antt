@@ -69,13 +69,13 @@ dropped a count e =
       | inr h ↦ let k : count ≡ 14 = omega arith in whole ∙ ap (λ j. drop j a) k
     ]
 
-pub chain-counted_some : (key value a block total first result : List ℕ) (count : ℕ) → 0 < length a
+pub chain-with_length_some : (key value a block total first result : List ℕ) (count : ℕ) → 0 < length a
     → block ≡ block_at (with_length a) 0 → total ≡ xored value block → first ≡ enciphered key total
     → count ≡ min (length a) 14
     → result ≡ chain key first (blocks_of (take (length a - count) (drop count a)))
     → result ≡ chain key value (blocks_of (with_length a))
-chain-counted_some key value [] block total first result count h p q r e s = absurd (omega arith)
-chain-counted_some key value (x ∷ xs) block total first result count h p q r e s =
+chain-with_length_some key value [] block total first result count h p q r e s = absurd (omega arith)
+chain-with_length_some key value (x ∷ xs) block total first result count h p q r e s =
     let rest : result ≡ chain key first (blocks_of (drop 14 (x ∷ xs))) =
     s ∙ ap (λ l. chain key first (blocks_of l)) (dropped (x ∷ xs) count e) in
     let blocks = blocks_of-more (with_length (x ∷ xs)) (omega arith) in
