@@ -1,18 +1,10 @@
-//! What no contract says: the layout on a disk that was made, faults at each device call, and bad input.
-use super::*;
-use arrayvec::ArrayVec;
+//! Stores: the layout on a disk that was made, stops and faults at each device call, and bad input.
+use crate::support::pattern;
 use std::alloc::Global;
 use std::process::Abort;
 use std::test::Fail;
 use zb_disk::{Disk, FileDisk, MemDisk, TrailDisk};
-
-fn pattern(bytes: &[u8]) -> ArrayVec<u8, 32> {
-    let mut torn = ArrayVec::new();
-    for byte in bytes {
-        let _ = torn.try_push(*byte);
-    }
-    torn
-}
+use zb_store::{Store, StoreFault};
 
 // A disk whose store has this record, and one entry.
 fn disk_with(
@@ -47,8 +39,8 @@ fn formats(rt: HostRuntime) -> Result<(), Fail> {
     Ok(())
 }
 
-// How a call ends: stopped after so many device calls, with these bytes in place of what was not synced, or failed at one
-// of them.
+// How a call ends: stopped after so many device calls, with these bytes in place of what was not synced, or failed at
+// one of them.
 #[derive(Clone, Copy)]
 enum Ending<'a> {
     Stop(u8, &'a [u8]),

@@ -1,19 +1,11 @@
-//! What no contract says: a value of each call as a person reckons it, and what a file holds.
+//! Disks: a value of each call as a person reckons it, faults and stops, and what a file holds.
 ghost use Rattle.std.specs.Prelude.{◌≤◌, length};
 
-use super::*;
-use arrayvec::ArrayVec;
+use crate::support::pattern;
 use std::process::Abort;
 use std::test::Fail;
 use zb_base::Failed;
-
-fn pattern(bytes: &[u8]) -> ArrayVec<u8, 32> {
-    let mut torn = ArrayVec::new();
-    for byte in bytes {
-        let _ = torn.try_push(*byte);
-    }
-    torn
-}
+use zb_disk::{Disk, FileDisk, MemDisk, TrailDisk};
 
 // Four bytes from a place on.
 fn four<D: Disk>(disk: &mut D, at: u64) -> Result<[u8; 4], Failed> {
