@@ -84,22 +84,6 @@ fn armings_count_from_their_own_call(rt: HostRuntime) -> Result<(), Fail> {
 }
 
 #[test]
-fn many_writes_are_synced_at_once(rt: HostRuntime) -> Result<(), Fail> {
-    let mut disk = MemDisk::new(rt.alloc(), &[])?;
-    for place in 0..3_000u64 {
-        assert_eq!(rt; disk.write(2 * place, &[1]), Ok(()));
-    }
-    assert_eq!(rt; disk.sync(), Ok(()));
-    disk.arm_stop(1, pattern(&[5]));
-    assert_eq!(rt; disk.write(10, &[1]), Ok(()));
-    assert_eq!(rt; disk.sync(), Err(Failed));
-    disk.power_on();
-    assert_eq!(rt; four(&mut disk, 8), Ok([1, 0, 5, 0]));
-    assert_eq!(rt; four(&mut disk, 5_996), Ok([1, 0, 1, 0]));
-    Ok(())
-}
-
-#[test]
 fn a_trail_has_its_room(rt: HostRuntime) -> Result<(), Fail> {
     let mut disk = TrailDisk::new(rt.alloc(), &[4], 3, 5)?;
     assert_eq!(rt; disk.write(0, &[1; 6]), Err(Failed));

@@ -3,6 +3,7 @@ use Rattle.std.proofs.Common.{ℕ, ◌≡◌, ◌≢◌, ◌≤◌, ◌++◌, Li
 use Rattle.zb_node_types.specs.declared.change.Change.{Change}
 use Rattle.zb_node_types.specs.Changes.{edits}
 use Rattle.zb_host.specs.declared.plan.Plan.{Plan}
+use Rattle.zb_store.specs.Sizes.{payload_room}
 use Rattle.zb_host.specs.Plans.{gives}
 use Rattle.zb_model.specs.Data.{Centre, Nwk}
 use Rattle.zb_model.specs.Record.{payload, record_of}
@@ -35,5 +36,5 @@ pub sealer_idle : (c d : Sealing) (e : SealerEvent) (p : Plan (Option ℕ)) → 
 sealer_idle c d e p plan after none =
     core_idle c.tables d.tables plan.storable.kept.forgets (subst (λ (l : List Change). IsStoredAfter l c.tables d.tables) none (stored c d p after))
 
-pub sealer_short : (c : Sealing) (e : SealerEvent) (p : Plan (Option ℕ)) → IsPlan c e p → length (payload (edits p.changes.items)) ≤ 481
+pub sealer_short : (c : Sealing) (e : SealerEvent) (p : Plan (Option ℕ)) → IsPlan c e p → length (payload (edits p.changes.items)) ≤ payload_room
 sealer_short c e p plan = plan.storable.short

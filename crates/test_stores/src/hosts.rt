@@ -1,7 +1,8 @@
-//! Crashes at each device call, and bad disks: what a boot then answers.
+//! Hosts: crashes at each device call, and bad disks: what a boot then answers.
 ghost use Rattle.std.specs.Prelude.{◌≤◌};
 ghost use Rattle.zb_base.specs.Config.{IsConfig};
 
+use crate::support::pattern;
 use crate::tally::{Tally, TallyEvent};
 use arrayvec::ArrayVec;
 use std::alloc::Global;
@@ -15,7 +16,7 @@ use zb_store::Store;
 // A network of one node, which reserves so many numbers at once.
 fn alone(block: u32) -> Config
     requires least { 1 ≤ block }
-    requires greatest_counter { block ≤ 65536 }
+    requires most { block ≤ 65536 }
     ensures { IsConfig result }
 {
     let mut peers = ArrayVec::new();
@@ -99,16 +100,10 @@ fn goes_on_after_a_crash_at_each_call(rt: HostRuntime) -> Result<(), Fail> {
 // A disk that was stopped after so many calls, the last of which was torn.
 fn stopped(rt: &(impl AllocGlobal + Abort), calls: u8, torn: u8) -> Result<MemDisk, Fail> {
     let mut disk = MemDisk::new(rt.alloc(), &[])?;
-    disk.arm_stop(calls, one(torn));
+    disk.arm_stop(calls, pattern(&[torn]));
     assert_eq!(rt; seal_on(rt, &mut disk)?, expected(calls, torn).0);
     disk.power_on();
     Ok(disk)
-}
-
-fn one(byte: u8) -> ArrayVec<u8, 32> {
-    let mut bytes = ArrayVec::new();
-    bytes.push(byte);
-    bytes
 }
 
 #[test]
@@ -129,7 +124,7 @@ fn goes_on_after_a_crash_of_a_boot(rt: HostRuntime) -> Result<(), Fail> {
         for torn in [0, 0xA5] {
             for stop in 0..4u8 {
                 let mut disk = stopped(&rt, calls, torn)?;
-                disk.arm_stop(stop, one(torn));
+                disk.arm_stop(stop, pattern(&[torn]));
                 let first: Result<Host<Tally>, HostFault> = Host::boot(
                     rt.alloc(),
                     &alone(1),

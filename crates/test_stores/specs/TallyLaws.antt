@@ -2,10 +2,11 @@
 use Rattle.std.proofs.Common.{ℕ, ◌+◌, ◌≤◌, ◌≡◌, ◌≢◌, ◌++◌, ◌==◌, List, [], ◌∷◌, length, get_or, Option, Some, None, Bool, true, false, if◌then◌else◌, refl, sym, ◌∙◌, ap, subst, arith, append-nil}
 use Rattle.zb_node_types.specs.declared.change.Change.{Change}
 use Rattle.zb_host.specs.declared.plan.Plan.{Plan}
+use Rattle.zb_store.specs.Sizes.{payload_room}
 use Rattle.zb_host.specs.Plans.{Restored, gives, bad}
-use Rattle.zb_host_rows.specs.declared.tally.Tally.{Tally}
-use Rattle.zb_host_rows.specs.declared.tally.TallyEvent.{TallyEvent}
-use Rattle.zb_host_rows.specs.Tallies.{IsPlan, IsAfter, number_of, entry, limit_after, spelled, recorded, fault_in, counted, restored_from, restored}
+use Rattle.test_stores.specs.declared.tally.Tally.{Tally}
+use Rattle.test_stores.specs.declared.tally.TallyEvent.{TallyEvent}
+use Rattle.test_stores.specs.Tallies.{IsPlan, IsAfter, number_of, entry, limit_after, spelled, recorded, fault_in, counted, restored_from, restored}
 
 abbrev IsGiven : Restored → Type 0
 IsGiven (gives w) = Unit {0}
@@ -48,9 +49,9 @@ tally_newest c = λ is. omega (arith, is)
 pub tally_idle : (c d : Tally) (e : TallyEvent) (p : Plan (Option ℕ)) → IsPlan c e p → IsAfter c p d → p.changes.items ≡ [] → recorded d ≡ recorded c
 tally_idle c d e p plan after none = ap recorded after ∙ ap (λ (l : List Change). spelled (limit_after c.limit l)) none
 
-pub entry_short : (changes : List Change) → length (entry changes) ≤ 481
+pub entry_short : (changes : List Change) → length (entry changes) ≤ payload_room
 entry_short [] = omega arith
 entry_short (change ∷ changes) = omega arith
 
-pub tally_short : (c : Tally) (e : TallyEvent) (p : Plan (Option ℕ)) → IsPlan c e p → length (entry p.changes.items) ≤ 481
+pub tally_short : (c : Tally) (e : TallyEvent) (p : Plan (Option ℕ)) → IsPlan c e p → length (entry p.changes.items) ≤ payload_room
 tally_short c e p plan = entry_short p.changes.items

@@ -2,25 +2,26 @@
 ghost use Rattle.std.specs.Prelude.{◌≡◌, ◌+◌, ◌≤◌, ◌==◌, ◌||◌, nat_lt, min, if◌then◌else◌, [], ◌∷◌, length, take, get_or, Some, None, MatchResult};
 ghost use Rattle.zb_base.specs.declared.label.Layer.TheVariants.{Nwk as nwk};
 ghost use Rattle.zb_node_types.specs.declared.change.Change.TheVariants.{Reserve as reserve};
+ghost use Rattle.zb_store.specs.Sizes.{payloads_room};
 ghost use Rattle.zb_host.specs.Plans.{gives, bad};
-ghost use Rattle.zb_host_rows.specs.Tallies.{IsPlan, IsAfter, planned, sealed, number_of, entry, recorded, fault_in, counted, restored, spelled};
-ghost use Rattle.zb_host_rows.specs.TallyLaws.{tally_adds, tally_keeps, tally_newest, tally_idle, tally_short};
+ghost use Rattle.test_stores.specs.Tallies.{IsPlan, IsAfter, planned, sealed, number_of, entry, recorded, fault_in, counted, restored, spelled};
+ghost use Rattle.test_stores.specs.TallyLaws.{tally_adds, tally_keeps, tally_newest, tally_idle, tally_short};
 
 use std::alloc::Global;
 use zb_base::{Config, Layer, OrMemory};
-use zb_node_types::{Change, Changes, KeyError};
 use zb_host::{Core, Plan};
+use zb_node_types::{Change, Changes, KeyError};
 
-/// What happens to a counting core.
+/// Says what happens to a counting core.
 #[derive(Clone, Copy, Debug, PartialEq, Eq)]
 pub enum TallyEvent {
-    /// Nothing.
+    /// Nothing happens.
     Rest,
     /// It seals.
     Seal,
 }
 
-/// A core that seals numbers, each once. They are reserved before they are used; 255 is never used.
+/// Seals with numbers, each once. They are reserved before they are used; 255 is never used.
 #[derive(Debug, Drop)]
 pub struct Tally {
     /// The next number.
@@ -128,7 +129,8 @@ impl Tally {
 
     // Reserves a block where the next number isn't reserved.
     fn reserve(&self) -> Changes
-        ensures { result.items ≡ (if nat_lt self.now.next self.now.limit then [] else reserve nwk (min (self.now.next + self.now.block) 255) ∷ []) }
+        ensures { result.items ≡ (if nat_lt self.now.next self.now.limit then []
+            else reserve nwk (min (self.now.next + self.now.block) 255) ∷ []) }
     {
         let mut changes = Changes::new();
         if self.next >= self.limit {
@@ -167,8 +169,9 @@ fn number(change: &Change) -> u8
 
 // The limit that a record and the entries behind it give, or the place of their first fault.
 fn read_limit(content: &[u8], entries: &[u8]) -> Result<u8, u32>
-    requires { length entries.now ≤ 15488 }
-    ensures { MatchResult result (λ limit. restored content.now entries.now ≡ gives (spelled limit)) (λ at. restored content.now entries.now ≡ bad at) }
+    requires { length entries.now ≤ payloads_room }
+    ensures { MatchResult result (λ limit. restored content.now entries.now ≡ gives (spelled limit))
+        (λ at. restored content.now entries.now ≡ bad at) }
 {
     match find_fault(content) {
         Some(at) => Err(at),
@@ -202,8 +205,9 @@ fn is_version(content: &[u8]) -> bool
 
 // What the entries make of a limit.
 fn count(limit: u8, entries: &[u8]) -> Result<u8, u32>
-    requires { length entries.now ≤ 15488 }
-    ensures { MatchResult result (λ reached. counted limit 3 entries.now ≡ gives (spelled reached)) (λ at. counted limit 3 entries.now ≡ bad at) }
+    requires { length entries.now ≤ payloads_room }
+    ensures { MatchResult result (λ reached. counted limit 3 entries.now ≡ gives (spelled reached))
+        (λ at. counted limit 3 entries.now ≡ bad at) }
 {
     let mut reached = limit;
     for i in 0..entries.len() / 2 {

@@ -2,7 +2,7 @@
 use Rattle.std.proofs.Common.{ℕ, ◌+◌, ◌*◌, ◌<◌, ◌≡◌, ◌==◌, List, ◌∷◌, length, get_or, drop, if◌then◌else◌, refl, sym, ◌∙◌, ap, subst, arith}
 use Rattle.std.proofs.lemmas.List.{drop_more, drop_all}
 use Rattle.zb_host.specs.Plans.{bad}
-use Rattle.zb_host_rows.specs.Tallies.{counted}
+use Rattle.test_stores.specs.Tallies.{counted}
 
 -- an entry is counted
 counted_one : (reached at kind number : ℕ) (entries : List ℕ) → kind ≡ 1 → counted reached at (kind ∷ number ∷ entries) ≡ counted number (at + 2) entries

@@ -1,6 +1,6 @@
 use Rattle.std.proofs.Common.{◌+◌, ◌*◌, ◌<◌, ◌≡◌, length, get_or, rules, sym, ◌∙◌, arith}
-use Rattle.zb_host_rows.proofs.Counting.{counted_step, counted_odd}
-use Rattle.zb_host_rows.proofs.tally.count.Goals as goal
+use Rattle.test_stores.proofs.Counting.{counted_step, counted_odd}
+use Rattle.test_stores.proofs.tally.count.Goals as goal
 
 pub loop-i-preserved : goal.loop-i-preserved
 loop-i-preserved c =

@@ -5,9 +5,9 @@ use Rattle.zb_node_types.specs.declared.change.Change.{Change}
 use Rattle.zb_node_types.specs.declared.change.Change.TheVariants.{Reserve}
 use Rattle.zb_host.specs.declared.plan.Plan.{Plan}
 use Rattle.zb_host.specs.Plans.{Restored, gives, bad}
-use Rattle.zb_host_rows.specs.declared.tally.Tally.{Tally}
-use Rattle.zb_host_rows.specs.declared.tally.TallyEvent.{TallyEvent}
-use Rattle.zb_host_rows.specs.declared.tally.TallyEvent.TheVariants.{Rest, Seal}
+use Rattle.test_stores.specs.declared.tally.Tally.{Tally}
+use Rattle.test_stores.specs.declared.tally.TallyEvent.{TallyEvent}
+use Rattle.test_stores.specs.declared.tally.TallyEvent.TheVariants.{Rest, Seal}
 
 -- the number with which an event seals: none once 255 is reached
 abbrev pub sealed : Tally → TallyEvent → Option ℕ
