@@ -17,16 +17,16 @@ use zb_host::{Core, Plan};
 use zb_node_types::{Change, Changes, KeyError};
 use zb_stored_tables::{StoredTables, change_bytes, hold_ranges};
 
-/// What happens to a sealing centre.
+/// Says what happens to a sealing centre.
 #[derive(Clone, Copy, Debug, PartialEq, Eq)]
 pub enum SealerEvent {
-    /// Nothing.
+    /// Nothing happens.
     Rest,
     /// It seals.
     Seal,
 }
 
-/// A centre that seals under its active network key, and does nothing else.
+/// Seals as a centre under its active network key, and does nothing else.
 #[derive(Debug, Drop)]
 pub struct Sealer {
     tables: StoredTables,
@@ -109,7 +109,7 @@ impl Core for Sealer {
 }
 
 impl Sealer {
-    /// The centre's tables.
+    /// Answers the centre's tables.
     pub fn tables(&self) -> &StoredTables
         ensures { result.now ≡ self.now.tables }
     {

@@ -13,11 +13,11 @@ use crate::Core;
 use zb_disk::Disk;
 use zb_store::stopped_commits;
 
-/// Says that over any list of calls, with crashes at any moment, each boot goes on from the boot before it.
+/// Says that over any list of calls and crashes each boot goes on from the boot before it.
 ///
-/// Crashes come inside calls and between them. Each boot answers the core of the record that the core of the boot
-/// before it had after the first of the events handled since, and these have every event whose output was handed out.
-/// Once a boot has answered, one that fails does so for the disk or for want of memory: no record is lost.
+/// Crashes come at any moment, inside calls and between them. Each boot answers the core of the record that the core of
+/// the boot before it had after the first of the events handled since, and these have every event whose output was
+/// handed out. Once a boot has answered, one that fails does so for the disk or for want of memory: no record is lost.
 ///
 /// The premises are what `handle` and `boot` promise of each call, in their clause `step`. At the beginning the disk's
 /// images are whole, as a store that was formatted leaves them.
