@@ -37,7 +37,8 @@ pub(crate) fn read_on<R: Source>(
     most: usize,
 ) -> Result<(), InputFault>
     requires { vec_len bytes.old ≤ most }
-    ensures read { IsReadOn result (R.rest input.old) (R.rest input.new) bytes.old.items bytes.new.items most (R.faults input.old) (R.faults input.new) }
+    ensures read { IsReadOn result (R.rest input.old) (R.rest input.new) bytes.old.items bytes.new.items most
+        (R.faults input.old) (R.faults input.new) }
     ensures few { TakesAtMost (R.rest input.old) (R.rest input.new) (most - length bytes.old.items) }
 {
     let mut buffer = [0; 16_384];

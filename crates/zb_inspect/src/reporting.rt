@@ -15,7 +15,8 @@ use std::alloc::{AllocError, Global};
 use std::thread::{Threads, map_vec};
 use zb_base::{Failed, NoMemory, Sink};
 use zb_capture::Capture;
-use zb_inspect_ring::{Gate, Piece, Ring, open_all};
+use zb_inspect_ring::{Piece, Ring, open_all};
+use zb_jobs::Gate;
 
 /// Writes the report on a capture, worked out by so many jobs. Nothing is written before the report is known.
 pub fn report<T: Threads + Sync, G: Gate, W: Sink>(
@@ -28,7 +29,8 @@ pub fn report<T: Threads + Sync, G: Gate, W: Sink>(
 ) -> Result<(), InspectFault>
     requires capture { IsCapture capture.now }
     requires jobs { 1 ≤ jobs }
-    ensures ends { Reports capture.now (W.taken out.old) (W.taken out.new) (W.faults out.old) (W.faults out.new) result }
+    ensures ends { Reports capture.now (W.taken out.old) (W.taken out.new) (W.faults out.old)
+        (W.faults out.new) result }
     ensures later { W.faults out.old ≤ W.faults out.new }
 {
     let opened = open_all(rt, alloc, capture, jobs, gate)?;

@@ -15,6 +15,7 @@ use Rattle.zb_inspect_ring.specs.declared.block.Seen.{Seen}
 use Rattle.zb_inspect_ring.specs.declared.block.Seen.TheVariants.{Nothing, Unopened, Lines, Sights}
 use Rattle.zb_inspect_ring.specs.declared.piece.Piece.{Piece}
 use Rattle.zb_inspect_ring.specs.declared.ring.Lead.{Lead}
+use Rattle.zb_jobs.specs.declared.share.Share.{Share}
 
 -- what pieces have, one after the other
 abbrev pub all_blocks : List Piece → List Block
@@ -91,6 +92,17 @@ is_nothing (Sights kept) = false
 
 abbrev pub IsUnseen : Block → Type 0
 IsUnseen block = is_nothing block.seen ≡ true
+
+-- the first item of a share is one of so many
+abbrev pub IsShareWithin : ℕ → Share → Type 0
+IsShareWithin items share = share.first < items
+
+-- a piece that has the frames of a share, which were not looked at yet
+pub record HasShare (share : Share) (piece : Piece) : Type 0 where
+  pub number : piece.number ≡ share.number
+  pub numbers : Numbered (share.first + 1) piece.blocks.items
+  pub count : count_of piece.blocks.items ≡ share.count
+  pub unseen : AllByRecursion IsUnseen piece.blocks.items
 
 -- the keys that a look at a block finds: those of frames of which the lines are kept were found before
 abbrev pub new_leads : List Lead → Seen → List Lead

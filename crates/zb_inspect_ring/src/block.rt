@@ -146,7 +146,8 @@ fn show_unopened(
     requires keys { length keys.now < 2 ^ 32 }
     requires frames { length frames.now ≤ 100000 }
     requires within { from + count ≤ length frames.now }
-    requires before { list_all unopened (sights_of addrs.now (take known keys.now) (take count (drop from frames.now))) ≡ true }
+    requires before { list_all unopened
+        (sights_of addrs.now (take known keys.now) (take count (drop from frames.now))) ≡ true }
     ensures { IfOk result (λ v. v.items ≡ sights_of addrs.now keys.now (take count (drop from frames.now))) }
 {
     let before = show_all(alloc, frames, addrs, &[], from, count)?;
@@ -166,7 +167,8 @@ fn show_again(
     requires keys { length keys.now < 2 ^ 32 }
     requires frames { length frames.now ≤ 100000 }
     requires within { from + vec_len seen ≤ length frames.now }
-    requires before { seen.items ≡ sights_of addrs.now (take known keys.now) (take (vec_len seen) (drop from frames.now)) }
+    requires before { seen.items ≡ sights_of addrs.now (take known keys.now)
+        (take (vec_len seen) (drop from frames.now)) }
     ensures { result.items ≡ sights_of addrs.now keys.now (take (vec_len seen) (drop from frames.now)) }
 {
     let mut seen = seen;
@@ -187,7 +189,8 @@ fn refresh_all(
     requires keys { length keys.now < 2 ^ 32 }
     requires frames { length frames.now ≤ 100000 }
     requires within { from + length seen.old ≤ length frames.now }
-    requires before { seen.old ≡ sights_of addrs.now (take known keys.now) (take (length seen.old) (drop from frames.now)) }
+    requires before { seen.old ≡ sights_of addrs.now (take known keys.now)
+        (take (length seen.old) (drop from frames.now)) }
     ensures { seen.new ≡ sights_of addrs.now keys.now (take (length seen.old) (drop from frames.now)) }
 {
     for i in 0..seen.len() {

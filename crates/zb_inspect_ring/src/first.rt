@@ -33,7 +33,8 @@ pub(crate) fn look_first(
     ensures numbers { IfOk result (λ v. Numbered first v.items) }
     ensures count { IfOk result (λ v. count_of v.items ≡ count) }
     ensures shown { IfOk result (λ v. AllShown frames.now addrs.now keys.now v.items) }
-    ensures leads { OnOk result (leads.new.items ≡ leads.old.items ++ leads_in first (sights addrs.now keys.now (frames_from frames.now first count))) }
+    ensures leads { OnOk result (leads.new.items ≡ leads.old.items ++ leads_in first
+        (sights addrs.now keys.now (frames_from frames.now first count))) }
 {
     let mut blocks = Vec::new(alloc);
     let mut done: u32 = 0;

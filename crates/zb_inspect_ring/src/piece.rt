@@ -69,7 +69,8 @@ fn look_new(
     ensures numbers { IfOk result (λ p. Numbered first p.blocks.items) }
     ensures count { IfOk result (λ p. count_of p.blocks.items ≡ count) }
     ensures shown { IfOk result (λ p. AllShown frames.now addrs.now keys.now p.blocks.items) }
-    ensures leads { IfOk result (λ p. p.leads.items ≡ leads_in first (sights addrs.now keys.now (frames_from frames.now first count))) }
+    ensures leads { IfOk result (λ p. p.leads.items ≡ leads_in first
+        (sights addrs.now keys.now (frames_from frames.now first count))) }
 {
     let mut leads = Vec::new(alloc);
     let blocks = look_first(alloc, frames, addrs, keys, first, count, &mut leads)?;
@@ -156,7 +157,8 @@ fn look_at_all(
     requires within { AllByRecursion (IsWithin (length frames.now)) blocks.old }
     requires before { AllSee frames.now addrs.now (take known keys.now) blocks.old }
     ensures next { OnOk result (AllZip (IsNext frames.now addrs.now keys.now) blocks.old blocks.new) }
-    ensures leads { OnOk result (leads.new.items ≡ leads.old.items ++ all_fresh frames.now addrs.now keys.now blocks.old) }
+    ensures leads { OnOk result (leads.new.items ≡ leads.old.items
+        ++ all_fresh frames.now addrs.now keys.now blocks.old) }
 {
     for i in 0..blocks.len() {
         look_at(alloc, frames, addrs, keys, known, &mut blocks[i], leads)?;

@@ -51,7 +51,8 @@ impl Model for KeyRing {
 
     ghost view = { λ r. r.keys.items };
 
-    ghost invariant = { λ r. (r.ciphers.items ≡ keys_of r.keys.items) × ((key : Key) → is_known r.known key ≡ has_key r.keys.items key) };
+    ghost invariant = { λ r. (r.ciphers.items ≡ keys_of r.keys.items) ×
+        ((key : Key) → is_known r.known key ≡ has_key r.keys.items key) };
 }
 
 impl KeyRing {

@@ -7,14 +7,17 @@ ghost use Rattle.zb_inspect_ring.specs.Rings.{keys_of, learnt, ring_of, IsRing};
 ghost use Rattle.zb_capture.specs.Grammar.{IsCapture};
 
 use crate::cut::cut;
-use crate::gate::Gate;
-use crate::idle::IdleThread;
 use crate::piece::{Piece, look};
 use crate::ring::{KeyRing, Ring, given_ring, learn};
 use std::alloc::Global;
 use std::thread::{Threads, map_vec};
 use zb_base::NoMemory;
 use zb_capture::{Capture, Frames};
+<<<<<<< HEAD
+=======
+use zb_jobs::{Gate, IdleThread};
+use zb_seal::Ciphers;
+>>>>>>> cfc3f18 (zb_jobs: gates, idle threads and shares of work; zb_capture and zb_pcap without tests of their own)
 use zb_inspect_frame::Addresses;
 use zb_seal::Ciphers;
 
@@ -44,9 +47,11 @@ pub fn open_all<T: Threads + Sync, G: Gate>(
     // At most all that may be given, and three for each frame.
     ensures few { IfOk result (λ o. length o.ring.keys ≤ 300256) }
     ensures pieces { IfOk result (λ o. IsCut capture.now o.pieces.items) }
-    ensures sized { IfOk result (λ o. AreSized (div_ceil (length capture.now.frames) jobs) 0 (length capture.now.frames) o.pieces.items) }
+    ensures sized { IfOk result (λ o. AreSized (div_ceil (length capture.now.frames) jobs) 0
+        (length capture.now.frames) o.pieces.items) }
     ensures few_pieces { IfOk result (λ o. length o.pieces.items ≤ jobs) }
-    ensures shown { IfOk result (λ o. AllShown capture.now.frames capture.now.addrs (keys_of o.ring.keys) (all_blocks o.pieces.items)) }
+    ensures shown { IfOk result (λ o. AllShown capture.now.frames capture.now.addrs (keys_of o.ring.keys)
+        (all_blocks o.pieces.items)) }
 {
     let frames = &capture.frames;
     let addrs = Addresses::new(alloc, capture.addrs.as_slice())?;
@@ -96,7 +101,8 @@ fn look_at_all<T: Threads + Sync, G: Gate>(
     requires keys { length keys.now < 2 ^ 32 }
     requires frames { length frames.now ≤ 100000 }
     requires within { AllByRecursion (λ p. AllByRecursion (IsWithin (length frames.now)) p.blocks.items) pieces.items }
-    requires before { AllByRecursion (λ p. AllSee frames.now addrs.now (take known keys.now) p.blocks.items) pieces.items }
+    requires before { AllByRecursion (λ p. AllSee frames.now addrs.now (take known keys.now) p.blocks.items)
+        pieces.items }
     ensures { IfOk result (λ v. AllZip (IsNextPiece frames.now addrs.now keys.now) pieces.items v.items) }
 {
     let idle = IdleThread::start(rt, pieces.len());
@@ -104,7 +110,9 @@ fn look_at_all<T: Threads + Sync, G: Gate>(
         rt,
         pieces,
         &|piece: Piece| -> Result<Piece, NoMemory>
-            requires { (known ≤ length keys.now) × (length keys.now < 2 ^ 32) × (length frames.now ≤ 100000) × AllByRecursion (IsWithin (length frames.now)) piece.blocks.items × AllSee frames.now addrs.now (take known keys.now) piece.blocks.items }
+            requires { (known ≤ length keys.now) × (length keys.now < 2 ^ 32) × (length frames.now ≤ 100000)
+                × AllByRecursion (IsWithin (length frames.now)) piece.blocks.items × AllSee frames.now addrs.now
+                (take known keys.now) piece.blocks.items }
             ensures { IfOk result (λ p. IsNextPiece frames.entry.now addrs.entry.now keys.entry.now piece p) }
         {
             gate.pass(piece.number);

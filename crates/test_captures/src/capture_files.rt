@@ -1,12 +1,12 @@
-//! Published check sequences, worked packets, and bad files at each of their faults.
+//! Published check sequences, worked packets, and capture files, among them bad ones at each of their faults.
 
-use crate::{Counts, Mac, PcapCause, PcapError, classify, extract, fcs};
 use std::alloc::Global;
 use std::test::Fail;
 use zb_base::{NoMemory, OrMemory};
+use zb_pcap::{Counts, Mac, PcapCause, PcapError, classify, extract, fcs};
 
-/// A file of one packet, little end first with times in microseconds, and one of the same packet, big end first with times in
-/// nanoseconds and bits above the link type.
+/// A file of one packet, little end first with times in microseconds, and one of the same packet, big end first with
+/// times in nanoseconds and bits above the link type.
 const FILES: [[u8; 85]; 2] = [
     [
         0xd4, 0xc3, 0xb2, 0xa1, 0x02, 0x00, 0x04, 0x00, 0x00, 0x00, 0x00, 0x00, 0x00, 0x00, 0x00,
@@ -100,7 +100,7 @@ fn packets_are_told_apart(rt: HostRuntime) {
     }
 }
 
-/// The counts of a file's packets, or what is wrong with it.
+/// Counts the packets of a file, or answers what is wrong with it.
 fn counted(alloc: Global, file: &[u8]) -> Option<Result<Counts, PcapError>> {
     match extract(alloc, file, &[]) {
         Ok(found) => Some(Ok(found.counts)),
@@ -109,38 +109,25 @@ fn counted(alloc: Global, file: &[u8]) -> Option<Result<Counts, PcapError>> {
     }
 }
 
-/// Whether each frame of a file has these bytes, and there is one.
-fn gives_frames(alloc: Global, file: &[u8], bytes: &[u8]) -> bool {
-    let Ok(found) = extract(alloc, file, &[]) else {
-        return false;
-    };
-    let frames = &found.capture.frames;
-    for place in 0..frames.len() {
-        if frames.from(place).at(0).as_slice() != bytes {
-            return false;
+/// Whether a file has one frame, of these bytes.
+fn has_one_frame(alloc: Global, file: &[u8], bytes: &[u8]) -> bool {
+    match extract(alloc, file, &[]) {
+        Ok(found) => {
+            let frames = &found.capture.frames;
+            frames.len() == 1 && frames.from(0).at(0).as_slice() == bytes
         }
+        Err(_) => false,
     }
-    frames.len() > 0
 }
 
 #[test]
-fn both_orders_give_the_same_frame(rt: HostRuntime) -> Result<(), Fail> {
+fn both_orders_give_the_same_frame(rt: HostRuntime) {
     for file in FILES {
-        let found = extract(rt.alloc(), &file, &[]).ok().ok_or("no capture")?;
-        assert!(rt; gives_frames(rt.alloc(), &file, &PACKET[9..]));
-        assert_eq!(rt;
-            found.counts,
-            Counts {
-                packets: 1,
-                bad_check: 0,
-                other: 0
-            }
-        );
+        assert!(rt; has_one_frame(rt.alloc(), &file, &PACKET[9..]));
     }
-    Ok(())
 }
 
-/// A file with the bytes of another, of which that at a place is this one.
+/// Changes a byte of a file.
 fn with_byte(file: &[u8; 85], place: usize, byte: u8) -> [u8; 85] {
     let mut changed = *file;
     if place < changed.len() {
@@ -149,80 +136,48 @@ fn with_byte(file: &[u8; 85], place: usize, byte: u8) -> [u8; 85] {
     changed
 }
 
-#[test]
-fn bad_files_are_refused_at_their_first_fault(rt: HostRuntime) {
-    // how many bytes of the file, a place and the byte that stands there, the number of the record, and the cause
-    let files: [(usize, usize, u8, u32, PcapCause); 13] = [
-        (0, 0, 0xd4, 0, PcapCause::Magic),
-        (1, 0, 0xd4, 0, PcapCause::Magic),
-        (4, 0, 0xd4, 0, PcapCause::Magic),
-        (23, 0, 0xd4, 0, PcapCause::Magic),
-        (85, 0, 0xd3, 0, PcapCause::Magic),
-        (85, 4, 3, 0, PcapCause::Version),
-        (85, 6, 3, 0, PcapCause::Version),
-        (85, 7, 1, 0, PcapCause::Version),
-        (85, 20, 229, 0, PcapCause::Link),
-        (85, 21, 1, 0, PcapCause::Link),
-        (25, 0, 0xd4, 1, PcapCause::Cut),
-        (39, 0, 0xd4, 1, PcapCause::Cut),
-        (84, 0, 0xd4, 1, PcapCause::Cut),
-    ];
-    for (len, place, byte, record, cause) in files {
-        let file = with_byte(&FILES[0], place, byte);
-        let front = &file[..len.min(85)];
-        assert_eq!(rt;
-            counted(rt.alloc(), front),
-            Some(Err(PcapError {
-                place: record,
-                cause
-            }))
-        );
-    }
+const fn fault(place: u32, cause: PcapCause) -> Result<Counts, PcapError> {
+    Err(PcapError { place, cause })
+}
+
+const fn counts(packets: u32, bad_check: u32, other: u32) -> Result<Counts, PcapError> {
+    Ok(Counts {
+        packets,
+        bad_check,
+        other,
+    })
 }
 
 #[test]
-fn other_files_have_their_counts(rt: HostRuntime) {
-    // the same: no record, a packet that was cut, and one whose check sequence is wrong
-    let files: [(usize, usize, u8, Counts); 3] = [
-        (
-            24,
-            0,
-            0xd4,
-            Counts {
-                packets: 0,
-                bad_check: 0,
-                other: 0,
-            },
-        ),
-        (
-            85,
-            36,
-            0x2e,
-            Counts {
-                packets: 1,
-                bad_check: 0,
-                other: 1,
-            },
-        ),
-        (
-            85,
-            20,
-            195,
-            Counts {
-                packets: 1,
-                bad_check: 1,
-                other: 0,
-            },
-        ),
+fn files_have_their_counts_or_their_first_fault(rt: HostRuntime) {
+    // how many bytes of the file, a place and the byte that stands there, and the answer
+    let files: [(usize, usize, u8, Result<Counts, PcapError>); 17] = [
+        (0, 0, 0xd4, fault(0, PcapCause::Magic)),
+        (1, 0, 0xd4, fault(0, PcapCause::Magic)),
+        (4, 0, 0xd4, fault(0, PcapCause::Magic)),
+        (23, 0, 0xd4, fault(0, PcapCause::Magic)),
+        (85, 0, 0xd3, fault(0, PcapCause::Magic)),
+        (85, 4, 3, fault(0, PcapCause::Version)),
+        (85, 6, 3, fault(0, PcapCause::Version)),
+        (85, 7, 1, fault(0, PcapCause::Version)),
+        (85, 20, 229, fault(0, PcapCause::Link)),
+        (85, 21, 1, fault(0, PcapCause::Link)),
+        (25, 0, 0xd4, fault(1, PcapCause::Cut)),
+        (39, 0, 0xd4, fault(1, PcapCause::Cut)),
+        (84, 0, 0xd4, fault(1, PcapCause::Cut)),
+        // one packet, no record, a packet that was cut, and one whose check sequence is wrong
+        (85, 0, 0xd4, counts(1, 0, 0)),
+        (24, 0, 0xd4, counts(0, 0, 0)),
+        (85, 36, 0x2e, counts(1, 0, 1)),
+        (85, 20, 195, counts(1, 1, 0)),
     ];
-    for (len, place, byte, counts) in files {
+    for (len, place, byte, answer) in files {
         let file = with_byte(&FILES[0], place, byte);
-        let front = &file[..len.min(85)];
-        assert_eq!(rt; counted(rt.alloc(), front), Some(Ok(counts)));
+        assert_eq!(rt; counted(rt.alloc(), &file[..len.min(85)]), Some(answer));
     }
 }
 
-/// A file with so many records of empty packets.
+/// Writes a file with so many records of empty packets.
 fn with_records(alloc: Global, records: u32) -> Result<Vec<u8>, NoMemory> {
     let mut file = Vec::from_slice(alloc, &FILES[0][..24])?;
     for _number in 0..records {
@@ -233,40 +188,12 @@ fn with_records(alloc: Global, records: u32) -> Result<Vec<u8>, NoMemory> {
 
 #[test]
 fn a_file_has_at_most_100_000_records(rt: HostRuntime) -> Result<(), Fail> {
+    // how many records, how many bytes behind them, and the answer
     let files: [(u32, usize, Result<Counts, PcapError>); 4] = [
-        (
-            100_000,
-            0,
-            Ok(Counts {
-                packets: 100_000,
-                bad_check: 0,
-                other: 100_000,
-            }),
-        ),
-        (
-            100_000,
-            1,
-            Err(PcapError {
-                place: 100_001,
-                cause: PcapCause::Cut,
-            }),
-        ),
-        (
-            100_001,
-            0,
-            Err(PcapError {
-                place: 100_001,
-                cause: PcapCause::TooMany,
-            }),
-        ),
-        (
-            100_001,
-            1,
-            Err(PcapError {
-                place: 100_001,
-                cause: PcapCause::TooMany,
-            }),
-        ),
+        (100_000, 0, counts(100_000, 0, 100_000)),
+        (100_000, 1, fault(100_001, PcapCause::Cut)),
+        (100_001, 0, fault(100_001, PcapCause::TooMany)),
+        (100_001, 1, fault(100_001, PcapCause::TooMany)),
     ];
     for (records, more, answer) in files {
         let mut file = with_records(rt.alloc(), records)?;

@@ -1,24 +1,22 @@
-//! Bad captures, each with its first bad line and the first cause of that, captures at their limits, and captures that
-//! are read in pieces and in parts.
+//! Bad captures, each with its first bad line and the first cause of that; captures at their limits; captures that
+//! several jobs read, and that come in parts.
 ghost use Rattle.std.specs.Prelude.{◌≤◌, length, IfOk};
 ghost use Rattle.zb_capture.specs.Grammar.{IsCapture};
 
-use crate::{
-    Capture, CaptureCause, CaptureError, CaptureReader, read_capture, read_in_pieces, whole_lines,
-};
 use std::alloc::Global;
 use std::test::Fail;
 use std::thread::Threads;
 use zb_base::OrMemory;
+use zb_capture::{
+    Capture, CaptureCause, CaptureError, CaptureReader, read_capture, read_in_pieces, whole_lines,
+};
 
-/// Why a text of at most 2,000,000 bytes is no capture; None where it is one.
-fn refusal(alloc: Global, text: &[u8]) -> Option<CaptureError> {
-    if text.len() > 2_000_000 {
-        return None;
-    }
-    match read_capture(alloc, text) {
-        Err(OrMemory::Fault(fault)) => Some(fault),
-        _ => None,
+/// Answers why a text of at most 2,000,000 bytes is no capture; None where it is one.
+fn refusal(alloc: Global, text: &[u8]) -> Result<Option<CaptureError>, Fail> {
+    match read_capture(alloc, &text[..text.len().min(2_000_000)]) {
+        Ok(_) => Ok(None),
+        Err(OrMemory::Fault(fault)) => Ok(Some(fault)),
+        Err(OrMemory::NoMemory) => Err(Fail::from("no memory")),
     }
 }
 
@@ -71,15 +69,13 @@ fn bad_lines_are_refused_with_their_first_cause(rt: HostRuntime) -> Result<(), F
         (b"boom\ncode 00\n", 1, CaptureCause::Syntax),
     ];
     for (input, line, cause) in inputs {
-        assert_eq!(rt;
-            refusal(rt.alloc(), input),
-            Some(CaptureError { line, cause })
-        );
+        let refused = Some(CaptureError { line, cause });
+        assert_eq!(rt; refusal(rt.alloc(), input)?, refused);
     }
     Ok(())
 }
 
-/// A front, and behind it a piece, so many times.
+/// Writes a front, and behind it a piece so many times.
 fn repeated(alloc: Global, front: &[u8], piece: &[u8], count: u32) -> Result<Vec<u8>, Fail> {
     let mut text = Vec::from_slice(alloc, front)?;
     for _number in 0..count {
@@ -119,51 +115,12 @@ fn captures_at_their_limits(rt: HostRuntime) -> Result<(), Fail> {
     for (front, piece, count, bad) in inputs {
         let text = repeated(rt.alloc(), front, piece, count)?;
         let refused = bad.map(|(line, cause)| CaptureError { line, cause });
-        assert_eq!(rt; refusal(rt.alloc(), text.as_slice()), refused);
+        assert_eq!(rt; refusal(rt.alloc(), text.as_slice())?, refused);
     }
     Ok(())
 }
 
-/// What was read, with the frames of all runs in one list.
-fn shown(alloc: Global, read: Result<Capture, OrMemory<CaptureError>>) -> Result<String, Fail>
-    requires { IfOk read (λ c. IsCapture c) }
-{
-    match read {
-        Ok(capture) => {
-            let frames = frames_of(alloc, &capture)?;
-            let keys = capture.keys;
-            let addrs = capture.addrs;
-            Ok(format!(in alloc; "{keys:?} {addrs:?} {frames:?}")?)
-        }
-        Err(fault) => Ok(format!(in alloc; "{fault:?}")?),
-    }
-}
-
-fn frames_of(alloc: Global, capture: &Capture) -> Result<Vec<Vec<u8>>, Fail>
-    requires { IsCapture capture.now }
-{
-    let mut frames = Vec::new(alloc);
-    for place in 0..capture.frames.len() {
-        let frame = capture.frames.from(place).at(0);
-        frames.push(Vec::from_slice(alloc, frame.as_slice())?)?;
-    }
-    Ok(frames)
-}
-
-/// Whether a text of at most 65,536 bytes is read by each number of jobs as by one, as a whole and in parts.
-fn reads_alike<H: AllocGlobal + Threads + Sync>(rt: &H, text: &[u8]) -> Result<bool, Fail> {
-    let text = &text[..text.len().min(65_536)];
-    let expected = shown(rt.alloc(), read_capture(rt.alloc(), text))?;
-    let mut alike = true;
-    for jobs in [1, 2, 3, 64] {
-        let whole = shown(rt.alloc(), read_in_pieces(rt, rt.alloc(), jobs, text))?;
-        let parts = shown(rt.alloc(), read_in_parts(rt, jobs, text))?;
-        alike = alike && whole == expected && parts == expected;
-    }
-    Ok(alike)
-}
-
-/// Reads a text in two parts, of which the first has the whole lines of its first half.
+/// Reads a text of at most 65,536 bytes by so many jobs in two parts: the whole lines of its first half, and the rest.
 fn read_in_parts<H: AllocGlobal + Threads + Sync>(
     rt: &H,
     jobs: u32,
@@ -179,34 +136,68 @@ fn read_in_parts<H: AllocGlobal + Threads + Sync>(
     Ok(reader.into_capture())
 }
 
+/// Counts the keys, the addresses and the frames of a capture.
+fn counted(
+    read: Result<Capture, OrMemory<CaptureError>>,
+) -> Option<Result<(usize, usize, usize), CaptureError>>
+    requires { IfOk read (λ c. IsCapture c) }
+{
+    match read {
+        Ok(capture) => Some(Ok((
+            capture.keys.as_slice().len(),
+            capture.addrs.as_slice().len(),
+            capture.frames.len(),
+        ))),
+        Err(OrMemory::Fault(fault)) => Some(Err(fault)),
+        Err(OrMemory::NoMemory) => None,
+    }
+}
+
 #[test]
-fn pieces_read_as_the_whole(rt: HostRuntime) -> Result<(), Fail> {
-    // a front, and what stands behind it and how often
-    let inputs: [(&[u8], &[u8], u32); 12] = [
+fn several_jobs_read_a_capture_whole_and_in_parts(rt: HostRuntime) -> Result<(), Fail> {
+    // a front, what stands behind it and how often, and the counts of the keys, addresses and frames, or the bad line
+    let inputs: [(
+        &[u8],
+        &[u8],
+        u32,
+        Result<(usize, usize, usize), (u32, CaptureCause)>,
+    ); 6] = [
+        (b"", b"\n", 5, Ok((0, 0, 0))),
         (
-            b"# of a network\r\nkey 000102030405060708090A0B0C0D0E0F\r\n\naddr 1A2B 00124B0000000001\nframe 08\nframe 0802\r\ncode 83FED3407A939723A5C639B26916D505C3B5\naddr 1A2C 00124B0000000002\nframe 080203",
-            b"",
-            0,
+            b"# of a network\r\nkey 000102030405060708090A0B0C0D0E0F\r\n\naddr 1A2B 00124B0000000001\nframe 08\n",
+            b"frame 0802\n",
+            999,
+            Ok((1, 1, 1000)),
         ),
-        (b"", b"", 0),
-        (b"", b"\n", 5),
-        (b"frame 08", b"", 0),
-        (b"boom\n", b"frame 08\n", 9),
-        (b"frame 08\nframe\nframe 0802\n", b"", 0),
-        (b"frame 08\nframe 0802\nframe 0", b"", 0),
-        (b"frame 08\n", b"boom\ncode 00\n", 9),
+        (b"boom\n", b"frame 08\n", 9, Err((1, CaptureCause::Syntax))),
+        (
+            b"frame 08\n",
+            b"boom\ncode 00\n",
+            9,
+            Err((2, CaptureCause::Syntax)),
+        ),
         (
             b"addr 1A2B 00124B0000000001\nframe 08\n",
             b"addr 1A2B 00124B0000000002\n",
             1,
+            Err((3, CaptureCause::AddressTaken)),
         ),
-        (b"", b"key 000102030405060708090A0B0C0D0E0F\n", 256),
-        (b"", b"key 000102030405060708090A0B0C0D0E0F\n", 257),
-        (b"frame 0802\n", b"frame 08\n", 999),
+        (
+            b"",
+            b"key 000102030405060708090A0B0C0D0E0F\n",
+            257,
+            Err((257, CaptureCause::TooMany)),
+        ),
     ];
-    for (front, piece, count) in inputs {
+    for (front, piece, count, wanted) in inputs {
         let text = repeated(rt.alloc(), front, piece, count)?;
-        assert!(rt; reads_alike(&rt, text.as_slice())?);
+        let text = &text.as_slice()[..text.len().min(65_536)];
+        let wanted = Some(wanted.map_err(|(line, cause)| CaptureError { line, cause }));
+        for jobs in [1, 2, 64] {
+            let whole = counted(read_in_pieces(&rt, rt.alloc(), jobs, text));
+            let parts = counted(read_in_parts(&rt, jobs, text));
+            assert!(rt; whole == wanted && parts == wanted);
+        }
     }
     Ok(())
 }
