@@ -144,8 +144,10 @@ fn read_by_several<T: Threads + Sync, R: Source>(
     Ok(reader.into_capture())
 }
 
-/// A round of two jobs or more: while all but one of them read the whole lines of what came, that one takes in what comes
-/// next and reads its whole lines. What stands behind these is left.
+/// Does a round of two jobs or more. What stands behind the whole lines is left.
+///
+/// While all but one of the jobs read the whole lines of what came, that one takes in what comes next and reads its whole
+/// lines.
 fn read_round<T: Threads + Sync, R: Source>(
     rt: &T,
     alloc: Global,

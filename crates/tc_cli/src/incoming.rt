@@ -126,7 +126,7 @@ impl Incoming {
         })
     }
 
-    /// Why the input is no capture, of which lines have a fault: nothing is said of them before the input is at its end.
+    /// Says why the input is no capture, of which lines have a fault. Nothing is said of them before its end.
     pub fn refuse<R: Source>(
         &mut self,
         input: &mut R,

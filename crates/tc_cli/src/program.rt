@@ -59,7 +59,7 @@ pub(crate) fn run<T: Threads + Sync, R: Source, W: Sink>(
     ensures front { (job : Task) → task_of (map string_bytes words.now) ≡ Some job
         → IfSome (wanted job (R.rest input.old))
         (λ answer. WritesFront result answer (W.taken output.old) (W.taken output.new)) }
-    // Where neither the source nor the sink fails, no other status comes than that of the answer, but for want of memory.
+    // Where neither the source nor the sink fails, only the status of the answer comes, or want of memory.
     ensures complete { (job : Task) (answer : Answer) → task_of (map string_bytes words.now) ≡ Some job → wanted job
         (R.rest input.old) ≡ Some answer
         → (Rose (R.faults input.old) (R.faults input.new) → ⊥) → (Rose (W.faults output.old) (W.faults output.new) → ⊥)

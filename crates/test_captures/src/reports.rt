@@ -89,8 +89,8 @@ fn worked_captures_have_their_reports(rt: HostRuntime) -> Result<(), Fail> {
               4 aps no-source\n5 nwk not-secured\n5 aps key 1 data 00124B0000000001 9 06\n6 nwk not-secured\n\
               6 aps malformed\nkey 1 000102030405060708090A0B0C0D0E0F given\nend 6 1 1\n",
         ),
-        // a Tunnel in clear, whose inner frame opens, has another code, is too short, malformed in two ways, not secured,
-        // or without a source
+        // a Tunnel in clear, whose inner frame opens, has another code, is too short, is malformed in two ways, is not
+        // secured, or is without a source
         (
             b"key 000102030405060708090A0B0C0D0E0F\n\
               frame 0800FFFF00001E0001000E02000000004B12002100200B00000001000000004B12009A87362A9AC4\n\

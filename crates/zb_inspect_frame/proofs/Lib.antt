@@ -1,5 +1,5 @@
 pub mod Trying
 pub mod MoreKeys
-pub mod SettledSights
+pub mod SettledFrames
 pub mod Noted
-pub mod UnopenedSights
+pub mod UnopenedFrames

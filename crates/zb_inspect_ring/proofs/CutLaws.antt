@@ -31,14 +31,7 @@ all_within items size number first left (s ∷ shares) cut room = (
   all_within items size (number + 1) (first + min size left) (left - min size left) shares cut.4 (omega (arith, room)),
 )
 
-<<<<<<< HEAD
--- some frames are given to each job
-pub some_size : (n size jobs : ℕ) → n ≤ size * jobs → 0 < n → 0 < size
-some_size n zero jobs greatest_counter some = absurd (omega arith)
-some_size n (suc size) jobs greatest_counter some = omega arith
-=======
 -- the pieces have all frames, in their order
->>>>>>> cfc3f18 (zb_jobs: gates, idle threads and shares of work; zb_capture and zb_pcap without tests of their own)
 
 pub cut_numbers : (size number first left : ℕ) (shares : List Share) (pieces : List Piece) → AreShares size number first left shares
     → AllZip HasShare shares pieces → Numbered (first + 1) (all_blocks pieces)
@@ -91,19 +84,11 @@ cut_lengths (s ∷ shares) [] all = absurd all
 cut_lengths (s ∷ shares) (p ∷ pieces) all = ap suc (cut_lengths shares pieces all.1)
 
 -- there are no more pieces than jobs
-<<<<<<< HEAD
-pub few_pieces : (size number left jobs : ℕ) (pieces : List Piece) → AreSized size number left pieces → left ≤ size * jobs → length pieces ≤ jobs
-few_pieces size number left jobs [] sized greatest_counter = omega arith
-few_pieces size number left zero (p ∷ more) sized greatest_counter = absurd (omega (arith, greatest_counter, sized.1))
-few_pieces size number left (suc jobs) (p ∷ more) sized greatest_counter =
-    omega (arith, few_pieces size (number + 1) (left - min size left) jobs more sized.3 (omega (arith, greatest_counter)))
-=======
 few_pieces : (size number left jobs : ℕ) (pieces : List Piece) → AreSized size number left pieces → left ≤ size * jobs → length pieces ≤ jobs
 few_pieces size number left jobs [] sized most = omega arith
 few_pieces size number left zero (p ∷ more) sized most = absurd (omega (arith, most, sized.1))
 few_pieces size number left (suc jobs) (p ∷ more) sized most =
     omega (arith, few_pieces size (number + 1) (left - min size left) jobs more sized.3 (omega (arith, most)))
->>>>>>> cfc3f18 (zb_jobs: gates, idle threads and shares of work; zb_capture and zb_pcap without tests of their own)
 
 -- the same of so many frames as there are
 pub sized_as : (frames jobs all : ℕ) (pieces : List Piece) → all ≡ frames → AreSized (div_ceil all jobs) 0 all pieces → AreSized (div_ceil frames jobs) 0 frames pieces

@@ -1,8 +1,8 @@
 //! The work of one job: consecutive blocks of frames.
 ghost use Rattle.std.specs.Prelude.{◌≡◌, ◌+◌, ◌≤◌, ◌<◌, ◌^◌, ◌++◌, ◌∷◌, [], length, take, IfOk, IfSome, OnOk};
 ghost use Rattle.std.specs.List.{AllByRecursion, AllZip};
-ghost use Rattle.zb_inspect_ring.specs.Pieces.{AllSee, AllShown, IsNext, IsNextPiece, IsOneUnseen, IsWithin, Numbered, all_fresh, count_of, frames_from};
-ghost use Rattle.zb_inspect_ring.specs.Rings.{leads as leads_in, sights};
+ghost use Rattle.zb_inspect_ring.specs.Pieces.{AllSee, AreShown, IsNext, IsNextPiece, IsOneUnseen, IsWithin, Numbered, all_fresh, count_of, frames_from};
+ghost use Rattle.zb_inspect_ring.specs.Rings.{leads as leads_in, frames_shown};
 
 use crate::block::{Block, Seen, look_at};
 use crate::first::look_first;
@@ -13,17 +13,20 @@ use zb_capture::Frames;
 use zb_inspect_frame::Addresses;
 use zb_seal::Ciphers;
 
-/// Consecutive blocks of the frames of a capture: the work of one job.
+/// Is the work of one job: consecutive blocks of the frames of a capture.
 #[derive(Drop)]
 pub struct Piece {
     /// The number of the piece, from 0.
     pub number: u32,
+    /// The blocks, in the order of their frames.
     pub blocks: Vec<Block>,
     /// The keys that the last look at the frames found.
     pub leads: Vec<Lead>,
 }
 
-/// Looks at a piece of the frames of a capture under all keys, where it may have been looked at under the first `known`.
+/// Looks at a piece of the frames of a capture under all keys.
+///
+/// It may have been looked at under the first `known` keys.
 pub(crate) fn look(
     alloc: Global,
     frames: &Frames,
@@ -51,7 +54,7 @@ pub(crate) fn look(
     }
 }
 
-/// The piece of so many frames, the first of which has the number `first`, looked at for the first time.
+/// Looks for the first time at so many frames, the first of which has the number `first`.
 fn look_new(
     alloc: Global,
     frames: &Frames,
@@ -68,9 +71,9 @@ fn look_new(
     ensures number { IfOk result (λ p. p.number ≡ number) }
     ensures numbers { IfOk result (λ p. Numbered first p.blocks.items) }
     ensures count { IfOk result (λ p. count_of p.blocks.items ≡ count) }
-    ensures shown { IfOk result (λ p. AllShown frames.now addrs.now keys.now p.blocks.items) }
+    ensures shown { IfOk result (λ p. AreShown frames.now addrs.now keys.now p.blocks.items) }
     ensures leads { IfOk result (λ p. p.leads.items ≡ leads_in first
-        (sights addrs.now keys.now (frames_from frames.now first count))) }
+        (frames_shown addrs.now keys.now (frames_from frames.now first count))) }
 {
     let mut leads = Vec::new(alloc);
     let blocks = look_first(alloc, frames, addrs, keys, first, count, &mut leads)?;
@@ -81,7 +84,7 @@ fn look_new(
     })
 }
 
-/// A piece whose blocks are looked at in their order.
+/// Looks at the blocks of a piece in their order.
 fn look_again(
     alloc: Global,
     frames: &Frames,
@@ -121,7 +124,7 @@ fn look_again(
     })
 }
 
-/// The first frame and the number of frames of a piece that wasn't looked at yet, which is one block.
+/// Gives the first frame and the number of frames of a piece that wasn't looked at yet, which is one block.
 fn unseen(blocks: &[Block]) -> Option<(u32, u32)>
     ensures { IfSome result (λ f. IsOneUnseen blocks.now f.0 f.1) }
 {
@@ -138,7 +141,7 @@ fn unseen_frames(block: &Block) -> Option<(u32, u32)>
         Seen::Nothing => Some((block.first, block.count)),
         Seen::Unopened => None,
         Seen::Lines(_) => None,
-        Seen::Sights(_) => None,
+        Seen::Whole(_) => None,
     }
 }
 

@@ -1,8 +1,8 @@
-//! Round after round.
+//! The rounds in which the frames of a capture are opened.
 ghost use Rattle.std.specs.Prelude.{◌≡◌, ◌+◌, ◌≤◌, ◌<◌, ◌^◌, length, take, map, IfOk, Ok};
 ghost use Rattle.std.specs.Int.{div_ceil};
 ghost use Rattle.std.specs.List.{AllByRecursion, AllZip};
-ghost use Rattle.zb_inspect_ring.specs.Pieces.{AreSized, all_blocks, all_leads, AllSee, AllShown, IsCut, IsNextPiece, IsWithin};
+ghost use Rattle.zb_inspect_ring.specs.Pieces.{AreSized, all_blocks, all_leads, AllSee, AreShown, IsCut, IsNextPiece, IsWithin};
 ghost use Rattle.zb_inspect_ring.specs.Rings.{keys_of, learnt, ring_of, IsRing};
 ghost use Rattle.zb_capture.specs.Grammar.{IsCapture};
 
@@ -13,26 +13,23 @@ use std::alloc::Global;
 use std::thread::{Threads, map_vec};
 use zb_base::NoMemory;
 use zb_capture::{Capture, Frames};
-<<<<<<< HEAD
-=======
+use zb_inspect_frame::Addresses;
 use zb_jobs::{Gate, IdleThread};
 use zb_seal::Ciphers;
->>>>>>> cfc3f18 (zb_jobs: gates, idle threads and shares of work; zb_capture and zb_pcap without tests of their own)
-use zb_inspect_frame::Addresses;
-use zb_seal::Ciphers;
 
-/// The ring of a capture, and what the frames of the capture show under it.
+/// Holds the ring of a capture, and what the frames of the capture show under it.
 #[derive(Drop)]
 pub struct Opened {
+    /// The ring.
     pub ring: Ring,
     /// All frames, in consecutive pieces.
     pub pieces: Vec<Piece>,
 }
 
-/// The ring of a capture, and what its frames show under it, worked out by so many jobs.
+/// Works out the ring of a capture, and what its frames show under it, by so many jobs.
 ///
 /// In each round only the layers that are still closed are tried, and only under the keys that are new. Frames of which
-/// no layer is closed are kept as the lines that they have in a report.
+/// no layer is closed are kept as the lines that they have in a report. Requires a job.
 pub fn open_all<T: Threads + Sync, G: Gate>(
     rt: &T,
     alloc: Global,
@@ -50,7 +47,7 @@ pub fn open_all<T: Threads + Sync, G: Gate>(
     ensures sized { IfOk result (λ o. AreSized (div_ceil (length capture.now.frames) jobs) 0
         (length capture.now.frames) o.pieces.items) }
     ensures few_pieces { IfOk result (λ o. length o.pieces.items ≤ jobs) }
-    ensures shown { IfOk result (λ o. AllShown capture.now.frames capture.now.addrs (keys_of o.ring.keys)
+    ensures shown { IfOk result (λ o. AreShown capture.now.frames capture.now.addrs (keys_of o.ring.keys)
         (all_blocks o.pieces.items)) }
 {
     let frames = &capture.frames;
@@ -123,7 +120,7 @@ fn look_at_all<T: Threads + Sync, G: Gate>(
     gather(alloc, looked)
 }
 
-/// The pieces, where none lacked memory.
+/// Gives the pieces, where none lacked memory.
 fn gather(alloc: Global, looked: Vec<Result<Piece, NoMemory>>) -> Result<Vec<Piece>, NoMemory>
     ensures { IfOk result (λ v. looked.items ≡ map (λ p. Ok p) v.items) }
 {
@@ -134,7 +131,7 @@ fn gather(alloc: Global, looked: Vec<Result<Piece, NoMemory>>) -> Result<Vec<Pie
     Ok(pieces)
 }
 
-/// The ring with the keys that a round found in the pieces.
+/// Adds the keys that a round found in the pieces.
 fn learn_from(ring: KeyRing, round: u32, pieces: &[Piece]) -> Result<KeyRing, NoMemory>
     ensures { IfOk result (λ r. r ≡ learnt round ring (all_leads pieces.now)) }
 {

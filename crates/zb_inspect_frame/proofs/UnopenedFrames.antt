@@ -10,16 +10,16 @@ use Rattle.zb_seal.specs.Keys.{sealing_key}
 use Rattle.zb_seal.specs.Opening.{seen_nwk, content_of}
 use Rattle.zb_seal.specs.declared.envelope.Envelope.{Envelope}
 use Rattle.zb_inspect_frame.specs.Layers.{unsealed, opened_by, tried, is_closed, looked, found_nwk}
-use Rattle.zb_inspect_frame.specs.Lines.{layer_line, sight_text, sights_text, unopened_line, unopened_text}
+use Rattle.zb_inspect_frame.specs.Lines.{layer_line, frame_text, frames_text, unopened_line, unopened_text}
 use Rattle.zb_inspect_frame.specs.Settling.{is_unopened, ShowsNothing}
-use Rattle.zb_inspect_frame.specs.Sights.{sight}
+use Rattle.zb_inspect_frame.specs.Shows.{frame_shown}
 use Rattle.zb_inspect_frame.specs.declared.layer.Finding.{Finding}
 use Rattle.zb_inspect_frame.specs.declared.layer.Finding.TheVariants.{Malformed, NotSecured, NoSource, Closed, Opened}
-use Rattle.zb_inspect_frame.specs.declared.sight.Below.{Below}
-use Rattle.zb_inspect_frame.specs.declared.sight.Sight.{Sight}
-use Rattle.zb_inspect_frame.proofs.MoreKeys.{closed_sight, sight_parts}
+use Rattle.zb_inspect_frame.specs.declared.shown.Below.{Below}
+use Rattle.zb_inspect_frame.specs.declared.shown.Shown.{Shown}
+use Rattle.zb_inspect_frame.proofs.MoreKeys.{closed_frame, shown_parts}
 
-abbrev whole : Finding → Option Below → Sight
+abbrev whole : Finding → Option Below → Shown
 whole nwk b = record { nwk = nwk; below = b }
 
 both_true : (a b : Bool) → (a && b) ≡ true → (a ≡ true) × (b ≡ true)
@@ -52,23 +52,23 @@ unfolding found_nwk
 nwk_closed keys bytes e = tried_closed keys (looked (seen_nwk bytes) None) e
 
 -- the NWK layer of what a frame shows
-nwk_of : (addrs : List (Short × Eui)) (keys : List Key) (bytes : List ℕ) → (sight addrs keys bytes).nwk ≡ found_nwk keys bytes
-unfolding sight
-nwk_of addrs keys bytes = ap (λ (s : Sight). s.nwk) (sight_parts addrs keys (found_nwk keys bytes) (nwk_reading.frame_of bytes))
+nwk_of : (addrs : List (Short × Eui)) (keys : List Key) (bytes : List ℕ) → (frame_shown addrs keys bytes).nwk ≡ found_nwk keys bytes
+unfolding frame_shown
+nwk_of addrs keys bytes = ap (λ (s : Shown). s.nwk) (shown_parts addrs keys (found_nwk keys bytes) (nwk_reading.frame_of bytes))
 
-pub unopened_same : (addrs : List (Short × Eui)) (keys : List Key) (bytes : List ℕ) → is_unopened (sight addrs keys bytes) ≡ true
-    → sight addrs keys bytes ≡ sight addrs [] bytes
-unfolding sight
+pub unopened_same : (addrs : List (Short × Eui)) (keys : List Key) (bytes : List ℕ) → is_unopened (frame_shown addrs keys bytes) ≡ true
+    → frame_shown addrs keys bytes ≡ frame_shown addrs [] bytes
+unfolding frame_shown
 unopened_same addrs keys bytes e =
     let r = nwk_reading.frame_of bytes in
     let closed = ap is_closed (sym (nwk_of addrs keys bytes)) ∙ (both_true _ _ e).0 in
     let same = nwk_closed keys bytes closed in
-    closed_sight addrs keys (found_nwk keys bytes) r closed ∙ ap (λ n. whole n None) same
-    ∙ sym (closed_sight addrs [] (found_nwk [] bytes) r (ap is_closed (sym same) ∙ closed))
+    closed_frame addrs keys (found_nwk keys bytes) r closed ∙ ap (λ n. whole n None) same
+    ∙ sym (closed_frame addrs [] (found_nwk [] bytes) r (ap is_closed (sym same) ∙ closed))
 
 -- the line of such a frame, and those of several
 line_of : (frame : ℕ) (nwk : Finding) (b : Option Below) → is_closed nwk ≡ true → not (is_some b) ≡ true
-    → sight_text frame (whole nwk b) ≡ unopened_line frame
+    → frame_text frame (whole nwk b) ≡ unopened_line frame
 unfolding layer_line
 line_of frame Malformed b e f = cc
 line_of frame NotSecured b e f = cc
@@ -77,13 +77,13 @@ line_of frame (Opened key term) b e f = cc
 line_of frame (Closed s source) None e f = append-nil _
 line_of frame (Closed s source) (Some below) e f = cc
 
-pub unopened_lines : (frame : ℕ) (found : List Sight) → list_all is_unopened found ≡ true → sights_text frame found ≡ unopened_text frame (length found)
+pub unopened_lines : (frame : ℕ) (found : List Shown) → list_all is_unopened found ≡ true → frames_text frame found ≡ unopened_text frame (length found)
 unfolding unopened_text
 unopened_lines frame [] all = refl
 unopened_lines frame (x ∷ found) all =
     let parts = both_true (is_unopened x) (list_all is_unopened found) all in
     let here = both_true (is_closed x.nwk) (not (is_some x.below)) parts.0 in
-    ap (λ zs. zs ++ sights_text (frame + 1) found) (line_of frame x.nwk x.below here.0 here.1)
+    ap (λ zs. zs ++ frames_text (frame + 1) found) (line_of frame x.nwk x.below here.0 here.1)
     ∙ ap (λ zs. unopened_line frame ++ zs) (unopened_lines (frame + 1) found parts.1)
 
 pub next_unopened : (frame end : ℕ) → frame < end → unopened_text frame (end - frame) ≡ unopened_line frame ++ unopened_text (frame + 1) (end - (frame + 1))
@@ -105,10 +105,10 @@ printed_all frame end before now past so_far =
     let none : end - frame ≡ 0 = omega (arith, past) in
     sym (append-nil now) ∙ ap (λ n. now ++ unopened_text frame n) (sym none) ∙ so_far
 
-pub shows_nothing : (b : Bool) (seen : Sight) → (b ≡ true → is_unopened seen ≡ true) → OnTrue b (ShowsNothing seen)
+pub shows_nothing : (b : Bool) (seen : Shown) → (b ≡ true → is_unopened seen ≡ true) → OnTrue b (ShowsNothing seen)
 shows_nothing false seen unopened = tt
 shows_nothing true seen unopened = λ addrs keys bytes is. sym (unopened_same addrs keys bytes (ap is_unopened (sym is) ∙ unopened refl)) ∙ sym is
 
-pub unopened_is : (seen : Sight) (closed none : Bool) → closed ≡ true → closed ≡ is_closed seen.nwk → is_some seen.below ≡ not none → none ≡ true
+pub unopened_is : (seen : Shown) (closed none : Bool) → closed ≡ true → closed ≡ is_closed seen.nwk → is_some seen.below ≡ not none → none ≡ true
     → is_unopened seen ≡ true
 unopened_is seen closed none one two three four = cc (one, two, three, four)

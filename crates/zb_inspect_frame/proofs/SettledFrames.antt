@@ -10,12 +10,12 @@ use Rattle.zb_base.specs.declared.key.Key.{Key}
 use Rattle.zb_nwk.specs.Reading as nwk_reading
 use Rattle.zb_inspect_frame.specs.Layers.{tried, is_closed, found_nwk, found_aps}
 use Rattle.zb_inspect_frame.specs.Settling.{inner_settled, below_settled, is_settled, ShowsNoMore}
-use Rattle.zb_inspect_frame.specs.Sights.{payload_in, given_in, tunnelled, below, sight_of, sight}
+use Rattle.zb_inspect_frame.specs.Shows.{payload_in, given_in, tunnelled, below, shown_under, frame_shown}
 use Rattle.zb_inspect_frame.specs.declared.layer.Finding.{Finding}
 use Rattle.zb_inspect_frame.specs.declared.layer.Finding.TheVariants.{Malformed, NotSecured, NoSource, Closed, Opened}
-use Rattle.zb_inspect_frame.specs.declared.sight.Below.{Below}
-use Rattle.zb_inspect_frame.specs.declared.sight.Sight.{Sight}
-use Rattle.zb_inspect_frame.proofs.MoreKeys.{nwk_further, aps_further, sight_parts}
+use Rattle.zb_inspect_frame.specs.declared.shown.Below.{Below}
+use Rattle.zb_inspect_frame.specs.declared.shown.Shown.{Shown}
+use Rattle.zb_inspect_frame.proofs.MoreKeys.{nwk_further, aps_further, shown_parts}
 
 both_true : (a b : Bool) → (a && b) ≡ true → (a ≡ true) × (b ≡ true)
 both_true true b e = (refl, e)
@@ -73,24 +73,24 @@ under_same : (known : ℕ) (keys : List Key) (given : Option Eui) (o : Option (L
 under_same known keys given None within e = refl
 under_same known keys given (Some payload) within e = ap (λ x. Some x) (below_same known keys given payload within e)
 
-abbrev whole : Finding → Option Below → Sight
+abbrev whole : Finding → Option Below → Shown
 whole nwk b = record { nwk = nwk; below = b }
 
 pub settled_same : (known : ℕ) (addrs : List (Short × Eui)) (keys : List Key) (bytes : List ℕ) → known ≤ length keys
-    → is_settled (sight addrs (take known keys) bytes) ≡ true → sight addrs keys bytes ≡ sight addrs (take known keys) bytes
-unfolding sight
+    → is_settled (frame_shown addrs (take known keys) bytes) ≡ true → frame_shown addrs keys bytes ≡ frame_shown addrs (take known keys) bytes
+unfolding frame_shown
 settled_same known addrs keys bytes within e =
     let first = take known keys in
     let r = nwk_reading.frame_of bytes in
     let given = given_in addrs r in
-    let old = sight_parts addrs first (found_nwk first bytes) r in
+    let old = shown_parts addrs first (found_nwk first bytes) r in
     let parts = both_true _ _ (ap is_settled (sym old) ∙ e) in
     let nwk = nwk_same known keys bytes within (is_false _ parts.0) in
-    ap (λ n. sight_of addrs keys n r) nwk ∙ sight_parts addrs keys (found_nwk first bytes) r
+    ap (λ n. shown_under addrs keys n r) nwk ∙ shown_parts addrs keys (found_nwk first bytes) r
     ∙ ap (whole (found_nwk first bytes)) (under_same known keys given (payload_in (found_nwk first bytes) r) within parts.1)
     ∙ sym old
 
-pub shows_no_more : (b : Bool) (seen : Sight) → (b ≡ true → is_settled seen ≡ true) → OnTrue b (ShowsNoMore seen)
+pub shows_no_more : (b : Bool) (seen : Shown) → (b ≡ true → is_settled seen ≡ true) → OnTrue b (ShowsNoMore seen)
 shows_no_more false seen settled = tt
 shows_no_more true seen settled =
     λ known addrs keys bytes within is. settled_same known addrs keys bytes within (ap is_settled (sym is) ∙ settled refl) ∙ sym is

@@ -19,8 +19,8 @@ use Rattle.zb_cmd.specs.declared.command.Command.{Command}
 use Rattle.zb_cmd.specs.declared.command.Command.TheVariants.{Tunnel}
 use Rattle.zb_cmd.specs.declared.fault.CmdError.{CmdError}
 use Rattle.zb_inspect_frame.specs.declared.layer.Finding.{Finding}
-use Rattle.zb_inspect_frame.specs.declared.sight.Sight.{Sight}
-use Rattle.zb_inspect_frame.specs.declared.sight.Below.{Below}
+use Rattle.zb_inspect_frame.specs.declared.shown.Shown.{Shown}
+use Rattle.zb_inspect_frame.specs.declared.shown.Below.{Below}
 use Rattle.zb_inspect_frame.specs.Layers.{found_nwk, found_aps, clear}
 
 -- the first IEEE address that is known of a network address
@@ -63,13 +63,13 @@ below keys given payload = record {
   inner = option_map (λ inner. found_aps keys given inner.items) (tunnelled (found_aps keys given payload) (aps_reading.frame_of payload));
 }
 
-abbrev pub sight_of : List (Short × Eui) → List Key → Finding → Result NwkFrame NwkError → Sight
-sight_of addrs keys nwk (Err fault) = record { nwk = nwk; below = None }
-sight_of addrs keys nwk (Ok frame) = record { nwk = nwk; below = option_map (below keys (source_known addrs frame.header)) (data_in nwk frame) }
+abbrev pub shown_under : List (Short × Eui) → List Key → Finding → Result NwkFrame NwkError → Shown
+shown_under addrs keys nwk (Err fault) = record { nwk = nwk; below = None }
+shown_under addrs keys nwk (Ok frame) = record { nwk = nwk; below = option_map (below keys (source_known addrs frame.header)) (data_in nwk frame) }
 
 -- what a frame shows
-unfoldable pub sight : List (Short × Eui) → List Key → List ℕ → Sight
-sight addrs keys bytes = sight_of addrs keys (found_nwk keys bytes) (nwk_reading.frame_of bytes)
+unfoldable pub frame_shown : List (Short × Eui) → List Key → List ℕ → Shown
+frame_shown addrs keys bytes = shown_under addrs keys (found_nwk keys bytes) (nwk_reading.frame_of bytes)
 
 -- the payload of a frame's data, where it is known, and the source of an APS frame in it that names none
 abbrev pub payload_in : Finding → Result NwkFrame NwkError → Option (List ℕ)

@@ -4,7 +4,7 @@ ghost use Rattle.std.specs.Option.{option_map, option_copied};
 ghost use Rattle.zb_aps.specs.Reading as reading;
 ghost use Rattle.zb_nwk.specs.Reading as nwk_reading;
 ghost use Rattle.zb_inspect_frame.specs.Layers.{found_nwk, found_aps};
-ghost use Rattle.zb_inspect_frame.specs.Sights.{source_known, data_in, command_in, tunnelled, tunnel_of, below, sight_of, sight};
+ghost use Rattle.zb_inspect_frame.specs.Shows.{source_known, data_in, command_in, tunnelled, tunnel_of, below, shown_under, frame_shown};
 
 use crate::addresses::Addresses;
 use crate::layer::{Finding, clear, is_closed, look, try_keys};
@@ -14,16 +14,16 @@ use zb_cmd::{Command, read_command};
 use zb_nwk::{NwkFrame, NwkHeader};
 use zb_seal::{Ciphers, look_aps, look_nwk};
 
-/// What a NWK frame shows.
+/// Holds what a NWK frame shows.
 #[derive(Debug, Drop)]
-pub struct Sight {
+pub struct Shown {
     /// The NWK layer.
     pub nwk: Finding,
     /// What is below it, in a data frame whose payload is known.
     pub below: Option<Below>,
 }
 
-/// What the payload of a NWK data frame shows.
+/// Holds what the payload of a NWK data frame shows.
 #[derive(Debug, Drop)]
 pub struct Below {
     /// The APS layer.
@@ -32,32 +32,34 @@ pub struct Below {
     pub inner: Option<Finding>,
 }
 
-/// What a frame shows under the keys of a ring. `addrs` has the IEEE addresses that are known.
-#[tactic(auto, unfolding(crate::specs::Sights::sight))]
-pub fn show(addrs: &Addresses<'_>, keys: &[Ciphers], frame: &Frame) -> Sight
+/// Shows a frame under the keys of a ring. `addrs` has the IEEE addresses that are known.
+///
+/// Requires fewer than 2^32 keys, since each has its number in 32 bits.
+#[tactic(auto, unfolding(crate::specs::Shows::frame_shown))]
+pub fn show(addrs: &Addresses<'_>, keys: &[Ciphers], frame: &Frame) -> Shown
     requires { length keys.now < 2 ^ 32 }
-    ensures { result ≡ sight addrs.now keys.now frame.now.items }
+    ensures { result ≡ frame_shown addrs.now keys.now frame.now.items }
 {
     let nwk = find_nwk(keys, frame.as_slice());
-    sight_under(addrs, keys, nwk, frame)
+    show_under(addrs, keys, nwk, frame)
 }
 
-/// What a frame shows whose NWK layer is found to be this.
-#[tactic(auto, using(crate::proofs::MoreKeys::closed_sight))]
-pub(crate) fn sight_under(
+/// Shows a frame whose NWK layer is found to be this.
+#[tactic(auto, using(crate::proofs::MoreKeys::closed_frame))]
+pub(crate) fn show_under(
     addrs: &Addresses<'_>,
     keys: &[Ciphers],
     nwk: Finding,
     frame: &Frame,
-) -> Sight
+) -> Shown
     requires { length keys.now < 2 ^ 32 }
-    ensures { result ≡ sight_of addrs.now keys.now nwk (nwk_reading.frame_of frame.now.items) }
+    ensures { result ≡ shown_under addrs.now keys.now nwk (nwk_reading.frame_of frame.now.items) }
 {
     if is_closed(&nwk) {
-        return Sight { nwk, below: None };
+        return Shown { nwk, below: None };
     }
     match zb_nwk::read(frame.as_slice()) {
-        Err(_) => Sight { nwk, below: None },
+        Err(_) => Shown { nwk, below: None },
         Ok(read) => look_below(addrs, keys, nwk, &read),
     }
 }
@@ -78,21 +80,21 @@ fn find_aps(keys: &[Ciphers], given: Option<Eui>, bytes: &[u8]) -> Finding
     try_keys(look(look_aps(bytes), given), 0, keys)
 }
 
-fn look_below(addrs: &Addresses<'_>, keys: &[Ciphers], nwk: Finding, frame: &NwkFrame) -> Sight
+fn look_below(addrs: &Addresses<'_>, keys: &[Ciphers], nwk: Finding, frame: &NwkFrame) -> Shown
     requires { length keys.now < 2 ^ 32 }
-    ensures { result ≡ sight_of addrs.now keys.now nwk (Ok frame.now) }
+    ensures { result ≡ shown_under addrs.now keys.now nwk (Ok frame.now) }
 {
     let Some(payload) = data_in(&nwk, frame) else {
-        return Sight { nwk, below: None };
+        return Shown { nwk, below: None };
     };
     let below = show_payload(keys, source_known(addrs, &frame.header), payload);
-    Sight {
+    Shown {
         nwk,
         below: Some(below),
     }
 }
 
-/// The payload of a data frame, where it is known.
+/// Gives the payload of a data frame, where it is known.
 pub(crate) fn data_in<'a>(nwk: &'a Finding, frame: &'a NwkFrame) -> Option<&'a [u8]>
     ensures { option_copied result ≡ data_in nwk.now frame.now }
 {
@@ -103,7 +105,7 @@ pub(crate) fn data_in<'a>(nwk: &'a Finding, frame: &'a NwkFrame) -> Option<&'a [
     }
 }
 
-/// The source of an APS frame that names none: the IEEE address of the NWK source, where it is in the frame or known.
+/// Gives the source of an APS frame that names none: the IEEE address of the NWK source, where it is known.
 pub(crate) fn source_known(addrs: &Addresses<'_>, header: &NwkHeader) -> Option<Eui>
     ensures { result ≡ source_known addrs.now header.now }
 {
@@ -136,7 +138,7 @@ pub(crate) fn find_inner(
     }
 }
 
-/// The frame in a Tunnel, where an APS command is one and is known in clear.
+/// Gives the frame in a Tunnel, where an APS command is one and is known in clear.
 pub(crate) fn tunnelled(aps: &Finding, payload: &[u8]) -> Option<Frame>
     ensures { result ≡ tunnelled aps.now (reading.frame_of payload.now) }
 {
@@ -159,7 +161,7 @@ fn tunnel(content: &[u8]) -> Option<Frame>
     }
 }
 
-/// The payload of an APS command, where it is known.
+/// Gives the payload of an APS command, where it is known.
 fn command_in<'a>(aps: &'a Finding, frame: &'a ApsFrame) -> Option<&'a [u8]>
     ensures value { option_copied result ≡ command_in aps.now frame.now }
     ensures fits { IfSome result (λ content. length content.now ≤ 127) }
