@@ -9,9 +9,9 @@ ghost use Rattle.zb_inspect_frame.specs.Shows.{payload_in, given_in, tunnelled, 
 
 use crate::addresses::Addresses;
 use crate::layer::{Finding, try_keys};
-use crate::shown::{Below, Shown, data_in, find_inner, show_under, source_known, tunnelled};
+use crate::shown::{Below, Shown, data_in, find_inner, show_under, source_known, tunnelled_in};
 use zb_base::Frame;
-use zb_seal::Ciphers;
+use zb_seal::SealingKeys;
 
 /// Shows a frame under all keys, where `seen` is what it shows under the first `known` of them.
 ///
@@ -19,7 +19,7 @@ use zb_seal::Ciphers;
 #[tactic(auto, using(crate::proofs::MoreKeys::frame_anew, crate::proofs::MoreKeys::frame_further))]
 pub fn show_more(
     addrs: &Addresses<'_>,
-    keys: &[Ciphers],
+    keys: &[SealingKeys],
     known: u32,
     frame: &Frame,
     seen: Shown,
@@ -44,7 +44,7 @@ pub fn show_more(
 }
 
 /// Tries the keys behind the first `known` on a layer.
-fn try_further(keys: &[Ciphers], known: u32, finding: Finding) -> Finding
+fn try_further(keys: &[SealingKeys], known: u32, finding: Finding) -> Finding
     requires within { known ≤ length keys.now }
     requires fits { length keys.now < 2 ^ 32 }
     ensures { result ≡ tried known (drop known keys.now) finding }
@@ -56,7 +56,7 @@ fn try_further(keys: &[Ciphers], known: u32, finding: Finding) -> Finding
 #[tactic(auto, using(crate::proofs::MoreKeys::aps_further, crate::proofs::MoreKeys::below_further))]
 fn look_further(
     addrs: &Addresses<'_>,
-    keys: &[Ciphers],
+    keys: &[SealingKeys],
     known: u32,
     frame: &Frame,
     nwk: &Finding,
@@ -90,7 +90,7 @@ fn look_further(
 /// Shows the frame in a Tunnel, where the payload of a data frame is a Tunnel.
 fn look_inner(
     addrs: &Addresses<'_>,
-    keys: &[Ciphers],
+    keys: &[SealingKeys],
     frame: &Frame,
     nwk: &Finding,
     aps: &Finding,
@@ -106,6 +106,6 @@ fn look_inner(
     find_inner(
         keys,
         source_known(addrs, &read.header),
-        tunnelled(aps, payload),
+        tunnelled_in(aps, payload),
     )
 }

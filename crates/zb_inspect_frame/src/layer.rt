@@ -4,7 +4,7 @@ ghost use Rattle.std.specs.Option.{option_copied};
 ghost use Rattle.zb_inspect_frame.specs.Layers.{looked, tried, opened_by, clear as clear_of, is_closed as closed};
 
 use zb_base::{Eui, Frame};
-use zb_seal::{Ciphers, Envelope, OpenError, Term};
+use zb_seal::{Envelope, OpenError, SealingKeys, Term};
 
 /// Says what is found at one layer of a frame.
 #[derive(Debug, Drop)]
@@ -48,7 +48,7 @@ pub(crate) fn look(seen: Result<Envelope, OpenError>, given: Option<Eui>) -> Fin
 }
 
 /// Tries keys, one after the other, on a layer that no key before them opened; there are `number` of those.
-pub(crate) fn try_keys(finding: Finding, number: u32, keys: &[Ciphers]) -> Finding
+pub(crate) fn try_keys(finding: Finding, number: u32, keys: &[SealingKeys]) -> Finding
     requires { number + length keys.now < 2 ^ 32 }
     ensures { result ≡ tried number keys.now finding }
 {
@@ -59,20 +59,20 @@ pub(crate) fn try_keys(finding: Finding, number: u32, keys: &[Ciphers]) -> Findi
 }
 
 #[tactic(auto, using(crate::proofs::Trying::opens_here, crate::proofs::Trying::opens_later))]
-fn open_first(envelope: Envelope, source: Eui, number: u32, keys: &[Ciphers]) -> Finding
+fn open_first(envelope: Envelope, source: Eui, number: u32, keys: &[SealingKeys]) -> Finding
     requires { number + length keys.now < 2 ^ 32 }
     ensures { result ≡ opened_by envelope source number keys.now }
 {
     let mut closed = envelope;
     let mut place = number;
-    for ciphers in keys {
+    for sealing_keys in keys {
         place += 1;
-        let cipher = ciphers.of(closed.label);
+        let cipher = sealing_keys.of(closed.label);
         match closed.unseal(cipher, source) {
             Ok(()) => {
                 return Finding::Opened {
                     key: place,
-                    term: closed.into_term(ciphers.base(), source),
+                    term: closed.into_term(sealing_keys.base(), source),
                 };
             }
             Err(_) => {}

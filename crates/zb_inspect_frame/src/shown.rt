@@ -3,7 +3,10 @@ ghost use Rattle.std.specs.Prelude.{◌≡◌, ◌<◌, ◌≤◌, ◌^◌, leng
 ghost use Rattle.std.specs.Option.{option_map, option_copied};
 ghost use Rattle.zb_aps.specs.Reading as reading;
 ghost use Rattle.zb_nwk.specs.Reading as nwk_reading;
-ghost use Rattle.zb_inspect_frame.specs.Layers.{found_nwk, found_aps};
+ghost use Rattle.zb_nwk.specs.Shape.{Spells as SpellsNwk};
+ghost use Rattle.zb_aps.specs.Shape.{Spells as SpellsAps};
+ghost use Rattle.zb_seal.specs.Opening.{aps_envelope, nwk_envelope};
+ghost use Rattle.zb_inspect_frame.specs.Layers.{found_aps, looked, tried};
 ghost use Rattle.zb_inspect_frame.specs.Shows.{source_known, data_in, command_in, tunnelled, tunnel_of, below, shown_under, frame_shown};
 
 use crate::addresses::Addresses;
@@ -12,7 +15,7 @@ use zb_aps::ApsFrame;
 use zb_base::{Eui, Frame};
 use zb_cmd::{Command, read_command};
 use zb_nwk::{NwkFrame, NwkHeader};
-use zb_seal::{Ciphers, look_aps, look_nwk};
+use zb_seal::{Envelope, OpenError, SealingKeys, envelope_aps, envelope_nwk, look_aps};
 
 /// Holds what a NWK frame shows.
 #[derive(Debug, Drop)]
@@ -35,20 +38,28 @@ pub struct Below {
 /// Shows a frame under the keys of a ring. `addrs` has the IEEE addresses that are known.
 ///
 /// Requires fewer than 2^32 keys, since each has its number in 32 bits.
-#[tactic(auto, unfolding(crate::specs::Shows::frame_shown))]
-pub fn show(addrs: &Addresses<'_>, keys: &[Ciphers], frame: &Frame) -> Shown
+#[tactic(auto, using(crate::proofs::Reads::frame_read, crate::proofs::Reads::frame_bad))]
+pub fn show(addrs: &Addresses<'_>, keys: &[SealingKeys], frame: &Frame) -> Shown
     requires { length keys.now < 2 ^ 32 }
     ensures { result ≡ frame_shown addrs.now keys.now frame.now.items }
 {
-    let nwk = find_nwk(keys, frame.as_slice());
-    show_under(addrs, keys, nwk, frame)
+    match zb_nwk::read(frame.as_slice()) {
+        Err(_) => Shown {
+            nwk: Finding::Malformed,
+            below: None,
+        },
+        Ok(read) => {
+            let nwk = find_nwk(keys, frame.as_slice(), &read);
+            look_below(addrs, keys, nwk, &read)
+        }
+    }
 }
 
 /// Shows a frame whose NWK layer is found to be this.
 #[tactic(auto, using(crate::proofs::MoreKeys::closed_frame))]
 pub(crate) fn show_under(
     addrs: &Addresses<'_>,
-    keys: &[Ciphers],
+    keys: &[SealingKeys],
     nwk: Finding,
     frame: &Frame,
 ) -> Shown
@@ -64,23 +75,36 @@ pub(crate) fn show_under(
     }
 }
 
-#[tactic(auto, unfolding(crate::specs::Layers::found_nwk))]
-fn find_nwk(keys: &[Ciphers], bytes: &[u8]) -> Finding
-    requires { length keys.now < 2 ^ 32 }
-    ensures { result ≡ found_nwk keys.now bytes.now }
+/// Judges the NWK layer of a frame that was read.
+fn find_nwk(keys: &[SealingKeys], bytes: &[u8], frame: &NwkFrame) -> Finding
+    requires keys { length keys.now < 2 ^ 32 }
+    requires spells { SpellsNwk bytes.now frame.now }
+    ensures { result ≡ tried 0 keys.now (looked (nwk_envelope frame.now frame.now.aux) None) }
 {
-    try_keys(look(look_nwk(bytes), None), 0, keys)
+    try_keys(look(look_nwk(bytes, frame), None), 0, keys)
 }
 
-#[tactic(auto, unfolding(crate::specs::Layers::found_aps))]
-fn find_aps(keys: &[Ciphers], given: Option<Eui>, bytes: &[u8]) -> Finding
-    requires { length keys.now < 2 ^ 32 }
-    ensures { result ≡ found_aps keys.now given bytes.now }
+/// Gives the envelope of a NWK frame that was read.
+fn look_nwk(bytes: &[u8], frame: &NwkFrame) -> Result<Envelope, OpenError>
+    requires { SpellsNwk bytes.now frame.now }
+    ensures { result ≡ nwk_envelope frame.now frame.now.aux }
 {
-    try_keys(look(look_aps(bytes), given), 0, keys)
+    match envelope_nwk(bytes, frame) {
+        Ok(closed) => Ok(closed.envelope),
+        Err(fault) => Err(fault),
+    }
 }
 
-fn look_below(addrs: &Addresses<'_>, keys: &[Ciphers], nwk: Finding, frame: &NwkFrame) -> Shown
+/// Judges the APS layer of a frame that was read.
+fn find_aps(keys: &[SealingKeys], given: Option<Eui>, bytes: &[u8], frame: &ApsFrame) -> Finding
+    requires keys { length keys.now < 2 ^ 32 }
+    requires spells { SpellsAps bytes.now frame.now }
+    ensures { result ≡ tried 0 keys.now (looked (aps_envelope frame.now frame.now.aux) given) }
+{
+    try_keys(look(envelope_aps(bytes, frame), given), 0, keys)
+}
+
+fn look_below(addrs: &Addresses<'_>, keys: &[SealingKeys], nwk: Finding, frame: &NwkFrame) -> Shown
     requires { length keys.now < 2 ^ 32 }
     ensures { result ≡ shown_under addrs.now keys.now nwk (Ok frame.now) }
 {
@@ -115,17 +139,27 @@ pub(crate) fn source_known(addrs: &Addresses<'_>, header: &NwkHeader) -> Option<
     }
 }
 
-fn show_payload(keys: &[Ciphers], given: Option<Eui>, payload: &[u8]) -> Below
+#[tactic(auto, using(crate::proofs::Reads::payload_read, crate::proofs::Reads::payload_bad))]
+fn show_payload(keys: &[SealingKeys], given: Option<Eui>, payload: &[u8]) -> Below
     requires { length keys.now < 2 ^ 32 }
     ensures { result ≡ below keys.now given payload.now }
 {
-    let aps = find_aps(keys, given, payload);
-    let inner = find_inner(keys, given, tunnelled(&aps, payload));
-    Below { aps, inner }
+    match zb_aps::read(payload) {
+        Err(_) => Below {
+            aps: Finding::Malformed,
+            inner: None,
+        },
+        Ok(frame) => {
+            let aps = find_aps(keys, given, payload, &frame);
+            let inner = find_inner(keys, given, tunnelled(&aps, &frame));
+            Below { aps, inner }
+        }
+    }
 }
 
+/// Shows the frame in a Tunnel, where there is one.
 pub(crate) fn find_inner(
-    keys: &[Ciphers],
+    keys: &[SealingKeys],
     given: Option<Eui>,
     frame: Option<Frame>,
 ) -> Option<Finding>
@@ -134,20 +168,35 @@ pub(crate) fn find_inner(
 {
     match frame {
         None => None,
-        Some(frame) => Some(find_aps(keys, given, frame.as_slice())),
+        Some(frame) => Some(find_inner_aps(keys, given, frame.as_slice())),
     }
 }
 
-/// Gives the frame in a Tunnel, where an APS command is one and is known in clear.
-pub(crate) fn tunnelled(aps: &Finding, payload: &[u8]) -> Option<Frame>
+#[tactic(auto, unfolding(crate::specs::Layers::found_aps))]
+fn find_inner_aps(keys: &[SealingKeys], given: Option<Eui>, bytes: &[u8]) -> Finding
+    requires { length keys.now < 2 ^ 32 }
+    ensures { result ≡ found_aps keys.now given bytes.now }
+{
+    try_keys(look(look_aps(bytes), given), 0, keys)
+}
+
+/// Gives the frame in a Tunnel, where a payload is an APS command that is one and is known in clear.
+pub(crate) fn tunnelled_in(aps: &Finding, payload: &[u8]) -> Option<Frame>
     ensures { result ≡ tunnelled aps.now (reading.frame_of payload.now) }
 {
     match zb_aps::read(payload) {
         Err(_) => None,
-        Ok(frame) => match command_in(aps, &frame) {
-            None => None,
-            Some(content) => tunnel(content),
-        },
+        Ok(frame) => tunnelled(aps, &frame),
+    }
+}
+
+/// Gives the frame in a Tunnel, where an APS command is one and is known in clear.
+fn tunnelled(aps: &Finding, frame: &ApsFrame) -> Option<Frame>
+    ensures { result ≡ tunnelled aps.now (Ok frame.now) }
+{
+    match command_in(aps, frame) {
+        None => None,
+        Some(content) => tunnel(content),
     }
 }
 

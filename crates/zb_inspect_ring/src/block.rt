@@ -17,7 +17,7 @@ use zb_inspect_frame::{
     Addresses, Carried, Finding, Shown, carried_keys, is_settled, is_unopened, put_frames,
     put_unopened, show, show_more,
 };
-use zb_seal::Ciphers;
+use zb_seal::SealingKeys;
 
 /// Says what is kept of the frames of a block.
 #[derive(Drop)]
@@ -51,7 +51,7 @@ pub(crate) fn look_at(
     alloc: Global,
     frames: &Frames,
     addrs: &Addresses<'_>,
-    keys: &[Ciphers],
+    keys: &[SealingKeys],
     known: u32,
     block: &mut Block,
     leads: &mut Vec<Lead>,
@@ -90,7 +90,7 @@ fn show_all(
     alloc: Global,
     frames: &Frames,
     addrs: &Addresses<'_>,
-    keys: &[Ciphers],
+    keys: &[SealingKeys],
     from: usize,
     count: usize,
 ) -> Result<Vec<Shown>, NoMemory>
@@ -111,7 +111,7 @@ fn show_all(
 /// Adds what the first frames of a run show.
 fn show_run(
     addrs: &Addresses<'_>,
-    keys: &[Ciphers],
+    keys: &[SealingKeys],
     run: &FrameRun<'_>,
     count: usize,
     seen: &mut Vec<Shown>,
@@ -127,7 +127,7 @@ fn show_run(
 }
 
 /// Shows the frame at a place of a run.
-fn show_at(addrs: &Addresses<'_>, keys: &[Ciphers], run: &FrameRun<'_>, place: usize) -> Shown
+fn show_at(addrs: &Addresses<'_>, keys: &[SealingKeys], run: &FrameRun<'_>, place: usize) -> Shown
     requires keys { length keys.now < 2 ^ 32 }
     requires within { place < length run.now }
     ensures { (other : ArrayVec ℕ) → result ≡ frame_shown addrs.now keys.now (get_or run.now place other).items }
@@ -140,7 +140,7 @@ fn show_unopened(
     alloc: Global,
     frames: &Frames,
     addrs: &Addresses<'_>,
-    keys: &[Ciphers],
+    keys: &[SealingKeys],
     known: u32,
     from: usize,
     count: usize,
@@ -161,7 +161,7 @@ fn show_unopened(
 fn show_again(
     frames: &Frames,
     addrs: &Addresses<'_>,
-    keys: &[Ciphers],
+    keys: &[SealingKeys],
     known: u32,
     from: usize,
     seen: Vec<Shown>,
@@ -183,7 +183,7 @@ fn show_again(
 fn refresh_all(
     frames: &Frames,
     addrs: &Addresses<'_>,
-    keys: &[Ciphers],
+    keys: &[SealingKeys],
     known: u32,
     from: usize,
     seen: &mut [Shown],
@@ -202,7 +202,7 @@ fn refresh_all(
     }
 }
 
-fn refresh(addrs: &Addresses<'_>, keys: &[Ciphers], known: u32, frame: &Frame, seen: &mut Shown)
+fn refresh(addrs: &Addresses<'_>, keys: &[SealingKeys], known: u32, frame: &Frame, seen: &mut Shown)
     requires within { known ≤ length keys.now }
     requires fits { length keys.now < 2 ^ 32 }
     requires before { seen.old ≡ frame_shown addrs.now (take known keys.now) frame.now.items }

@@ -9,7 +9,7 @@ use std::alloc::{AllocError, Global};
 use zb_base::NoMemory;
 use zb_capture::Frames;
 use zb_inspect_frame::Addresses;
-use zb_seal::Ciphers;
+use zb_seal::SealingKeys;
 
 /// How many frames are looked at together.
 ///
@@ -22,7 +22,7 @@ pub(crate) fn look_first(
     alloc: Global,
     frames: &Frames,
     addrs: &Addresses<'_>,
-    keys: &[Ciphers],
+    keys: &[SealingKeys],
     first: u32,
     count: u32,
     leads: &mut Vec<Lead>,

@@ -11,7 +11,7 @@ use std::alloc::Global;
 use zb_base::NoMemory;
 use zb_capture::Frames;
 use zb_inspect_frame::Addresses;
-use zb_seal::Ciphers;
+use zb_seal::SealingKeys;
 
 /// Is the work of one job: consecutive blocks of the frames of a capture.
 #[derive(Drop)]
@@ -31,7 +31,7 @@ pub(crate) fn look(
     alloc: Global,
     frames: &Frames,
     addrs: &Addresses<'_>,
-    keys: &[Ciphers],
+    keys: &[SealingKeys],
     known: u32,
     piece: Piece,
 ) -> Result<Piece, NoMemory>
@@ -59,7 +59,7 @@ fn look_new(
     alloc: Global,
     frames: &Frames,
     addrs: &Addresses<'_>,
-    keys: &[Ciphers],
+    keys: &[SealingKeys],
     number: u32,
     first: u32,
     count: u32,
@@ -89,7 +89,7 @@ fn look_again(
     alloc: Global,
     frames: &Frames,
     addrs: &Addresses<'_>,
-    keys: &[Ciphers],
+    keys: &[SealingKeys],
     known: u32,
     piece: Piece,
 ) -> Result<Piece, NoMemory>
@@ -149,7 +149,7 @@ fn look_at_all(
     alloc: Global,
     frames: &Frames,
     addrs: &Addresses<'_>,
-    keys: &[Ciphers],
+    keys: &[SealingKeys],
     known: u32,
     blocks: &mut [Block],
     leads: &mut Vec<Lead>,

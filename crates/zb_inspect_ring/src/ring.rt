@@ -6,7 +6,7 @@ use std::alloc::Global;
 use std::collections::BTreeSet;
 use std::marker::Model;
 use zb_base::{Key, List, NoMemory};
-use zb_seal::Ciphers;
+use zb_seal::SealingKeys;
 
 /// Is a key of the ring.
 #[derive(Clone, Copy, Debug, PartialEq, Eq)]
@@ -41,7 +41,7 @@ pub struct Lead {
 #[derive(Drop)]
 pub(crate) struct KeyRing {
     keys: Vec<RingKey>,
-    ciphers: Vec<Ciphers>,
+    sealing_keys: Vec<SealingKeys>,
     /// The same keys, so that a key is found among them by its order.
     known: BTreeSet<Key>,
 }
@@ -57,7 +57,7 @@ impl Model for KeyRing {
 
     ghost view = { λ r. r.keys.items };
 
-    ghost invariant = { λ r. (r.ciphers.items ≡ keys_of r.keys.items) ×
+    ghost invariant = { λ r. (r.sealing_keys.items ≡ keys_of r.keys.items) ×
         ((key : Key) → is_known r.known key ≡ has_key r.keys.items key) };
 }
 
@@ -71,7 +71,7 @@ impl KeyRing {
     {
         KeyRing {
             keys: Vec::new(alloc),
-            ciphers: Vec::new(alloc),
+            sealing_keys: Vec::new(alloc),
             known: BTreeSet::new(alloc),
         }
     }
@@ -92,24 +92,24 @@ impl KeyRing {
         }
         let KeyRing {
             mut keys,
-            mut ciphers,
+            mut sealing_keys,
             mut known,
         } = self;
         known.insert(key)?;
-        ciphers.push(Ciphers::new(&key))?;
+        sealing_keys.push(SealingKeys::new(&key))?;
         keys.push(RingKey { key, found })?;
         Ok(KeyRing {
             keys,
-            ciphers,
+            sealing_keys,
             known,
         })
     }
 
     /// Gives the keys, each with its sealing keys.
-    pub fn ciphers(&self) -> &[Ciphers]
+    pub fn sealing_keys(&self) -> &[SealingKeys]
         ensures { result.now ≡ keys_of self.now }
     {
-        self.ciphers.as_slice()
+        self.sealing_keys.as_slice()
     }
 
     /// Answers how many keys the ring has.

@@ -15,7 +15,7 @@ use zb_base::NoMemory;
 use zb_capture::{Capture, Frames};
 use zb_inspect_frame::Addresses;
 use zb_jobs::{Gate, IdleThread};
-use zb_seal::Ciphers;
+use zb_seal::SealingKeys;
 
 /// Holds the ring of a capture, and what the frames of the capture show under it.
 #[derive(Drop)]
@@ -65,7 +65,7 @@ pub fn open_all<T: Threads + Sync, G: Gate>(
             gate,
             frames,
             &addrs,
-            ring.ciphers(),
+            ring.sealing_keys(),
             known,
             pieces,
         )?;
@@ -90,7 +90,7 @@ fn look_at_all<T: Threads + Sync, G: Gate>(
     gate: &G,
     frames: &Frames,
     addrs: &Addresses<'_>,
-    keys: &[Ciphers],
+    keys: &[SealingKeys],
     known: u32,
     pieces: Vec<Piece>,
 ) -> Result<Vec<Piece>, NoMemory>
