@@ -49,14 +49,14 @@ impl Incoming {
         ensures few { TakesAtMost (R.rest input.old) (R.rest input.new) (16777217 - self.old.count) }
     {
         let before = self.part.len();
-        let most = before + size.min(LONGEST as usize + 1 - self.count);
-        read_on(input, &mut self.part, most)?;
+        let limit = before + size.min(LONGEST as usize + 1 - self.count);
+        read_on(input, &mut self.part, limit)?;
         let after = self.part.len();
         self.count += after - before;
         if self.count > LONGEST as usize {
             return Err(InputFault::TooLong);
         }
-        Ok(after == most)
+        Ok(after == limit)
     }
 
     /// Reads the whole lines of what came. What stands behind them stays, since it may go on.

@@ -250,28 +250,28 @@ test_true a b same = grind (arith, nat_tests)
 not_both : (a b : ℕ) → (a == b) ≡ false → a ≡ b → ⊥
 not_both a b other same = grind (arith, nat_tests)
 
-step_from : (greatest_counter n : ℕ) (c : Capture) (ring : Ring) (b : Bool) → IsRing c ring → n < ring.rounds
+step_from : (most n : ℕ) (c : Capture) (ring : Ring) (b : Bool) → IsRing c ring → n < ring.rounds
     → (length (ring_after c (suc n)) == length (ring_after c n)) ≡ b
-    → (suc n < ring.rounds → ring_from greatest_counter c (suc n) ≡ ring)
-    → (if b then record { keys = ring_after c (suc n); rounds = suc n } else ring_from greatest_counter c (suc n)) ≡ ring
+    → (suc n < ring.rounds → ring_from most c (suc n) ≡ ring)
+    → (if b then record { keys = ring_after c (suc n); rounds = suc n } else ring_from most c (suc n)) ≡ ring
 unfolding ring_after
-step_from greatest_counter n c ring true is within same rest =
+step_from most n c ring true is within same rest =
     let old = ring_after c n in
     let stays : ring_after c (suc n) ≡ old = unchanged (suc n) old (ring_after c (suc n)) (led c old) refl (test_true _ _ same) in
     let no_more : suc n < ring.rounds → ⊥ = λ more. is.first (suc n) (omega arith) more (stays ∙ ap (ring_after c) (omega arith)) in
     let count : suc n ≡ ring.rounds = omega (arith, within, no_more) in
     same_ring c ring is (suc n) count
-step_from greatest_counter n c ring false is within other rest =
+step_from most n c ring false is within other rest =
     rest (let more : ring.rounds ≢ suc n = λ e. not_both (length (ring_after c (suc n))) (length (ring_after c n)) other
     (ap (λ k. length (ring_after c k)) (sym e) ∙ ap (length {A = RingKey}) is.last ∙ ap (λ k. length (ring_after c (k - 1))) e ∙ ap (λ k. length (ring_after c k)) (omega arith)) in
     omega (arith, within, more))
 
-walk : (greatest_counter n : ℕ) (c : Capture) (ring : Ring) → IsRing c ring → n < ring.rounds → ring.rounds ≤ n + greatest_counter → ring_from greatest_counter c n ≡ ring
+walk : (most n : ℕ) (c : Capture) (ring : Ring) → IsRing c ring → n < ring.rounds → ring.rounds ≤ n + most → ring_from most c n ≡ ring
 unfolding ring_from
 walk zero n c ring is within most_rounds = absurd (omega (arith, within, most_rounds))
-walk (suc greatest_counter) n c ring is within most_rounds =
-    step_from greatest_counter n c ring (length (ring_after c (suc n)) == length (ring_after c n)) is within refl
-    (λ more. walk greatest_counter (suc n) c ring is more (omega (arith, most_rounds)))
+walk (suc most) n c ring is within most_rounds =
+    step_from most n c ring (length (ring_after c (suc n)) == length (ring_after c n)) is within refl
+    (λ more. walk most (suc n) c ring is more (omega (arith, most_rounds)))
 
 -- there is one ring, and it is found
 pub ring_is : (c : Capture) (ring : Ring) → IsRing c ring → ring ≡ ring_of c

@@ -64,11 +64,11 @@ unfoldable pub ring_after : Capture → ℕ → List RingKey
 ring_after c zero = given_from [] c.keys
 ring_after c (suc n) = after_round c (suc n) (ring_after c n)
 
--- The ring after a round that comes behind n others, if that adds no key, else after the next ones; at most `most` rounds are tried.
+-- The ring after a round that comes behind n others, if that adds no key, else after the next ones; at most `tries` rounds are tried.
 unfoldable pub ring_from : ℕ → Capture → ℕ → Ring
 ring_from zero c n = record { keys = ring_after c n; rounds = n }
-ring_from (suc greatest_counter) c n =
-    if length (ring_after c (suc n)) == length (ring_after c n) then record { keys = ring_after c (suc n); rounds = suc n } else ring_from greatest_counter c (suc n)
+ring_from (suc tries) c n =
+    if length (ring_after c (suc n)) == length (ring_after c n) then record { keys = ring_after c (suc n); rounds = suc n } else ring_from tries c (suc n)
 
 -- The rounds end with the first that adds no key. They do: no ring has more keys than are given and three for each frame, and each other round adds one.
 abbrev pub ring_of : Capture → Ring
