@@ -25,7 +25,7 @@ const FRONT: usize = 2_097_152;
 /// How many bytes one job takes in meanwhile. It reads their lines too, so they are fewer.
 const BACK: usize = 1_572_864;
 
-/// Why the input gives no capture.
+/// Says why the input gives no capture.
 #[derive(Clone, Copy, Debug, PartialEq, Eq)]
 pub(crate) enum CaptureFault {
     /// It isn't known whole.
@@ -146,8 +146,8 @@ fn read_by_several<T: Threads + Sync, R: Source>(
 
 /// Does a round of two jobs or more. What stands behind the whole lines is left.
 ///
-/// While all but one of the jobs read the whole lines of what came, that one takes in what comes next and reads its whole
-/// lines.
+/// While all but one of the jobs read the whole lines of what came, that one takes in what comes next and reads its
+/// whole lines.
 fn read_round<T: Threads + Sync, R: Source>(
     rt: &T,
     alloc: Global,
@@ -215,7 +215,7 @@ fn read_both<T: Threads + Sync, R: Source>(
     (first, taken)
 }
 
-/// What the lines of a text give by themselves, read by so many jobs.
+/// Reads the lines of a text by themselves, by so many jobs.
 fn read_first<T: Threads + Sync>(
     rt: &T,
     alloc: Global,

@@ -7,7 +7,7 @@ use std::alloc::{AllocError, Global};
 use zb_base::{OrMemory, Source};
 use zb_capture::{CaptureError, CaptureReader, whole_lines};
 
-/// The bytes that came of an input.
+/// Holds the bytes that came of an input.
 #[derive(Drop)]
 pub(crate) struct Incoming {
     /// How many there are.
@@ -16,7 +16,7 @@ pub(crate) struct Incoming {
     pub part: Vec<u8>,
 }
 
-/// What was taken in of an input.
+/// Holds what was taken in of an input.
 #[derive(Drop)]
 pub(crate) struct Taken {
     /// What the whole lines give by themselves.
@@ -30,7 +30,7 @@ impl Incoming {
     ghost use Rattle.std.specs.Str.Lines.{lines};
     ghost use Rattle.tc_cli.specs.Inputs.{AreLinesRead, IsFilled, IsJudged, IsTaken, TakesAtMost};
 
-    /// Nothing came yet.
+    /// Starts where nothing came yet.
     pub fn new(alloc: Global) -> Incoming
         ensures { (result.count ≡ 0) × (result.part.items ≡ []) }
     {

@@ -8,10 +8,10 @@ ghost use Rattle.tc_cli.specs.declared.input.InputFault.TheVariants.{NoMemory as
 use std::alloc::{AllocError, Global};
 use zb_base::Source;
 
-/// The longest input of a command, in bytes.
+/// How many bytes the longest input of a command has.
 pub(crate) const LONGEST: u32 = 16_777_216;
 
-/// Why the input isn't known whole.
+/// Says why the input isn't known whole.
 #[derive(Clone, Copy, Debug, PartialEq, Eq)]
 pub(crate) enum InputFault {
     /// The source failed.

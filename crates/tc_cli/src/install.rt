@@ -37,7 +37,7 @@ pub(crate) fn install_code<W: Sink>(alloc: Global, code: &str, output: &mut W) -
     }
 }
 
-/// The digits of a key, and a line feed.
+/// Prints the digits of a key, and a line feed.
 fn key_page(alloc: Global, key: &Key) -> Result<Vec<u8>, AllocError>
     ensures { IfOk result (λ page. page.items ≡ encode_upper key.now.0 ++ 10 ∷ []) }
 {

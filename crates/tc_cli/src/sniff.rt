@@ -87,7 +87,7 @@ fn report_and_count<T: Threads + Sync, W: Sink>(
     }
 }
 
-/// The line of the counts.
+/// Prints the line of the counts.
 #[tactic(auto, using(std::proofs::Common::append_assoc))]
 fn counts_page(alloc: Global, counts: &Counts) -> Result<Vec<u8>, AllocError>
     ensures { IfOk result (λ page. page.items ≡ counts_line counts.now) }

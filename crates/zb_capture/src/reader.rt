@@ -53,7 +53,9 @@ impl CaptureReader {
     ///
     /// Requires fewer than 2^32 - 1 bytes, since a line has its number in 32 bits.
     ///
-    /// Errors: the first bad line, with its first cause.
+    /// # Errors
+    ///
+    /// The first bad line, with its first cause.
     pub fn alone(alloc: Global, text: &[u8]) -> Result<CaptureReader, OrMemory<CaptureError>>
         requires { length text.now < 2 ^ 32 - 1 }
         ensures { IsReadAlone result text.now }
@@ -70,7 +72,9 @@ impl CaptureReader {
     ///
     /// Requires a job, and that all lines have their numbers in 32 bits.
     ///
-    /// Errors: the first bad line, with its first cause. The reader is of no use then.
+    /// # Errors
+    ///
+    /// The first bad line, with its first cause. The reader is of no use then.
     pub fn read<T: Threads + Sync>(
         &mut self,
         rt: &T,
@@ -98,7 +102,9 @@ impl CaptureReader {
     ///
     /// Requires that all lines have their numbers in 32 bits.
     ///
-    /// Errors: the first bad line, with its first cause. The reader is of no use then.
+    /// # Errors
+    ///
+    /// The first bad line, with its first cause. The reader is of no use then.
     pub fn read_lines(&mut self, text: &[u8]) -> Result<(), OrMemory<CaptureError>>
         requires room { self.old.lines + length text.now < 2 ^ 32 - 1 }
         ensures exact { AreRead result self.old self.new text.now }
@@ -120,7 +126,9 @@ impl CaptureReader {
     /// Where they give no capture then, or one that doesn't fit behind the lines before, they are read one by one.
     /// Requires that `alone` is of this text, and that all lines have their numbers in 32 bits.
     ///
-    /// Errors: the first bad line, with its first cause. The reader is of no use then.
+    /// # Errors
+    ///
+    /// The first bad line, with its first cause. The reader is of no use then.
     pub fn add(
         &mut self,
         alloc: Global,

@@ -14,7 +14,9 @@ use zb_base::OrMemory;
 ///
 /// Requires fewer than 2^32 - 1 bytes, since a line has its number in 32 bits.
 ///
-/// Errors: the first bad line, with its first cause.
+/// # Errors
+///
+/// The first bad line, with its first cause.
 #[tactic(auto, unfolding(crate::specs::Grammar::captured))]
 pub fn read_capture(alloc: Global, bytes: &[u8]) -> Result<Capture, OrMemory<CaptureError>>
     requires { length bytes.now < 2 ^ 32 - 1 }
@@ -30,7 +32,9 @@ pub fn read_capture(alloc: Global, bytes: &[u8]) -> Result<Capture, OrMemory<Cap
 ///
 /// Requires a job, and fewer than 2^32 - 1 bytes.
 ///
-/// Errors: the first bad line, with its first cause.
+/// # Errors
+///
+/// The first bad line, with its first cause.
 #[tactic(auto, unfolding(crate::specs::Grammar::captured))]
 pub fn read_in_pieces<T: Threads + Sync>(
     rt: &T,

@@ -20,7 +20,11 @@ use zb_jobs::Gate;
 
 /// Writes the report on a capture, worked out by so many jobs. Nothing is written before the report is known.
 ///
-/// Requires a job. Errors: a fault of the sink, which then has a front of the report; no memory.
+/// Requires a job.
+///
+/// # Errors
+///
+/// `Write` where the sink failed, which then has a front of the report; `NoMemory`.
 pub fn report<T: Threads + Sync, G: Gate, W: Sink>(
     rt: &T,
     alloc: Global,

@@ -37,7 +37,9 @@ pub struct Extraction {
 ///
 /// Requires at most 256 keys.
 ///
-/// Errors: the first fault of the file.
+/// # Errors
+///
+/// The first fault of the file.
 #[tactic(auto, unfolding(crate::specs::Extracts::extracted))]
 pub fn extract(alloc: Global, bytes: &[u8], keys: &[Key]) -> Result<Extraction, OrMemory<PcapError>>
     requires { length keys.now ≤ 256 }
