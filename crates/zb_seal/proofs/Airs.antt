@@ -7,7 +7,7 @@ use Rattle.zb_base.specs.declared.label.Label.{Label}
 use Rattle.zb_base.specs.declared.label.Layer.{Layer}
 use Rattle.zb_cursor.specs.Spelling.{bit}
 use Rattle.zb_ccm.specs.Ccm.{Sealed}
-use Rattle.zb_ccm.proofs.Terms.{opens-sealed}
+use Rattle.zb_ccm.proofs.Sealings.{opens-sealed}
 use Rattle.zb_seal.specs.declared.envelope.Envelope.{Envelope}
 use Rattle.zb_seal.specs.declared.envelope.OpenError.{OpenError}
 use Rattle.zb_seal.specs.declared.term.Term.{Term}

@@ -9,7 +9,7 @@ use Rattle.zb_base.specs.declared.label.Layer.{Layer}
 use Rattle.zb_base.specs.declared.label.Layer.TheVariants.{Aps}
 use Rattle.zb_cursor.specs.Spelling.{IsBytes, number, eui, optional, bit}
 use Rattle.zb_ccm.specs.Ccm.{Sealed, opens, sealed}
-use Rattle.zb_ccm.proofs.Terms.{sealed-opens}
+use Rattle.zb_ccm.proofs.Sealings.{sealed-opens}
 use Rattle.zb_aps.specs.declared.fault.ApsError.{ApsError}
 use Rattle.zb_aps.specs.declared.header.ApsHeader.{ApsHeader}
 use Rattle.zb_aps.specs.declared.auxiliary.ApsAux.{ApsAux}

@@ -9,7 +9,7 @@ use Rattle.zb_base.specs.declared.label.Layer.{Layer}
 use Rattle.zb_base.specs.declared.label.Layer.TheVariants.{Nwk}
 use Rattle.zb_cursor.specs.Spelling.{IsBytes, byte, number, eui}
 use Rattle.zb_ccm.specs.Ccm.{Sealed, opens, sealed}
-use Rattle.zb_ccm.proofs.Terms.{sealed-opens}
+use Rattle.zb_ccm.proofs.Sealings.{sealed-opens}
 use Rattle.zb_nwk.specs.declared.fault.NwkError.{NwkError}
 use Rattle.zb_nwk.specs.declared.header.NwkHeader.{NwkHeader}
 use Rattle.zb_nwk.specs.declared.auxiliary.NwkAux.{NwkAux}

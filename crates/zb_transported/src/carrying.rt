@@ -11,8 +11,8 @@ use zb_seal::Term;
 
 /// Answers the key that a term carries, if any (05-3474-21, 4.4.9.2).
 ///
-/// It is that of a Transport-Key which is the content of the term: sealed at the application support layer as a command,
-/// or standing in clear in a network frame.
+/// It is that of a Transport-Key which is the content of the term: sealed at the application support layer as a
+/// command, or standing in clear in a network frame.
 #[tactic(auto, unfolding(crate::specs::Carrying::carried))]
 pub fn carried(term: &Term) -> Option<Key>
     ensures { result ≡ carried term.now }
