@@ -9,7 +9,7 @@ use Rattle.zb_aes.specs.Bytes.{word_bytes}
 use Rattle.zb_aes.specs.Columns.{state_bytes}
 use Rattle.zb_aes.specs.declared.state.State.{State}
 use Rattle.zb_ccm.specs.Blocks.{block_at}
-use Rattle.zb_ccm.specs.Ccm.{counted}
+use Rattle.zb_ccm.specs.Ccm.{with_length}
 
 filled_short : (bytes : List ℕ) (count : ℕ) → length bytes ≤ 16 → count ≡ length bytes
     → take count bytes ++ drop count (replicate 16 0) ≡ take 16 (bytes ++ replicate 16 0)
@@ -65,13 +65,13 @@ front_14 xs t h e =
     (λ k g. get_or-take 14 xs k 0 g ∙ sym (get_or-take 16 xs k 0 (omega arith)) ∙ ap (λ l. get_or l k 0) (sym e)))
 
 -- The first block of the authenticated data: two bytes of length, and the first 14 of `t`.
-pub first_counted : (a r t : List ℕ) → 0 < length a → r ≡ to_be_bytes w16 (length a)
+pub first_with_length : (a r t : List ℕ) → 0 < length a → r ≡ to_be_bytes w16 (length a)
     → t ≡ take 16 (a ++ replicate 16 0)
     → get_or r 0 0 ∷ get_or r 1 0 ∷ get_or t 0 0 ∷ get_or t 1 0 ∷ get_or t 2 0 ∷ get_or t 3 0 ∷ get_or t 4 0
     ∷ get_or t 5 0 ∷ get_or t 6 0 ∷ get_or t 7 0 ∷ get_or t 8 0 ∷ get_or t 9 0 ∷ get_or t 10 0
-    ∷ get_or t 11 0 ∷ get_or t 12 0 ∷ get_or t 13 0 ∷ [] ≡ block_at (counted a) 0
-first_counted [] r t h p q = absurd (omega arith)
-first_counted (x ∷ xs) r t h p q =
+    ∷ get_or t 11 0 ∷ get_or t 12 0 ∷ get_or t 13 0 ∷ [] ≡ block_at (with_length a) 0
+first_with_length [] r t h p q = absurd (omega arith)
+first_with_length (x ∷ xs) r t h p q =
     rw p (ap (λ l. to_be_bytes w16 (length (x ∷ xs)) ++ l)
     (front_14 (x ∷ xs ++ replicate 16 0) t (omega (arith, length-append (x ∷ xs) (replicate 16 0))) q))
 

@@ -10,7 +10,7 @@ use Rattle.zb_aes.proofs.Xored.{xored-zeros}
 use Rattle.zb_aes.specs.Block.{enciphered}
 use Rattle.zb_aes.specs.Bytes.{xored}
 use Rattle.zb_ccm.specs.Blocks.{block_at, block_count, blocks_of, chain, chained}
-use Rattle.zb_ccm.specs.Ccm.{code, counted, first_block, flags, stream_block}
+use Rattle.zb_ccm.specs.Ccm.{code, with_length, first_block, flags, stream_block}
 
 -- One block more is chained.
 pub chain_more : (key start bytes value block total next : List ℕ) (i : ℕ)
@@ -56,9 +56,9 @@ blocks_of-more bytes h =
     let count : block_count (length bytes) ≡ block_count (length bytes - 16) + 1 = omega arith in
     rw (size, count, add-one) (ap (λ l. block_at bytes 0 ∷ l) (shifted bytes 0 (block_count (length bytes - 16))))
 
-pub chain-counted_none : (key value a : List ℕ) → length a ≡ 0 → value ≡ chain key value (blocks_of (counted a))
-chain-counted_none key value [] h = rw blocks_of-nil refl
-chain-counted_none key value (x ∷ xs) h = absurd (omega arith)
+pub chain-with_length_none : (key value a : List ℕ) → length a ≡ 0 → value ≡ chain key value (blocks_of (with_length a))
+chain-with_length_none key value [] h = rw blocks_of-nil refl
+chain-with_length_none key value (x ∷ xs) h = absurd (omega arith)
 
 dropped : (a : List ℕ) (count : ℕ) → count ≡ min (length a) 14 → take (length a - count) (drop count a) ≡ drop 14 a
 dropped a count e =
@@ -69,22 +69,22 @@ dropped a count e =
       | inr h ↦ let k : count ≡ 14 = omega arith in whole ∙ ap (λ j. drop j a) k
     ]
 
-pub chain-counted_some : (key value a block total first result : List ℕ) (count : ℕ) → 0 < length a
-    → block ≡ block_at (counted a) 0 → total ≡ xored value block → first ≡ enciphered key total
+pub chain-with_length_some : (key value a block total first result : List ℕ) (count : ℕ) → 0 < length a
+    → block ≡ block_at (with_length a) 0 → total ≡ xored value block → first ≡ enciphered key total
     → count ≡ min (length a) 14
     → result ≡ chain key first (blocks_of (take (length a - count) (drop count a)))
-    → result ≡ chain key value (blocks_of (counted a))
-chain-counted_some key value [] block total first result count h p q r e s = absurd (omega arith)
-chain-counted_some key value (x ∷ xs) block total first result count h p q r e s =
+    → result ≡ chain key value (blocks_of (with_length a))
+chain-with_length_some key value [] block total first result count h p q r e s = absurd (omega arith)
+chain-with_length_some key value (x ∷ xs) block total first result count h p q r e s =
     let rest : result ≡ chain key first (blocks_of (drop 14 (x ∷ xs))) =
     s ∙ ap (λ l. chain key first (blocks_of l)) (dropped (x ∷ xs) count e) in
-    let blocks = blocks_of-more (counted (x ∷ xs)) (omega arith) in
+    let blocks = blocks_of-more (with_length (x ∷ xs)) (omega arith) in
     rw blocks (rest ∙ ap (λ l. chain key l (blocks_of (drop 14 (x ∷ xs)))) (r ∙ ap (enciphered key) (q ∙ ap (xored value) p)))
 
 -- The whole code, from what its parts are.
 pub code_built : (key nonce a message first start middle value last total : List ℕ) (size : ℕ) → length nonce ≡ 13
     → first ≡ first_block nonce a message size → start ≡ enciphered key first
-    → middle ≡ chain key start (blocks_of (counted a)) → value ≡ chain key middle (blocks_of message)
+    → middle ≡ chain key start (blocks_of (with_length a)) → value ≡ chain key middle (blocks_of message)
     → last ≡ stream_block key nonce 0 → total ≡ xored value last
     → take size total ≡ code key nonce a message size
 unfolding code
@@ -94,7 +94,7 @@ code_built key nonce a message first start middle value last total size l p q r 
     omega (arith, length-append (flags a size ∷ nonce) (to_be_bytes w16 (length message))) in
     let begun : start ≡ chained key (replicate 16 0) block =
     q ∙ ap (enciphered key) (p ∙ sym (xored-zeros 16 block long)) in
-    let whole : value ≡ chain key (chained key (replicate 16 0) block) (blocks_of (counted a) ++ blocks_of message) =
-    s ∙ ap (λ v. chain key v (blocks_of message)) (r ∙ ap (λ v. chain key v (blocks_of (counted a))) begun)
-    ∙ sym (fold-append (chained key) (chained key (replicate 16 0) block) (blocks_of (counted a)) (blocks_of message)) in
+    let whole : value ≡ chain key (chained key (replicate 16 0) block) (blocks_of (with_length a) ++ blocks_of message) =
+    s ∙ ap (λ v. chain key v (blocks_of message)) (r ∙ ap (λ v. chain key v (blocks_of (with_length a))) begun)
+    ∙ sym (fold-append (chained key) (chained key (replicate 16 0) block) (blocks_of (with_length a)) (blocks_of message)) in
     rw (u, whole, t) refl

@@ -1,6 +1,6 @@
 -- CCM* with a length field of 2 bytes and a nonce of 13 (05-3474-21, annex A.2), which is CCM (RFC 3610) for codes
 -- of 4 and 8 bytes. `size` is the length of the code.
-use Rattle.std.specs.Prelude.{ℕ, List, [], ◌∷◌, ◌++◌, ◌+◌, ◌-◌, ◌*◌, ◌/◌, Option, Some, None, length, take, replicate, if◌then◌else◌}
+use Rattle.std.specs.Prelude.{◌≡◌, ℕ, List, [], ◌∷◌, ◌++◌, ◌+◌, ◌-◌, ◌*◌, ◌/◌, Option, Some, None, Result, OnOk, OnErr, length, take, replicate, if◌then◌else◌}
 use Rattle.std.specs.Int.{w16, to_be_bytes}
 use Rattle.std.specs.List.{flat_map, range_with_len}
 use Rattle.std.specs.Str.{bytes_eq}
@@ -20,14 +20,14 @@ first_block nonce associated message size =
     flags associated size ∷ nonce ++ to_be_bytes w16 (length message)
 
 -- RFC 3610, 2.2: the authenticated data behind its length, or nothing where it is empty.
-abbrev pub counted : List ℕ → List ℕ
-counted [] = []
-counted (x ∷ xs) = to_be_bytes w16 (length (x ∷ xs)) ++ x ∷ xs
+abbrev pub with_length : List ℕ → List ℕ
+with_length [] = []
+with_length (x ∷ xs) = to_be_bytes w16 (length (x ∷ xs)) ++ x ∷ xs
 
 -- RFC 3610, 2.2: all blocks that are authenticated.
 abbrev pub authenticated_blocks : (nonce associated message : List ℕ) → ℕ → List (List ℕ)
 authenticated_blocks nonce associated message size =
-    first_block nonce associated message size ∷ blocks_of (counted associated) ++ blocks_of message
+    first_block nonce associated message size ∷ blocks_of (with_length associated) ++ blocks_of message
 
 -- RFC 3610, 2.3: the block A_i, enciphered.
 unfoldable pub stream_block : (key nonce : List ℕ) → ℕ → List ℕ
@@ -62,3 +62,9 @@ unfoldable pub opens : (key nonce associated text mic : List ℕ) → Option (Li
 opens key nonce associated text mic =
     let message = crypted key nonce text in
     if bytes_eq (code key nonce associated message (length mic)) mic then Some message else None
+
+-- What opening returned and left in place of a text: its message where the code is right, and else the text as it was.
+pub record IsOpening {E : Type 0} (key nonce associated text mic left : List ℕ) (result : Result (Unit {0}) E) : Type 0 where
+  pub opened : OnOk result (opens key nonce associated text mic ≡ Some left)
+  pub refused : OnErr result (opens key nonce associated text mic ≡ None)
+  pub kept : OnErr result (left ≡ text)

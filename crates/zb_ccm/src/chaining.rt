@@ -3,7 +3,7 @@
 ghost use Rattle.std.specs.Prelude.{◌≡◌, ◌≤◌, ◌<◌, length, take};
 ghost use Rattle.zb_aes.specs.Columns.{state_bytes};
 ghost use Rattle.zb_ccm.specs.Blocks.{block_at, blocks_of, chain};
-ghost use Rattle.zb_ccm.specs.Ccm.{code, counted, flags};
+ghost use Rattle.zb_ccm.specs.Ccm.{code, with_length, flags};
 
 use crate::blocks::{block_of, filled, numbered};
 use crate::keystream::stream_block_of;
@@ -25,7 +25,7 @@ fn chained_bytes(cipher: &Cipher, start: State, bytes: &[u8]) -> State
 fn first_associated(associated: &[u8]) -> State
     requires some { 0 < length associated.now }
     requires fits { length associated.now < 65280 }
-    ensures { state_bytes result ≡ block_at (counted associated.now) 0 }
+    ensures { state_bytes result ≡ block_at (with_length associated.now) 0 }
 {
     let [high, low] = (associated.len() as u16).to_be_bytes();
     let [a, b, c, d, e, f, g, h, i, j, k, l, m, n, _, _] = filled(associated);
@@ -35,7 +35,7 @@ fn first_associated(associated: &[u8]) -> State
 // Chains the authenticated data to a value.
 fn chained_associated(cipher: &Cipher, value: State, associated: &[u8]) -> State
     requires { length associated.now < 65280 }
-    ensures { state_bytes result ≡ chain cipher.now (state_bytes value) (blocks_of (counted associated.now)) }
+    ensures { state_bytes result ≡ chain cipher.now (state_bytes value) (blocks_of (with_length associated.now)) }
 {
     if associated.is_empty() {
         return value;

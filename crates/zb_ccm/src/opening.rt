@@ -1,8 +1,8 @@
 //! Opening: the text becomes its message only where its code is right.
 
-ghost use Rattle.std.specs.Prelude.{◌≡◌, ◌<◌, ◌≤◌, length, Some, None, OnOk, OnErr};
+ghost use Rattle.std.specs.Prelude.{◌≡◌, ◌<◌, ◌≤◌, length};
 ghost use Rattle.std.specs.Str.{bytes_eq};
-ghost use Rattle.zb_ccm.specs.Ccm.{code, opens};
+ghost use Rattle.zb_ccm.specs.Ccm.{code, IsOpening};
 
 use crate::BadMic;
 use crate::chaining::code_of;
@@ -40,9 +40,7 @@ fn open_through(
     requires associated_fits { length associated.now < 65280 }
     requires text_fits { length text.old < 65280 }
     requires same_length { length copy.old ≡ length text.old }
-    ensures opened { OnOk result (opens cipher.now nonce.now associated.now text.old mic.now ≡ Some text.new) }
-    ensures refused { OnErr result (opens cipher.now nonce.now associated.now text.old mic.now ≡ None) }
-    ensures kept { OnErr result (text.new ≡ text.old) }
+    ensures { IsOpening cipher.now nonce.now associated.now text.old mic.now text.new result }
 {
     copy.copy_from_slice(text);
     crypt(cipher, nonce, copy);
@@ -63,9 +61,7 @@ pub fn open_copy(
 ) -> Result<(), BadMic>
     requires associated_fits { length associated.now < 65280 }
     requires text_fits { length text.old ≤ COPIED }
-    ensures opened { OnOk result (opens cipher.now nonce.now associated.now text.old mic.now ≡ Some text.new) }
-    ensures refused { OnErr result (opens cipher.now nonce.now associated.now text.old mic.now ≡ None) }
-    ensures kept { OnErr result (text.new ≡ text.old) }
+    ensures { IsOpening cipher.now nonce.now associated.now text.old mic.now text.new result }
 {
     let mut copy = [0; COPIED];
     let len = text.len();
@@ -82,9 +78,7 @@ pub fn open_in_place(
 ) -> Result<(), BadMic>
     requires associated_fits { length associated.now < 65280 }
     requires text_fits { length text.old < 65280 }
-    ensures opened { OnOk result (opens cipher.now nonce.now associated.now text.old mic.now ≡ Some text.new) }
-    ensures refused { OnErr result (opens cipher.now nonce.now associated.now text.old mic.now ≡ None) }
-    ensures kept { OnErr result (text.new ≡ text.old) }
+    ensures { IsOpening cipher.now nonce.now associated.now text.old mic.now text.new result }
 {
     crypt(cipher, nonce, text);
     if !is_code(cipher, nonce, associated, text, mic) {

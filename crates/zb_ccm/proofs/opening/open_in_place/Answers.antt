@@ -3,18 +3,20 @@ use Rattle.zb_ccm.proofs.Openings.{crypted_twice, opens_none, opens_some}
 use Rattle.zb_ccm.specs.Ccm.{crypted}
 use Rattle.zb_ccm.proofs.opening.open_in_place.Goals as goal
 
-pub returns-then-not-is_code-clause-refused : goal.returns-then-not-is_code-clause-refused
-returns-then-not-is_code-clause-refused c =
-    opens_none c.args.cipher.now c.args.nonce.now c.args.associated.now c.args.text.now c.args.mic.now _ _
-    c.crypt.ensures.crypts c.told-mic c.is_code.ensures c.if-not-is_code.true
+pub returns-then-not-is_code : goal.returns-then-not-is_code
+returns-then-not-is_code c = record {
+  opened = tt;
+  refused = opens_none c.args.cipher.now c.args.nonce.now c.args.associated.now c.args.text.now c.args.mic.now _ _
+      c.crypt.ensures.crypts c.told-mic c.is_code.ensures c.if-not-is_code.true;
+  kept = c.crypt-then-not-is_code.ensures.crypts
+      ∙ ap (crypted c.args.cipher.now c.args.nonce.now) c.crypt.ensures.crypts
+      ∙ crypted_twice c.args.cipher.now c.args.nonce.now c.args.text.now c.crypt.ensures.covers;
+}
 
-pub returns-then-not-is_code-clause-kept : goal.returns-then-not-is_code-clause-kept
-returns-then-not-is_code-clause-kept c =
-    c.crypt-then-not-is_code.ensures.crypts
-    ∙ ap (crypted c.args.cipher.now c.args.nonce.now) c.crypt.ensures.crypts
-    ∙ crypted_twice c.args.cipher.now c.args.nonce.now c.args.text.now c.crypt.ensures.covers
-
-pub returns-clause-opened : goal.returns-clause-opened
-returns-clause-opened c =
-    opens_some c.args.cipher.now c.args.nonce.now c.args.associated.now c.args.text.now c.args.mic.now _ _
-    c.crypt.ensures.crypts c.told-mic c.is_code.ensures c.if-not-is_code.false
+pub returns : goal.returns
+returns c = record {
+  opened = opens_some c.args.cipher.now c.args.nonce.now c.args.associated.now c.args.text.now c.args.mic.now _ _
+      c.crypt.ensures.crypts c.told-mic c.is_code.ensures c.if-not-is_code.false;
+  refused = tt;
+  kept = tt;
+}

@@ -1,17 +1,23 @@
-use Rattle.std.proofs.Common.{◌∙◌, sym, ap, Some}
+use Rattle.std.proofs.Common.{◌∙◌, sym, ap, refl, Some}
 use Rattle.zb_ccm.proofs.Openings.{opens_none, opens_some}
 use Rattle.zb_ccm.specs.Ccm.{crypted}
 use Rattle.zb_ccm.proofs.opening.open_through.Goals as goal
 
-pub returns-then-not-is_code-clause-refused : goal.returns-then-not-is_code-clause-refused
-returns-then-not-is_code-clause-refused c =
-    opens_none c.args.cipher.now c.args.nonce.now c.args.associated.now c.args.text.now c.args.mic.now _ _
-    (c.crypt.ensures.crypts ∙ ap (crypted c.args.cipher.now c.args.nonce.now) c.copy_from_slice.ensures.after)
-    c.told-mic c.is_code.ensures c.if-not-is_code.true
+pub returns-then-not-is_code : goal.returns-then-not-is_code
+returns-then-not-is_code c = record {
+  opened = tt;
+  refused = opens_none c.args.cipher.now c.args.nonce.now c.args.associated.now c.args.text.now c.args.mic.now _ _
+      (c.crypt.ensures.crypts ∙ ap (crypted c.args.cipher.now c.args.nonce.now) c.copy_from_slice.ensures.after)
+      c.told-mic c.is_code.ensures c.if-not-is_code.true;
+  kept = refl;
+}
 
-pub returns-clause-opened : goal.returns-clause-opened
-returns-clause-opened c =
-    opens_some c.args.cipher.now c.args.nonce.now c.args.associated.now c.args.text.now c.args.mic.now _ _
-    (c.crypt.ensures.crypts ∙ ap (crypted c.args.cipher.now c.args.nonce.now) c.copy_from_slice.ensures.after)
-    c.told-mic c.is_code.ensures c.if-not-is_code.false
-    ∙ ap Some (sym c.copy_from_slice-2.ensures.after)
+pub returns : goal.returns
+returns c = record {
+  opened = opens_some c.args.cipher.now c.args.nonce.now c.args.associated.now c.args.text.now c.args.mic.now _ _
+      (c.crypt.ensures.crypts ∙ ap (crypted c.args.cipher.now c.args.nonce.now) c.copy_from_slice.ensures.after)
+      c.told-mic c.is_code.ensures c.if-not-is_code.false
+      ∙ ap Some (sym c.copy_from_slice-2.ensures.after);
+  refused = tt;
+  kept = tt;
+}
