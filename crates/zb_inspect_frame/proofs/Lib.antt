@@ -3,4 +3,4 @@ pub mod MoreKeys
 pub mod SettledFrames
 pub mod Noted
 pub mod UnopenedFrames
-mod Reads
+mod ReadOnce

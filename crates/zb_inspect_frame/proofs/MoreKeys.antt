@@ -163,7 +163,7 @@ frame_anew known addrs keys bytes seen within is =
     ap (λ n. shown_under addrs keys n (frame_of bytes)) (ap (tried known (drop known keys)) nwk_is ∙ nwk_further known keys bytes within)
 
 -- A frame whose data was known under the first keys.
-pub frame_further : (known : ℕ) (addrs : List (Short × Eui)) (keys : List Key) (bytes : List ℕ) (seen : Shown) (old new : Below)
+frame_further : (known : ℕ) (addrs : List (Short × Eui)) (keys : List Key) (bytes : List ℕ) (seen : Shown) (old new : Below)
     → known ≤ length keys → seen ≡ frame_shown addrs (take known keys) bytes → seen.below ≡ Some old
     → IfSome (payload_in (tried known (drop known keys) seen.nwk) (frame_of bytes)) (λ p. new ≡ below keys (given_in addrs (frame_of bytes)) p)
     → record { nwk = tried known (drop known keys) seen.nwk; below = Some new } ≡ frame_shown addrs keys bytes
@@ -181,6 +181,42 @@ frame_further known addrs keys bytes seen old new within is some under =
     (payload_in (tried known fresh seen.nwk) r) old new was (payload_kept known fresh seen.nwk r) under in
     ap (λ b. whole (tried known fresh seen.nwk) b) (sym now) ∙ sym (shown_parts addrs keys (tried known fresh seen.nwk) r)
     ∙ ap (λ n. shown_under addrs keys n r) all
+
+if_some : (now : Option (List ℕ)) (Q : List ℕ → Type 0) → ((p : List ℕ) → now ≡ Some p → Q p) → IfSome now Q
+if_some None Q each = tt
+if_some (Some p) Q each = each p refl
+
+old_is : (f : List ℕ → Below) (o now : Option (List ℕ)) (old : Below) → option_map f o ≡ Some old → ((p : List ℕ) → o ≡ Some p → now ≡ Some p)
+    → (p : List ℕ) → now ≡ Some p → old ≡ f p
+old_is f None now old e keeps p is = cc
+old_is f (Some q) now old e keeps p is = let kept : now ≡ Some q = keeps q refl in cc
+
+-- The same, where `nwk` is what the NWK layer is found to be under all keys: what was known below it, and what is known then.
+
+pub below_before : (known : ℕ) (addrs : List (Short × Eui)) (keys : List Key) (bytes : List ℕ) (seen : Shown) (nwk : Finding) (old : Below)
+    → seen ≡ frame_shown addrs (take known keys) bytes → nwk ≡ tried known (drop known keys) seen.nwk → seen.below ≡ Some old
+    → IfSome (payload_in nwk (frame_of bytes)) (λ p. old ≡ below (take known keys) (given_in addrs (frame_of bytes)) p)
+unfolding frame_shown
+below_before known addrs keys bytes seen nwk old is found some =
+    let first = take known keys in
+    let fresh = drop known keys in
+    let r = frame_of bytes in
+    let parts = is ∙ shown_parts addrs first (found_nwk first bytes) r in
+    let nwk_is : seen.nwk ≡ found_nwk first bytes = ap (λ (s : Shown). s.nwk) parts in
+    let was : option_map (below first (given_in addrs r)) (payload_in seen.nwk r) ≡ Some old =
+    ap (λ n. option_map (below first (given_in addrs r)) (payload_in n r)) nwk_is ∙ sym (ap (λ (s : Shown). s.below) parts) ∙ some in
+    let P : Finding → Type 0 = λ n. IfSome (payload_in n r) (λ p. old ≡ below first (given_in addrs r) p) in
+    subst P (sym found) (if_some (payload_in (tried known fresh seen.nwk) r) (λ p. old ≡ below first (given_in addrs r) p)
+    (old_is (below first (given_in addrs r)) (payload_in seen.nwk r) (payload_in (tried known fresh seen.nwk) r) old was
+    (payload_kept known fresh seen.nwk r)))
+
+pub frame_found : (known : ℕ) (addrs : List (Short × Eui)) (keys : List Key) (bytes : List ℕ) (seen : Shown) (nwk : Finding) (old new : Below)
+    → known ≤ length keys → seen ≡ frame_shown addrs (take known keys) bytes → nwk ≡ tried known (drop known keys) seen.nwk → seen.below ≡ Some old
+    → IfSome (payload_in nwk (frame_of bytes)) (λ p. new ≡ below keys (given_in addrs (frame_of bytes)) p)
+    → record { nwk = nwk; below = Some new } ≡ frame_shown addrs keys bytes
+frame_found known addrs keys bytes seen nwk old new within is found some under =
+    let P : Finding → Type 0 = λ n. IfSome (payload_in n (frame_of bytes)) (λ p. new ≡ below keys (given_in addrs (frame_of bytes)) p) in
+    ap (λ n. whole n (Some new)) found ∙ frame_further known addrs keys bytes seen old new within is some (subst P found under)
 
 none_either : (b : Bool) (f : List ℕ → Below) → option_map f (if b then None else None) ≡ None
 none_either true f = refl

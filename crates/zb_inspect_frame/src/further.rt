@@ -16,7 +16,7 @@ use zb_seal::SealingKeys;
 /// Shows a frame under all keys, where `seen` is what it shows under the first `known` of them.
 ///
 /// Requires fewer than 2^32 keys, since each has its number in 32 bits.
-#[tactic(auto, using(crate::proofs::MoreKeys::frame_anew, crate::proofs::MoreKeys::frame_further))]
+#[tactic(auto, using(crate::proofs::MoreKeys::frame_anew))]
 pub fn show_more(
     addrs: &Addresses<'_>,
     keys: &[SealingKeys],

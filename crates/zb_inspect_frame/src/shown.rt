@@ -38,7 +38,7 @@ pub struct Below {
 /// Shows a frame under the keys of a ring. `addrs` has the IEEE addresses that are known.
 ///
 /// Requires fewer than 2^32 keys, since each has its number in 32 bits.
-#[tactic(auto, using(crate::proofs::Reads::frame_read, crate::proofs::Reads::frame_bad))]
+#[tactic(auto, using(crate::proofs::ReadOnce::frame_read, crate::proofs::ReadOnce::frame_bad))]
 pub fn show(addrs: &Addresses<'_>, keys: &[SealingKeys], frame: &Frame) -> Shown
     requires { length keys.now < 2 ^ 32 }
     ensures { result ≡ frame_shown addrs.now keys.now frame.now.items }
@@ -139,7 +139,7 @@ pub(crate) fn source_known(addrs: &Addresses<'_>, header: &NwkHeader) -> Option<
     }
 }
 
-#[tactic(auto, using(crate::proofs::Reads::payload_read, crate::proofs::Reads::payload_bad))]
+#[tactic(auto, using(crate::proofs::ReadOnce::payload_bad))]
 fn show_payload(keys: &[SealingKeys], given: Option<Eui>, payload: &[u8]) -> Below
     requires { length keys.now < 2 ^ 32 }
     ensures { result ≡ below keys.now given payload.now }
