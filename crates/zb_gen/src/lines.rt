@@ -152,7 +152,7 @@ fn put_provision_line(out: &mut Vec<u8>, start: u32, i: u32) -> Result<(), Alloc
     requires { (1 ≤ i) × (i ≤ 60) }
     ensures { OnOk result
         (out.new.items ≡ out.old.items
-            ++ ended (line_of_words (codes "provision" ∷ node_name i ∷ code_word start i ∷ []))) }
+        ++ ended (line_of_words (codes "provision" ∷ node_name i ∷ code_word start i ∷ []))) }
 {
     put(out, b"provision")?;
     add_node(out, i)?;
@@ -165,7 +165,7 @@ fn put_provision_line(out: &mut Vec<u8>, start: u32, i: u32) -> Result<(), Alloc
 fn put_child_line(out: &mut Vec<u8>, i: u32) -> Result<(), AllocError>
     ensures { OnOk result
         (out.new.items ≡ out.old.items
-            ++ ended (line_of_words (codes "child" ∷ codes "c" ∷ node_name i ∷ codes "join" ∷ []))) }
+        ++ ended (line_of_words (codes "child" ∷ codes "c" ∷ node_name i ∷ codes "join" ∷ []))) }
 {
     put(out, b"child c")?;
     add_node(out, i)?;
@@ -193,7 +193,7 @@ fn put_rest_of_join(out: &mut Vec<u8>, sent: u32, i: u32) -> Result<(), AllocErr
     requires { sent ≤ 300 }
     ensures { OnOk result
         (out.new.items ≡ out.old.items
-            ++ page (deliver_line (sent + 2) 0 ∷ deliver_line (sent + 3) i ∷ own_line (codes "timer") i
+        ++ page (deliver_line (sent + 2) 0 ∷ deliver_line (sent + 3) i ∷ own_line (codes "timer") i
         ∷ deliver_line (sent + 4) 0 ∷ deliver_line (sent + 5) i ∷ [])) }
 {
     put_deliver_line(out, sent + 2, 0)?;
@@ -232,7 +232,7 @@ pub fn put_supply(out: &mut Vec<u8>, start: u32, n: u32) -> Result<(), AllocErro
     requires { n ≤ 60 }
     ensures { OnOk result
         (out.new.items ≡ out.old.items
-            ++ page (netkey_line start n ∷ map (λ j. draw_line start n j) (range_with_len 0 (n + 1)))) }
+        ++ page (netkey_line start n ∷ map (λ j. draw_line start n j) (range_with_len 0 (n + 1)))) }
 {
     put_netkey_line(out, start, n)?;
     put_draws(out, start, n)?;
