@@ -2,8 +2,7 @@
 -- that of the first node of that name that the lines before it declare, and `nobody` where there is none. The lines
 -- that only the centre gives, and that don't show it, are the centre's: the first declared node of that role.
 use Rattle.std.specs.Prelude.{ℕ, List, [], ◌∷◌, ◌++◌, fold, find, bytes_eq, codes, Option, Some, None, if◌then◌else◌}
-pub use Rattle.zb_node_types.specs.Changes.{model_role}
-use Rattle.zb_node_types.specs.Changes.{model_layer, model_state, model_attribute, is_sending, model_place, reason}
+use Rattle.zb_node_types.specs.Changes.{model_layer, model_role, model_state, model_attribute, is_sending, model_place, reason}
 use Rattle.zb_node_types.specs.Changes as changes
 use Rattle.zb_model.specs.Data as model
 use Rattle.zb_model.specs.Data.{Station, nobody}
