@@ -8,7 +8,7 @@ use Rattle.zb_install.specs.Code.{code_key}
 use Rattle.zb_model.specs.Data.{Station, nobody, SayTo, TellTo, DoKnock, DoRejoin, DoTimer, AskFor, HasChild, DoProvision, DoRemove, DoSwitch, DoAgain, DoShare}
 use Rattle.zb_model.specs.Play as model
 use Rattle.zb_model.specs.Rules.{centre_of, eui_or}
-use Rattle.zb_sched.specs.Plan.{Node, Plan}
+use Rattle.zb_sched.specs.Schedules.{Node, Schedule}
 use Rattle.zb_sched_line.specs.Said.{Bytes, Event, Says, Delivers, Ticks, Knocks, Rejoins, Adopts, Provisions, Repeats, Rolls, Switches, Removes, Resets, Boots, Dumps, Stops, Fails, Injects, ForgesNet, ForgesBoth, ForgesOpen, Asks, Shares, Tells}
 use Rattle.zb_seal.specs.Terms.{model_label}
 
@@ -18,7 +18,7 @@ use Rattle.zb_seal.specs.Terms.{model_label}
 abbrev pub station_for : Node → Station
 station_for m = record { name = m.name; eui = m.eui; short = m.short; role = model_role m.role; out_block = m.out_block; in_block = m.in_block }
 
-abbrev pub stations_for : Plan → List Station
+abbrev pub stations_for : Schedule → List Station
 stations_for p = map station_for p.nodes
 
 -- A node with what it holds at the start: the link key of its install code, its network key with the sequence, and its stored
@@ -64,5 +64,5 @@ act_for nodes (ForgesBoth to from source key sequence counter label base aps_cou
     model.ForgeNetAps to from source key sequence counter (model_label label) base aps_counter command
 act_for nodes (ForgesOpen to from source label base aps_counter command) = model.ForgeOpen to from source (model_label label) base aps_counter command
 
-unfoldable pub schedule_of : Plan → model.Schedule
+unfoldable pub schedule_of : Schedule → model.Schedule
 schedule_of p = record { nodes = map member_for p.nodes; draws = p.draws; events = map (act_for (stations_for p)) p.events }
