@@ -1,5 +1,6 @@
-//! The counters of whole runs: the transcript of a schedule is counted, and it is the only list of lines that is lawful and
-//! counted. Each law stands as the contract of a function with an empty body; docs/THEOREMS.md says it in words.
+//! The counters of whole runs: the transcript of a schedule is counted, and it is the only list of lines that is
+//! lawful and counted. Each law stands as the contract of a function with an empty body; docs/THEOREMS.md says it in
+//! words.
 #![tactic(auto)]
 
 ghost use Rattle.std.specs.Prelude.{◌≡◌, List};
@@ -12,21 +13,23 @@ ghost use Rattle.zb_model.specs.Play.{Schedule};
 ghost use Rattle.zb_model.specs.Tools.{Tools};
 ghost use Rattle.zb_model.specs.Transcript.{transcript};
 
-/// In the transcript of each schedule every counter is the next, and reserves, floors and starts stand exactly where they
-/// must, with the values that they must have; where a stop or failure cuts a group short, in the group that it cuts.
+/// In the transcript of each schedule every counter is the next, and reserves, floors and starts stand exactly where
+/// they must, with the values that they must have; where a stop or failure cuts a group short, in the group that it
+/// cuts.
 pub fn transcripts_are_counted()
     ensures { (tools : Tools) → Opens tools → (w : Schedule) → Counted tools w (transcript tools w) }
 {}
 
-/// Lines that are lawful and counted for a schedule are its transcript: the policy and the counters together leave nothing
-/// open, to the last byte.
+/// Lines that are lawful and counted for a schedule are its transcript: the policy and the counters together leave
+/// nothing open, to the last byte.
 pub fn lawful_and_counted_lines_are_the_transcript()
-    ensures { (tools : Tools) → Opens tools → (w : Schedule) (lines : List Line) → Lawful tools w lines → Counted tools w lines
+    ensures { (tools : Tools) → Opens tools → (w : Schedule) (lines : List Line) → Lawful tools w lines
+        → Counted tools w lines
         → lines ≡ transcript tools w }
 {}
 
-/// No floor is more than the node's incoming block above the counter for which it was stored: behind each floor line, in its
-/// event, stands the accept line of that counter, or the stop or failure that cut the event short.
+/// No floor is more than the node's incoming block above the counter for which it was stored: behind each floor line,
+/// in its event, stands the accept line of that counter, or the stop or failure that cut the event short.
 pub fn a_floor_is_at_most_one_block_above_its_counter()
     ensures { (tools : Tools) → Opens tools → (w : Schedule) → FloorsAreFor w (transcript tools w) }
 {}

@@ -1,5 +1,5 @@
-//! Laws of each text. Their calls read the text line by line and keep nothing, since what the lines of a text may say is a
-//! clause of the call that reads one.
+//! Laws of each text. Their calls read the text line by line and keep nothing, since what the lines of a text may say
+//! is a clause of the call that reads one.
 
 ghost use Rattle.std.specs.Prelude.{◌≡◌, Ok};
 ghost use Rattle.zb_model_schedules.specs.Schedules.{schedule_of};

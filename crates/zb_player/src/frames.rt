@@ -96,7 +96,8 @@ impl Heading {
         requires header { header.now.items ≡ header_of self.now network_control }
         requires header_fits { array_vec_len header.now ≡ 22 }
         requires content_fits { length content.old ≤ 72 }
-        ensures { result.items ≡ frame_of header.now.items (sealed cipher.now (heading_nonce self.now) header.now.items content.old 4) }
+        ensures { result.items
+            ≡ frame_of header.now.items (sealed cipher.now (heading_nonce self.now) header.now.items content.old 4) }
     {
         let mic = zb_ccm::seal_with(cipher, &self.nonce(), header, content);
         let mut frame = self.header(CONTROL_ON_AIR);

@@ -62,7 +62,8 @@ impl Seat {
         requires below { SealerIsBelow event self.old.sealer }
         ensures below { OnOk result (SealerIsBelow (event + 1) self.new.sealer) }
         ensures node { self.new.node ≡ self.old.node }
-        ensures answers { IfOk result (λ sent. (h : List Line) → SeatStands (next h) self.old → number ≡ (tally h).frames + 1
+        ensures answers { IfOk result (λ sent. (h : List Line) → SeatStands (next h) self.old
+            → number ≡ (tally h).frames + 1
             → SeatAnswers h event say.now self.new sent page.old.items page.new.items) }
     {
         match &mut self.sealer {
@@ -92,7 +93,8 @@ impl Network {
     fn place_of(&self, name: &Name) -> Option<usize>
         ensures { MatchOption result (holder_named name.now.bytes (seated self.now.seats.items) ≡ None)
             (λ place. (place < length self.now.seats.items)
-            × ((d : Seat) → holder_named name.now.bytes (seated self.now.seats.items) ≡ Some (holder_of (slice_index_or self.now.seats.items place d).node))) }
+            × ((d : Seat) → holder_named name.now.bytes (seated self.now.seats.items)
+            ≡ Some (holder_of (slice_index_or self.now.seats.items place d).node))) }
     {
         for (place, seat) in self.seats.iter().enumerate() {
             if seat.node.peer.name.as_str() == name.as_str() {
@@ -122,8 +124,10 @@ impl Network {
         requires below { IsBelow event self.old }
         ensures below { OnOk result (IsBelow (event + 1) self.new) }
         ensures nodes { nodes_of self.new.seats.items ≡ nodes_of self.old.seats.items }
-        ensures answers { OnOk result ((h : List Line) → ApartBy (λ (holder : Holder). holder.station.eui) (seated self.old.seats.items)
-            → Stands h self.old → Answers h (seated self.old.seats.items) event say.now self.new page.old.items page.new.items) }
+        ensures answers { OnOk result ((h : List Line)
+            → ApartBy (λ (holder : Holder). holder.station.eui) (seated self.old.seats.items)
+            → Stands h self.old → Answers h (seated self.old.seats.items) event say.now self.new page.old.items
+            page.new.items) }
     {
         let Some(place) = self.place_of(&say.name) else {
             return Ok(());

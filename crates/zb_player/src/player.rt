@@ -21,8 +21,10 @@ use zb_text::page::hand_out;
 /// Plays a schedule and writes its transcript.
 pub fn play<W: Sink>(alloc: Global, script: &Script, out: &mut W) -> Result<(), PlayFault>
     requires { IsPlayable (plan_of script.now) }
-    ensures whole { OnOk result (Appends (W.taken out.old) (W.taken out.new) (text (transcript wire (plan_of script.now)))) }
-    ensures front { OnErr result (AppendsFront (W.taken out.old) (W.taken out.new) (text (transcript wire (plan_of script.now)))) }
+    ensures whole { OnOk result (Appends (W.taken out.old) (W.taken out.new) (text (transcript wire (plan_of
+        script.now)))) }
+    ensures front { OnErr result (AppendsFront (W.taken out.old) (W.taken out.new) (text (transcript wire (plan_of
+        script.now)))) }
     ensures later { W.faults out.old ≤ W.faults out.new }
     ensures cause { result ≡ Err PlayFault.Write → Rose (W.faults out.old) (W.faults out.new) }
 {
@@ -90,8 +92,10 @@ fn answer_all<W: Sink>(
     requires few { length says.now ≤ 100000 }
     requires below { IsBelow 1 network.old }
     ensures empty { OnOk result (page.new.items ≡ []) }
-    ensures whole { OnOk result ((h : List Line) → AnswersAll h network.old says.now network.new (W.taken out.old) (W.taken out.new)) }
-    ensures front { OnErr result ((h : List Line) → PrintsAll h network.old says.now (W.taken out.old) (W.taken out.new)) }
+    ensures whole { OnOk result ((h : List Line)
+        → AnswersAll h network.old says.now network.new (W.taken out.old) (W.taken out.new)) }
+    ensures front { OnErr result ((h : List Line)
+        → PrintsAll h network.old says.now (W.taken out.old) (W.taken out.new)) }
     ensures later { W.faults out.old ≤ W.faults out.new }
     ensures cause { result ≡ Err PlayFault.Write → Rose (W.faults out.old) (W.faults out.new) }
 {

@@ -69,8 +69,10 @@ fn put_seal(
     header: &Frame,
     content: &Frame,
 ) -> Result<(), AllocError>
-    ensures { OnOk result (page.new.items ≡ page.old.items ++ line_text node.now.peer.name.bytes (line.Seal event node.now.peer.eui.0
-        (network_term sealer.now.network.key.0 node.now.peer.eui.0 sealer.now.next header.now.items content.now.items))) }
+    ensures { OnOk result (page.new.items
+        ≡ page.old.items ++ line_text node.now.peer.name.bytes (line.Seal event node.now.peer.eui.0
+        (network_term sealer.now.network.key.0 node.now.peer.eui.0 sealer.now.next header.now.items
+        content.now.items))) }
 {
     put_number(page, event)?;
     add_word(page, b"seal")?;
@@ -90,7 +92,8 @@ fn add_term(
     content: &Frame,
 ) -> Result<(), AllocError>
     ensures { OnOk result (page.new.items ≡ page.old.items
-        ++ term_text (network_term sealer.now.network.key.0 node.now.peer.eui.0 sealer.now.next header.now.items content.now.items)) }
+        ++ term_text (network_term sealer.now.network.key.0 node.now.peer.eui.0 sealer.now.next header.now.items
+        content.now.items)) }
 {
     add_word(page, b"nwk")?;
     add_word(page, b"network")?;

@@ -4,7 +4,7 @@ use Rattle.std.specs.Prelude.{ℕ, ◌+◌, Bool, true, false, if◌then◌else�
 use Rattle.std.specs.List.{flat_map}
 use Rattle.std.specs.Str.Lines.{lines}
 use Rattle.zb_model.specs.FirstPath.{HeldKey, Holder, Saying, Plan}
-use Rattle.zb_player.specs.Views.{role_of}
+use Rattle.zb_node_types.specs.Changes.{model_role}
 use Rattle.zb_sched.specs.Plan as sched
 use Rattle.zb_sched.specs.Reading.{schedule_of}
 use Rattle.zb_sched.specs.declared.error.SchedCause.TheVariants.{Syntax}
@@ -51,7 +51,7 @@ held (Some network) = Some (record { key = network.0; sequence = network.1 })
 
 abbrev pub holder : sched.Node → Holder
 holder m = record {
-  station = record { name = m.name; eui = m.eui; short = m.short; role = role_of m.role; out_block = m.out_block; in_block = m.in_block };
+  station = record { name = m.name; eui = m.eui; short = m.short; role = model_role m.role; out_block = m.out_block; in_block = m.in_block };
   net = held m.network;
 }
 

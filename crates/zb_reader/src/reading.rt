@@ -12,8 +12,8 @@ use zb_base::OrMemory;
 use zb_player::Script;
 use zb_sched::{SchedCause, SchedError, Schedule};
 
-/// Reads a schedule that can be played. The error is the first bad line with the first of its causes; in a schedule, the
-/// first line of a form that isn't played is a fault of syntax.
+/// Reads a schedule that can be played. The error is the first bad line with the first of its causes; in a schedule,
+/// the first line of a form that isn't played is a fault of syntax.
 #[tactic(auto, using(crate::proofs::Playable::all_played), unfolding(crate::specs::Reading::schedule))]
 pub fn read(alloc: Global, text: &[u8]) -> Result<Script, OrMemory<SchedError>>
     requires { length text.now < 2 ^ 32 - 1 }

@@ -29,7 +29,7 @@ pub struct Exposure {
 }
 
 impl Exposure {
-    /// Before the first line.
+    /// Makes the exposure before the first line: outsiders know the well-known key alone.
     pub fn new(alloc: Global) -> Result<Exposure, AllocError>
         ensures settled { IfOk result (λ e. IsSettled e) }
         ensures ever { IfOk result (λ e. (d : ℕ) (k : List ℕ) → node_has e.ever d k ≡ false) }
@@ -48,10 +48,11 @@ impl Exposure {
         Ok(exposure)
     }
 
-    /// A node, if it was declared, came to hold a key.
+    /// Notes that a node came to hold a key; changes nothing where the node was never declared.
     pub fn hold(&mut self, alloc: Global, node: Option<Eui>, key: Key) -> Result<(), AllocError>
         ensures settled { OnOk result (IsSettled self.old → IsSettled self.new) }
-        ensures ever { OnOk result ((d : ℕ) (k : List ℕ) → node_has self.new.ever d k ≡ (node_has self.old.ever d k || (is_node node d && bytes_eq k key.0))) }
+        ensures ever { OnOk result ((d : ℕ) (k : List ℕ)
+            → node_has self.new.ever d k ≡ (node_has self.old.ever d k || (is_node node d && bytes_eq k key.0))) }
         ensures removed { OnOk result (self.new.removed ≡ self.old.removed) }
         ensures carried { OnOk result (self.new.carried ≡ self.old.carried) }
         ensures based { OnOk result (self.new.based ≡ self.old.based) }
@@ -64,7 +65,8 @@ impl Exposure {
 
     fn hold_one(&mut self, alloc: Global, device: Eui, key: Key) -> Result<(), AllocError>
         ensures settled { OnOk result (IsSettled self.old → IsSettled self.new) }
-        ensures ever { OnOk result ((d : ℕ) (k : List ℕ) → node_has self.new.ever d k ≡ (node_has self.old.ever d k || (nat_eq d device.0 && bytes_eq k key.0))) }
+        ensures ever { OnOk result ((d : ℕ) (k : List ℕ)
+            → node_has self.new.ever d k ≡ (node_has self.old.ever d k || (nat_eq d device.0 && bytes_eq k key.0))) }
         ensures removed { OnOk result (self.new.removed ≡ self.old.removed) }
         ensures carried { OnOk result (self.new.carried ≡ self.old.carried) }
         ensures based { OnOk result (self.new.based ≡ self.old.based) }
@@ -76,11 +78,12 @@ impl Exposure {
         Ok(())
     }
 
-    /// A device was removed: outsiders may hold what it ever held.
+    /// Notes that a device was removed: outsiders may know what it ever held.
     pub fn remove(&mut self, alloc: Global, device: Eui) -> Result<(), AllocError>
         ensures settled { OnOk result (IsSettled self.old → IsSettled self.new) }
         ensures ever { OnOk result (self.new.ever ≡ self.old.ever) }
-        ensures removed { OnOk result ((d : ℕ) → was_removed self.new d ≡ (was_removed self.old d || nat_eq d device.0)) }
+        ensures removed { OnOk result ((d : ℕ)
+            → was_removed self.new d ≡ (was_removed self.old d || nat_eq d device.0)) }
         ensures in_range { device.0 < 2 ^ 64 }
         ensures carried { OnOk result (self.new.carried ≡ self.old.carried) }
         ensures based { OnOk result (self.new.based ≡ self.old.based) }
@@ -93,12 +96,14 @@ impl Exposure {
         Ok(())
     }
 
-    /// A term under a base key carries a key, or none.
+    /// Notes that a term under a base key carries a key, or none.
     pub fn carry(&mut self, alloc: Global, base: Key, key: Option<Key>) -> Result<(), AllocError>
         ensures settled { OnOk result (IsSettled self.old → IsSettled self.new) }
         ensures ever { OnOk result (self.new.ever ≡ self.old.ever) }
         ensures removed { OnOk result (self.new.removed ≡ self.old.removed) }
-        ensures carried { OnOk result ((b k : List ℕ) → is_carried self.new.carried b k ≡ (is_carried self.old.carried b k || (bytes_eq b base.0 && is_key key k))) }
+        ensures carried { OnOk result ((b k : List ℕ)
+            → is_carried self.new.carried b k
+            ≡ (is_carried self.old.carried b k || (bytes_eq b base.0 && is_key key k))) }
         ensures based { OnOk result (self.new.based ≡ self.old.based) }
     {
         match key {
@@ -111,7 +116,9 @@ impl Exposure {
         ensures settled { OnOk result (IsSettled self.old → IsSettled self.new) }
         ensures ever { OnOk result (self.new.ever ≡ self.old.ever) }
         ensures removed { OnOk result (self.new.removed ≡ self.old.removed) }
-        ensures carried { OnOk result ((b k : List ℕ) → is_carried self.new.carried b k ≡ (is_carried self.old.carried b k || (bytes_eq b base.0 && bytes_eq k key.0))) }
+        ensures carried { OnOk result ((b k : List ℕ)
+            → is_carried self.new.carried b k
+            ≡ (is_carried self.old.carried b k || (bytes_eq b base.0 && bytes_eq k key.0))) }
         ensures based { OnOk result (self.new.based ≡ self.old.based) }
     {
         self.carried.add(alloc, base, key)?;
@@ -121,7 +128,7 @@ impl Exposure {
         Ok(())
     }
 
-    /// A term was forged under a base key.
+    /// Notes that a term was forged under a base key.
     pub fn forge(&mut self, base: &Key)
         ensures { self.new ≡ record self.old { based = self.old.based && has self.old.known base.now.0 } }
     {

@@ -9,14 +9,15 @@ use std::alloc::{AllocError, Global};
 use std::collections::BTreeMap;
 use zb_base::{Eui, Key};
 
-/// For each owner the keys that were added for it.
+/// Holds, for each owner, the keys that were added for it.
 #[derive(Drop)]
 pub struct Holdings<O: Ord> {
+    /// The set of each owner that has any.
     pub sets: BTreeMap<O, Keys>,
 }
 
 impl<O: Ord + Drop> Holdings<O> {
-    /// No keys.
+    /// Makes holdings without keys.
     pub fn new(alloc: Global) -> Holdings<O>
         ensures { (owner : O) (k : List ℕ) → held O.cmp result owner k ≡ false }
     {
@@ -25,7 +26,7 @@ impl<O: Ord + Drop> Holdings<O> {
         }
     }
 
-    /// Whether the owner has the key.
+    /// Tells whether the owner has the key.
     pub fn has(&self, owner: &O, key: &Key) -> bool
         ensures { result ≡ held O.cmp self.now owner.now key.now.0 }
     {
@@ -37,7 +38,8 @@ impl<O: Ord + Drop> Holdings<O> {
 
     /// Adds a key for an owner.
     pub fn add(&mut self, alloc: Global, owner: O, key: Key) -> Result<(), AllocError>
-        ensures { OnOk result ((o : O) (k : List ℕ) → held O.cmp self.new o k ≡ (held O.cmp self.old o k || (is_eq (O.cmp owner o) && bytes_eq k key.0))) }
+        ensures { OnOk result ((o : O) (k : List ℕ)
+            → held O.cmp self.new o k ≡ (held O.cmp self.old o k || (is_eq (O.cmp owner o) && bytes_eq k key.0))) }
     {
         let mut keys = match self.sets.remove(&owner) {
             Some(keys) => keys,
@@ -48,7 +50,7 @@ impl<O: Ord + Drop> Holdings<O> {
         Ok(())
     }
 
-    /// Whether a key of the set is one of the owner's.
+    /// Tells whether a key of the set is one of the owner's.
     pub fn meets(&self, owner: &O, keys: &Keys) -> bool
         ensures { result ≡ meet keys.now.keys.keys (keys_at O.cmp self.now owner.now) }
     {
@@ -77,7 +79,8 @@ impl Holdings<Key> {
         owner: Option<Key>,
         key: Key,
     ) -> Result<(), AllocError>
-        ensures { OnOk result ((o k : List ℕ) → is_carried self.new o k ≡ (is_carried self.old o k || (is_key owner o && bytes_eq k key.0))) }
+        ensures { OnOk result ((o k : List ℕ)
+            → is_carried self.new o k ≡ (is_carried self.old o k || (is_key owner o && bytes_eq k key.0))) }
     {
         match owner {
             Some(owner) => self.add(alloc, owner, key),
@@ -89,7 +92,8 @@ impl Holdings<Key> {
 impl Holdings<Eui> {
     /// Adds a key for a node, if there is one.
     pub fn add_at(&mut self, alloc: Global, node: Option<Eui>, key: Key) -> Result<(), AllocError>
-        ensures { OnOk result ((n : ℕ) (k : List ℕ) → node_has self.new n k ≡ (node_has self.old n k || (is_node node n && bytes_eq k key.0))) }
+        ensures { OnOk result ((n : ℕ) (k : List ℕ)
+            → node_has self.new n k ≡ (node_has self.old n k || (is_node node n && bytes_eq k key.0))) }
     {
         match node {
             Some(eui) => self.add(alloc, eui, key),

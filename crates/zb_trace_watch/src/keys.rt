@@ -9,11 +9,12 @@ use zb_base::Key;
 /// A set of keys.
 #[derive(Drop)]
 pub struct Keys {
+    /// The keys, in order.
     pub keys: BTreeSet<Key>,
 }
 
 impl Keys {
-    /// No keys.
+    /// Makes a set without keys.
     pub fn new(alloc: Global) -> Keys
         ensures { (k : List ℕ) → has result k ≡ false }
     {
@@ -22,7 +23,7 @@ impl Keys {
         }
     }
 
-    /// Whether the set has the key.
+    /// Tells whether the set has the key.
     pub fn has(&self, key: &Key) -> bool
         ensures { result ≡ has self.now key.now.0 }
     {

@@ -8,12 +8,14 @@ ghost use Rattle.zb_trace_watch.specs.Closure.{IsClosed};
 ghost use Rattle.zb_trace_watch.specs.Readers.{with_readers};
 ghost use Rattle.zb_trace_watch.specs.Standing.{FindKeys};
 
-/// The exposed keys have the start, have what a term carries wherever they have its base key, and are no more than any such
-/// set of keys has.
+/// The exposed keys have the start, have what a term carries wherever they have its base key, and are no more than
+/// any such set of keys has.
 #[tactic(auto, using(crate::proofs::Exposed::exposed_covers, crate::proofs::Exposed::exposed_closed, crate::proofs::Exposed::exposed_least))]
 pub fn exposed_keys_are_the_least_closed_set()
-    ensures covers { (tools : Tools) (h : List Line) (from : List Bytes) (k : Bytes) → holds from k ≡ true → holds (exposed tools h from) k ≡ true }
-    ensures closed { (tools : Tools) (h : List Line) (from : List Bytes) → IsClosed tools (holds (exposed tools h from)) (terms_of h) }
+    ensures covers { (tools : Tools) (h : List Line) (from : List Bytes) (k : Bytes) → holds from k ≡ true
+        → holds (exposed tools h from) k ≡ true }
+    ensures closed { (tools : Tools) (h : List Line) (from : List Bytes)
+        → IsClosed tools (holds (exposed tools h from)) (terms_of h) }
     ensures least { (tools : Tools) (h : List Line) (from : List Bytes) (S : Bytes → Bool)
         → ((k : Bytes) → holds from k ≡ true → S k ≡ true) → IsClosed tools S (terms_of h)
         → (k : Bytes) → holds (exposed tools h from) k ≡ true → S k ≡ true }

@@ -4,7 +4,7 @@ ghost use Rattle.std.specs.Option.{option_or};
 ghost use Rattle.arrayvec.specs.ArrayString.{ArrayString};
 ghost use Rattle.zb_model.specs.Data.{Station};
 ghost use Rattle.zb_model.specs.State.{is_centre};
-ghost use Rattle.zb_trace.specs.Views.{model_role};
+ghost use Rattle.zb_node_types.specs.Changes.{model_role};
 ghost use Rattle.zb_trace_watch.specs.Nodes.{address_in, address_of, is_first_centre, is_joiner, role_in, IsOf, Declares};
 
 use std::alloc::{AllocError, Global};
@@ -23,7 +23,7 @@ pub struct Nodes {
 }
 
 impl Nodes {
-    /// No nodes.
+    /// Makes the value before any node is declared.
     pub fn new(alloc: Global) -> Nodes
         ensures { Declares result [] }
     {
@@ -34,14 +34,14 @@ impl Nodes {
         }
     }
 
-    /// The address of the first node of that name.
+    /// Answers the address of the first node of that name.
     pub fn named(&self, name: &Name) -> Option<Eui>
         ensures { result ≡ address_of self.now name.now }
     {
         self.addresses.get(name).copied()
     }
 
-    /// The node, where it is a router or device.
+    /// Answers the node where it is a router or device, and none else.
     pub fn joiner(&self, node: Option<Eui>) -> Option<Eui>
         ensures { result ≡ (if is_joiner self.now node then node else None) }
     {
@@ -66,7 +66,7 @@ impl Nodes {
         }
     }
 
-    /// The partner of a node's link row, where the node is the centre.
+    /// Answers the partner of a node's link row where the node is the centre.
     pub fn partner(&self, node: Option<Eui>, partner: Eui) -> Option<Eui>
         ensures { result ≡ (if is_first_centre self.now.centre node then Some partner else None) }
     {
@@ -86,9 +86,10 @@ impl Nodes {
         }
     }
 
-    /// One more node.
+    /// Adds a declared node.
     pub fn add(&mut self, name: Name, eui: Eui, role: Role) -> Result<(), AllocError>
-        ensures { OnOk result ((known : List Station) (station : Station) → IsOf station name.bytes eui.0 role → Declares self.old known → Declares self.new (known ++ station ∷ [])) }
+        ensures { OnOk result ((known : List Station) (station : Station) → IsOf station name.bytes eui.0 role
+            → Declares self.old known → Declares self.new (known ++ station ∷ [])) }
     {
         name_it(&mut self.addresses, name, eui)?;
         give_role(&mut self.roles, eui, role)?;
@@ -111,7 +112,9 @@ fn first_centre(before: Option<Eui>, eui: Eui, role: Role) -> Option<Eui>
 
 /// Notes the address of a name, unless one is there.
 fn name_it(addresses: &mut BTreeMap<Name, Eui>, name: Name, eui: Eui) -> Result<(), AllocError>
-    ensures { OnOk result ((q : ArrayString) → address_in addresses.new q ≡ option_or (address_in addresses.old q) (if bytes_eq name.bytes q.bytes then Some eui else None)) }
+    ensures { OnOk result ((q : ArrayString)
+        → address_in addresses.new q
+        ≡ option_or (address_in addresses.old q) (if bytes_eq name.bytes q.bytes then Some eui else None)) }
 {
     if !addresses.contains_key(&name) {
         addresses.insert(name, eui)?;
@@ -121,7 +124,8 @@ fn name_it(addresses: &mut BTreeMap<Name, Eui>, name: Name, eui: Eui) -> Result<
 
 /// Notes the role of an address, unless one is there.
 fn give_role(roles: &mut BTreeMap<Eui, Role>, eui: Eui, role: Role) -> Result<(), AllocError>
-    ensures { OnOk result ((q : ℕ) → role_in roles.new q ≡ option_or (role_in roles.old q) (if nat_eq q eui.0 then Some role else None)) }
+    ensures { OnOk result ((q : ℕ)
+        → role_in roles.new q ≡ option_or (role_in roles.old q) (if nat_eq q eui.0 then Some role else None)) }
 {
     if !roles.contains_key(&eui) {
         roles.insert(eui, role)?;

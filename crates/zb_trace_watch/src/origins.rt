@@ -32,7 +32,7 @@ pub struct Origins {
 }
 
 impl Origins {
-    /// Before the first line.
+    /// Makes the origins before the first line.
     pub fn new(alloc: Global) -> Origins
         ensures terms { (t : AnyTerm) → has_term result.terms t ≡ false }
         ensures codes { (n : ℕ) (k : List ℕ) → node_has result.codes n k ≡ false }
@@ -51,12 +51,16 @@ impl Origins {
         }
     }
 
-    /// A term was sealed or forged, which carries a key or none.
+    /// Notes that a term was sealed or forged, and which key it carries, if any.
     pub fn term(&mut self, alloc: Global, term: &Term, key: Option<Key>) -> Result<(), AllocError>
-        ensures terms { OnOk result ((t : AnyTerm) → has_term self.new.terms t ≡ (has_term self.old.terms t || same_term (model_term t) (model_term term.now))) }
+        ensures terms { OnOk result ((t : AnyTerm)
+            → has_term self.new.terms t
+            ≡ (has_term self.old.terms t || same_term (model_term t) (model_term term.now))) }
         ensures codes { OnOk result (self.new.codes ≡ self.old.codes) }
         ensures bases { OnOk result (self.new.bases ≡ self.old.bases) }
-        ensures carriers { OnOk result ((k b : List ℕ) → is_carried self.new.carriers k b ≡ (is_carried self.old.carriers k b || (is_key key k && bytes_eq b term.now.base.0))) }
+        ensures carriers { OnOk result ((k b : List ℕ)
+            → is_carried self.new.carriers k b
+            ≡ (is_carried self.old.carriers k b || (is_key key k && bytes_eq b term.now.base.0))) }
         ensures traced { OnOk result (self.new.traced ≡ self.old.traced) }
         ensures ideal { OnOk result (self.new.ideal ≡ self.old.ideal) }
     {
@@ -65,19 +69,21 @@ impl Origins {
         Ok(())
     }
 
-    /// A term was accepted.
+    /// Notes that a term was accepted.
     pub fn accept(&mut self, term: &Term)
         ensures { self.new ≡ record self.old { ideal = self.old.ideal && has_term self.old.terms term.now } }
     {
         self.ideal = self.ideal && self.terms.has(term);
     }
 
-    /// A router or device took a key in, or no node did. What was traced isn't looked for again, and once a key came from
-    /// nowhere none is.
+    /// Notes that a router or device took a key in, or no node did. What was traced isn't looked for again, and once a key came
+    /// from nowhere none is.
     pub fn take_in(&mut self, alloc: Global, node: Option<Eui>, key: Key) -> Result<(), AllocError>
-        ensures ideal { OnOk result (IsTraced self.old node key.0 → self.new.ideal ≡ (self.old.ideal && came self.old node key.0)) }
+        ensures ideal { OnOk result (IsTraced self.old node key.0
+            → self.new.ideal ≡ (self.old.ideal && came self.old node key.0)) }
         ensures traced { OnOk result ((n : ℕ) (k : List ℕ) → node_has self.new.traced n k ≡ true
-            → (node_has self.old.traced n k ≡ true) ⊎ (((is_node node n && bytes_eq k key.0) ≡ true) × (came self.old node key.0 ≡ true))) }
+            → (node_has self.old.traced n k ≡ true)
+            ⊎ (((is_node node n && bytes_eq k key.0) ≡ true) × (came self.old node key.0 ≡ true))) }
         ensures terms { OnOk result (self.new.terms ≡ self.old.terms) }
         ensures codes { OnOk result (self.new.codes ≡ self.old.codes) }
         ensures bases { OnOk result (self.new.bases ≡ self.old.bases) }
@@ -90,9 +96,11 @@ impl Origins {
     }
 
     fn trace(&mut self, alloc: Global, eui: Eui, key: Key) -> Result<(), AllocError>
-        ensures ideal { OnOk result (IsTraced self.old (Some eui) key.0 → self.new.ideal ≡ (self.old.ideal && came self.old (Some eui) key.0)) }
+        ensures ideal { OnOk result (IsTraced self.old (Some eui) key.0
+            → self.new.ideal ≡ (self.old.ideal && came self.old (Some eui) key.0)) }
         ensures traced { OnOk result ((n : ℕ) (k : List ℕ) → node_has self.new.traced n k ≡ true
-            → (node_has self.old.traced n k ≡ true) ⊎ (((is_node (Some eui) n && bytes_eq k key.0) ≡ true) × (came self.old (Some eui) key.0 ≡ true))) }
+            → (node_has self.old.traced n k ≡ true)
+            ⊎ (((is_node (Some eui) n && bytes_eq k key.0) ≡ true) × (came self.old (Some eui) key.0 ≡ true))) }
         ensures terms { OnOk result (self.new.terms ≡ self.old.terms) }
         ensures codes { OnOk result (self.new.codes ≡ self.old.codes) }
         ensures bases { OnOk result (self.new.bases ≡ self.old.bases) }
@@ -132,10 +140,12 @@ impl Origins {
         }
     }
 
-    /// A node, if it was declared, was given a link key by its install code.
+    /// Notes the link key of a node's install code; changes nothing where the node was never declared.
     pub fn code(&mut self, alloc: Global, node: Option<Eui>, key: Key) -> Result<(), AllocError>
-        ensures codes { OnOk result ((n : ℕ) (k : List ℕ) → node_has self.new.codes n k ≡ (node_has self.old.codes n k || (is_node node n && bytes_eq k key.0))) }
-        ensures bases { OnOk result ((n : ℕ) (k : List ℕ) → node_has self.new.bases n k ≡ (node_has self.old.bases n k || (is_node node n && bytes_eq k key.0))) }
+        ensures codes { OnOk result ((n : ℕ) (k : List ℕ)
+            → node_has self.new.codes n k ≡ (node_has self.old.codes n k || (is_node node n && bytes_eq k key.0))) }
+        ensures bases { OnOk result ((n : ℕ) (k : List ℕ)
+            → node_has self.new.bases n k ≡ (node_has self.old.bases n k || (is_node node n && bytes_eq k key.0))) }
         ensures terms { OnOk result (self.new.terms ≡ self.old.terms) }
         ensures carriers { OnOk result (self.new.carriers ≡ self.old.carriers) }
         ensures traced { OnOk result (self.new.traced ≡ self.old.traced) }
@@ -146,9 +156,10 @@ impl Origins {
         Ok(())
     }
 
-    /// A node, if it was declared, has a link row with that key.
+    /// Notes a node's link row with that key; changes nothing where the node was never declared.
     pub fn row(&mut self, alloc: Global, node: Option<Eui>, key: Key) -> Result<(), AllocError>
-        ensures bases { OnOk result ((n : ℕ) (k : List ℕ) → node_has self.new.bases n k ≡ (node_has self.old.bases n k || (is_node node n && bytes_eq k key.0))) }
+        ensures bases { OnOk result ((n : ℕ) (k : List ℕ)
+            → node_has self.new.bases n k ≡ (node_has self.old.bases n k || (is_node node n && bytes_eq k key.0))) }
         ensures codes { OnOk result (self.new.codes ≡ self.old.codes) }
         ensures terms { OnOk result (self.new.terms ≡ self.old.terms) }
         ensures carriers { OnOk result (self.new.carriers ≡ self.old.carriers) }

@@ -7,7 +7,7 @@ use crate::keys::Keys;
 use std::alloc::{AllocError, Global};
 use zb_base::{Attribute, Key};
 
-/// The network's keys, and those that forged terms carry.
+/// Holds the network's keys, and those that forged terms carry.
 #[derive(Drop)]
 pub struct Passing {
     /// The keys that were given, drawn or entered as codes.
@@ -19,7 +19,7 @@ pub struct Passing {
 }
 
 impl Passing {
-    /// Before the first line.
+    /// Makes the value before the first line.
     pub fn new(alloc: Global) -> Passing
         ensures network { (k : List ℕ) → has result.network k ≡ false }
         ensures forged { (k : List ℕ) → has result.forged k ≡ false }
@@ -32,9 +32,10 @@ impl Passing {
         }
     }
 
-    /// A key of the network.
+    /// Notes a key of the network.
     pub fn network_key(&mut self, key: Key) -> Result<(), AllocError>
-        ensures network { OnOk result ((k : List ℕ) → has self.new.network k ≡ (has self.old.network k || bytes_eq k key.0)) }
+        ensures network { OnOk result ((k : List ℕ)
+            → has self.new.network k ≡ (has self.old.network k || bytes_eq k key.0)) }
         ensures forged { self.new.forged ≡ self.old.forged }
         ensures passed { self.new.passed_on ≡ (self.old.passed_on || has self.old.forged key.0) }
     {
@@ -45,9 +46,10 @@ impl Passing {
         Ok(())
     }
 
-    /// The key of a link row: one of the network where it was entered as a code.
+    /// Notes the key of a link row, which is the network's where it was entered as a code.
     pub fn row_key(&mut self, key: Key, attribute: Attribute) -> Result<(), AllocError>
-        ensures network { OnOk result ((k : List ℕ) → has self.new.network k ≡ (has self.old.network k || (is_code attribute && bytes_eq k key.0))) }
+        ensures network { OnOk result ((k : List ℕ)
+            → has self.new.network k ≡ (has self.old.network k || (is_code attribute && bytes_eq k key.0))) }
         ensures forged { self.new.forged ≡ self.old.forged }
         ensures passed { self.new.passed_on ≡ (self.old.passed_on || (is_code attribute && has self.old.forged key.0)) }
     {
@@ -58,7 +60,7 @@ impl Passing {
         }
     }
 
-    /// A forged term carries a key, or none.
+    /// Notes which key a forged term carries, if any.
     pub fn forged_key(&mut self, key: Option<Key>) -> Result<(), AllocError>
         ensures network { self.new.network ≡ self.old.network }
         ensures forged { OnOk result ((k : List ℕ) → has self.new.forged k ≡ (has self.old.forged k || is_key key k)) }
@@ -72,7 +74,8 @@ impl Passing {
 
     fn forged_one(&mut self, key: Key) -> Result<(), AllocError>
         ensures network { self.new.network ≡ self.old.network }
-        ensures forged { OnOk result ((k : List ℕ) → has self.new.forged k ≡ (has self.old.forged k || bytes_eq k key.0)) }
+        ensures forged { OnOk result ((k : List ℕ)
+            → has self.new.forged k ≡ (has self.old.forged k || bytes_eq k key.0)) }
         ensures passed { self.new.passed_on ≡ (self.old.passed_on || has self.old.network key.0) }
     {
         if self.network.has(&key) {

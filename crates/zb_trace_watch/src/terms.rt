@@ -12,11 +12,12 @@ use zb_seal::Term;
 /// A set of terms. Terms are one where all their parts are: bytes on the air don't count.
 #[derive(Drop)]
 pub struct Terms {
+    /// The terms, in order.
     pub terms: BTreeSet<Term>,
 }
 
 impl Terms {
-    /// No terms.
+    /// Makes a set without terms.
     pub fn new(alloc: Global) -> Terms
         ensures { (t : Term) → has_term result t ≡ false }
     {
@@ -25,7 +26,7 @@ impl Terms {
         }
     }
 
-    /// Whether the set has the term.
+    /// Tells whether the set has the term.
     pub fn has(&self, term: &Term) -> bool
         ensures { result ≡ has_term self.now term.now }
     {
@@ -34,7 +35,8 @@ impl Terms {
 
     /// Adds a term.
     pub fn add(&mut self, term: &Term) -> Result<(), AllocError>
-        ensures { OnOk result ((t : Term) → has_term self.new t ≡ (has_term self.old t || same_term (model_term t) (model_term term.now))) }
+        ensures { OnOk result ((t : Term)
+            → has_term self.new t ≡ (has_term self.old t || same_term (model_term t) (model_term term.now))) }
     {
         self.terms.insert(term.clone()?)?;
         Ok(())

@@ -22,32 +22,37 @@ use zb_seal::Term;
 use zb_trace::Line;
 use zb_transported::carried;
 
-/// What is known of a transcript after the lines so far. A watch keeps no line.
+/// Holds what is known of a transcript after the lines so far. A watch keeps no line.
 ///
-/// What it keeps stands in ordered maps and sets, so that a step, which looks a key, a node or a term up or puts it in,
-/// costs logarithmic work. A line takes a fixed number of steps, and those of two tasks:
+/// What it keeps stands in ordered maps and sets, so that a step, which looks a key, a node or a term up or puts it
+/// in, costs logarithmic work. A line takes a fixed number of steps, and those of two tasks:
 ///
-/// - Where a key came from is asked the first time that a router or device takes that key in, and no more once the run
-///   isn't ideal. The node's link keys are looked up among the base keys under which the key was carried, or the other way
-///   round, whichever are fewer. Over a run these look-ups are at most as many as its routers and devices times its
-///   lines that carry a key, so with 63 of them at most 63 a line. A transcript of this program asks for at most 64 in
-///   any one line, since a router or device has at most 64 link rows, dropped ones among them.
-/// - What outsiders come to know is followed when they come to know it. Each key becomes known once, and what was carried
-///   under it is walked then. Over n lines that is at most 2n + 1 steps, but a single line, such as a removal, may take
-///   nearly all of them.
+/// - Where a key came from is asked the first time that a router or device takes that key in, and no more once the
+///   run isn't ideal. The node's link keys are looked up among the base keys under which the key was carried, or the
+///   other way round, whichever are fewer. Over a run these look-ups are at most as many as its routers and devices
+///   times its lines that carry a key, so with 63 of them at most 63 a line. A transcript of this program asks for at
+///   most 64 in any one line, since a router or device has at most 64 link rows, dropped ones among them.
+/// - What outsiders come to know is followed when they come to know it. Each key becomes known once, and what was
+///   carried under it is walked then. Over n lines that is at most 2n + 1 steps, but a single line, such as a
+///   removal, may take nearly all of them.
 ///
-/// So in a network of at most 64 nodes a line costs logarithmic work, counted over the run and not for each line alone.
-/// A foreign transcript may declare more nodes: its n lines ask for at most n times the square root of n look-ups.
+/// So in a network of at most 64 nodes a line costs logarithmic work, counted over the run and not for each line
+/// alone. A foreign transcript may declare more nodes: its n lines ask for at most n times the square root of n
+/// look-ups.
 #[derive(Drop)]
 pub struct Watch {
+    /// The declared nodes.
     pub nodes: Nodes,
+    /// Where what was accepted or taken in came from.
     pub origins: Origins,
+    /// The keys of the network, and whether outsiders passed one on.
     pub passing: Passing,
+    /// What outsiders may know.
     pub exposure: Exposure,
 }
 
 impl Watch {
-    /// A watch over no lines.
+    /// Makes a watch over no lines.
     pub fn new(alloc: Global) -> Result<Watch, NoMemory>
         ensures { IfOk result (λ watch. (tools : Tools) → Stands tools watch []) }
     {
@@ -59,7 +64,7 @@ impl Watch {
         })
     }
 
-    /// The watch over these lines.
+    /// Makes the watch over these lines.
     pub fn over(alloc: Global, lines: &[Line]) -> Result<Watch, NoMemory>
         ensures { IfOk result (λ watch. (tools : Tools) → FindKeys tools → Stands tools watch (log_of lines.now)) }
     {
@@ -70,8 +75,10 @@ impl Watch {
         Ok(watch)
     }
 
-    /// Whether each accepted term was sealed or forged before, and each key that a router or device took in is its
-    /// code's or came in an earlier term under one of its keys.
+    /// Tells whether all that was accepted or taken in came from earlier terms.
+    ///
+    /// Each accepted term was sealed or forged before, and each key that a router or device took in is its code's or
+    /// came in an earlier term under one of its keys.
     pub fn ideal(&self) -> bool
         ensures value { result ≡ self.now.origins.ideal }
         ensures ideal { (tools : Tools) (h : List log.Line) → Stands tools self.now h → result ≡ ideal_of tools h }
@@ -79,7 +86,7 @@ impl Watch {
         self.origins.ideal
     }
 
-    /// Whether outsiders forged only under keys that they may know, and passed on no key of the network.
+    /// Tells whether outsiders forged only under keys that they may know, and passed on no key of the network.
     pub fn private(&self) -> bool
         ensures value { result ≡ (self.now.exposure.based && not self.now.passing.passed_on) }
         ensures private { (tools : Tools) (h : List log.Line) → Stands tools self.now h → result ≡ private_of tools h }
@@ -89,7 +96,8 @@ impl Watch {
 
     /// Goes on by one line. After `NoMemory` the watch isn't used further.
     pub fn line(&mut self, alloc: Global, line: &Line) -> Result<(), NoMemory>
-        ensures { OnOk result ((tools : Tools) (h : List log.Line) → Follows self.old self.new (logged (stations_of h) line.now) h tools) }
+        ensures { OnOk result ((tools : Tools) (h : List log.Line)
+            → Follows self.old self.new (logged (stations_of h) line.now) h tools) }
     {
         match line {
             Line::Node {
@@ -127,14 +135,16 @@ impl Watch {
     }
 
     fn declare(&mut self, name: Name, eui: Eui, role: Role) -> Result<(), NoMemory>
-        ensures { OnOk result ((tools : Tools) (h : List log.Line) (station : Station) → IsOf station name.bytes eui.0 role → Follows self.old self.new (Declared station) h tools) }
+        ensures { OnOk result ((tools : Tools) (h : List log.Line) (station : Station)
+            → IsOf station name.bytes eui.0 role → Follows self.old self.new (Declared station) h tools) }
     {
         self.nodes.add(name, eui, role)?;
         Ok(())
     }
 
     fn given_net(&mut self, alloc: Global, node: &Name, key: Key) -> Result<(), NoMemory>
-        ensures { OnOk result ((tools : Tools) (h : List log.Line) (sequence : ℕ) → Follows self.old self.new (net_given (named (stations_of h) node.now.bytes) key.0 sequence) h tools) }
+        ensures { OnOk result ((tools : Tools) (h : List log.Line) (sequence : ℕ)
+            → Follows self.old self.new (net_given (named (stations_of h) node.now.bytes) key.0 sequence) h tools) }
     {
         let node = self.nodes.named(node);
         self.passing.network_key(key)?;
@@ -143,7 +153,8 @@ impl Watch {
     }
 
     fn given_link(&mut self, alloc: Global, node: &Name, key: Key) -> Result<(), NoMemory>
-        ensures { OnOk result ((tools : Tools) (h : List log.Line) (partner : ℕ) → Follows self.old self.new (link_given (named (stations_of h) node.now.bytes) partner key.0) h tools) }
+        ensures { OnOk result ((tools : Tools) (h : List log.Line) (partner : ℕ)
+            → Follows self.old self.new (link_given (named (stations_of h) node.now.bytes) partner key.0) h tools) }
     {
         let node = self.nodes.named(node);
         self.passing.network_key(key)?;
@@ -153,14 +164,17 @@ impl Watch {
     }
 
     fn draw(&mut self, key: Key) -> Result<(), NoMemory>
-        ensures { OnOk result ((tools : Tools) (h : List log.Line) (event centre : ℕ) → Follows self.old self.new (Changed event centre (Moved (drawn key.0))) h tools) }
+        ensures { OnOk result ((tools : Tools) (h : List log.Line) (event centre : ℕ)
+            → Follows self.old self.new (Changed event centre (Moved (drawn key.0))) h tools) }
     {
         self.passing.network_key(key)?;
         Ok(())
     }
 
     fn install(&mut self, alloc: Global, node: &Name, key: Key) -> Result<(), NoMemory>
-        ensures { OnOk result ((tools : Tools) (h : List log.Line) (event sequence : ℕ) → Follows self.old self.new (Changed event (named (stations_of h) node.now.bytes) (Moved (installed key.0 sequence))) h tools) }
+        ensures { OnOk result ((tools : Tools) (h : List log.Line) (event sequence : ℕ)
+            → Follows self.old self.new (Changed event (named (stations_of h) node.now.bytes) (Moved (installed key.0
+            sequence))) h tools) }
     {
         let node = self.nodes.named(node);
         let joiner = self.nodes.joiner(node);
@@ -177,7 +191,9 @@ impl Watch {
         key: Key,
         attribute: Attribute,
     ) -> Result<(), NoMemory>
-        ensures { OnOk result ((tools : Tools) (h : List log.Line) (event : ℕ) → Follows self.old self.new (Changed event (named (stations_of h) node.now.bytes) (Moved (row_of partner.0 key.0 (model_attribute attribute)))) h tools) }
+        ensures { OnOk result ((tools : Tools) (h : List log.Line) (event : ℕ)
+            → Follows self.old self.new (Changed event (named (stations_of h) node.now.bytes) (Moved (row_of
+            partner.0 key.0 (model_attribute attribute)))) h tools) }
     {
         let node = self.nodes.named(node);
         let joiner = self.nodes.joiner(node);
@@ -191,7 +207,8 @@ impl Watch {
     }
 
     fn pair(&mut self, alloc: Global, first: Eui, second: Eui, key: Key) -> Result<(), NoMemory>
-        ensures { OnOk result ((tools : Tools) (h : List log.Line) (event node : ℕ) → Follows self.old self.new (Changed event node (Moved (pair_of first.0 second.0 key.0))) h tools) }
+        ensures { OnOk result ((tools : Tools) (h : List log.Line) (event node : ℕ)
+            → Follows self.old self.new (Changed event node (Moved (pair_of first.0 second.0 key.0))) h tools) }
     {
         self.exposure.hold(alloc, Some(first), key)?;
         self.exposure.hold(alloc, Some(second), key)?;
@@ -199,20 +216,23 @@ impl Watch {
     }
 
     fn remove(&mut self, alloc: Global, device: Eui) -> Result<(), NoMemory>
-        ensures { OnOk result ((tools : Tools) (h : List log.Line) (event centre : ℕ) → Follows self.old self.new (Changed event centre (Moved (removed_it device.0))) h tools) }
+        ensures { OnOk result ((tools : Tools) (h : List log.Line) (event centre : ℕ)
+            → Follows self.old self.new (Changed event centre (Moved (removed_it device.0))) h tools) }
     {
         self.exposure.remove(alloc, device)?;
         Ok(())
     }
 
     fn accept(&mut self, term: &Term)
-        ensures { (tools : Tools) (h : List log.Line) (event node : ℕ) → Follows self.old self.new (accepted event node (model_term term.now)) h tools }
+        ensures { (tools : Tools) (h : List log.Line) (event node : ℕ)
+            → Follows self.old self.new (accepted event node (model_term term.now)) h tools }
     {
         self.origins.accept(term);
     }
 
     fn seal(&mut self, alloc: Global, term: &Term) -> Result<(), NoMemory>
-        ensures { OnOk result ((tools : Tools) (h : List log.Line) (event node : ℕ) → Follows self.old self.new (sealed event node (model_term term.now)) h tools) }
+        ensures { OnOk result ((tools : Tools) (h : List log.Line) (event node : ℕ)
+            → Follows self.old self.new (sealed event node (model_term term.now)) h tools) }
     {
         let key = carried(term);
         self.exposure.carry(alloc, term.base, key)?;
@@ -221,7 +241,8 @@ impl Watch {
     }
 
     fn forge(&mut self, alloc: Global, term: &Term) -> Result<(), NoMemory>
-        ensures { OnOk result ((tools : Tools) (h : List log.Line) (event : ℕ) → Follows self.old self.new (forged event (model_term term.now)) h tools) }
+        ensures { OnOk result ((tools : Tools) (h : List log.Line) (event : ℕ)
+            → Follows self.old self.new (forged event (model_term term.now)) h tools) }
     {
         let key = carried(term);
         self.exposure.forge(&term.base);
