@@ -17,7 +17,7 @@ use Rattle.zb_model.proofs.Rows.JoinUnderCentre as join_under_centre
 use Rattle.zb_model.proofs.Rows.KeyComesInUnseen as key_comes_in_unseen
 use Rattle.zb_model.proofs.Rows.RemovalAndRollover as removal_and_rollover
 use Rattle.zb_sched.specs.Reading.{schedule_in}
-use Rattle.zb_model_schedules.specs.Schedules.{act_for, schedule_of}
+use Rattle.zb_model_schedules.specs.Schedules.{event_for, schedule_of}
 
 -- A device joins under the centre and confirms its key.
 abbrev join_under_centre_text : List ℕ
@@ -28,7 +28,7 @@ join_under_centre_text =
     ++ (codes "deliver 1 d\ntimer d\ndeliver 2 c\ndeliver 3 d\ntimer d\ndeliver 4 c\ndeliver 5 d\n")))
 
 join_under_centre_is_its_world : option_map schedule_of (result_ok (schedule_in join_under_centre_text)) ≡ Some join_under_centre.schedule
-unfolding schedule_of act_for centre_of code_of crc remainder added divided message_bits decode_pairs hash blocks_of xored enciphered last_round round_key next_key state_after round mix_column substitute times
+unfolding schedule_of event_for centre_of code_of crc remainder added divided message_bits decode_pairs hash blocks_of xored enciphered last_round round_key next_key state_after round mix_column substitute times
 join_under_centre_is_its_world = refl
 
 -- Two devices get a key of their own and use it.
@@ -44,7 +44,7 @@ application_keys_text =
     ++ (codes "deliver 11 c\ndeliver 12 d\nshare e d\ndeliver 13 e\ntell d e 55\ndeliver 14 e\n")))))))
 
 application_keys_is_its_world : option_map schedule_of (result_ok (schedule_in application_keys_text)) ≡ Some application_keys.schedule
-unfolding schedule_of act_for centre_of code_of crc remainder added divided message_bits decode_pairs hash blocks_of xored enciphered last_round round_key next_key state_after round mix_column substitute times
+unfolding schedule_of event_for centre_of code_of crc remainder added divided message_bits decode_pairs hash blocks_of xored enciphered last_round round_key next_key state_after round mix_column substitute times
 application_keys_is_its_world = refl
 
 -- The centre stops as it confirms a key that a device got through a router.
@@ -58,7 +58,7 @@ confirmation_stopped_text =
     ++ (codes "stop c 3 -\ndeliver 9 c\nboot c\ntimer d\ndeliver 10 c\ntimer d\ndeliver 11 c\n")))))
 
 confirmation_stopped_is_its_world : option_map schedule_of (result_ok (schedule_in confirmation_stopped_text)) ≡ Some confirmation_stopped.schedule
-unfolding schedule_of act_for centre_of code_of crc remainder added divided message_bits decode_pairs hash blocks_of xored enciphered last_round round_key next_key state_after round mix_column substitute times
+unfolding schedule_of event_for centre_of code_of crc remainder added divided message_bits decode_pairs hash blocks_of xored enciphered last_round round_key next_key state_after round mix_column substitute times
 confirmation_stopped_is_its_world = refl
 
 -- A device is removed, and the network key is changed twice.
@@ -77,7 +77,7 @@ removal_and_rollover_text =
     ++ (codes "deliver 13 d\ndeliver 14 d\ndeliver 15 d\n"))))))))))
 
 removal_and_rollover_is_its_world : option_map schedule_of (result_ok (schedule_in removal_and_rollover_text)) ≡ Some removal_and_rollover.schedule
-unfolding schedule_of act_for centre_of code_of crc remainder added divided message_bits decode_pairs hash blocks_of xored enciphered last_round round_key next_key state_after round mix_column substitute times
+unfolding schedule_of event_for centre_of code_of crc remainder added divided message_bits decode_pairs hash blocks_of xored enciphered last_round round_key next_key state_after round mix_column substitute times
 removal_and_rollover_is_its_world = refl
 
 -- A key comes in that nobody sealed, and the disk stops.
@@ -90,5 +90,5 @@ key_comes_in_unseen_text =
     ++ (codes "stop d 3 -\ndeliver 1 d\nremove d via c\nroll\n"))))
 
 key_comes_in_unseen_is_its_world : option_map schedule_of (result_ok (schedule_in key_comes_in_unseen_text)) ≡ Some key_comes_in_unseen.schedule
-unfolding schedule_of act_for centre_of code_of crc remainder added divided message_bits decode_pairs hash blocks_of xored enciphered last_round round_key next_key state_after round mix_column substitute times
+unfolding schedule_of event_for centre_of code_of crc remainder added divided message_bits decode_pairs hash blocks_of xored enciphered last_round round_key next_key state_after round mix_column substitute times
 key_comes_in_unseen_is_its_world = refl

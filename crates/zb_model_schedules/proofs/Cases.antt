@@ -14,12 +14,12 @@ use Rattle.zb_install.specs.Crc.{crc}
 use Rattle.zb_mmo.specs.Hash.{blocks_of, hash}
 use Rattle.zb_model.specs.Data.{Bytes, Role, Station, ForTransport, ForLoad, SayTo, TellTo, DoKnock, DoRejoin, DoTimer, AskFor, HasChild, DoProvision, DoRemove, DoSwitch, DoAgain, DoShare}
 use Rattle.zb_model.specs.Play as model
-use Rattle.zb_model.specs.Play.{Schedule, Own, RollOver, Deliver, Reset, PowerOn, ShowRecord, ArmStop, ArmFail, InjectBytes, ForgeNet, ForgeNetAps, ForgeOpen}
+use Rattle.zb_model.specs.Play.{Own, RollOver, Deliver, Reset, PowerOn, ShowRecord, ArmStop, ArmFail, InjectBytes, ForgeNet, ForgeNetAps, ForgeOpen}
 use Rattle.zb_model.specs.Rules.{centre_of}
 use Rattle.zb_sched.specs.Schedules.{Node, Schedule}
 use Rattle.zb_sched.specs.Reading.{schedule_in}
 use Rattle.zb_sched_line.specs.Said.{Event, Says, Delivers, Ticks, Knocks, Rejoins, Adopts, Provisions, Repeats, Rolls, Switches, Removes, Resets, Boots, Dumps, Stops, Fails, Injects, ForgesNet, ForgesBoth, ForgesOpen, Asks, Shares, Tells}
-use Rattle.zb_model_schedules.specs.Schedules.{act_for, schedule_of}
+use Rattle.zb_model_schedules.specs.Schedules.{event_for, schedule_of}
 
 -- hexadecimal digits as bytes
 abbrev digit : ℕ → ℕ
@@ -182,11 +182,11 @@ events =
     Own d (TellTo e (x "55")) ∷
     []
 
-abbrev schedule : Schedule
+abbrev schedule : model.Schedule
 schedule = record { nodes = nodes; draws = other ∷ third ∷ []; events = events }
 
 schedule_is_the_models : schedule_of read_schedule ≡ schedule
-unfolding schedule_of act_for centre_of
+unfolding schedule_of event_for centre_of
 schedule_is_the_models = refl
 
 -- the link key of the install code of d

@@ -26,7 +26,7 @@ use Rattle.zb_sched.proofs.Lists.{all_map, all_map2, any_false, neither, unequal
 use Rattle.zb_sched.proofs.OneCentre.{one_centre}
 use Rattle.zb_sched.proofs.Splits.{mapped_all}
 use Rattle.zb_sched_line.specs.Said.{Bytes, Event, Says, Delivers, Ticks, Knocks, Rejoins, Adopts, Provisions, Repeats, Rolls, Switches, Removes, Resets, Boots, Dumps, Stops, Fails, Injects, ForgesNet, ForgesBoth, ForgesOpen, Asks, Shares, Tells}
-use Rattle.zb_model_schedules.specs.Schedules.{station_for, stations_for, member_for, named, act_for, schedule_of}
+use Rattle.zb_model_schedules.specs.Schedules.{station_for, stations_for, node_for, named, event_for, schedule_of}
 use Rattle.zb_model_schedules.proofs.Nodes.{NotBoth, EuisDiffer, declared, first_by, passes, the_one}
 
 -- Nodes
@@ -71,7 +71,7 @@ found_name name [] found = found
 found_name name (m ∷ ms) found = some_role name m ms (bytes_eq m.name name) refl (found_name name ms) found
 
 -- the stations of the world
-stations_map : (ms : List Node) → map (λ (m : model.Node). m.station) (map member_for ms) ≡ map station_for ms
+stations_map : (ms : List Node) → map (λ (m : model.Node). m.station) (map node_for ms) ≡ map station_for ms
 stations_map [] = refl
 stations_map (m ∷ ms) = ap (λ ps. station_for m ∷ ps) (stations_map ms)
 
@@ -120,8 +120,8 @@ joiner_of_two a b o e = (and_parts a (is_joiner o) (and_parts (a && is_joiner o)
 second_of : (a b : Bool) → (a && b) ≡ true → b ≡ true
 second_of a b e = (and_parts a b e).1
 
-event_names : (p : Schedule) → sched.IsSchedule p → (event : Event) → has_its_nodes event (map seated p.nodes) ≡ true → NamesNode (schedule_of p) (act_for (stations_for p) event)
-unfolding act_for
+event_names : (p : Schedule) → sched.IsSchedule p → (event : Event) → has_its_nodes event (map seated p.nodes) ≡ true → NamesNode (schedule_of p) (event_for (stations_for p) event)
+unfolding event_for
 event_names p is (Says name to bytes) e = a_node p name e
 event_names p is (Delivers frame name) e = a_node p name e
 event_names p is (Ticks name) e = a_node p name e
@@ -149,14 +149,14 @@ event_names p is (Shares name partner) e = the_centre p is
 event_names p is (Tells name partner bytes) e =
     a_joiner p name (joiner_of_two (not (bytes_eq name partner)) (is_joiner (role_named partner (map seated p.nodes))) (role_named name (map seated p.nodes)) e)
 
-is_member : (m : Node) → FitsNode m → IsMember (member_for m)
+is_member : (m : Node) → FitsNode m → IsMember (node_for m)
 is_member m f = record { eui = f.0.1.0; out_block = grind (arith, nat_tests, f.1); in_block = grind (arith, nat_tests, f.1); start_nwk = f.4; start_aps = f.5 }
 
 pub is_schedule : (p : Schedule) → sched.IsSchedule p → IsSchedule (schedule_of p)
 unfolding schedule_of
 is_schedule p is = record {
-  nodes = mapped_all FitsNode IsMember member_for is_member p.nodes is.so_far.nodes;
-  events = mapped_all (FitsSchedule p) (NamesNode (schedule_of p)) (act_for (stations_for p)) (λ event f. event_names p is event f.1) p.events is.so_far.events;
+  nodes = mapped_all FitsNode IsMember node_for is_member p.nodes is.so_far.nodes;
+  events = mapped_all (FitsSchedule p) (NamesNode (schedule_of p)) (event_for (stations_for p)) (λ event f. event_names p is event f.1) p.events is.so_far.events;
 }
 
 -- One centre
@@ -200,14 +200,14 @@ none_code : (o : Option Bytes) (k : Bytes) → Differ (Some k) o → IsNoneOf (o
 none_code None k differ = tt
 none_code (Some key) k differ = (λ same. differ (sym same), tt)
 
-new_of : (m : Node) (k : Bytes) → Differ (Some k) (link_of m) × Differ (Some k) (network_of m) → IsNoneOf (given_keys (member_for m)) k
+new_of : (m : Node) (k : Bytes) → Differ (Some k) (link_of m) × Differ (Some k) (network_of m) → IsNoneOf (given_keys (node_for m)) k
 new_of m k differ = none_of_both (option_to_list (link_of m)) (network_key m.network) k (none_code (link_of m) k differ.0) (none_network m.network k differ.1)
 
 is_new : (p : Schedule) (k : Bytes) → sched.IsNewKey p.nodes k → IsNewKey (schedule_of p) k
 unfolding schedule_of
 is_new p k f = (
   f.1,
-  mapped_all (λ (m : Node). Differ (Some k) (link_of m) × Differ (Some k) (network_of m)) (λ (m : model.Node). IsNoneOf (given_keys m) k) member_for (λ m differ. new_of m k differ) p.nodes f.2,
+  mapped_all (λ (m : Node). Differ (Some k) (link_of m) × Differ (Some k) (network_of m)) (λ (m : model.Node). IsNoneOf (given_keys m) k) node_for (λ m differ. new_of m k differ) p.nodes f.2,
 )
 
 -- an entered code
@@ -273,7 +273,7 @@ code_of_other_by key name device m false e other same = no_link_key key (link_of
 abbrev SeatFree : Bytes → Bytes → Node → Type 0
 SeatFree key name m = Other key name m × (is_key key (network_of m) ≡ false)
 
-others_free : (key name : Bytes) (device : ℕ) (m : Node) → SeatFree key name m → (bytes_eq m.name name ≡ true → m.eui ≡ device) → IsNoneOf (keys_of_others device (member_for m)) key
+others_free : (key name : Bytes) (device : ℕ) (m : Node) → SeatFree key name m → (bytes_eq m.name name ≡ true → m.eui ≡ device) → IsNoneOf (keys_of_others device (node_for m)) key
 others_free key name device m free same =
     none_of_both (cond (nat_eq m.eui device) [] (option_to_list (link_of m))) (network_key m.network) key
     (code_of_other_by key name device m (nat_eq m.eui device) refl free.0 same) (no_network_key key m.network free.1)
@@ -303,8 +303,8 @@ free p key name e = record { others = third.0; networks = third.1; draws = secon
     third = neither a b second.0
 
 enters : (p : Schedule) → sched.IsSchedule p → (name code : Bytes) → is_joiner (role_named name (map seated p.nodes)) ≡ true → clashes (code_key code) name (seen_of p) ≡ false
-    → EntersOwn (schedule_of p) (act_for (stations_for p) (Provisions name code))
-unfolding schedule_of act_for
+    → EntersOwn (schedule_of p) (event_for (stations_for p) (Provisions name code))
+unfolding schedule_of event_for
 enters p is name code joins clash = (
   λ same. not_centre (centre_of (stations_for p)) name p.nodes
       (unmapped_all (λ (s : Station). s.eui ≡ centre_of (stations_for p) → is_a_centre s ≡ true) station_for p.nodes (centre_alone p is)) joins
@@ -312,7 +312,7 @@ enters p is name code joins clash = (
   unequal (code_key code) well_known f.known,
   all_map (λ draw. bytes_eq draw (code_key code) ≡ false) (λ draw. draw ≡ code_key code → ⊥) p.draws (λ draw no_match. unequal draw (code_key code) no_match) (any_false (λ draw. bytes_eq draw (code_key code)) p.draws f.draws),
   mapped_all (λ (m : Node). SeatFree (code_key code) name m × (bytes_eq m.name name ≡ true → m.eui ≡ named (stations_for p) name))
-      (λ (m : model.Node). IsNoneOf (keys_of_others (named (stations_for p) name) m) (code_key code)) member_for
+      (λ (m : model.Node). IsNoneOf (keys_of_others (named (stations_for p) name) m) (code_key code)) node_for
       (λ m both. others_free (code_key code) name (named (stations_for p) name) m both.0 both.1) p.nodes
       (all_map2 (SeatFree (code_key code) name) (λ (m : Node). bytes_eq m.name name ≡ true → m.eui ≡ named (stations_for p) name)
       (λ (m : Node). SeatFree (code_key code) name m × (bytes_eq m.name name ≡ true → m.eui ≡ named (stations_for p) name)) p.nodes (λ m a b. (a, b))
@@ -331,8 +331,8 @@ enters p is name code joins clash = (
         (unseated (λ (m : Node). is_key (code_key code) (link_of m) && not (bytes_eq m.name name)) p.nodes f.others)
         (unseated (λ (m : Node). is_key (code_key code) (network_of m)) p.nodes f.networks)
 
-event_enters : (p : Schedule) → sched.IsSchedule p → (event : Event) → FitsSchedule p event → EntersOwn (schedule_of p) (act_for (stations_for p) event)
-unfolding act_for
+event_enters : (p : Schedule) → sched.IsSchedule p → (event : Event) → FitsSchedule p event → EntersOwn (schedule_of p) (event_for (stations_for p) event)
+unfolding event_for
 event_enters p is (Provisions name code) f = enters p is name code f.1 f.2
 event_enters p is (Says name to bytes) f = tt
 event_enters p is (Delivers frame name) f = tt
@@ -362,8 +362,8 @@ unfolding schedule_of
 keys_apart p is = record {
   draws_differ = all_differ p.draws is.so_far.draws_apart;
   draws_new = all_map (sched.IsNewKey p.nodes) (IsNewKey (schedule_of p)) p.draws (λ k f. is_new p k f) is.so_far.draws;
-  entered = mapped_all (FitsSchedule p) (EntersOwn (schedule_of p)) (act_for (stations_for p)) (λ event f. event_enters p is event f) p.events is.so_far.events;
+  entered = mapped_all (FitsSchedule p) (EntersOwn (schedule_of p)) (event_for (stations_for p)) (λ event f. event_enters p is event f) p.events is.so_far.events;
   alone = subst (λ ps. AllByRecursion (λ (s : Station). s.eui ≡ centre_of ps → is_a_centre s ≡ true) ps) (sym (stations_map p.nodes)) (centre_alone p is);
-  no_code = mapped_all (NoCode p) (λ (m : model.Node). m.station.eui ≡ centre_of (model.stations (schedule_of p)) → m.code ≡ None) member_for
+  no_code = mapped_all (NoCode p) (λ (m : model.Node). m.station.eui ≡ centre_of (model.stations (schedule_of p)) → m.code ≡ None) node_for
       (λ m k same. k (same ∙ ap centre_of (stations_map p.nodes))) p.nodes (no_code p is);
 }

@@ -23,8 +23,8 @@ stations_for p = map station_for p.nodes
 
 -- A node with what it holds at the start: the link key of its install code, its network key with the sequence, and its stored
 -- outgoing limits.
-abbrev pub member_for : Node → model.Node
-member_for m = record { station = station_for m; code = option_map code_key m.code; network = m.network; start_nwk = m.start_nwk; start_aps = m.start_aps }
+abbrev pub node_for : Node → model.Node
+node_for m = record { station = station_for m; code = option_map code_key m.code; network = m.network; start_nwk = m.start_nwk; start_aps = m.start_aps }
 
 -- the EUI of the node of a name
 abbrev pub named : List Station → Bytes → ℕ
@@ -32,37 +32,37 @@ named nodes name = eui_or nobody (find (λ (s : Station). bytes_eq s.name name) 
 
 -- Events, one clause for each form of line
 
-unfoldable pub act_for : List Station → Event → model.Event
+unfoldable pub event_for : List Station → Event → model.Event
 -- of each node
-act_for nodes (Says name to bytes) = model.Own (named nodes name) (SayTo to bytes)
-act_for nodes (Delivers frame name) = model.Deliver frame (named nodes name)
-act_for nodes (Ticks name) = model.Own (named nodes name) DoTimer
+event_for nodes (Says name to bytes) = model.Own (named nodes name) (SayTo to bytes)
+event_for nodes (Delivers frame name) = model.Deliver frame (named nodes name)
+event_for nodes (Ticks name) = model.Own (named nodes name) DoTimer
 -- of routers and devices
-act_for nodes (Knocks name) = model.Own (named nodes name) DoKnock
-act_for nodes (Rejoins name) = model.Own (named nodes name) DoRejoin
-act_for nodes (Asks name partner) = model.Own (named nodes name) (AskFor (named nodes partner))
-act_for nodes (Tells name partner bytes) = model.Own (named nodes name) (TellTo (named nodes partner) bytes)
+event_for nodes (Knocks name) = model.Own (named nodes name) DoKnock
+event_for nodes (Rejoins name) = model.Own (named nodes name) DoRejoin
+event_for nodes (Asks name partner) = model.Own (named nodes name) (AskFor (named nodes partner))
+event_for nodes (Tells name partner bytes) = model.Own (named nodes name) (TellTo (named nodes partner) bytes)
 -- of the parent, which hears the node
-act_for nodes (Adopts parent name rejoin) = model.Own (named nodes parent) (HasChild (named nodes name) rejoin)
+event_for nodes (Adopts parent name rejoin) = model.Own (named nodes parent) (HasChild (named nodes name) rejoin)
 -- of the centre, about the node
-act_for nodes (Provisions name code) = model.Own (centre_of nodes) (DoProvision (named nodes name) (code_key code))
-act_for nodes (Removes name parent) = model.Own (centre_of nodes) (DoRemove (named nodes name) (named nodes parent))
-act_for nodes Rolls = model.RollOver (centre_of nodes)
-act_for nodes Switches = model.Own (centre_of nodes) DoSwitch
-act_for nodes (Repeats name) = model.Own (centre_of nodes) (DoAgain (named nodes name))
-act_for nodes (Shares name partner) = model.Own (centre_of nodes) (DoShare (named nodes name) (named nodes partner))
+event_for nodes (Provisions name code) = model.Own (centre_of nodes) (DoProvision (named nodes name) (code_key code))
+event_for nodes (Removes name parent) = model.Own (centre_of nodes) (DoRemove (named nodes name) (named nodes parent))
+event_for nodes Rolls = model.RollOver (centre_of nodes)
+event_for nodes Switches = model.Own (centre_of nodes) DoSwitch
+event_for nodes (Repeats name) = model.Own (centre_of nodes) (DoAgain (named nodes name))
+event_for nodes (Shares name partner) = model.Own (centre_of nodes) (DoShare (named nodes name) (named nodes partner))
 -- of a node's power and disk
-act_for nodes (Resets name) = model.Reset (named nodes name)
-act_for nodes (Boots name) = model.PowerOn (named nodes name)
-act_for nodes (Dumps name) = model.ShowRecord (named nodes name)
-act_for nodes (Stops name calls torn) = model.ArmStop (named nodes name) calls torn
-act_for nodes (Fails name call) = model.ArmFail (named nodes name) call
+event_for nodes (Resets name) = model.Reset (named nodes name)
+event_for nodes (Boots name) = model.PowerOn (named nodes name)
+event_for nodes (Dumps name) = model.ShowRecord (named nodes name)
+event_for nodes (Stops name calls torn) = model.ArmStop (named nodes name) calls torn
+event_for nodes (Fails name call) = model.ArmFail (named nodes name) call
 -- of nobody: bytes on the air, and forged frames
-act_for nodes (Injects bytes) = model.InjectBytes bytes
-act_for nodes (ForgesNet to from source key sequence counter content) = model.ForgeNet to from source key sequence counter content
-act_for nodes (ForgesBoth to from source key sequence counter label base aps_counter command) =
+event_for nodes (Injects bytes) = model.InjectBytes bytes
+event_for nodes (ForgesNet to from source key sequence counter content) = model.ForgeNet to from source key sequence counter content
+event_for nodes (ForgesBoth to from source key sequence counter label base aps_counter command) =
     model.ForgeNetAps to from source key sequence counter (model_label label) base aps_counter command
-act_for nodes (ForgesOpen to from source label base aps_counter command) = model.ForgeOpen to from source (model_label label) base aps_counter command
+event_for nodes (ForgesOpen to from source label base aps_counter command) = model.ForgeOpen to from source (model_label label) base aps_counter command
 
 unfoldable pub schedule_of : Schedule → model.Schedule
-schedule_of p = record { nodes = map member_for p.nodes; draws = p.draws; events = map (act_for (stations_for p)) p.events }
+schedule_of p = record { nodes = map node_for p.nodes; draws = p.draws; events = map (event_for (stations_for p)) p.events }
