@@ -1,4 +1,4 @@
--- Worked schedules from their texts: each world is the one whose run is computed in the crate of the model.
+-- Worked schedules from their texts: each is the one whose run is computed in the crate of the model.
 use Rattle.std.specs.Prelude.{◌≡◌, ℕ, List, ◌++◌, Some, codes, refl}
 use Rattle.std.specs.Option.{option_map}
 use Rattle.std.specs.Result.{result_ok}

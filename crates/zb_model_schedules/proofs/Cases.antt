@@ -1,4 +1,4 @@
--- A schedule with each form of line: what it reads as, and the world that it is.
+-- A schedule with each form of line: what it reads as, and what it is in the model.
 use Rattle.std.specs.Prelude.{◌≡◌, ℕ, ◌+◌, ◌-◌, ◌*◌, if◌then◌else◌, List, [], ◌∷◌, ◌++◌, Some, None, true, false, nat_lt, codes, refl}
 use Rattle.std.specs.Result.{result_ok}
 use Prim.Native.String.{String}
@@ -143,7 +143,7 @@ text_reads_as_schedule : result_ok (schedule_in text) ≡ Some read_schedule
 unfolding code_of crc remainder added divided message_bits decode_pairs hash blocks_of xored enciphered last_round round_key next_key state_after round mix_column substitute times
 text_reads_as_schedule = refl
 
--- the world that it is
+-- what it is in the model
 
 abbrev nodes : List model.Node
 nodes =

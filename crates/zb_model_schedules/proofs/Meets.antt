@@ -1,4 +1,4 @@
--- What every schedule keeps gives what the laws over runs ask of its world.
+-- What every schedule keeps gives what the laws over runs ask of its model.
 use Rattle.std.proofs.Common.{◌≡◌, ℕ, ◌&&◌, ◌||◌, not, Bool, true, false, cond, List, [], ◌∷◌, ◌++◌, map, find, Option, Some, None, option_to_list, nat_eq, bytes_eq, refl, sym, ap, ◌∙◌, subst, arith, eq-eqb}
 use Rattle.std.specs.Prelude.{is_some, IfSome}
 use Rattle.std.specs.List.{AllByRecursion, list_any}
@@ -70,7 +70,7 @@ found_name : (name : Bytes) (ms : List Node) → is_some (role_named name (map s
 found_name name [] found = found
 found_name name (m ∷ ms) found = some_role name m ms (bytes_eq m.name name) refl (found_name name ms) found
 
--- the stations of the world
+-- the stations of the model
 stations_map : (ms : List Node) → map (λ (m : model.Node). m.station) (map node_for ms) ≡ map station_for ms
 stations_map [] = refl
 stations_map (m ∷ ms) = ap (λ ps. station_for m ∷ ps) (stations_map ms)

@@ -1,4 +1,4 @@
--- The world of a schedule: its nodes, its supply of keys and its events, as the model of whole runs has them. A schedule names
+-- The model of a schedule: its nodes, its supply of keys and its events, as the model of whole runs has them. A schedule names
 -- nodes; the model knows a node by its EUI. A schedule has install codes; the model has the link keys that they give. And some
 -- events of a schedule name no node that they are of: these are the centre's.
 use Rattle.std.specs.Prelude.{ℕ, List, map, find, bytes_eq}
