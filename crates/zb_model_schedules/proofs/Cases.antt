@@ -14,7 +14,7 @@ use Rattle.zb_install.specs.Crc.{crc}
 use Rattle.zb_mmo.specs.Hash.{blocks_of, hash}
 use Rattle.zb_model.specs.Data.{Bytes, Role, Station, ForTransport, ForLoad, SayTo, TellTo, DoKnock, DoRejoin, DoTimer, AskFor, HasChild, DoProvision, DoRemove, DoSwitch, DoAgain, DoShare}
 use Rattle.zb_model.specs.Play as model
-use Rattle.zb_model.specs.Play.{Schedule, Own, RollOver, Deliver, Reset, PowerOn, ShowRecord, ArmStop, ArmFail, InjectBytes, ForgeNet, ForgeNetAps, ForgeOpen}
+use Rattle.zb_model.specs.Play.{Own, RollOver, Deliver, Reset, PowerOn, ShowRecord, ArmStop, ArmFail, InjectBytes, ForgeNet, ForgeNetAps, ForgeOpen}
 use Rattle.zb_model.specs.Rules.{centre_of}
 use Rattle.zb_sched.specs.Schedules.{Node, Schedule}
 use Rattle.zb_sched.specs.Reading.{schedule_in}
@@ -182,7 +182,7 @@ events =
     Own d (TellTo e (x "55")) ∷
     []
 
-abbrev schedule : Schedule
+abbrev schedule : model.Schedule
 schedule = record { nodes = nodes; draws = other ∷ third ∷ []; events = events }
 
 schedule_is_the_models : schedule_of read_schedule ≡ schedule
