@@ -84,5 +84,5 @@ pub record Made (count : ℕ) (before after : Option Bytes) : Type 0 where
   pub plan : sched.Schedule
   pub is : made 0 count ≡ Ok plan
   pub valid : IsSchedule plan
-  pub reads : schedule_of (printed plan) ≡ Ok plan
+  pub reads : schedule_in (printed plan) ≡ Ok plan
   pub written : Appends before after (printed plan)
