@@ -20,7 +20,7 @@ use zb_base::{Attribute, Eui, Key, Layer, Role, Rollover, State};
 use zb_node_types::Change;
 
 impl Contents {
-    /// Whether a change fits.
+    /// Answers whether a change fits.
     pub(crate) fn fits(&self, change: &Change) -> bool
         requires { IsSound self.now }
         ensures { result ≡ fits (edit change.now) (state_of self.now) }
@@ -178,7 +178,8 @@ impl Contents {
 
     /// Whether a first counter isn't below the limit of its network key.
     fn may_start(&self, key: &Key, value: u32) -> bool
-        ensures { result ≡ (list_any (λ r. same_key r.key key.now.0) (state_of self.now).nets && nat_le (net_limit (net_of key.now.0 (state_of self.now))) value) }
+        ensures { result ≡ (list_any (λ r. same_key r.key key.now.0) (state_of self.now).nets
+            && nat_le (net_limit (net_of key.now.0 (state_of self.now))) value) }
     {
         self.has_net(key) && limit_in(self.net_row(key)) <= value
     }
@@ -223,7 +224,8 @@ impl Contents {
 
     /// Whether there is room for another network key, and less than two are in use.
     fn has_net_room(&self) -> bool
-        ensures { result ≡ (nat_lt (length (state_of self.now).nets) most_nets && nat_lt (length (live_nets (state_of self.now))) 2) }
+        ensures { result ≡ (nat_lt (length (state_of self.now).nets) most_nets
+            && nat_lt (length (live_nets (state_of self.now))) 2) }
     {
         self.has_net_slot() && self.has_few_live()
     }
@@ -251,14 +253,17 @@ impl Contents {
 
     /// Whether a link key has a row or room for one.
     fn may_hold(&self, partner: Eui, key: &Key) -> bool
-        ensures { result ≡ (has_link partner.0 key.now.0 (state_of self.now).links || (nat_lt (length (state_of self.now).links) (most_links (state_of self.now).role) && not (key_is_used key.now.0 (state_of self.now).links))) }
+        ensures { result ≡ (has_link partner.0 key.now.0 (state_of self.now).links
+            || (nat_lt (length (state_of self.now).links) (most_links (state_of self.now).role)
+            && not (key_is_used key.now.0 (state_of self.now).links))) }
     {
         self.has_link(partner, key) || self.may_add_link(key)
     }
 
     /// Whether there is room for another link key, which isn't used.
     fn may_add_link(&self, key: &Key) -> bool
-        ensures { result ≡ (nat_lt (length (state_of self.now).links) (most_links (state_of self.now).role) && not (key_is_used key.now.0 (state_of self.now).links)) }
+        ensures { result ≡ (nat_lt (length (state_of self.now).links) (most_links (state_of self.now).role)
+            && not (key_is_used key.now.0 (state_of self.now).links)) }
     {
         self.has_link_slot() && !self.uses_key(key)
     }
@@ -281,14 +286,16 @@ impl Contents {
     /// Whether a partner has another row in use that is offered where this one is to be, or else isn't.
     #[tactic(auto, using(crate::proofs::Mapping::any_map))]
     fn has_rival(&self, partner: Eui, key: &Key, attribute: Attribute) -> bool
-        ensures { result ≡ list_any (is_rival partner.0 key.now.0 (model_attribute attribute)) (state_of self.now).links }
+        ensures { result ≡ list_any (is_rival partner.0 key.now.0 (model_attribute attribute))
+            (state_of self.now).links }
     {
         has_rival(self.links.as_slice(), partner, key, attribute)
     }
 
     /// Whether there is room for another pair, whose first address is the smaller one.
     fn has_pair_room(&self, first: Eui, second: Eui) -> bool
-        ensures { result ≡ (is_centre (state_of self.now).role && (nat_lt (length (state_of self.now).pairs) most_pairs && nat_lt first.0 second.0)) }
+        ensures { result ≡ (is_centre (state_of self.now).role
+            && (nat_lt (length (state_of self.now).pairs) most_pairs && nat_lt first.0 second.0)) }
     {
         self.is_centre() && self.pairs.as_slice().len() < 256 && first.0 < second.0
     }

@@ -10,7 +10,9 @@ ghost use Rattle.zb_model.specs.State.{at_link, is_link, has_link, is_live_of, d
 use zb_base::{Attribute, Eui, Key, Role};
 use zb_counter::Floor;
 
-/// A link key shared with a partner. A row is never taken away: a key that comes again for its partner revives it.
+/// Holds a link key that is shared with a partner.
+///
+/// A row is never taken away: a key that comes again for its partner revives it.
 #[derive(Clone, Copy, Debug, PartialEq, Eq)]
 pub struct LinkRow {
     /// With whom the key is shared.
@@ -30,7 +32,7 @@ pub struct LinkRow {
 }
 
 impl LinkRow {
-    /// A key that was just given.
+    /// Makes the row of a key that was just given.
     pub(crate) fn given(partner: Eui, key: Key, attribute: Attribute, told: bool) -> LinkRow
         ensures { link_key result ≡ new_link partner.0 key.0 (model_attribute attribute) told }
     {
@@ -45,28 +47,28 @@ impl LinkRow {
         }
     }
 
-    /// Whether it is the row of that partner and key.
+    /// Answers whether it is the row of that partner and key.
     pub(crate) fn is_of(&self, partner: Eui, key: &Key) -> bool
         ensures { result ≡ is_link partner.0 key.now.0 (link_key self.now) }
     {
         self.partner == partner && self.key == *key
     }
 
-    /// Whether it is a row in use of that partner.
+    /// Answers whether it is a row in use of that partner.
     pub(crate) fn is_live_of(&self, partner: Eui) -> bool
         ensures { result ≡ is_live_of partner.0 (link_key self.now) }
     {
         self.live && self.partner == partner
     }
 
-    /// Whether it is only offered: nobody proved yet that both sides hold the key.
+    /// Answers whether it is only offered: nobody proved yet that both sides hold the key.
     pub fn is_unverified(&self) -> bool
         ensures { result ≡ is_unverified (link_key self.now).attribute }
     {
         matches!(self.attribute, Attribute::Unverified)
     }
 
-    /// Whether both sides proved that they hold the key.
+    /// Answers whether both sides proved that they hold the key.
     pub fn is_verified(&self) -> bool
         ensures { result ≡ is_verified (link_key self.now).attribute }
     {
@@ -75,7 +77,8 @@ impl LinkRow {
 
     /// Drops the row, if it is of that partner and key.
     fn drop_at(&mut self, partner: Eui, key: &Key)
-        ensures { link_key self.new ≡ (if is_link partner.0 key.now.0 (link_key self.old) then dropped_link (link_key self.old) else link_key self.old) }
+        ensures { link_key self.new ≡ (if is_link partner.0 key.now.0 (link_key self.old)
+            then dropped_link (link_key self.old) else link_key self.old) }
     {
         if self.is_of(partner, key) {
             self.live = false;
@@ -85,7 +88,8 @@ impl LinkRow {
 
     /// Stores the floor, if the row is of that partner and key. A stored floor never falls.
     fn store_at(&mut self, partner: Eui, key: &Key, value: u32)
-        ensures { link_key self.new ≡ (if is_link partner.0 key.now.0 (link_key self.old) then link_floor value (link_key self.old) else link_key self.old) }
+        ensures { link_key self.new ≡ (if is_link partner.0 key.now.0 (link_key self.old)
+            then link_floor value (link_key self.old) else link_key self.old) }
     {
         if self.is_of(partner, key) {
             self.floor.stored = self.floor.stored.max(value);
@@ -94,7 +98,8 @@ impl LinkRow {
 
     /// Keeps what was accepted, if the row is of that partner and key.
     fn hear_at(&mut self, partner: Eui, key: &Key, kept: u32)
-        ensures { link_key self.new ≡ (if is_link partner.0 key.now.0 (link_key self.old) then link_kept kept (link_key self.old) else link_key self.old) }
+        ensures { link_key self.new ≡ (if is_link partner.0 key.now.0 (link_key self.old)
+            then link_kept kept (link_key self.old) else link_key self.old) }
     {
         if self.is_of(partner, key) {
             self.floor.kept = kept;
@@ -103,7 +108,8 @@ impl LinkRow {
 
     /// Brings the row into use, if it is of that partner and key.
     fn revive_at(&mut self, partner: Eui, key: &Key, attribute: Attribute, told: bool)
-        ensures { link_key self.new ≡ (if is_link partner.0 key.now.0 (link_key self.old) then revived (model_attribute attribute) told (link_key self.old) else link_key self.old) }
+        ensures { link_key self.new ≡ (if is_link partner.0 key.now.0 (link_key self.old)
+            then revived (model_attribute attribute) told (link_key self.old) else link_key self.old) }
     {
         if self.is_of(partner, key) {
             self.attribute = attribute;
@@ -115,7 +121,8 @@ impl LinkRow {
 
     /// Marks the row as told or not, if it is a row in use of that partner.
     fn tell_at(&mut self, partner: Eui, told: bool)
-        ensures { link_key self.new ≡ (if is_live_of partner.0 (link_key self.old) then told_as told (link_key self.old) else link_key self.old) }
+        ensures { link_key self.new ≡ (if is_live_of partner.0 (link_key self.old)
+            then told_as told (link_key self.old) else link_key self.old) }
     {
         if self.is_live_of(partner) {
             self.told = told;
@@ -156,7 +163,8 @@ pub(crate) fn revive_link(
     attribute: Attribute,
     told: bool,
 )
-    ensures { map link_key rows.new ≡ at_link partner.0 key.now.0 (revived (model_attribute attribute) told) (map link_key rows.old) }
+    ensures { map link_key rows.new
+        ≡ at_link partner.0 key.now.0 (revived (model_attribute attribute) told) (map link_key rows.old) }
 {
     for row in rows.iter_mut() {
         row.revive_at(partner, key, attribute, told);
@@ -181,7 +189,7 @@ pub(crate) fn untell_links(rows: &mut [LinkRow])
     }
 }
 
-/// Whether there is a row of that partner and key, in use or dropped.
+/// Answers whether there is a row of that partner and key, in use or dropped.
 pub(crate) fn has_row(rows: &[LinkRow], partner: Eui, key: &Key) -> bool
     ensures { result ≡ list_any (λ r. is_link partner.0 key.now.0 (link_key r)) rows.now }
 {
@@ -189,14 +197,14 @@ pub(crate) fn has_row(rows: &[LinkRow], partner: Eui, key: &Key) -> bool
         .any(|row| row.partner == partner && row.key == *key)
 }
 
-/// Whether a partner has a row in use.
+/// Answers whether a partner has a row in use.
 pub(crate) fn has_live(rows: &[LinkRow], partner: Eui) -> bool
     ensures { result ≡ list_any (λ r. is_live_of partner.0 (link_key r)) rows.now }
 {
     rows.iter().any(|row| row.live && row.partner == partner)
 }
 
-/// Whether a partner was told.
+/// Answers whether a partner was told.
 pub(crate) fn has_told(rows: &[LinkRow], partner: Eui) -> bool
     ensures { result ≡ list_any (λ r. is_live_of partner.0 (link_key r) && r.told) rows.now }
 {
@@ -204,21 +212,23 @@ pub(crate) fn has_told(rows: &[LinkRow], partner: Eui) -> bool
         .any(|row| row.live && row.partner == partner && row.told)
 }
 
-/// The current row of a partner: its row in use that isn't only offered.
+/// Answers the current row of a partner: its row in use that isn't only offered.
 pub(crate) fn current_row<'a>(rows: &'a [LinkRow], partner: Eui) -> Option<&'a LinkRow>
-    ensures { option_copied result ≡ find (λ r. is_live_of partner.0 (link_key r) && not (is_unverified (link_key r).attribute)) rows.now }
+    ensures { option_copied result ≡ find (λ r. is_live_of partner.0 (link_key r)
+        && not (is_unverified (link_key r).attribute)) rows.now }
 {
     rows.iter().find(|row| row.live && row.partner.0 == partner.0 && !row.is_unverified())
 }
 
-/// The offered row of a partner: its unverified row in use.
+/// Answers the offered row of a partner: its unverified row in use.
 pub(crate) fn offered_row<'a>(rows: &'a [LinkRow], partner: Eui) -> Option<&'a LinkRow>
-    ensures { option_copied result ≡ find (λ r. is_live_of partner.0 (link_key r) && is_unverified (link_key r).attribute) rows.now }
+    ensures { option_copied result ≡ find (λ r. is_live_of partner.0 (link_key r)
+        && is_unverified (link_key r).attribute) rows.now }
 {
     rows.iter().find(|row| row.live && row.partner.0 == partner.0 && row.is_unverified())
 }
 
-/// The first row in use of a partner.
+/// Answers the first row in use of a partner.
 pub(crate) fn live_row<'a>(rows: &'a [LinkRow], partner: Eui) -> Option<&'a LinkRow>
     ensures { option_copied result ≡ find (λ r. is_live_of partner.0 (link_key r)) rows.now }
 {
@@ -226,9 +236,10 @@ pub(crate) fn live_row<'a>(rows: &'a [LinkRow], partner: Eui) -> Option<&'a Link
         .find(|row| row.live && row.partner.0 == partner.0)
 }
 
-/// The first row with that key of another partner.
+/// Answers the first row with that key of another partner.
 pub(crate) fn other_row<'a>(rows: &'a [LinkRow], partner: Eui, key: &Key) -> Option<&'a LinkRow>
-    ensures { option_copied result ≡ find (λ r. same_key (link_key r).key key.now.0 && not (nat_eq (link_key r).partner partner.0)) rows.now }
+    ensures { option_copied result ≡ find (λ r. same_key (link_key r).key key.now.0
+        && not (nat_eq (link_key r).partner partner.0)) rows.now }
 {
     rows.iter()
         .find(|row| row.key == *key && row.partner.0 != partner.0)
@@ -243,7 +254,7 @@ pub(crate) fn hear_link(rows: &mut [LinkRow], partner: Eui, key: &Key, kept: u32
     }
 }
 
-/// How many link keys a node may hold.
+/// Answers how many link keys a node may hold.
 pub(crate) fn link_room(role: Role) -> usize
     ensures { result ≡ most_links (model_role role) }
 {

@@ -12,7 +12,7 @@ use arrayvec::ArrayVec;
 use zb_base::{Eui, Key};
 use zb_counter::Floor;
 
-/// The floor of one sender under a network key.
+/// Holds the floor of one sender under a network key.
 #[derive(Clone, Copy, Debug, Default, PartialEq, Eq)]
 pub struct SenderFloor {
     /// Whose frames.
@@ -23,10 +23,12 @@ pub struct SenderFloor {
     pub stored: u32,
 }
 
-/// The floors under one network key, by ascending sender.
+/// Holds the floors under one network key, by ascending sender.
 pub(crate) type Senders = ArrayVec<SenderFloor, 64>;
 
-/// A network key. A row is never taken away: a dropped key is refused when it comes again.
+/// Holds a network key with its counter and its floors.
+///
+/// A row is never taken away: a dropped key is refused when it comes again.
 #[derive(Debug, Drop)]
 pub struct NetRow {
     /// The key.
@@ -46,7 +48,7 @@ pub struct NetRow {
 }
 
 impl NetRow {
-    /// A key that was just installed.
+    /// Makes the row of a key that was just installed.
     pub(crate) fn installed(key: Key, sequence: u8) -> NetRow
         ensures { net_key result ≡ new_net key.0 sequence }
     {
@@ -61,7 +63,7 @@ impl NetRow {
         }
     }
 
-    /// A key that was just installed and counts as started, with the limit that all keys have.
+    /// Makes the row of a new key that counts as started, with the limit that all keys have.
     pub(crate) fn given(key: Key, sequence: u8, limit: u32) -> NetRow
         ensures { net_key result ≡ given_net limit key.0 sequence }
     {
@@ -87,7 +89,8 @@ impl NetRow {
 
     /// Drops the row and forgets its floors, if it has that key.
     pub(crate) fn drop_at(&mut self, key: &Key)
-        ensures { net_key self.new ≡ (if same_key (net_key self.old).key key.now.0 then shown_net (dropped_net (net_key self.old)) else net_key self.old) }
+        ensures { net_key self.new ≡ (if same_key (net_key self.old).key key.now.0
+            then shown_net (dropped_net (net_key self.old)) else net_key self.old) }
     {
         if self.key == *key {
             self.live = false;
@@ -97,7 +100,8 @@ impl NetRow {
 
     /// Reserves outgoing counters up to a limit, if the row has that key. A limit never falls.
     pub(crate) fn reserve_at(&mut self, key: &Key, limit: u32)
-        ensures { net_key self.new ≡ (if same_key (net_key self.old).key key.now.0 then reserved limit (net_key self.old) else net_key self.old) }
+        ensures { net_key self.new ≡ (if same_key (net_key self.old).key key.now.0
+            then reserved limit (net_key self.old) else net_key self.old) }
     {
         if self.key == *key {
             self.started = true;
@@ -107,7 +111,8 @@ impl NetRow {
 
     /// Begins counting at a value, if the row has that key.
     pub(crate) fn start_at(&mut self, key: &Key, value: u32)
-        ensures { net_key self.new ≡ (if same_key (net_key self.old).key key.now.0 then started_at value (net_key self.old) else net_key self.old) }
+        ensures { net_key self.new ≡ (if same_key (net_key self.old).key key.now.0
+            then started_at value (net_key self.old) else net_key self.old) }
     {
         if self.key == *key {
             self.started = true;
@@ -118,7 +123,8 @@ impl NetRow {
 
     /// Uses the next outgoing counter, if the row has that key and the counter is reserved.
     pub(crate) fn count_at(&mut self, key: &Key)
-        ensures { net_key self.new ≡ (if same_key (net_key self.old).key key.now.0 then counted_row (net_key self.old) else net_key self.old) }
+        ensures { net_key self.new ≡ (if same_key (net_key self.old).key key.now.0
+            then counted_row (net_key self.old) else net_key self.old) }
     {
         if self.key == *key && self.next < self.limit {
             self.next += 1;
@@ -127,8 +133,10 @@ impl NetRow {
 
     /// Stores a sender's floor, if the row has that key and is in use.
     pub(crate) fn store_at(&mut self, key: &Key, sender: Eui, value: u32)
-        requires { HasRoom (if same_key (net_key self.old).key key.now.0 then live_floor sender.0 value (net_key self.old) else net_key self.old) }
-        ensures { net_key self.new ≡ (if same_key (net_key self.old).key key.now.0 then live_floor sender.0 value (net_key self.old) else net_key self.old) }
+        requires { HasRoom (if same_key (net_key self.old).key key.now.0
+            then live_floor sender.0 value (net_key self.old) else net_key self.old) }
+        ensures { net_key self.new ≡ (if same_key (net_key self.old).key key.now.0
+            then live_floor sender.0 value (net_key self.old) else net_key self.old) }
     {
         if self.key == *key && self.live {
             store(&mut self.floors, sender, value);
@@ -137,14 +145,15 @@ impl NetRow {
 
     /// Keeps what was accepted of a sender, if the row has that key.
     pub(crate) fn hear_at(&mut self, key: &Key, sender: Eui, kept: u32)
-        ensures { net_key self.new ≡ (if same_key (net_key self.old).key key.now.0 then net_kept sender.0 kept (net_key self.old) else net_key self.old) }
+        ensures { net_key self.new ≡ (if same_key (net_key self.old).key key.now.0
+            then net_kept sender.0 kept (net_key self.old) else net_key self.old) }
     {
         if self.key == *key {
             hear(&mut self.floors, sender, kept);
         }
     }
 
-    /// The floor of a sender: 0 and 0 where none was stored.
+    /// Answers the floor of a sender: 0 and 0 where none was stored.
     #[tactic(auto, unfolding(zb_model::specs::State::sender_floor), using(crate::proofs::FindLemmas::find_map))]
     pub(crate) fn floor_of(&self, sender: Eui) -> Floor
         ensures { result ≡ floor_of_row sender.0 (Some (net_key self.now)) }
@@ -190,7 +199,8 @@ fn store(floors: &mut Senders, sender: Eui, value: u32)
 /// Raises the floor at the sender's place, if it is of that sender.
 fn raise(floors: &mut [SenderFloor], at: usize, sender: Eui, value: u32) -> bool
     requires { IsPlace floors.old sender.0 at }
-    ensures raised { IsTrue result → map heard_floor floors.new ≡ floor_stored sender.0 value (map heard_floor floors.old) }
+    ensures raised { IsTrue result → map heard_floor floors.new
+        ≡ floor_stored sender.0 value (map heard_floor floors.old) }
     ensures absent { IsFalse result → (floors.new ≡ floors.old) × IsAbsent floors.old sender.0 at }
 {
     if at < floors.len() && floors[at].sender.0 == sender.0 {
@@ -213,7 +223,8 @@ fn hear(floors: &mut [SenderFloor], sender: Eui, kept: u32)
 impl SenderFloor {
     /// Keeps what was accepted, if the floor is of that sender.
     fn hear(&mut self, sender: Eui, kept: u32)
-        ensures { heard_floor self.new ≡ (if nat_eq (heard_floor self.old).sender sender.0 then record (heard_floor self.old) { kept = kept } else heard_floor self.old) }
+        ensures { heard_floor self.new ≡ (if nat_eq (heard_floor self.old).sender sender.0
+            then record (heard_floor self.old) { kept = kept } else heard_floor self.old) }
     {
         if self.sender == sender {
             self.kept = kept;
@@ -285,7 +296,7 @@ pub(crate) fn store_net(rows: &mut [NetRow], key: &Key, sender: Eui, value: u32)
     }
 }
 
-/// Whether there is a row of that key, in use or dropped.
+/// Answers whether there is a row of that key, in use or dropped.
 pub(crate) fn has_key(rows: &[NetRow], key: &Key) -> bool
     ensures { result ≡ list_any (λ r. same_key (net_key r).key key.now.0) rows.now }
 {
@@ -299,14 +310,14 @@ fn stored_floor<'a>(floors: &'a [SenderFloor], sender: Eui) -> Option<&'a Sender
     floors.iter().find(|floor| floor.sender.0 == sender.0)
 }
 
-/// The place of a key's row.
+/// Answers the place of a key's row.
 pub(crate) fn key_place(rows: &[NetRow], key: &Key) -> Option<usize>
     ensures { result ≡ position (λ r. same_key (net_key r).key key.now.0) rows.now }
 {
     rows.iter().position(|row| row.key == *key)
 }
 
-/// The row of a key.
+/// Answers the row of a key.
 pub(crate) fn key_row<'a>(rows: &'a [NetRow], key: &Key) -> Option<&'a NetRow>
     ensures { option_copied result ≡ find (λ r. same_key (net_key r).key key.now.0) rows.now }
 {

@@ -20,7 +20,7 @@ fn layer_byte(layer: Layer) -> u8
     }
 }
 
-/// The byte of an attribute.
+/// Answers the byte of an attribute.
 pub(crate) fn attribute_byte(attribute: Attribute) -> u8
     ensures { result ≡ attribute_byte (model_attribute attribute) }
 {
@@ -31,7 +31,7 @@ pub(crate) fn attribute_byte(attribute: Attribute) -> u8
     }
 }
 
-/// The byte of a state.
+/// Answers the byte of a state.
 pub(crate) fn state_byte(state: State) -> u8
     ensures { result ≡ state_byte (model_state state) }
 {
@@ -46,7 +46,7 @@ pub(crate) fn state_byte(state: State) -> u8
     }
 }
 
-/// The byte of a rollover.
+/// Answers the byte of a rollover.
 pub(crate) fn rollover_byte(rollover: Rollover) -> u8
     ensures { result ≡ worth 1 (is_sending rollover) }
 {
@@ -105,8 +105,10 @@ fn put_reserve(into: &mut [u8], at: usize, layer: Layer, limit: u32) -> usize
 
 /// A floor.
 fn put_floor(into: &mut [u8], at: usize, layer: Layer, key: &Key, sender: Eui, value: u32) -> usize
-    requires { at + length (2 ∷ layer_byte (model_layer layer) ∷ key.now.0 ++ (eight_bytes sender.0 ++ four_bytes value)) ≤ length into.old }
-    ensures { Writes into.old into.new at result (2 ∷ layer_byte (model_layer layer) ∷ key.now.0 ++ (eight_bytes sender.0 ++ four_bytes value)) }
+    requires { at + length (2 ∷ layer_byte (model_layer layer) ∷ key.now.0
+        ++ (eight_bytes sender.0 ++ four_bytes value)) ≤ length into.old }
+    ensures { Writes into.old into.new at result (2 ∷ layer_byte (model_layer layer) ∷ key.now.0
+        ++ (eight_bytes sender.0 ++ four_bytes value)) }
 {
     let at = put_layer_key(into, at, layer, key);
     put_eui_number(into, at, sender, value)
@@ -121,7 +123,7 @@ fn put_layer_key(into: &mut [u8], at: usize, layer: Layer, key: &Key) -> usize
     put(into, at, &key.0)
 }
 
-/// An address and a number.
+/// Writes an address and a number.
 pub(crate) fn put_eui_number(into: &mut [u8], at: usize, eui: Eui, value: u32) -> usize
     requires { at + 12 ≤ length into.old }
     ensures { Writes into.old into.new at result (eight_bytes eui.0 ++ four_bytes value) }
@@ -130,7 +132,7 @@ pub(crate) fn put_eui_number(into: &mut [u8], at: usize, eui: Eui, value: u32) -
     put_number32(into, at, value)
 }
 
-/// A number of 8 bytes.
+/// Writes a number of 8 bytes.
 pub(crate) fn put_number64(into: &mut [u8], at: usize, number: u64) -> usize
     requires { at + 8 ≤ length into.old }
     ensures { Writes into.old into.new at result (eight_bytes number) }
@@ -157,8 +159,10 @@ fn put_install(into: &mut [u8], at: usize, key: &Key, sequence: u8) -> usize
 
 /// A link key.
 fn put_row(into: &mut [u8], at: usize, partner: Eui, key: &Key, attribute: Attribute) -> usize
-    requires { at + length (7 ∷ eight_bytes partner.0 ++ (key.now.0 ++ attribute_byte (model_attribute attribute) ∷ [])) ≤ length into.old }
-    ensures { Writes into.old into.new at result (7 ∷ eight_bytes partner.0 ++ (key.now.0 ++ attribute_byte (model_attribute attribute) ∷ [])) }
+    requires { at + length (7 ∷ eight_bytes partner.0
+        ++ (key.now.0 ++ attribute_byte (model_attribute attribute) ∷ [])) ≤ length into.old }
+    ensures { Writes into.old into.new at result (7 ∷ eight_bytes partner.0
+        ++ (key.now.0 ++ attribute_byte (model_attribute attribute) ∷ [])) }
 {
     let at = put_eui_key(into, at, 7, partner, key);
     put(into, at, &[attribute_byte(attribute)])
@@ -251,8 +255,9 @@ fn put_changes(into: &mut [u8], at: usize, changes: &[Change]) -> usize
 }
 
 impl Tables {
-    /// Writes the payload of changes that are stored together, and answers its length. There is room for it; a payload of
-    /// more than 481 bytes has no place in a journal.
+    /// Writes the payload of changes that are stored together, and answers its length.
+    ///
+    /// Requires room for it. A payload of more than 481 bytes has no place in a journal.
     #[tactic(auto, unfolding(zb_model::specs::Record::payload))]
     pub fn change_bytes(changes: &Changes, into: &mut [u8]) -> u32
         requires room { length (payload (edits changes.now.items)) ≤ length into.old }

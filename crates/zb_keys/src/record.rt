@@ -75,7 +75,8 @@ fn put_senders(into: &mut [u8], at: usize, floors: &[SenderFloor]) -> usize
 /// The floors under a network key: their number 1, and each of them.
 fn put_floors(into: &mut [u8], at: usize, floors: &Senders) -> usize
     requires { at + 769 ≤ length into.old }
-    ensures writes { Writes into.old into.new at result (length floors.now.items ∷ flat_map sender_bytes (map heard_floor floors.now.items)) }
+    ensures writes { Writes into.old into.new at result (length floors.now.items
+        ∷ flat_map sender_bytes (map heard_floor floors.now.items)) }
     ensures short { result ≤ at + 769 }
 {
     let at = put(into, at, &[floors.len() as u8]);
@@ -85,7 +86,8 @@ fn put_floors(into: &mut [u8], at: usize, floors: &Senders) -> usize
 /// The floors of a network key, if it is in use.
 fn put_live_floors(into: &mut [u8], at: usize, row: &NetRow) -> usize
     requires { at + 769 ≤ length into.old }
-    ensures writes { Writes into.old into.new at result (if (net_key row.now).live then floors_bytes (net_key row.now) else []) }
+    ensures writes { Writes into.old into.new at result (if (net_key row.now).live
+        then floors_bytes (net_key row.now) else []) }
     ensures short { result ≤ at + (if (net_key row.now).live then 769 else 0) }
 {
     if row.live {
@@ -99,7 +101,8 @@ fn put_live_floors(into: &mut [u8], at: usize, row: &NetRow) -> usize
 fn put_all_floors(into: &mut [u8], at: usize, rows: &[NetRow]) -> usize
     requires few { length (filter (λ r. (net_key r).live) rows.now) ≤ 2 }
     requires room { at + 2307 ≤ length into.old }
-    ensures writes { Writes into.old into.new at result (flat_map (λ r. if (net_key r).live then floors_bytes (net_key r) else []) rows.now) }
+    ensures writes { Writes into.old into.new at result (flat_map (λ r. if (net_key r).live
+        then floors_bytes (net_key r) else []) rows.now) }
     ensures short { result ≤ at + 1538 }
 {
     let mut end = at;
@@ -215,7 +218,8 @@ impl Contents {
     /// The record's version 1, role 1, state 1 and declared start 4.
     fn put_node(&self, into: &mut [u8], at: usize) -> usize
         requires { at + 7 ≤ length into.old }
-        ensures writes { Writes into.old into.new at result (3 ∷ role_byte (model_role self.now.role) ∷ state_byte (model_state self.now.state) ∷ four_bytes self.now.declared) }
+        ensures writes { Writes into.old into.new at result (3 ∷ role_byte (model_role self.now.role)
+            ∷ state_byte (model_state self.now.state) ∷ four_bytes self.now.declared) }
         ensures short { result ≤ at + 7 }
     {
         let at = put(into, at, &[3, role_byte(self.role), state_byte(self.state)]);
@@ -225,7 +229,8 @@ impl Contents {
     /// The limit of the application support layer 4, and the rollover 1.
     fn put_counter(&self, into: &mut [u8], at: usize) -> usize
         requires { at + 5 ≤ length into.old }
-        ensures writes { Writes into.old into.new at result (four_bytes self.now.aps_limit ++ worth 1 (is_sending self.now.rolling) ∷ []) }
+        ensures writes { Writes into.old into.new at result (four_bytes self.now.aps_limit
+            ++ worth 1 (is_sending self.now.rolling) ∷ []) }
         ensures short { result ≤ at + 5 }
     {
         let at = put(into, at, &self.aps_limit.to_le_bytes());
@@ -236,7 +241,8 @@ impl Contents {
     fn put_net_numbers(&self, into: &mut [u8], at: usize) -> usize
         requires few { length self.now.nets.items ≤ 256 }
         requires room { at + 4 ≤ length into.old }
-        ensures writes { Writes into.old into.new at result (two_bytes (length self.now.nets.items) ++ two_bytes (active_place (state_of self.now))) }
+        ensures writes { Writes into.old into.new at result (two_bytes (length self.now.nets.items)
+            ++ two_bytes (active_place (state_of self.now))) }
         ensures short { result ≤ at + 4 }
     {
         let at = put_number(into, at, self.nets.as_slice().len() as u16);
@@ -248,7 +254,10 @@ impl Contents {
         requires few { length self.now.nets.items ≤ 256 }
         requires live { length (filter (λ r. (net_key r).live) self.now.nets.items) ≤ 2 }
         requires room { at + 7943 ≤ length into.old }
-        ensures writes { Writes into.old into.new at result ((two_bytes (length self.now.nets.items) ++ two_bytes (active_place (state_of self.now))) ++ (flat_map net_bytes (map net_key self.now.nets.items) ++ flat_map (λ r. if (net_key r).live then floors_bytes (net_key r) else []) self.now.nets.items)) }
+        ensures writes { Writes into.old into.new at result ((two_bytes (length self.now.nets.items)
+            ++ two_bytes (active_place (state_of self.now)))
+            ++ (flat_map net_bytes (map net_key self.now.nets.items)
+            ++ flat_map (λ r. if (net_key r).live then floors_bytes (net_key r) else []) self.now.nets.items)) }
         ensures short { result ≤ at + 7174 }
     {
         let at = self.put_net_numbers(into, at);
@@ -260,7 +269,8 @@ impl Contents {
     fn put_link_part(&self, into: &mut [u8], at: usize) -> usize
         requires few { length self.now.links.items ≤ 1024 }
         requires room { at + 30722 ≤ length into.old }
-        ensures writes { Writes into.old into.new at result (two_bytes (length self.now.links.items) ++ flat_map link_bytes (map link_key self.now.links.items)) }
+        ensures writes { Writes into.old into.new at result (two_bytes (length self.now.links.items)
+            ++ flat_map link_bytes (map link_key self.now.links.items)) }
         ensures short { result ≤ at + 30722 }
     {
         let at = put_number(into, at, self.links.as_slice().len() as u16);
@@ -271,7 +281,8 @@ impl Contents {
     fn put_pair_part(&self, into: &mut [u8], at: usize) -> usize
         requires few { length self.now.pairs.items ≤ 256 }
         requires room { at + 8450 ≤ length into.old }
-        ensures writes { Writes into.old into.new at result (two_bytes (length self.now.pairs.items) ++ flat_map pair_bytes (map pair_key self.now.pairs.items)) }
+        ensures writes { Writes into.old into.new at result (two_bytes (length self.now.pairs.items)
+            ++ flat_map pair_bytes (map pair_key self.now.pairs.items)) }
         ensures short { result ≤ at + 8450 }
     {
         let at = put_number(into, at, self.pairs.as_slice().len() as u16);
@@ -303,8 +314,9 @@ fn put_number(into: &mut [u8], at: usize, number: u16) -> usize
 }
 
 impl Tables {
-    /// Writes the record of the tables, and answers its length. There is room for 49,152 bytes; the greatest record has
-    /// 46,358.
+    /// Writes the record of the tables, and answers its length.
+    ///
+    /// Requires room for 49,152 bytes. The greatest record has 46,358.
     pub fn record_bytes(&self, into: &mut [u8]) -> u32
         requires { 49152 ≤ length into.old }
         ensures bytes { take result into.new ≡ record_of self.now }

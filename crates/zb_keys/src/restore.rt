@@ -163,13 +163,15 @@ fn record_of(alloc: Global, bytes: &[u8]) -> Result<Record, OrMemory<KeyError>>
 }
 
 impl Tables {
-    /// Reads the tables of a record of version 1, 2 or 3, as they are after a boot: counters go on from their limits, and the
-    /// floors are the stored ones. They have the room of `new`. The one NWK limit of a record of version 1 becomes that of
-    /// each network key, which counts as started, and the declared start.
+    /// Reads the tables of a record of version 1, 2 or 3, as they are after a boot.
     ///
-    /// Refused as `BadRecord` where the bytes are no record: at the place of the first byte of the first field that isn't
-    /// whole or breaks a rule, where a rule over several fields is broken by the last of them, or at the record's end where
-    /// bytes follow it.
+    /// Counters go on from their limits, and the floors are the stored ones. The tables have the room of `new`. The one
+    /// NWK limit of a record of version 1 becomes that of each network key, which counts as started, and the declared
+    /// start.
+    ///
+    /// Errors: `BadRecord` where the bytes are no record, at the place of the first byte of the first field that isn't
+    /// whole or breaks a rule, where a rule over several fields is broken by the last of them, or at the record's end
+    /// where bytes follow it. `NoMemory` where memory is short.
     pub fn from_record(alloc: Global, bytes: &[u8]) -> Result<Tables, OrMemory<KeyError>>
         ensures found { IfOk result (λ t. record_read bytes.now ≡ Ok t) }
         ensures fault { IfErr result (λ e. BadPlace e (length bytes.now) (record_read bytes.now)) }

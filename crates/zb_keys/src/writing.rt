@@ -13,7 +13,7 @@ pub(crate) fn put(into: &mut [u8], at: usize, piece: &[u8]) -> usize
     end
 }
 
-/// What a bit of a flags byte is worth.
+/// Answers what a bit of a flags byte is worth.
 pub(crate) fn worth(bit: u8, set: bool) -> u8
     ensures value { result ≡ worth bit set }
     ensures small { result ≤ bit }

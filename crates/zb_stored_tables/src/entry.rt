@@ -8,7 +8,9 @@ ghost use Rattle.zb_record.specs.Ranges.{InRange};
 use zb_keys::Tables;
 use zb_node_types::{Change, Changes};
 
-/// Writes the payload of changes, which has at most 481 bytes, and answers its length. There are 481 bytes of room.
+/// Writes the payload of changes, and answers its length.
+///
+/// Requires a payload of at most 481 bytes, and 481 bytes of room.
 pub fn change_bytes(changes: &Changes, into: &mut [u8]) -> u32
     requires short { length (payload (edits changes.now.items)) ≤ 481 }
     requires room { 481 ≤ length into.old }
@@ -18,8 +20,9 @@ pub fn change_bytes(changes: &Changes, into: &mut [u8]) -> u32
     Tables::change_bytes(changes, &mut into[..481])
 }
 
-/// Says of changes that their values can be spelled: keys have 16 bytes, and numbers are within their types. It does
-/// nothing.
+/// Says of changes that their values can be spelled; does nothing.
+///
+/// Keys have 16 bytes, and numbers are within their types.
 pub fn hold_ranges(changes: &Changes)
     ensures { AllByRecursion InRange changes.now.items }
 {

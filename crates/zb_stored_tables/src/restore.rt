@@ -48,8 +48,11 @@ fn redo(
 ) -> Result<(), KeyError>
     requires before { before ≤ 49152 }
     requires entries { length entries.now ≤ 15488 }
-    ensures made { OnOk result (behind before (length entries.now) (redone version entries.now tables.old).0 (redone version entries.now tables.old).1 ≡ Ok (after_boot tables.new)) }
-    ensures fault { IfErr result (λ e. IsGivenFault (behind before (length entries.now) (redone version entries.now tables.old).0 (redone version entries.now tables.old).1) (Fault e)) }
+    ensures made { OnOk result (behind before (length entries.now) (redone version entries.now tables.old).0
+        (redone version entries.now tables.old).1 ≡ Ok (after_boot tables.new)) }
+    ensures fault { IfErr result (λ e. IsGivenFault
+        (behind before (length entries.now) (redone version entries.now tables.old).0
+        (redone version entries.now tables.old).1) (Fault e)) }
 {
     match tables.redo(version, entries) {
         Ok(()) => Ok(()),
@@ -100,7 +103,7 @@ fn boot(alloc: Global, tables: &Tables, room: &mut [u8]) -> Result<Tables, NoMem
     }
 }
 
-/// The tables with which a node of that role boots on a record and the payloads behind it.
+/// Makes the tables with which a node of that role boots on a record and the payloads behind it.
 pub(crate) fn restore(
     alloc: Global,
     role: Role,

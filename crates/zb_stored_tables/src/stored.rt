@@ -17,8 +17,10 @@ use zb_base::{Eui, Layer, OrMemory, Role};
 use zb_keys::Tables;
 use zb_node_types::{Changes, KeyError};
 
-/// A node's tables, as the core of a host keeps them: what a record and the entries behind it gave, and what plans made of
-/// it since. Their values fit the widths of a record.
+/// Holds a node's tables as the core of a host keeps them.
+///
+/// They are what a record and the entries behind it gave, and what plans made of it since. Their values fit the widths
+/// of a record.
 #[derive(Debug, Drop)]
 pub struct StoredTables {
     tables: Tables,
@@ -36,10 +38,13 @@ impl Model for StoredTables {
 }
 
 impl StoredTables {
-    /// The tables with which a node of that role boots on a record and the payloads behind it. `room` has 49,152 bytes.
+    /// Makes the tables with which a node of that role boots on a record and the payloads behind it.
     ///
-    /// Refused as `BadRecord` at the place of the first fault: at 1 where the record is of another role, in the record where
-    /// `Tables::from_record` finds it, and in the entries where `Tables::redo` finds it, counted on from the record's length.
+    /// Requires 49,152 bytes of `room`.
+    ///
+    /// Errors: `BadRecord` at the place of the first fault: at 1 where the record is of another role, in the record
+    /// where `Tables::from_record` finds it, and in the entries where `Tables::redo` finds it, counted on from the
+    /// record's length. `NoMemory` where memory is short.
     pub fn restore(
         alloc: Global,
         role: Role,
@@ -62,21 +67,23 @@ impl StoredTables {
         Ok(StoredTables { tables })
     }
 
-    /// The tables.
+    /// Answers the tables.
     pub fn tables(&self) -> &Tables
         ensures { result.now ≡ self.now }
     {
         &self.tables
     }
 
-    /// What holds of them at all times. This call does nothing.
+    /// Says what holds of them at all times; does nothing.
     pub fn keep_rules(&self)
         ensures { IsKept self.now }
     {
         self.tables.keep_rules();
     }
 
-    /// Makes changes, which fit, in their order.
+    /// Makes changes in their order.
+    ///
+    /// Requires changes that fit and have values that can be spelled.
     pub fn apply(&mut self, changes: &Changes)
         requires fit { AllFit (edits changes.now.items) self.old }
         requires range { AllByRecursion InRange changes.now.items }
@@ -86,7 +93,9 @@ impl StoredTables {
         self.tables.apply(changes);
     }
 
-    /// Uses the next outgoing counter of a layer, which is reserved.
+    /// Uses the next outgoing counter of a layer.
+    ///
+    /// Requires one that is reserved.
     pub fn sealed(&mut self, layer: Layer)
         requires { next_counter (model_layer layer) self.old < stored_limit (model_layer layer) self.old }
         ensures counted { self.new ≡ counted (model_layer layer) self.old }
@@ -113,7 +122,9 @@ impl StoredTables {
         self.tables.accepted_link(place, counter);
     }
 
-    /// Writes their record, for which there are 49,152 bytes of room, and answers its length.
+    /// Writes their record, and answers its length.
+    ///
+    /// Requires 49,152 bytes of room.
     pub fn record(&self, into: &mut [u8]) -> u32
         requires { 49152 ≤ length into.old }
         ensures len { result ≡ length (record_of self.now) }
