@@ -11,7 +11,7 @@ use Rattle.std.proofs.lemmas.List.Folds.{list_all-map}
 use Rattle.zb_model_fits.proofs.Tests.{neither, any_same}
 use Rattle.zb_model_fits.proofs.Parts.{same_key_is, same_key_sym}
 use Rattle.zb_model_fits.proofs.Shown.{rules_shown}
-use Rattle.zb_keys.specs.Senders.{counted_row}
+use Rattle.zb_record.specs.Senders.{counted_row}
 use Rattle.zb_keys.proofs.Mapping.{list_any-map}
 use Rattle.zb_keys.proofs.ShownLemmas.{filter-map}
 use Rattle.zb_keys.proofs.StateLemmas.{both, rules_of, rules_back}

@@ -2,26 +2,26 @@
 ghost use Rattle.std.specs.Option.{option_copied};
 ghost use Rattle.std.specs.Prelude.{◌≡◌, ◌<◌, ◌≤◌, ◌-◌, ◌^◌, option_map, [], ◌∷◌, ◌++◌, true, false, length, vec_capacity, vec_len, All, map};
 ghost use Rattle.zb_node_types.specs.Changes.{model_layer, model_attribute, model_state, edit, is_sending};
-ghost use Rattle.zb_keys.specs.Rows.{net_key, link_key};
-ghost use Rattle.zb_keys.specs.Senders.{HasRoom, live_floor};
+ghost use Rattle.zb_record.specs.RowViews.{net_key, link_key};
+ghost use Rattle.zb_record.specs.Senders.{HasRoom, live_floor};
 ghost use Rattle.zb_keys.specs.Reading.{outgoing_of, place_of_key};
 ghost use Rattle.zb_keys.specs.Tables.{state_of, with_row, Becomes, IsSound, Forgets};
 ghost use Rattle.zb_model.specs.Data.{Nwk, Aps, Reserve, Floor, Start, Moved, DropNet, DropLink, Install, Active, Row, Pair as Paired, Became, Live, Removed, Roll, Told, Untold};
 ghost use Rattle.zb_model.specs.State.{applied, shown, at_net, next_counter, stored_limit, active_row, counted, heard, with_declared, current, offered};
 ghost use Rattle.zb_model.specs.Fits.{keeps_rules};
 
-use crate::link::{
-    current_row, drop_link, has_row, has_told, hear_link, offered_row, revive_link, store_link,
-    tell_links, untell_links,
-};
-use crate::net::{
-    count_net, drop_net, has_key, hear_net, key_place, key_row, reserve_net, start_net, store_net,
-};
-use crate::pair::{drop_pairs, has_pair};
-use crate::{LinkRow, NetRow, Pair};
 use zb_base::{Attribute, Eui, Key, Layer, Role, Rollover, State};
 use zb_counter::Outgoing;
 use zb_node_types::Change;
+use zb_record::link_row::{
+    current_row, drop_link, has_row, has_told, hear_link, offered_row, revive_link, store_link,
+    tell_links, untell_links,
+};
+use zb_record::net_row::{
+    count_net, drop_net, has_key, hear_net, key_place, key_row, reserve_net, start_net, store_net,
+};
+use zb_record::pair_row::{drop_pairs, has_pair};
+use zb_record::{LinkRow, NetRow, Pair};
 
 /// Holds the stable state of a node, with the next counters and the floors in memory.
 #[derive(Debug, Drop)]

@@ -6,12 +6,11 @@ ghost use Rattle.zb_model.specs.Data.{Reserve};
 ghost use Rattle.zb_model.specs.State.{shown};
 ghost use Rattle.zb_record.specs.Redoing.{applied_behind, first_applied, first_fits, fits_behind, with_limit, with_net};
 
-use crate::NetRow;
 use crate::contents::Contents;
-use crate::net::limit_nets;
 use zb_base::{Key, Layer};
 use zb_node_types::Change;
-use zb_record::Version;
+use zb_record::net_row::limit_nets;
+use zb_record::{NetRow, Version};
 
 impl Contents {
     /// Answers whether a change fits behind a record of a version.

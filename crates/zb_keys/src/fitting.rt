@@ -4,20 +4,21 @@ ghost use Rattle.std.specs.List.{list_any};
 ghost use Rattle.std.specs.Option.{option_copied};
 ghost use Rattle.zb_node_types.specs.Changes.{edit, is_sending, model_state, model_layer, model_attribute};
 ghost use Rattle.zb_model_fits.specs.Fitting.{leaves_rules, move_leaves, floor_has_room, is_rival, key_is_used};
-ghost use Rattle.zb_keys.specs.Rows.{net_key, link_key, heard_floor};
+ghost use Rattle.zb_record.specs.RowViews.{net_key, link_key, heard_floor};
 ghost use Rattle.zb_keys.specs.Tables.{state_of, IsSound};
 ghost use Rattle.zb_model.specs.Data.{Reserve, Floor, Row};
 ghost use Rattle.zb_model.specs.Fits.{fits, may_change, live_net, live_link, row_is_live, net_stored, net_limit, link_stored, is_fresh, most_nets, most_links, most_pairs, most_senders};
 ghost use Rattle.zb_model.specs.State.{active_row, has_link, is_centre, is_link, is_live, live_nets, net_of, pair_of, same_key};
 
 use crate::contents::Contents;
-use crate::link::{has_live, has_row, link_room};
-use crate::net::{has_key, key_row};
-use crate::pair::pair_row;
 use crate::planning::{count_live, is_key};
-use crate::{LinkRow, NetRow, SenderFloor};
+use crate::reading::floor_of;
 use zb_base::{Attribute, Eui, Key, Layer, Role, Rollover, State};
 use zb_node_types::Change;
+use zb_record::link_row::{has_live, has_row, link_room};
+use zb_record::net_row::{has_key, key_row};
+use zb_record::pair_row::pair_row;
+use zb_record::{LinkRow, NetRow, SenderFloor};
 
 impl Contents {
     /// Answers whether a change fits.
@@ -330,7 +331,7 @@ fn stored_in(row: Option<&NetRow>, sender: Eui) -> u32
     ensures { result ≡ net_stored sender.0 (option_map net_key (option_copied row.entry)) }
 {
     match row {
-        Some(row) => row.floor_of(sender).stored,
+        Some(row) => floor_of(row, sender).stored,
         None => 0,
     }
 }

@@ -3,21 +3,21 @@ ghost use Rattle.std.specs.Prelude.{◌≡◌, ◌<◌, ◌≤◌, ◌++◌, ◌
 ghost use Rattle.std.specs.Option.{option_copied};
 ghost use Rattle.zb_node_types.specs.Changes.{edit, edits};
 ghost use Rattle.zb_keys.specs.Planning.{Adds, Tells, moves, taking, refused_or, providing, offering, partnering, is_proof, verified_row, verifying, dropping, pairing};
-ghost use Rattle.zb_keys.specs.Rows.{link_key};
+ghost use Rattle.zb_record.specs.RowViews.{link_key};
 ghost use Rattle.zb_keys.specs.Tables.{state_of, IsSound};
 ghost use Rattle.zb_model.specs.Data.{Row, Live, Pair as Paired, Provisional, Unverified, Verified, Moved, Edit};
 ghost use Rattle.zb_model.specs.Rules.{drop_partner, drop_row, links_full};
 ghost use Rattle.zb_model.specs.Commands.{has_key, verified_current};
 ghost use Rattle.zb_model.specs.State.{current, offered, is_live_of, has_link, other_user};
 
-use crate::LinkRow;
 use crate::contents::Contents;
-use crate::link::{has_row, link_room, live_row, other_row};
 use crate::planning::add;
 use arrayvec::ArrayVec;
 use zb_base::{Attribute, Eui, Key, Role};
 use zb_mmo::verify_hash;
 use zb_node_types::{Change, Changes, KeyError};
+use zb_record::LinkRow;
+use zb_record::link_row::{has_row, link_room, live_row, other_row};
 
 /// Whether that row has the key.
 fn has_the_key(row: Option<&LinkRow>, key: &Key) -> bool

@@ -3,20 +3,21 @@ ghost use Rattle.std.specs.Prelude.{◌≡◌, ◌<◌, ◌≤◌, ◌++◌, ◌
 ghost use Rattle.std.specs.Option.{option_copied};
 ghost use Rattle.zb_node_types.specs.Changes.{edit, edits};
 ghost use Rattle.zb_keys.specs.Planning.{Adds, Tells, moves, activation, taken, installing, installing_after, switching};
-ghost use Rattle.zb_keys.specs.Rows.{net_key};
-ghost use Rattle.zb_keys.specs.Tables.{state_of, IsSound, active_bytes};
+ghost use Rattle.zb_record.specs.RowViews.{net_key};
+ghost use Rattle.zb_keys.specs.Tables.{state_of, IsSound};
+ghost use Rattle.zb_record.specs.Headings.{active_bytes};
 ghost use Rattle.zb_model.specs.Data.{Install, Moved};
 ghost use Rattle.zb_model.specs.Answer.{start_for, first_counter, row_is_started};
 ghost use Rattle.zb_model.specs.Rules.{drop_old};
 ghost use Rattle.zb_model.specs.Commands.{activates, dropped_at};
 ghost use Rattle.zb_model.specs.State.{same_key, last_where, newest, is_active_key};
 
-use crate::NetRow;
 use crate::contents::Contents;
-use crate::net::{has_key, key_row};
 use arrayvec::ArrayVec;
 use zb_base::{Key, State};
 use zb_node_types::{Change, Changes, KeyError};
+use zb_record::NetRow;
+use zb_record::net_row::{has_key, key_row};
 
 /// Adds a change.
 ///

@@ -1,16 +1,38 @@
 //! The readers of tables, and what seals and accepted frames do to them.
-ghost use Rattle.std.specs.Prelude.{◌≡◌, ◌<◌, ◌-◌, ◌^◌, [], map, option_map, slice_get};
+ghost use Rattle.std.specs.Prelude.{◌≡◌, ◌<◌, ◌-◌, ◌^◌, [], Some, find, map, nat_eq, option_map, slice_get};
 ghost use Rattle.std.specs.Option.{option_copied};
 ghost use Rattle.zb_node_types.specs.Changes.{model_role, model_layer, model_state, is_sending};
-ghost use Rattle.zb_keys.specs.Rows.{net_key, link_key, pair_key};
-ghost use Rattle.zb_keys.specs.Reading.{place_of_key, outgoing_of, floor_at, sender_at, heard_under, heard_from};
+ghost use Rattle.zb_record.specs.RowViews.{heard_floor, net_key, link_key, pair_key};
+ghost use Rattle.zb_keys.specs.Reading.{place_of_key, outgoing_of, floor_at, floor_of_row, sender_at, heard_under, heard_from};
 ghost use Rattle.zb_model.specs.Data.{Nwk};
 ghost use Rattle.zb_model.specs.State.{next_counter, stored_limit, counted, with_declared, current, offered, pair_of, active_row, newest};
 
-use crate::pair::pair_row;
-use crate::{LinkRow, NetRow, Pair, Tables};
+use crate::Tables;
 use zb_base::{Eui, Key, Layer, Role, Rollover, State};
 use zb_counter::{Floor, Outgoing};
+use zb_record::pair_row::pair_row;
+use zb_record::{LinkRow, NetRow, Pair, SenderFloor};
+
+/// Answers the floor of a sender under a network key: 0 and 0 where none was stored.
+#[tactic(auto, unfolding(zb_model::specs::State::sender_floor), using(crate::proofs::FindLemmas::find_map))]
+pub(crate) fn floor_of(row: &NetRow, sender: Eui) -> Floor
+    ensures { result ≡ floor_of_row sender.0 (Some (net_key row.now)) }
+{
+    match stored_floor(row.floors.as_slice(), sender) {
+        Some(floor) => Floor {
+            kept: floor.kept,
+            stored: floor.stored,
+        },
+        None => Floor { kept: 0, stored: 0 },
+    }
+}
+
+/// Answers the floor that was stored of a sender.
+fn stored_floor<'a>(floors: &'a [SenderFloor], sender: Eui) -> Option<&'a SenderFloor>
+    ensures { option_copied result ≡ find (λ f. nat_eq (heard_floor f).sender sender.0) floors.now }
+{
+    floors.iter().find(|floor| floor.sender.0 == sender.0)
+}
 
 impl Tables {
     /// Answers the part that the node plays.
@@ -95,7 +117,7 @@ impl Tables {
         ensures { result ≡ floor_at self.now place sender.0 }
     {
         match self.contents.nets.get(place as usize) {
-            Some(row) => row.floor_of(sender),
+            Some(row) => floor_of(row, sender),
             None => Floor { kept: 0, stored: 0 },
         }
     }

@@ -1,11 +1,11 @@
 //! The tables of a node.
 use crate::contents::Contents;
-use crate::link::link_room;
-use crate::{LinkRow, NetRow, Pair};
 use std::alloc::Global;
 use std::marker::Model;
 use zb_base::{NoMemory, Role, Rollover, State};
 use zb_node_types::Changes;
+use zb_record::link_row::link_room;
+use zb_record::{LinkRow, NetRow, Pair};
 
 /// Holds what a node keeps: its network keys with their floors, its link keys and its counters.
 ///

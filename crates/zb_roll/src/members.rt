@@ -1,6 +1,6 @@
 //! The devices that the new network key is sent to.
 ghost use Rattle.std.specs.Prelude.{◌≡◌, not, fold, filter, map, option_map, if◌then◌else◌};
-ghost use Rattle.zb_keys.specs.Rows.{link_key};
+ghost use Rattle.zb_record.specs.RowViews.{link_key};
 ghost use Rattle.zb_model.specs.OwnEvents.{is_unfinished, is_waiting, least, next_member};
 
 use zb_base::{Eui, Rollover};
