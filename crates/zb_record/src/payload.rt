@@ -255,7 +255,7 @@ fn put_changes(into: &mut [u8], at: usize, changes: &[Change]) -> usize
 
 /// Writes the payload of changes that are stored together, and answers its length.
 ///
-/// Requires room for it. A payload of more than 481 bytes has no place in a journal.
+/// Requires room for it. A payload of more than `PAYLOAD_ROOM` bytes has no place in a journal.
 #[tactic(auto, unfolding(zb_model::specs::Record::payload))]
 pub fn change_bytes(changes: &Changes, into: &mut [u8]) -> u32
     requires room { length (payload (edits changes.now.items)) ≤ length into.old }

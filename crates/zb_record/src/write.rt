@@ -319,8 +319,8 @@ fn put_number(into: &mut [u8], at: usize, number: u16) -> usize
 
 /// Writes the record of a node with this heading and these rows, and answers its length.
 ///
-/// Requires at most 256 network keys, of which two are in use, 1,024 link keys and 256 pairs, and `RECORD_ROOM` bytes. The
-/// next APS counter isn't recorded, so the record is the same whatever it is.
+/// Requires at most 256 network keys, of which two are in use, 1,024 link keys and 256 pairs, and `RECORD_ROOM` bytes.
+/// The next APS counter isn't recorded, so the record is the same whatever it is.
 pub fn write_record(
     heading: &Heading,
     nets: &[NetRow],

@@ -18,6 +18,7 @@ use Rattle.zb_record.specs.Fields.{record_version}
 use Rattle.zb_record.specs.Ranges.{FitsBytes, InRange}
 use Rattle.zb_record.specs.Records.{record_read}
 use Rattle.zb_record.specs.Redoing.{redone, place_of}
+use Rattle.zb_record.specs.Sizes.{payload_room}
 
 -- the version of a record; one that is read has one
 abbrev pub version_or : Option Version → Version
@@ -98,7 +99,7 @@ pub record IsStorable (role : Role) (s : NodeState) (changes : List Change) : Ty
   pub kept : IsKept s
   pub range : AllByRecursion InRange changes
   pub fit : AllFit (edits changes) s
-  pub short : length (payload (edits changes)) ≤ 481
+  pub short : length (payload (edits changes)) ≤ payload_room
 
 -- After a plan the tables are those after its changes, but for the counters and floors in memory, which seals and accepted
 -- frames move.

@@ -12,6 +12,7 @@ ghost use Rattle.zb_record.specs.declared.version.Version.TheVariants.{Third};
 ghost use Rattle.zb_record.specs.Changes.{change_at};
 ghost use Rattle.zb_record.specs.Fields.{record_version};
 ghost use Rattle.zb_record.specs.Ranges.{FitsBytes, InRange};
+ghost use Rattle.zb_record.specs.Sizes.{payload_room};
 ghost use Rattle.zb_record.specs.Records.{record_read};
 ghost use Rattle.zb_stored_tables.specs.Stored.{state_given, restored, IsKept, IsStorable, IsStoredAfter, MayReserve};
 
@@ -93,7 +94,7 @@ pub fn a_boot_gives_the_tables_again()
 /// Says that at most 14 changes of values that can be spelled have room in an entry.
 #[tactic(auto, using(crate::proofs::Short::few_short))]
 pub fn few_changes_fit_an_entry()
-    ensures { (cs : List Change) → AllByRecursion InRange cs → length cs ≤ 14 → length (payload (edits cs)) ≤ 481 }
+    ensures { (cs : List Change) → AllByRecursion InRange cs → length cs ≤ 14 → length (payload (edits cs)) ≤ payload_room }
 {}
 
 /// Says that a reserve fits where its limit isn't below the stored one, and makes room.

@@ -8,6 +8,7 @@ ghost use Rattle.zb_model.specs.Fits.{AllFit};
 ghost use Rattle.zb_model.specs.Record.{record_of};
 ghost use Rattle.zb_model.specs.State.{applied_all, counted, next_counter, stored_limit, shown};
 ghost use Rattle.zb_record.specs.Ranges.{InRange};
+ghost use Rattle.zb_record.specs.Sizes.{payloads_room, record_room};
 ghost use Rattle.zb_stored_tables.specs.Stored.{restored, state_given, IsGivenFault, IsKept};
 
 use crate::restore::restore;
@@ -40,7 +41,7 @@ impl Model for StoredTables {
 impl StoredTables {
     /// Makes the tables with which a node of that role boots on a record and the payloads behind it.
     ///
-    /// Requires 49,152 bytes of `room`.
+    /// Requires `RECORD_ROOM` bytes of `room`.
     ///
     /// Errors: `BadRecord` at the place of the first fault: at 1 where the record is of another role, in the record
     /// where `Tables::from_record` finds it, and in the entries where `Tables::redo` finds it, counted on from the
@@ -52,9 +53,9 @@ impl StoredTables {
         entries: &[u8],
         room: &mut [u8],
     ) -> Result<StoredTables, OrMemory<KeyError>>
-        requires record_size { length content.now ≤ 49152 }
-        requires entries_size { length entries.now ≤ 15488 }
-        requires room { 49152 ≤ length room.old }
+        requires record_size { length content.now ≤ record_room }
+        requires entries_size { length entries.now ≤ payloads_room }
+        requires room { record_room ≤ length room.old }
         ensures given { IfOk result (λ t. state_given (model_role role) content.now entries.now ≡ Ok t) }
         ensures role { IfOk result (λ t. t.role ≡ model_role role) }
         ensures fault { IfErr result (IsGivenFault (state_given (model_role role) content.now entries.now)) }
@@ -124,11 +125,11 @@ impl StoredTables {
 
     /// Writes their record, and answers its length.
     ///
-    /// Requires 49,152 bytes of room.
+    /// Requires `RECORD_ROOM` bytes of room.
     pub fn record(&self, into: &mut [u8]) -> u32
-        requires { 49152 ≤ length into.old }
+        requires { record_room ≤ length into.old }
         ensures len { result ≡ length (record_of self.now) }
-        ensures small { result ≤ 49152 }
+        ensures small { result ≤ record_room }
         ensures bytes { take result into.new ≡ record_of self.now }
     {
         self.tables.record_bytes(into)
