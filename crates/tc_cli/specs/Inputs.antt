@@ -21,13 +21,13 @@ Grows old new before after = (taken : List ℕ) × Consumes old new taken × (af
 
 -- at most so many bytes were taken from a source
 abbrev pub TakesAtMost : Option (List ℕ) → Option (List ℕ) → ℕ → Type 0
-TakesAtMost old new greatest_counter = (taken : List ℕ) × Consumes old new taken × (length taken ≤ greatest_counter)
+TakesAtMost old new limit = (taken : List ℕ) × Consumes old new taken × (length taken ≤ limit)
 
 -- Bytes that were read on, and how that ended: at Ok there are as many as may be, or the source has no more.
-pub record IsReadOn (result : Result (Unit {0}) InputFault) (old new : Option (List ℕ)) (before after : List ℕ) (greatest_counter faults faults_after : ℕ) : Type 0 where
+pub record IsReadOn (result : Result (Unit {0}) InputFault) (old new : Option (List ℕ)) (before after : List ℕ) (limit faults faults_after : ℕ) : Type 0 where
   pub grown : OnOk result (Grows old new before after)
-  pub end : OnOk result (length after < greatest_counter → IsAtEnd new)
-  pub short : length after ≤ greatest_counter
+  pub end : OnOk result (length after < limit → IsAtEnd new)
+  pub short : length after ≤ limit
   pub later : faults ≤ faults_after
   pub read : result ≡ Err input.Read → Rose faults faults_after
   pub within : result ≡ Err input.TooLong → ⊥

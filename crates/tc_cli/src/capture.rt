@@ -14,7 +14,7 @@ use std::alloc::{AllocError, Global};
 use std::thread::{Threads, join_mut};
 use zb_base::{NoMemory, OrMemory, Source};
 use zb_capture::{Capture, CaptureError, CaptureReader};
-use zb_inspect_ring::IdleThread;
+use zb_jobs::IdleThread;
 
 /// How many bytes one job takes in before it reads their lines.
 const PART: usize = 1_048_576;
@@ -25,7 +25,7 @@ const FRONT: usize = 2_097_152;
 /// How many bytes one job takes in meanwhile. It reads their lines too, so they are fewer.
 const BACK: usize = 1_572_864;
 
-/// Why the input gives no capture.
+/// Says why the input gives no capture.
 #[derive(Clone, Copy, Debug, PartialEq, Eq)]
 pub(crate) enum CaptureFault {
     /// It isn't known whole.
@@ -79,7 +79,8 @@ pub(crate) fn read_capture_on<T: Threads + Sync, R: Source>(
     input: &mut R,
 ) -> Result<Capture, CaptureFault>
     requires { 1 ≤ jobs }
-    ensures exact { IfOk result (λ c. IfSome (R.rest input.old) (λ rest. (length rest ≤ 16777216) × (captured rest ≡ Ok c))) }
+    ensures exact { IfOk result (λ c. IfSome (R.rest input.old)
+        (λ rest. (length rest ≤ 16777216) × (captured rest ≡ Ok c))) }
     ensures valid { IfOk result (λ c. IsCapture c) }
     ensures end { OnOk result (IsAtEnd (R.rest input.new)) }
     ensures few { TakesAtMost (R.rest input.old) (R.rest input.new) 16777217 }
@@ -94,7 +95,8 @@ pub(crate) fn read_capture_on<T: Threads + Sync, R: Source>(
 
 /// Reads the capture that the input is, part after part, so that its text is never kept whole.
 fn read_by_one<R: Source>(alloc: Global, input: &mut R) -> Result<Capture, CaptureFault>
-    ensures exact { IfOk result (λ c. IfSome (R.rest input.old) (λ rest. (length rest ≤ 16777216) × (captured rest ≡ Ok c))) }
+    ensures exact { IfOk result (λ c. IfSome (R.rest input.old)
+        (λ rest. (length rest ≤ 16777216) × (captured rest ≡ Ok c))) }
     ensures valid { IfOk result (λ c. IsCapture c) }
     ensures end { OnOk result (IsAtEnd (R.rest input.new)) }
     ensures few { TakesAtMost (R.rest input.old) (R.rest input.new) 16777217 }
@@ -120,7 +122,8 @@ fn read_by_several<T: Threads + Sync, R: Source>(
     input: &mut R,
 ) -> Result<Capture, CaptureFault>
     requires { 2 ≤ jobs }
-    ensures exact { IfOk result (λ c. IfSome (R.rest input.old) (λ rest. (length rest ≤ 16777216) × (captured rest ≡ Ok c))) }
+    ensures exact { IfOk result (λ c. IfSome (R.rest input.old)
+        (λ rest. (length rest ≤ 16777216) × (captured rest ≡ Ok c))) }
     ensures valid { IfOk result (λ c. IsCapture c) }
     ensures end { OnOk result (IsAtEnd (R.rest input.new)) }
     ensures few { TakesAtMost (R.rest input.old) (R.rest input.new) 16777217 }
@@ -141,8 +144,10 @@ fn read_by_several<T: Threads + Sync, R: Source>(
     Ok(reader.into_capture())
 }
 
-/// A round of two jobs or more: while all but one of them read the whole lines of what came, that one takes in what comes
-/// next and reads its whole lines. What stands behind these is left.
+/// Does a round of two jobs or more. What stands behind the whole lines is left.
+///
+/// While all but one of the jobs read the whole lines of what came, that one takes in what comes next and reads its
+/// whole lines.
 fn read_round<T: Threads + Sync, R: Source>(
     rt: &T,
     alloc: Global,
@@ -155,7 +160,8 @@ fn read_round<T: Threads + Sync, R: Source>(
     requires jobs { 2 ≤ jobs }
     requires count { front.old.count ≤ 16777216 }
     requires room { reader.old.lines + length front.old.part.items ≤ front.old.count }
-    ensures { IsRound result (R.rest input.old) (R.rest input.new) front.old front.new reader.old reader.new (R.faults input.old) (R.faults input.new) }
+    ensures { IsRound result (R.rest input.old) (R.rest input.new) front.old front.new reader.old reader.new
+        (R.faults input.old) (R.faults input.new) }
 {
     back.go_on_from(&front.split()?)?;
     let (first, taken) = read_both(rt, alloc, jobs - 1, front.part.as_slice(), input, back);
@@ -189,7 +195,8 @@ fn read_both<T: Threads + Sync, R: Source>(
     requires front { length front.now ≤ 16777216 }
     requires back { (back.old.count ≤ 16777216) × (length back.old.part.items ≤ back.old.count) }
     ensures first { IsReadAlone result.0 front.now }
-    ensures taken { IsTaken result.1 (R.rest input.old) (R.rest input.new) back.old back.new (R.faults input.old) (R.faults input.new) }
+    ensures taken { IsTaken result.1 (R.rest input.old) (R.rest input.new) back.old back.new (R.faults input.old)
+        (R.faults input.new) }
 {
     let mut first = Err(OrMemory::NoMemory);
     let mut taken = Err(InputFault::NoMemory);
@@ -199,7 +206,8 @@ fn read_both<T: Threads + Sync, R: Source>(
     { first = read_first(rt, alloc, jobs, front) };
     let mut takes_back = ||
         requires { (back.now.count ≤ 16777216) × (length back.now.part.items ≤ back.now.count) }
-        ensures { IsTaken taken.exit (R.rest input.entry.now) (R.rest input.exit.now) back.entry.now back.exit.now (R.faults input.entry.now) (R.faults input.exit.now) }
+        ensures { IsTaken taken.exit (R.rest input.entry.now) (R.rest input.exit.now) back.entry.now back.exit.now
+            (R.faults input.entry.now) (R.faults input.exit.now) }
     { taken = back.take(alloc, input, BACK) };
     let idle = IdleThread::start(rt, jobs as usize + 1);
     join_mut(rt, &mut reads_front, &mut takes_back);
@@ -207,7 +215,7 @@ fn read_both<T: Threads + Sync, R: Source>(
     (first, taken)
 }
 
-/// What the lines of a text give by themselves, read by so many jobs.
+/// Reads the lines of a text by themselves, by so many jobs.
 fn read_first<T: Threads + Sync>(
     rt: &T,
     alloc: Global,

@@ -7,22 +7,36 @@ ghost use Rattle.tc_cli.specs.Words.{task, Fits};
 use crate::keys::are_keys;
 use zb_text::numbers::number;
 
-/// A command of the program.
+/// Is a command of the program.
 #[derive(Drop)]
 pub(crate) enum Command<'a> {
     /// Plays the schedule on the input, and writes its transcript.
     Play,
     /// Writes the link key of an install code.
-    Install { code: &'a str },
+    Install {
+        /// The digits of the code.
+        code: &'a str,
+    },
     /// Writes the made schedule for so many routers and devices.
-    Make { count: u32 },
+    Make {
+        /// How many routers and devices there are.
+        count: u32,
+    },
     /// Writes the report on the capture on the input, worked out by so many jobs.
-    Inspect { jobs: u32 },
+    Inspect {
+        /// How many jobs there are.
+        jobs: u32,
+    },
     /// Writes the report on the capture file on the input, under the keys that the words stand for.
-    Sniff { jobs: u32, words: &'a [String] },
+    Sniff {
+        /// How many jobs there are.
+        jobs: u32,
+        /// The words that stand for keys.
+        words: &'a [String],
+    },
 }
 
-/// The command that the words after the program's name are.
+/// Reads the words after the program's name as a command.
 pub(crate) fn read_words<'a>(words: &'a [String]) -> Option<Command<'a>>
     ensures value { option_map task result ≡ task_of (map string_bytes words.now) }
     ensures fits { IfSome result Fits }
@@ -74,7 +88,7 @@ fn with_operand<'a>(word: &str, operand: &'a str) -> Option<Command<'a>>
     }
 }
 
-/// The number from 1 to `limit` that a word is.
+/// Reads a word as a number from 1 to `limit`.
 fn count(word: &str, limit: u32) -> Option<u32>
     ensures value { result ≡ count_of limit word.now }
     ensures range { IfSome result (λ count. (1 ≤ count) × (count ≤ limit)) }

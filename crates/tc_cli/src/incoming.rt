@@ -7,7 +7,7 @@ use std::alloc::{AllocError, Global};
 use zb_base::{OrMemory, Source};
 use zb_capture::{CaptureError, CaptureReader, whole_lines};
 
-/// The bytes that came of an input.
+/// Holds the bytes that came of an input.
 #[derive(Drop)]
 pub(crate) struct Incoming {
     /// How many there are.
@@ -16,7 +16,7 @@ pub(crate) struct Incoming {
     pub part: Vec<u8>,
 }
 
-/// What was taken in of an input.
+/// Holds what was taken in of an input.
 #[derive(Drop)]
 pub(crate) struct Taken {
     /// What the whole lines give by themselves.
@@ -30,7 +30,7 @@ impl Incoming {
     ghost use Rattle.std.specs.Str.Lines.{lines};
     ghost use Rattle.tc_cli.specs.Inputs.{AreLinesRead, IsFilled, IsJudged, IsTaken, TakesAtMost};
 
-    /// Nothing came yet.
+    /// Starts where nothing came yet.
     pub fn new(alloc: Global) -> Incoming
         ensures { (result.count ≡ 0) × (result.part.items ≡ []) }
     {
@@ -44,18 +44,19 @@ impl Incoming {
     pub fn fill<R: Source>(&mut self, input: &mut R, size: usize) -> Result<bool, InputFault>
         requires count { self.old.count ≤ 16777216 }
         requires size { 1 ≤ size }
-        ensures filled { IsFilled result (R.rest input.old) (R.rest input.new) self.old self.new size (R.faults input.old) (R.faults input.new) }
+        ensures filled { IsFilled result (R.rest input.old) (R.rest input.new) self.old self.new size
+            (R.faults input.old) (R.faults input.new) }
         ensures few { TakesAtMost (R.rest input.old) (R.rest input.new) (16777217 - self.old.count) }
     {
         let before = self.part.len();
-        let most = before + size.min(LONGEST as usize + 1 - self.count);
-        read_on(input, &mut self.part, most)?;
+        let limit = before + size.min(LONGEST as usize + 1 - self.count);
+        read_on(input, &mut self.part, limit)?;
         let after = self.part.len();
         self.count += after - before;
         if self.count > LONGEST as usize {
             return Err(InputFault::TooLong);
         }
-        Ok(after == most)
+        Ok(after == limit)
     }
 
     /// Reads the whole lines of what came. What stands behind them stays, since it may go on.
@@ -67,7 +68,8 @@ impl Incoming {
         requires room { reader.old.lines + length self.old.part.items ≤ 16777216 }
         ensures count { self.new.count ≡ self.old.count }
         ensures lines { AreLinesRead result reader.old reader.new self.old.part.items self.new.part.items }
-        ensures room { OnOk result (reader.new.lines + length self.new.part.items ≤ reader.old.lines + length self.old.part.items) }
+        ensures room { OnOk result (reader.new.lines + length self.new.part.items
+            ≤ reader.old.lines + length self.old.part.items) }
     {
         let end = whole_lines(self.part.as_slice());
         let (whole, more) = self.part.as_slice().split_at(end);
@@ -82,7 +84,8 @@ impl Incoming {
     pub fn split(&mut self) -> Result<Incoming, AllocError>
         ensures count { IfOk result (λ rest. rest.count ≡ self.old.count) }
         ensures parts { IfOk result (λ rest. self.old.part.items ≡ self.new.part.items ++ rest.part.items) }
-        ensures lines { IfOk result (λ rest. (more : List ℕ) → lines (self.old.part.items ++ more) ≡ lines self.new.part.items ++ lines (rest.part.items ++ more)) }
+        ensures lines { IfOk result (λ rest. (more : List ℕ) → lines (self.old.part.items ++ more)
+            ≡ lines self.new.part.items ++ lines (rest.part.items ++ more)) }
     {
         let end = whole_lines(self.part.as_slice());
         Ok(Incoming {
@@ -112,7 +115,8 @@ impl Incoming {
         requires count { self.old.count ≤ 16777216 }
         requires part { length self.old.part.items ≤ self.old.count }
         requires size { 1 ≤ size }
-        ensures { IsTaken result (R.rest input.old) (R.rest input.new) self.old self.new (R.faults input.old) (R.faults input.new) }
+        ensures { IsTaken result (R.rest input.old) (R.rest input.new) self.old self.new (R.faults input.old)
+            (R.faults input.new) }
     {
         self.fill(input, size)?;
         let rest = self.split()?;
@@ -122,14 +126,15 @@ impl Incoming {
         })
     }
 
-    /// Why the input is no capture, of which lines have a fault: nothing is said of them before the input is at its end.
+    /// Says why the input is no capture, of which lines have a fault. Nothing is said of them before its end.
     pub fn refuse<R: Source>(
         &mut self,
         input: &mut R,
         fault: OrMemory<CaptureError>,
     ) -> CaptureFault
         requires { self.old.count ≤ 16777216 }
-        ensures judged { IsJudged result fault (R.rest input.old) (R.rest input.new) self.old.count (R.faults input.old) (R.faults input.new) }
+        ensures judged { IsJudged result fault (R.rest input.old) (R.rest input.new) self.old.count
+            (R.faults input.old) (R.faults input.new) }
         ensures few { TakesAtMost (R.rest input.old) (R.rest input.new) (16777217 - self.old.count) }
     {
         let OrMemory::Fault(fault) = fault else {

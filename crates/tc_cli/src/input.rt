@@ -8,10 +8,10 @@ ghost use Rattle.tc_cli.specs.declared.input.InputFault.TheVariants.{NoMemory as
 use std::alloc::{AllocError, Global};
 use zb_base::Source;
 
-/// The longest input of a command, in bytes.
+/// How many bytes the longest input of a command has.
 pub(crate) const LONGEST: u32 = 16_777_216;
 
-/// Why the input isn't known whole.
+/// Says why the input isn't known whole.
 #[derive(Clone, Copy, Debug, PartialEq, Eq)]
 pub(crate) enum InputFault {
     /// The source failed.
@@ -34,15 +34,16 @@ impl From<AllocError> for InputFault {
 pub(crate) fn read_on<R: Source>(
     input: &mut R,
     bytes: &mut Vec<u8>,
-    most: usize,
+    limit: usize,
 ) -> Result<(), InputFault>
-    requires { vec_len bytes.old ≤ most }
-    ensures read { IsReadOn result (R.rest input.old) (R.rest input.new) bytes.old.items bytes.new.items most (R.faults input.old) (R.faults input.new) }
-    ensures few { TakesAtMost (R.rest input.old) (R.rest input.new) (most - length bytes.old.items) }
+    requires { vec_len bytes.old ≤ limit }
+    ensures read { IsReadOn result (R.rest input.old) (R.rest input.new) bytes.old.items bytes.new.items limit
+        (R.faults input.old) (R.faults input.new) }
+    ensures few { TakesAtMost (R.rest input.old) (R.rest input.new) (limit - length bytes.old.items) }
 {
     let mut buffer = [0; 16_384];
-    while bytes.len() < most {
-        let room = (most - bytes.len()).min(16_384);
+    while bytes.len() < limit {
+        let room = (limit - bytes.len()).min(16_384);
         match input.read(&mut buffer[..room]) {
             Ok(0) => return Ok(()),
             Ok(count) => bytes.extend_from_slice(&buffer[..count])?,

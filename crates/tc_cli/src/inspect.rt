@@ -17,7 +17,7 @@ use std::thread::Threads;
 use zb_base::{Sink, Source};
 use zb_capture::Capture;
 use zb_inspect::{InspectFault, report};
-use zb_inspect_ring::OpenGate;
+use zb_jobs::OpenGate;
 
 /// Writes the report on the capture on the input, read and worked out by so many jobs.
 pub(crate) fn inspect_input<T: Threads + Sync, R: Source, W: Sink>(
@@ -28,7 +28,8 @@ pub(crate) fn inspect_input<T: Threads + Sync, R: Source, W: Sink>(
     output: &mut W,
 ) -> Status
     requires { 1 ≤ jobs }
-    ensures ends { Ends result (wanted (Inspecting jobs) (R.rest input.old)) (W.taken output.old) (W.taken output.new) (W.faults output.old) (W.faults output.new) }
+    ensures ends { Ends result (wanted (Inspecting jobs) (R.rest input.old)) (W.taken output.old)
+        (W.taken output.new) (W.faults output.old) (W.faults output.new) }
     ensures end { result ≡ Status.Ok → IsAtEnd (R.rest input.new) }
     ensures few { TakesAtMost (R.rest input.old) (R.rest input.new) 16777217 }
     ensures read_fault { result ≡ Status.ReadFault → Rose (R.faults input.old) (R.faults input.new) }
@@ -55,7 +56,8 @@ pub(crate) fn report_on<T: Threads + Sync, W: Sink>(
 ) -> Status
     requires capture { IsCapture capture.now }
     requires jobs { 1 ≤ jobs }
-    ensures ends { Ends result (Some (Writes (report_of capture.now))) (W.taken output.old) (W.taken output.new) (W.faults output.old) (W.faults output.new) }
+    ensures ends { Ends result (Some (Writes (report_of capture.now))) (W.taken output.old) (W.taken output.new)
+        (W.faults output.old) (W.faults output.new) }
     ensures read_fault { result ≡ Status.ReadFault → ⊥ }
 {
     match report(rt, alloc, capture, jobs, &OpenGate, output) {

@@ -15,7 +15,8 @@ use zb_text::page::{end_line, hand_out};
 /// Writes the link key of an install code.
 pub(crate) fn install_code<W: Sink>(alloc: Global, code: &str, output: &mut W) -> Status
     requires { length code.now < 2 ^ 32 - 1 }
-    ensures ends { Ends result (Some (install_answer (code_of_text code.now))) (W.taken output.old) (W.taken output.new) (W.faults output.old) (W.faults output.new) }
+    ensures ends { Ends result (Some (install_answer (code_of_text code.now))) (W.taken output.old)
+        (W.taken output.new) (W.faults output.old) (W.faults output.new) }
     ensures read_fault { result ≡ Status.ReadFault → ⊥ }
 {
     let code = match InstallCode::from_hex(code) {
@@ -36,7 +37,7 @@ pub(crate) fn install_code<W: Sink>(alloc: Global, code: &str, output: &mut W) -
     }
 }
 
-/// The digits of a key, and a line feed.
+/// Prints the digits of a key, and a line feed.
 fn key_page(alloc: Global, key: &Key) -> Result<Vec<u8>, AllocError>
     ensures { IfOk result (λ page. page.items ≡ encode_upper key.now.0 ++ 10 ∷ []) }
 {

@@ -55,7 +55,7 @@ fn ran<H: Env + Input + AllocGlobal + Threads + Sync, W: Write>(
     run(rt, rt.alloc(), words.as_slice(), &mut input, output)
 }
 
-/// The words after the program's name.
+/// Gives the words after the program's name.
 fn words_after_name<H: Env + AllocGlobal>(rt: &H) -> io::Result<Vec<String>> {
     let mut words = Vec::new(rt.alloc());
     for word in env::args(rt)?.skip(1) {

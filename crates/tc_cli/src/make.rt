@@ -15,7 +15,8 @@ use zb_sched::{Schedule, write};
 /// Writes the made schedule of start value 0 for `count` routers and devices.
 pub(crate) fn make_schedule<W: Sink>(alloc: Global, count: u32, output: &mut W) -> Status
     requires { (1 ≤ count) × (count ≤ 60) }
-    ensures ends { Ends result (Some (make_answer (made 0 count))) (W.taken output.old) (W.taken output.new) (W.faults output.old) (W.faults output.new) }
+    ensures ends { Ends result (Some (make_answer (made 0 count))) (W.taken output.old) (W.taken output.new)
+        (W.faults output.old) (W.faults output.new) }
     ensures made { result ≡ Status.Ok → Made count (W.taken output.old) (W.taken output.new) }
     ensures read_fault { result ≡ Status.ReadFault → ⊥ }
 {
@@ -31,7 +32,8 @@ pub(crate) fn make_schedule<W: Sink>(alloc: Global, count: u32, output: &mut W) 
 
 /// Writes the text of a schedule.
 fn print_schedule<W: Sink>(alloc: Global, schedule: &Schedule, output: &mut W) -> Status
-    ensures ends { Ends result (Some (Writes (printed (plan_of schedule.now)))) (W.taken output.old) (W.taken output.new) (W.faults output.old) (W.faults output.new) }
+    ensures ends { Ends result (Some (Writes (printed (plan_of schedule.now)))) (W.taken output.old)
+        (W.taken output.new) (W.faults output.old) (W.faults output.new) }
     ensures read_fault { result ≡ Status.ReadFault → ⊥ }
 {
     match write(alloc, schedule, output) {

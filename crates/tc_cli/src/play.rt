@@ -20,10 +20,12 @@ use zb_reader::read;
 
 /// Plays the schedule on the input, and writes its transcript.
 pub(crate) fn play_input<R: Source, W: Sink>(alloc: Global, input: &mut R, output: &mut W) -> Status
-    ensures ends { Ends result (wanted Playing (R.rest input.old)) (W.taken output.old) (W.taken output.new) (W.faults output.old) (W.faults output.new) }
+    ensures ends { Ends result (wanted Playing (R.rest input.old)) (W.taken output.old) (W.taken output.new)
+        (W.faults output.old) (W.faults output.new) }
     ensures end { result ≡ Status.Ok → IsAtEnd (R.rest input.new) }
     ensures few { TakesAtMost (R.rest input.old) (R.rest input.new) 16777217 }
-    ensures played { result ≡ Status.Ok → IfSome (R.rest input.old) (λ bytes. Played bytes (W.taken output.old) (W.taken output.new)) }
+    ensures played { result ≡ Status.Ok → IfSome (R.rest input.old)
+        (λ bytes. Played bytes (W.taken output.old) (W.taken output.new)) }
     ensures read_fault { result ≡ Status.ReadFault → Rose (R.faults input.old) (R.faults input.new) }
 {
     let bytes = match read_input(alloc, input) {
@@ -45,7 +47,8 @@ pub(crate) fn play_input<R: Source, W: Sink>(alloc: Global, input: &mut R, outpu
 /// Plays a schedule.
 fn play_script<W: Sink>(alloc: Global, script: &Script, output: &mut W) -> Status
     requires { IsPlayable (plan_of script.now) }
-    ensures ends { Ends result (Some (Writes (text (transcript wire (plan_of script.now))))) (W.taken output.old) (W.taken output.new) (W.faults output.old) (W.faults output.new) }
+    ensures ends { Ends result (Some (Writes (text (transcript wire (plan_of script.now))))) (W.taken output.old)
+        (W.taken output.new) (W.faults output.old) (W.faults output.new) }
     ensures read_fault { result ≡ Status.ReadFault → ⊥ }
 {
     match play(alloc, script, output) {

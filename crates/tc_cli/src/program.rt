@@ -33,8 +33,10 @@ pub(crate) fn run<T: Threads + Sync, R: Source, W: Sink>(
     ensures no_command { task_of (map string_bytes words.now) ≡ None → result ≡ Status.Usage }
     // At Ok the output that is wanted of the command was written, and its input was read to its end.
     ensures done { (job : Task) → task_of (map string_bytes words.now) ≡ Some job → result ≡ Status.Ok
-        → IfSome (wanted job (R.rest input.old)) (λ answer. IsWritten answer (W.taken output.old) (W.taken output.new)) }
-    ensures end { (job : Task) → task_of (map string_bytes words.now) ≡ Some job → result ≡ Status.Ok → ReadsToEnd job (R.rest input.new) }
+        → IfSome (wanted job (R.rest input.old))
+        (λ answer. IsWritten answer (W.taken output.old) (W.taken output.new)) }
+    ensures end { (job : Task) → task_of (map string_bytes words.now) ≡ Some job → result ≡ Status.Ok
+        → ReadsToEnd job (R.rest input.new) }
     // It takes no more of the input than one byte past the longest.
     ensures few { TakesAtMost (R.rest input.old) (R.rest input.new) 16777217 }
     // What `play` wrote is a lawful run of the schedule that its input is.
@@ -46,16 +48,20 @@ pub(crate) fn run<T: Threads + Sync, R: Source, W: Sink>(
     // The cause of each other answer.
     ensures read_fault { result ≡ Status.ReadFault → Rose (R.faults input.old) (R.faults input.new) }
     ensures write_fault { result ≡ Status.WriteFault → Rose (W.faults output.old) (W.faults output.new) }
-    ensures refused { (job : Task) (line : ℕ) (cause : Cause) → task_of (map string_bytes words.now) ≡ Some job → result ≡ Status.Refused line cause
+    ensures refused { (job : Task) (line : ℕ) (cause : Cause) → task_of (map string_bytes words.now) ≡ Some job
+        → result ≡ Status.Refused line cause
         → IfSome (wanted job (R.rest input.old)) (λ answer. answer ≡ Refuses line cause) }
-    ensures too_long { (job : Task) (limit : ℕ) → task_of (map string_bytes words.now) ≡ Some job → result ≡ Status.TooLong limit
+    ensures too_long { (job : Task) (limit : ℕ) → task_of (map string_bytes words.now) ≡ Some job → result
+        ≡ Status.TooLong limit
         → (limit ≡ longest) × IfSome (wanted job (R.rest input.old)) (λ answer. answer ≡ Exceeds) }
     // What was written at these.
     ensures nothing { WritesNothing result (W.taken output.old) (W.taken output.new) }
     ensures front { (job : Task) → task_of (map string_bytes words.now) ≡ Some job
-        → IfSome (wanted job (R.rest input.old)) (λ answer. WritesFront result answer (W.taken output.old) (W.taken output.new)) }
-    // Where neither the source nor the sink fails, no other status comes than that of the answer, but for want of memory.
-    ensures complete { (job : Task) (answer : Answer) → task_of (map string_bytes words.now) ≡ Some job → wanted job (R.rest input.old) ≡ Some answer
+        → IfSome (wanted job (R.rest input.old))
+        (λ answer. WritesFront result answer (W.taken output.old) (W.taken output.new)) }
+    // Where neither the source nor the sink fails, only the status of the answer comes, or want of memory.
+    ensures complete { (job : Task) (answer : Answer) → task_of (map string_bytes words.now) ≡ Some job → wanted job
+        (R.rest input.old) ≡ Some answer
         → (Rose (R.faults input.old) (R.faults input.new) → ⊥) → (Rose (W.faults output.old) (W.faults output.new) → ⊥)
         → (result ≡ status_of answer) ⊎ (result ≡ Status.NoMemory) }
 {
@@ -74,7 +80,8 @@ fn carry_out<T: Threads + Sync, R: Source, W: Sink>(
     output: &mut W,
 ) -> Status
     requires { Fits command }
-    ensures ends { Ends result (wanted (task command.entry) (R.rest input.old)) (W.taken output.old) (W.taken output.new) (W.faults output.old) (W.faults output.new) }
+    ensures ends { Ends result (wanted (task command.entry) (R.rest input.old)) (W.taken output.old)
+        (W.taken output.new) (W.faults output.old) (W.faults output.new) }
     ensures end { result ≡ Status.Ok → ReadsToEnd (task command.entry) (R.rest input.new) }
     ensures few { TakesAtMost (R.rest input.old) (R.rest input.new) 16777217 }
     ensures played { task command.entry ≡ Playing → result ≡ Status.Ok

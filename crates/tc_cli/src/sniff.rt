@@ -18,7 +18,7 @@ use std::alloc::{AllocError, Global};
 use std::thread::Threads;
 use zb_base::{OrMemory, Sink, Source};
 use zb_inspect::{InspectFault, report};
-use zb_inspect_ring::OpenGate;
+use zb_jobs::OpenGate;
 use zb_pcap::{Counts, Extraction, extract};
 use zb_text::page::{add_number, end_line, hand_out, put};
 
@@ -34,7 +34,8 @@ pub(crate) fn sniff_input<T: Threads + Sync, R: Source, W: Sink>(
 ) -> Status
     requires jobs { 1 ≤ jobs }
     requires words { length words.now ≤ 256 }
-    ensures ends { Ends result (wanted (Sniffing jobs (keys_in (map string_bytes words.now))) (R.rest input.old)) (W.taken output.old) (W.taken output.new) (W.faults output.old) (W.faults output.new) }
+    ensures ends { Ends result (wanted (Sniffing jobs (keys_in (map string_bytes words.now))) (R.rest input.old))
+        (W.taken output.old) (W.taken output.new) (W.faults output.old) (W.faults output.new) }
     ensures end { result ≡ Status.Ok → IsAtEnd (R.rest input.new) }
     ensures few { TakesAtMost (R.rest input.old) (R.rest input.new) 16777217 }
     ensures read_fault { result ≡ Status.ReadFault → Rose (R.faults input.old) (R.faults input.new) }
@@ -68,7 +69,8 @@ fn report_and_count<T: Threads + Sync, W: Sink>(
 ) -> Status
     requires capture { IsCapture extraction.now.capture }
     requires jobs { 1 ≤ jobs }
-    ensures ends { Ends result (Some (Writes (sniff_output extraction.now))) (W.taken output.old) (W.taken output.new) (W.faults output.old) (W.faults output.new) }
+    ensures ends { Ends result (Some (Writes (sniff_output extraction.now))) (W.taken output.old)
+        (W.taken output.new) (W.faults output.old) (W.faults output.new) }
     ensures read_fault { result ≡ Status.ReadFault → ⊥ }
 {
     let Ok(mut page) = counts_page(alloc, &extraction.counts) else {
@@ -85,7 +87,7 @@ fn report_and_count<T: Threads + Sync, W: Sink>(
     }
 }
 
-/// The line of the counts.
+/// Prints the line of the counts.
 #[tactic(auto, using(std::proofs::Common::append_assoc))]
 fn counts_page(alloc: Global, counts: &Counts) -> Result<Vec<u8>, AllocError>
     ensures { IfOk result (λ page. page.items ≡ counts_line counts.now) }

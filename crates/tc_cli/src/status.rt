@@ -12,7 +12,7 @@ use zb_install::CodeError;
 use zb_pcap::PcapCause;
 use zb_sched::SchedCause;
 
-/// The end of a run. Its number is the status of the process.
+/// Says how a run ended. Its number is the status of the process.
 #[derive(Clone, Copy, Debug, PartialEq, Eq)]
 pub enum Status {
     /// The whole output was written, and the input of a command that has one was read to its end.
@@ -24,14 +24,22 @@ pub enum Status {
     /// The sink failed.
     WriteFault,
     /// The input, or a word, isn't what the command takes. Nothing was written.
-    Refused { line: u32, cause: Cause },
+    Refused {
+        /// The number of the line, from 1, or of the record; 0 is the header of a file.
+        line: u32,
+        /// What is wrong with it.
+        cause: Cause,
+    },
     /// There was no memory left.
     NoMemory,
     /// The input has more than so many bytes.
-    TooLong { limit: u32 },
+    TooLong {
+        /// How many bytes an input may have.
+        limit: u32,
+    },
 }
 
-/// Why an input or a word is refused.
+/// Says why an input or a word is refused.
 #[derive(Clone, Copy, Debug, PartialEq, Eq)]
 pub enum Cause {
     /// The line is of no form that the command takes, or a declaration behind an event.
@@ -63,12 +71,23 @@ pub enum Cause {
     Cut,
     /// The network address of the line stands in one before it.
     AddressTaken,
-    /// The code has an odd number of characters, `at`, or the one at `at` is no hexadecimal digit.
-    NotHex { at: u32 },
+    /// The code has an odd number of characters, or one of them is no hexadecimal digit.
+    NotHex {
+        /// The place of that character, or how many there are.
+        at: u32,
+    },
     /// The code has a length that no install code has.
-    Length { len: u32 },
-    /// The code's last two bytes are `kept`, and the CRC of the others is `found`.
-    Crc { kept: u16, found: u16 },
+    Length {
+        /// How many bytes it has.
+        len: u32,
+    },
+    /// The code's last two bytes aren't the CRC of the others.
+    Crc {
+        /// These two bytes.
+        kept: u16,
+        /// The CRC of the others.
+        found: u16,
+    },
 }
 
 impl From<SchedCause> for Cause {
@@ -144,7 +163,7 @@ impl Status {
     ghost use Rattle.std.specs.Prelude.{◌≡◌};
     ghost use Rattle.tc_cli.specs.Statuses.{number_of, text_of};
 
-    /// The status of the process.
+    /// Answers the status of the process.
     pub fn number(&self) -> u8
         ensures { result ≡ number_of self.now }
     {
@@ -159,7 +178,7 @@ impl Status {
         }
     }
 
-    /// What is said of the status on standard output, without a line feed. Nothing is said of `Ok` and `WriteFault`.
+    /// Says how the run ended, for standard output, without a line feed. Nothing is said of `Ok` and `WriteFault`.
     pub fn text(&self) -> ArrayString<64>
         ensures { result.bytes ≡ text_of self.now }
     {
@@ -226,7 +245,7 @@ impl Cause {
     }
 }
 
-/// A text of some words.
+/// Makes a text of some words.
 fn word(words: &str) -> ArrayString<64>
     requires { length words.now ≤ 20 }
     ensures bytes { result.bytes ≡ words.now }

@@ -1,6 +1,6 @@
 //! Whole runs over objects in memory. What is wanted comes from worked examples outside of this repository.
 use crate::program::run;
-use crate::status::{Cause, Status};
+use crate::status::Status;
 use std::test::Fail;
 use std::thread::Threads;
 use zb_base::{MemSink, MemSource};
@@ -17,9 +17,11 @@ const TWO_FRAMES_PLAYED: &[u8] = b"0 node c centre 00124B0000000001 0000 4 2
 0 node d device 00124B0000000002 1A2B 4 2
 0 given c net 000102030405060708090A0B0C0D0E0F 0
 0 given d net 000102030405060708090A0B0C0D0E0F 0
-1 seal c nwk network 000102030405060708090A0B0C0D0E0F 00124B0000000001 0 2D 08022B1A00001E002D0000000001000000004B120000 00010000040101000102
+1 seal c nwk network 000102030405060708090A0B0C0D0E0F 00124B0000000001 0 2D \
+              08022B1A00001E002D0000000001000000004B120000 00010000040101000102
 1 send c 1 08022B1A00001E00280000000001000000004B12000063DD603D8198631D3B765B34BA85
-2 seal c nwk network 000102030405060708090A0B0C0D0E0F 00124B0000000001 1 2D 08022B1A00001E012D0100000001000000004B120000 00010000040101010102
+2 seal c nwk network 000102030405060708090A0B0C0D0E0F 00124B0000000001 1 2D \
+              08022B1A00001E012D0100000001000000004B120000 00010000040101010102
 2 send c 2 08022B1A00001E01280100000001000000004B120000897752BDF0FC12EC62703D343AD0
 end 2 2 0 0 yes yes
 ";
@@ -35,9 +37,11 @@ say d 0000 -
 const WITHOUT_A_KEY_PLAYED: &[u8] = b"0 node c centre 00124B0000000001 0000 4 2
 0 node d device 00124B0000000002 1A2B 4 2
 0 given c net 000102030405060708090A0B0C0D0E0F 0
-1 seal c nwk network 000102030405060708090A0B0C0D0E0F 00124B0000000001 0 2D 08022B1A00001E002D0000000001000000004B120000 00010000040101000102
+1 seal c nwk network 000102030405060708090A0B0C0D0E0F 00124B0000000001 0 2D \
+              08022B1A00001E002D0000000001000000004B120000 00010000040101000102
 1 send c 1 08022B1A00001E00280000000001000000004B12000063DD603D8198631D3B765B34BA85
-2 seal c nwk network 000102030405060708090A0B0C0D0E0F 00124B0000000001 1 2D 08022B1A00001E012D0100000001000000004B120000 00010000040101010102
+2 seal c nwk network 000102030405060708090A0B0C0D0E0F 00124B0000000001 1 2D \
+              08022B1A00001E012D0100000001000000004B120000 00010000040101010102
 2 send c 2 08022B1A00001E01280100000001000000004B120000897752BDF0FC12EC62703D343AD0
 3 refuse d event no-key
 end 3 2 0 1 yes yes
@@ -103,10 +107,23 @@ deliver 15 c
 deliver 6 c
 ";
 
-const REFUSED: Status = Status::Refused {
-    line: 1,
-    cause: Cause::Syntax,
-};
+const CODE: &str = "83FED3407A939723A5C639B26916D505C3B5";
+
+const KEY: &str = "000102030405060708090A0B0C0D0E0F";
+
+/// A capture file without check sequences: a packet whose payload is the first of the frames above.
+const CAPTURE_FILE: &[u8] =
+    b"\xD4\xC3\xB2\xA1\x02\x00\x04\x00\x00\x00\x00\x00\x00\x00\x00\x00\x00\x00\x00\x00\xE6\x00\x00\x00\
+      \x00\x00\x00\x00\x00\x00\x00\x00\x2D\x00\x00\x00\x2D\x00\x00\x00\x41\x88\x01\x62\x1A\x2B\x1A\x00\
+      \x00\x08\x02\x2B\x1A\x00\x00\x1E\x00\x28\x00\x00\x00\x00\x01\x00\x00\x00\x00\x4B\x12\x00\x00\x63\
+      \xDD\x60\x3D\x81\x98\x63\x1D\x3B\x76\x5B\x34\xBA\x85";
+
+const CAPTURE_FILE_SHOWN: &[u8] = b"1 nwk key 1 00124B0000000001 0 00010000040101000102
+1 aps not-secured
+key 1 000102030405060708090A0B0C0D0E0F given
+end 1 1 1
+packets 1 0 0
+";
 
 /// What a run came to: how it ended, and what the sink took.
 #[derive(Drop)]
@@ -134,241 +151,252 @@ fn over<H: AllocGlobal + Threads + Sync>(
 }
 
 #[test]
-fn two_frames_are_sealed(rt: HostRuntime) -> Result<(), Fail> {
-    let ran = over(&rt, &["play"], TWO_FRAMES, &[], &[])?;
-    assert_eq!(rt; ran.status, Status::Ok);
-    assert_eq!(rt; ran.sink.taken(), TWO_FRAMES_PLAYED);
-    Ok(())
-}
-
-#[test]
-fn a_node_without_a_network_key_refuses(rt: HostRuntime) -> Result<(), Fail> {
-    let ran = over(&rt, &["play"], WITHOUT_A_KEY, &[], &[])?;
-    assert_eq!(rt; ran.status, Status::Ok);
-    assert_eq!(rt; ran.sink.taken(), WITHOUT_A_KEY_PLAYED);
-    Ok(())
-}
-
-#[test]
-fn comments_empty_lines_carriage_returns_and_a_last_line_without_an_end_are_read(
-    rt: HostRuntime,
-) -> Result<(), Fail> {
-    let input =
-        b"# \xFF any byte\r\n\r\n\nnode c centre 00124b0000000001 0000 65536 1024\r\nsay c FFF8 -";
-    let ran = over(&rt, &["play"], input, &[], &[])?;
-    assert_eq!(rt; ran.status, Status::Ok);
-    assert_eq!(rt;
-        ran.sink.taken(),
-        b"0 node c centre 00124B0000000001 0000 65536 1024\n1 refuse c event no-key\nend 1 0 0 1 yes yes\n".as_slice()
-    );
-    Ok(())
-}
-
-#[test]
-fn other_lines_are_refused_at_the_first_bad_one(rt: HostRuntime) -> Result<(), Fail> {
-    let inputs: [(&[u8], &str); 25] = [
-        (b"boom\n", "refused 1 syntax"),
-        (b"", "refused 1 no-centre"),
-        (b"# no centre\n", "refused 2 no-centre"),
+fn worked_runs_have_their_outputs(rt: HostRuntime) -> Result<(), Fail> {
+    let runs: [(&[&str], &[u8], &[u8]); 8] = [
+        (&["play"], TWO_FRAMES, TWO_FRAMES_PLAYED),
+        (&["play"], WITHOUT_A_KEY, WITHOUT_A_KEY_PLAYED),
+        // comments, empty lines, carriage returns, and a last line without an end
         (
+            &["play"],
+            b"# \xFF any byte\r\n\r\n\nnode c centre 00124b0000000001 0000 65536 1024\r\nsay c FFF8 -",
+            b"0 node c centre 00124B0000000001 0000 65536 1024\n1 refuse c event no-key\nend 1 0 0 1 yes yes\n",
+        ),
+        (&["make", "1"], b"", MADE_FOR_ONE),
+        (
+            &["install", CODE],
+            b"",
+            b"66B6900981E1EE3CA4206B6B861C02BB\n",
+        ),
+        (&["sniff", "1", KEY], CAPTURE_FILE, CAPTURE_FILE_SHOWN),
+        (&["sniff", "4", KEY], CAPTURE_FILE, CAPTURE_FILE_SHOWN),
+        (&["inspect", "2"], b"", b"end 0 0 1\n"),
+    ];
+    for (words, input, output) in runs {
+        let ran = over(&rt, words, input, &[], &[])?;
+        assert!(rt; ran.status == Status::Ok && ran.sink.taken() == output);
+    }
+    Ok(())
+}
+
+#[test]
+fn other_words_and_inputs_are_refused(rt: HostRuntime) -> Result<(), Fail> {
+    let runs: [(&[&str], &[u8], &str); 53] = [
+        (&["play"], b"boom\n", "refused 1 syntax"),
+        (&["play"], b"", "refused 1 no-centre"),
+        (&["play"], b"# no centre\n", "refused 2 no-centre"),
+        (
+            &["play"],
             b"node d device 00124B0000000002 1A2B 4 2\n",
             "refused 2 no-centre",
         ),
         (
+            &["play"],
             b"node c centre 00124B0000000001 0000 0 2\n",
             "refused 1 block",
         ),
         (
+            &["play"],
             b"node c centre 00124B0000000001 0000 65537 2\n",
             "refused 1 block",
         ),
         (
+            &["play"],
             b"node c centre 00124B0000000001 0000 4 1025\n",
             "refused 1 block",
         ),
         (
+            &["play"],
             b"node c centre 00124B0000000001 0001 4 2\n",
             "refused 1 syntax",
         ),
         (
+            &["play"],
             b"node c centre 0000000000000000 0000 4 2\n",
             "refused 1 syntax",
         ),
         (
+            &["play"],
             b"node c centre FFFFFFFFFFFFFFFF 0000 4 2\n",
             "refused 1 syntax",
         ),
         (
+            &["play"],
             b"node c centre 00124B0000000001 0000 4 02\n",
             "refused 1 syntax",
         ),
         (
+            &["play"],
             b"node c centre 00124B0000000001 0000 4 2 \n",
             "refused 1 syntax",
         ),
         (
-            b"node c centre 00124B0000000001 0000 4 2\nnode e centre 00124B0000000002 0000 4 2\n",
+            &["play"],
+            b"node c centre 00124B0000000001 0000 4 2\nnode e centre 00124B0000000002 0000 4 2\n\
+              ",
             "refused 2 duplicate-node",
         ),
         (
-            b"node c centre 00124B0000000001 0000 4 2\nnode d device 00124B0000000001 1A2B 4 2\n",
+            &["play"],
+            b"node c centre 00124B0000000001 0000 4 2\nnode d device 00124B0000000001 1A2B 4 2\n\
+              ",
             "refused 2 duplicate-node",
         ),
         (
-            b"node c centre 00124B0000000001 0000 4 2\nnetkey d 000102030405060708090A0B0C0D0E0F 0\n",
+            &["play"],
+            b"node c centre 00124B0000000001 0000 4 2\nnetkey d 000102030405060708090A0B0C0D0E0F 0\n\
+              ",
             "refused 2 unknown-node",
         ),
         (
-            b"node c centre 00124B0000000001 0000 4 2\nnetkey c 5A6967426565416C6C69616E63653039 0\n",
+            &["play"],
+            b"node c centre 00124B0000000001 0000 4 2\nnetkey c 5A6967426565416C6C69616E63653039 0\n\
+              ",
             "refused 2 draw-repeated",
         ),
         (
-            b"node c centre 00124B0000000001 0000 4 2\nnetkey c 000102030405060708090A0B0C0D0E0F 256\n",
+            &["play"],
+            b"node c centre 00124B0000000001 0000 4 2\nnetkey c 000102030405060708090A0B0C0D0E0F 256\n\
+              ",
             "refused 2 syntax",
         ),
         (
-            b"node c centre 00124B0000000001 0000 4 2\nsay c 0000 -\nnode d device 00124B0000000002 1A2B 4 2\n",
+            &["play"],
+            b"node c centre 00124B0000000001 0000 4 2\nsay c 0000 -\n\
+              node d device 00124B0000000002 1A2B 4 2\n",
             "refused 3 syntax",
         ),
         (
+            &["play"],
             b"node c centre 00124B0000000001 0000 4 2\nsay d 0000 -\n",
             "refused 2 unknown-node",
         ),
         (
+            &["play"],
             b"node c centre 00124B0000000001 0000 4 2\r\r\n",
             "refused 1 syntax",
         ),
         (
+            &["play"],
             b"node c centre 00124B0000000001 0000 4 2\nboom c\nsay d 0000 -\n",
             "refused 2 syntax",
         ),
         (
+            &["play"],
             b"node c centre 00124B0000000001 0000 4 2\ncounter c nwk 0\nboom\n",
             "refused 3 syntax",
         ),
         (
+            &["play"],
             b"node c centre 00124B0000000001 0000 4 2\nsay d 0000 -\ntimer c\n",
             "refused 2 unknown-node",
         ),
-        (b"#\n\nboom c\n", "refused 3 syntax"),
+        (&["play"], b"#\n\nboom c\n", "refused 3 syntax"),
         (
-            b"#\n#\n#\n#\n#\n#\n#\ndraw A0A1A2A3A4A5A6A7A8A9AAABACADAEAF\ndraw A0A1A2A3A4A5A6A7A8A9AAABACADAEAF\n",
+            &["play"],
+            b"#\n#\n#\n#\n#\n#\n#\ndraw A0A1A2A3A4A5A6A7A8A9AAABACADAEAF\n\
+              draw A0A1A2A3A4A5A6A7A8A9AAABACADAEAF\n",
             "refused 9 draw-repeated",
         ),
+        (&[], b"", "usage"),
+        (&["play", "now"], b"", "usage"),
+        (&["install"], b"", "usage"),
+        (&["install", "00", "00"], b"", "usage"),
+        (&["help"], b"", "usage"),
+        (&["Play"], b"", "usage"),
+        (&["make"], b"", "usage"),
+        (&["make", "0"], b"", "usage"),
+        (&["make", "61"], b"", "usage"),
+        (&["make", "061"], b"", "usage"),
+        (&["make", ""], b"", "usage"),
+        (&["make", "4294967297"], b"", "usage"),
+        (&["make", "1", "1"], b"", "usage"),
+        (&["inspect"], b"", "usage"),
+        (&["inspect", "0"], b"", "usage"),
+        (&["inspect", "65"], b"", "usage"),
+        (&["inspect", "1", "1"], b"", "usage"),
+        (&["sniff"], b"", "usage"),
+        (&["sniff", "0"], b"", "usage"),
+        // half a key, and an install code with another check
+        (&["sniff", "1", "0001020304050607"], b"", "usage"),
+        (
+            &["sniff", "1", "83FED3407A939723A5C639B26916D505C3B4"],
+            b"",
+            "usage",
+        ),
+        (
+            &["install", "83FED3407A939723A5C639B26916D505C3B4"],
+            b"",
+            "refused 1 crc B4C3 B5C3",
+        ),
+        (
+            &["install", "83FED3407A939723A5C639B26916D505C3"],
+            b"",
+            "refused 1 length 17",
+        ),
+        (
+            &["install", "83FED3407A939723A5C639B26916D505C3B"],
+            b"",
+            "refused 1 not-hex 35",
+        ),
+        (
+            &["install", "83FED3407A932B7G"],
+            b"",
+            "refused 1 not-hex 15",
+        ),
+        (&["install", ""], b"", "refused 1 length 0"),
+        (&["sniff", "1", KEY], b"\xD4\xC3\xB2\xA1", "refused 0 magic"),
+        (
+            &["sniff", "1", KEY],
+            b"\xD4\xC3\xB2\xA1\x02\x00\x04\x00\x00\x00\x00\x00\x00\x00\x00\x00\x00\x00\x00\x00\xE6\x00\x00\x00\x00",
+            "refused 1 cut",
+        ),
     ];
-    for (input, text) in inputs {
-        let ran = over(&rt, &["play"], input, &[], &[])?;
-        assert_eq!(rt; ran.status.text().as_str(), text);
-        assert_eq!(rt; ran.sink.taken().len(), 0);
+    for (words, input, text) in runs {
+        let ran = over(&rt, words, input, &[], &[])?;
+        assert!(rt; ran.status.text().as_str() == text && ran.sink.taken().is_empty());
     }
     Ok(())
 }
 
 #[test]
-fn other_words_are_no_command(rt: HostRuntime) -> Result<(), Fail> {
-    let wrong: [&[&str]; 21] = [
-        &[],
-        &["play", "now"],
-        &["install"],
-        &["install", "00", "00"],
-        &["help"],
-        &["Play"],
-        &["make"],
-        &["make", "0"],
-        &["make", "61"],
-        &["make", "061"],
-        &["make", ""],
-        &["make", "4294967297"],
-        &["make", "1", "1"],
-        &["inspect"],
-        &["inspect", "0"],
-        &["inspect", "65"],
-        &["inspect", "1", "1"],
-        &["sniff"],
-        &["sniff", "0"],
-        // Half a key, and an install code with another check.
-        &["sniff", "1", "0001020304050607"],
-        &["sniff", "1", "83FED3407A939723A5C639B26916D505C3B4"],
+fn a_source_or_a_sink_that_fails_ends_the_run(rt: HostRuntime) -> Result<(), Fail> {
+    // words, the input, the calls of the source and of the sink that fail, the end, and what the sink has a front of
+    let runs: [(&[&str], &[u8], &[u32], &[u32], Status, &[u8]); 5] = [
+        (&["play"], TWO_FRAMES, &[2], &[], Status::ReadFault, b""),
+        (&["play"], TWO_FRAMES, &[], &[1], Status::WriteFault, b""),
+        (
+            &["play"],
+            TWO_FRAMES,
+            &[],
+            &[4],
+            Status::WriteFault,
+            TWO_FRAMES_PLAYED,
+        ),
+        (&["install", CODE], b"", &[], &[1], Status::WriteFault, b""),
+        (&["make", "1"], b"", &[], &[1], Status::WriteFault, b""),
     ];
-    for words in wrong {
-        let ran = over(&rt, words, TWO_FRAMES, &[], &[])?;
-        assert_eq!(rt; ran.status, Status::Usage);
-        assert_eq!(rt; ran.sink.taken().len(), 0);
+    for (words, input, fails, sink_fails, status, output) in runs {
+        let ran = over(&rt, words, input, fails, sink_fails)?;
+        assert!(rt; ran.status == status && output.starts_with(ran.sink.taken()));
     }
-    Ok(())
-}
-
-#[test]
-fn a_source_that_fails_is_a_read_fault(rt: HostRuntime) -> Result<(), Fail> {
-    let ran = over(&rt, &["play"], TWO_FRAMES, &[2], &[])?;
-    assert_eq!(rt; ran.status, Status::ReadFault);
-    assert_eq!(rt; ran.sink.taken().len(), 0);
-    Ok(())
-}
-
-#[test]
-fn a_sink_that_fails_is_a_write_fault_behind_what_was_written(rt: HostRuntime) -> Result<(), Fail> {
-    let first = over(&rt, &["play"], TWO_FRAMES, &[], &[1])?;
-    assert_eq!(rt; first.status, Status::WriteFault);
-    assert_eq!(rt; first.sink.taken().len(), 0);
-    let last = over(&rt, &["play"], TWO_FRAMES, &[], &[4])?;
-    assert_eq!(rt; last.status, Status::WriteFault);
-    assert!(rt; TWO_FRAMES_PLAYED.starts_with(last.sink.taken()));
-    let install = over(&rt, &["install", CODE], b"", &[], &[1])?;
-    assert_eq!(rt; install.status, Status::WriteFault);
     Ok(())
 }
 
 #[test]
 fn an_input_of_line_feeds_is_too_long_past_the_longest(rt: HostRuntime) -> Result<(), Fail> {
-    let mut input = vec![in rt.alloc(); 10u8; 16_777_217]?;
-    let long = over(&rt, &["play"], input.as_slice(), &[], &[])?;
-    assert_eq!(rt; long.status, Status::TooLong { limit: 16_777_216 });
-    let _ = input.pop();
-    let short = over(&rt, &["play"], input.as_slice(), &[], &[])?;
-    assert_eq!(rt; short.status.text().as_str(), "refused 16777217 no-centre");
-    assert_eq!(rt; short.sink.taken().len(), 0);
-    Ok(())
-}
-
-/// A capture file without check sequences: a packet whose payload is the first of the frames above.
-const CAPTURE_FILE: [u8; 85] =
-    *b"\xD4\xC3\xB2\xA1\x02\x00\x04\x00\x00\x00\x00\x00\x00\x00\x00\x00\x00\x00\x00\x00\xE6\x00\x00\x00\x00\x00\x00\x00\x00\x00\x00\x00\x2D\x00\x00\x00\x2D\x00\x00\x00\x41\x88\x01\x62\x1A\x2B\x1A\x00\x00\x08\x02\x2B\x1A\x00\x00\x1E\x00\x28\x00\x00\x00\x00\x01\x00\x00\x00\x00\x4B\x12\x00\x00\x63\xDD\x60\x3D\x81\x98\x63\x1D\x3B\x76\x5B\x34\xBA\x85";
-
-const KEY: &str = "000102030405060708090A0B0C0D0E0F";
-
-#[test]
-fn the_frames_of_a_capture_file_are_opened(rt: HostRuntime) -> Result<(), Fail> {
-    // The same packet where the last two bytes of each are its check sequence.
-    let mut checked = CAPTURE_FILE;
-    checked[20] = 195;
-    let opened = b"1 nwk key 1 00124B0000000001 0 00010000040101000102
-1 aps not-secured
-key 1 000102030405060708090A0B0C0D0E0F given
-end 1 1 1
-packets 1 0 0
-";
-    let passed_over = b"key 1 000102030405060708090A0B0C0D0E0F given
-end 0 1 1
-packets 1 1 0
-";
-    for jobs in ["1", "4"] {
-        let ran = over(&rt, &["sniff", jobs, KEY], &CAPTURE_FILE, &[], &[])?;
-        let other = over(&rt, &["sniff", jobs, KEY], &checked, &[], &[])?;
+    let input = vec![in rt.alloc(); 10u8; 16_777_217]?;
+    let runs: [(&[&str], &str); 2] = [
+        (&["play"], "refused 16777217 no-centre"),
+        (&["inspect", "2"], ""),
+    ];
+    for (words, text) in runs {
+        let long = over(&rt, words, input.as_slice(), &[], &[])?;
+        let longest = over(&rt, words, &input.as_slice()[..16_777_216], &[], &[])?;
         assert!(rt;
-            ran.sink.taken() == opened.as_slice() && other.sink.taken() == passed_over.as_slice()
+            long.status == Status::TooLong { limit: 16_777_216 }
+                && longest.status.text().as_str() == text
         );
     }
-    Ok(())
-}
-
-#[test]
-fn a_capture_file_is_refused_at_its_first_fault(rt: HostRuntime) -> Result<(), Fail> {
-    let short = over(&rt, &["sniff", "1", KEY], &CAPTURE_FILE[..23], &[], &[])?;
-    assert_eq!(rt; short.status.text().as_str(), "refused 0 magic");
-    let cut = over(&rt, &["sniff", "1", KEY], &CAPTURE_FILE[..84], &[], &[])?;
-    assert_eq!(rt; cut.status.text().as_str(), "refused 1 cut");
-    assert_eq!(rt; cut.sink.taken().len(), 0);
     Ok(())
 }
 
@@ -428,93 +456,4 @@ fn a_long_capture_is_refused_alike_by_each_number_of_jobs(rt: HostRuntime) -> Re
         }
     }
     Ok(())
-}
-
-#[test]
-fn a_capture_is_too_long_past_the_longest(rt: HostRuntime) -> Result<(), Fail> {
-    let mut input = vec![in rt.alloc(); 10u8; 16_777_217]?;
-    let long = over(&rt, &["inspect", "2"], input.as_slice(), &[], &[])?;
-    assert_eq!(rt; long.status, Status::TooLong { limit: 16_777_216 });
-    let _ = input.pop();
-    let short = over(&rt, &["inspect", "2"], input.as_slice(), &[], &[])?;
-    assert_eq!(rt; short.sink.taken(), b"end 0 0 1\n".as_slice());
-    Ok(())
-}
-
-const CODE: &str = "83FED3407A939723A5C639B26916D505C3B5";
-
-#[test]
-fn an_install_code_gives_its_link_key(rt: HostRuntime) -> Result<(), Fail> {
-    let ran = over(&rt, &["install", CODE], b"", &[], &[])?;
-    assert_eq!(rt; ran.status, Status::Ok);
-    assert_eq!(rt;
-        ran.sink.taken(),
-        b"66B6900981E1EE3CA4206B6B861C02BB\n".as_slice()
-    );
-    Ok(())
-}
-
-#[test]
-fn other_codes_are_refused_for_what_is_wrong(rt: HostRuntime) -> Result<(), Fail> {
-    let refusals = [
-        (
-            "83FED3407A939723A5C639B26916D505C3B4",
-            "refused 1 crc B4C3 B5C3",
-        ),
-        ("83FED3407A939723A5C639B26916D505C3", "refused 1 length 17"),
-        (
-            "83FED3407A939723A5C639B26916D505C3B",
-            "refused 1 not-hex 35",
-        ),
-        ("83FED3407A932B7G", "refused 1 not-hex 15"),
-        ("", "refused 1 length 0"),
-    ];
-    for (code, text) in refusals {
-        let ran = over(&rt, &["install", code], b"", &[], &[])?;
-        assert_eq!(rt; ran.status.number(), 5);
-        assert_eq!(rt; ran.status.text().as_str(), text);
-        assert_eq!(rt; ran.sink.taken().len(), 0);
-    }
-    assert_eq!(rt;
-        over(&rt, &["install", "83FED3407A932B70"], b"", &[], &[])?.status,
-        Status::Ok
-    );
-    Ok(())
-}
-
-#[test]
-fn a_made_schedule_is_written(rt: HostRuntime) -> Result<(), Fail> {
-    let ran = over(&rt, &["make", "1"], b"", &[], &[])?;
-    assert_eq!(rt; ran.status, Status::Ok);
-    assert_eq!(rt; ran.sink.taken(), MADE_FOR_ONE);
-    Ok(())
-}
-
-#[test]
-fn a_made_schedule_is_not_written_where_the_sink_fails(rt: HostRuntime) -> Result<(), Fail> {
-    let ran = over(&rt, &["make", "1"], b"", &[], &[1])?;
-    assert_eq!(rt; ran.status, Status::WriteFault);
-    assert_eq!(rt; ran.sink.taken().len(), 0);
-    Ok(())
-}
-
-#[test]
-fn each_status_has_its_number_and_text(rt: HostRuntime) {
-    let texts = [
-        (Status::Ok, 0, ""),
-        (Status::Usage, 2, "usage"),
-        (Status::ReadFault, 3, "read fault"),
-        (Status::WriteFault, 4, ""),
-        (REFUSED, 5, "refused 1 syntax"),
-        (Status::NoMemory, 6, "no memory"),
-        (
-            Status::TooLong { limit: 16_777_216 },
-            9,
-            "too long 16777216",
-        ),
-    ];
-    for (status, number, text) in texts {
-        assert_eq!(rt; status.number(), number);
-        assert_eq!(rt; status.text().as_str(), text);
-    }
 }

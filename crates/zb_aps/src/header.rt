@@ -17,7 +17,7 @@ use zb_cursor::{
 /// The extended header of a fragment (05-3474-21, 2.2.5.1.8). Fragments are shown and not put together.
 #[derive(Clone, Copy, Debug, PartialEq, Eq)]
 pub struct Extended {
-    /// Bits 0 and 1: fragmentation; the others are free.
+    /// The control byte. Bits 0 and 1: fragmentation; the others are free.
     pub control: u8,
     /// The number of the block, where the frame is a fragment.
     pub block: Option<u8>,
@@ -28,8 +28,8 @@ pub struct Extended {
 /// The header of an APS frame (05-3474-21, 2.2.5.1). The control byte says which fields are there.
 #[derive(Clone, Copy, Debug, PartialEq, Eq)]
 pub struct ApsHeader {
-    /// Bits 0 and 1: frame type; 2 and 3: delivery mode; 4: ack format; 5: security; 6: ack request; 7: extended
-    /// header.
+    /// The control byte. Bits 0 and 1: frame type; 2 and 3: delivery mode; 4: ack format; 5: security; 6: ack request;
+    /// 7: extended header.
     pub control: u8,
     /// The endpoint that the frame goes to, where it goes to no group.
     pub endpoint: Option<u8>,

@@ -6,8 +6,9 @@ use std::collections::BTreeSet;
 use std::marker::Model;
 use zb_base::{Eui, List, NoMemory, Short};
 
-/// Addresses, of which each network address is looked up without a walk through all of them. A contract sees them as
-/// their list.
+/// Keeps addresses, of which each network address is looked up without a walk through all of them.
+///
+/// A contract sees them as their list.
 #[derive(Drop)]
 pub(crate) struct Addresses {
     pairs: Vec<(Short, Eui)>,
@@ -34,7 +35,7 @@ impl Addresses {
     ghost use Rattle.zb_capture.specs.Grammar.{has_short};
     ghost use Rattle.zb_capture.specs.Pieces.{is_new};
 
-    /// No addresses.
+    /// Makes a list of no addresses.
     pub fn new(alloc: Global) -> Addresses
         ensures { result ≡ [] }
     {
@@ -90,7 +91,7 @@ impl Addresses {
         Ok(())
     }
 
-    /// The list of the addresses.
+    /// Gives the list of the addresses.
     pub fn into_list(self) -> List<(Short, Eui)>
         ensures { result ≡ self }
     {

@@ -6,8 +6,9 @@ use crate::frames::Frames;
 use std::alloc::Global;
 use zb_base::{Eui, Key, List, NoMemory, Short};
 
-/// What is known of a network, and the frames that were caught in it. It has at most 256 keys and 100,000 frames: this
-/// is `IsCapture` of `specs/Grammar.antt`.
+/// Holds what is known of a network, and the frames that were caught in it.
+///
+/// It has at most 256 keys and 100,000 frames: this is `IsCapture` of `specs/Grammar.antt`.
 #[derive(Debug, Drop)]
 pub struct Capture {
     /// The given keys, link keys of install codes among them, in order; some may stand there twice.
@@ -22,7 +23,9 @@ impl Capture {
     ghost use Rattle.std.specs.Prelude.{◌≡◌, ◌≤◌, [], length, IfOk};
     ghost use Rattle.zb_capture.specs.Grammar.{IsCapture};
 
-    /// The capture of some frames under some keys, which knows no addresses.
+    /// Makes the capture of some frames under some keys, which knows no addresses.
+    ///
+    /// Requires at most 256 keys and 100,000 frames.
     pub fn of(alloc: Global, keys: &[Key], frames: Frames) -> Result<Capture, NoMemory>
         requires keys { length keys.now ≤ 256 }
         requires frames { length frames ≤ 100000 }

@@ -11,11 +11,14 @@ use std::alloc::Global;
 use zb_base::{Key, List, NoMemory, OrMemory};
 use zb_text::words::Words;
 
-/// The keys, addresses and frames of the lines so far.
+/// Holds the keys, addresses and frames of the lines so far.
 #[derive(Drop)]
 pub(crate) struct Draft {
+    /// The keys, those of install codes among them.
     pub keys: Vec<Key>,
+    /// The addresses, of which no two have one network address.
     pub addrs: Addresses,
+    /// The frames, in their order.
     pub frames: Frames,
 }
 
@@ -27,7 +30,7 @@ impl Draft {
     ghost use Rattle.zb_capture.specs.Pieces.{both, Fit};
     ghost use Rattle.zb_text.specs.Words.{left};
 
-    /// A draft of no lines.
+    /// Makes a draft of no lines.
     pub fn new(alloc: Global) -> Draft
         ensures { capture_of result ≡ empty }
     {
@@ -38,7 +41,7 @@ impl Draft {
         }
     }
 
-    /// A draft of no lines, with room for the frames in a text of so many bytes.
+    /// Makes a draft of no lines, with room for the frames in a text of so many bytes.
     pub fn with_room(alloc: Global, text: usize) -> Result<Draft, NoMemory>
         ensures { IfOk result (λ draft. capture_of draft ≡ empty) }
     {
@@ -49,7 +52,7 @@ impl Draft {
         })
     }
 
-    /// The capture of all lines.
+    /// Gives the capture of all lines.
     pub fn into_capture(self) -> Capture
         ensures { result ≡ capture_of self }
     {
@@ -83,7 +86,7 @@ impl Draft {
         more.keys.len() <= 256 - self.keys.len() && more.frames.len() <= 100_000 - self.frames.len()
     }
 
-    /// This, and behind it what other lines give.
+    /// Puts what other lines give behind this.
     pub fn with(self, more: Draft) -> Result<Draft, NoMemory>
         requires { Fit (capture_of self) (capture_of more) }
         ensures { IfOk result (λ draft. capture_of draft ≡ both (capture_of self) (capture_of more)) }
@@ -123,7 +126,8 @@ impl Draft {
         words: &mut Words<'_>,
     ) -> Result<(), OrMemory<CaptureCause>>
         requires { IsCapture (capture_of self.old) }
-        ensures exact { Steps result (capture_of self.new) (with_words (capture_of self.old) (kind.now ∷ left words.old)) }
+        ensures exact { Steps result (capture_of self.new)
+            (with_words (capture_of self.old) (kind.now ∷ left words.old)) }
         ensures valid { IsCapture (capture_of self.new) }
     {
         if kind == b"frame".as_slice() {
@@ -152,7 +156,8 @@ impl Draft {
 
     fn take_code(&mut self, words: &mut Words<'_>) -> Result<(), OrMemory<CaptureCause>>
         requires { IsCapture (capture_of self.old) }
-        ensures exact { Steps result (capture_of self.new) (with_code (capture_of self.old) (code_in (left words.old))) }
+        ensures exact { Steps result (capture_of self.new)
+            (with_code (capture_of self.old) (code_in (left words.old))) }
         ensures valid { IsCapture (capture_of self.new) }
     {
         let Some(judged) = code(words) else {
@@ -180,7 +185,8 @@ impl Draft {
     /// Adds an address that no line before has.
     fn take_addr(&mut self, words: &mut Words<'_>) -> Result<(), OrMemory<CaptureCause>>
         requires { IsCapture (capture_of self.old) }
-        ensures exact { Steps result (capture_of self.new) (with_addr (capture_of self.old) (addr_in (left words.old))) }
+        ensures exact { Steps result (capture_of self.new)
+            (with_addr (capture_of self.old) (addr_in (left words.old))) }
         ensures valid { IsCapture (capture_of self.new) }
     {
         let Some(addr) = addr(words) else {
@@ -195,7 +201,8 @@ impl Draft {
     /// Adds a frame, of at most 100,000.
     fn take_frame(&mut self, words: &mut Words<'_>) -> Result<(), OrMemory<CaptureCause>>
         requires { IsCapture (capture_of self.old) }
-        ensures exact { Steps result (capture_of self.new) (with_frame (capture_of self.old) (frame_in (left words.old))) }
+        ensures exact { Steps result (capture_of self.new)
+            (with_frame (capture_of self.old) (frame_in (left words.old))) }
         ensures valid { IsCapture (capture_of self.new) }
     {
         let Some(frame) = frame(words) else {

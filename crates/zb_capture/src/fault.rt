@@ -1,8 +1,8 @@
-//! Why a text is no capture.
+//! What is wrong with a text that is no capture.
 use std::error::Error;
 use std::fmt;
 
-/// What is wrong with a line, in the order in which it is tried.
+/// Says what is wrong with a line, in the order in which it is tried.
 #[derive(Clone, Copy, Debug, PartialEq, Eq)]
 pub enum CaptureCause {
     /// It is none of the lines of a capture.
@@ -31,10 +31,12 @@ impl fmt::Display for CaptureCause {
     }
 }
 
-/// The first bad line of a text, from 1, and the first cause of it.
+/// Names the first bad line of a text, and the first cause of it.
 #[derive(Clone, Copy, Debug, PartialEq, Eq)]
 pub struct CaptureError {
+    /// The number of the line, from 1.
     pub line: u32,
+    /// What is wrong with it.
     pub cause: CaptureCause,
 }
 

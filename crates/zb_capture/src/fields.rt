@@ -10,7 +10,7 @@ use zb_install::InstallCode;
 use zb_text::hexadecimal;
 use zb_text::words::Words;
 
-/// A key.
+/// Reads a key.
 #[tactic(auto, unfolding(crate::specs::Grammar::key_in))]
 pub(crate) fn key(words: &mut Words<'_>) -> Option<Key>
     ensures { result ≡ key_in (left words.old) }
@@ -20,7 +20,7 @@ pub(crate) fn key(words: &mut Words<'_>) -> Option<Key>
     Some(key)
 }
 
-/// What a string of bytes in hexadecimal digits gives as an install code: its link key, or None where it is no code.
+/// Reads a string of bytes in hexadecimal digits: the link key of an install code, or None inside where it is no code.
 #[tactic(auto, unfolding(crate::specs::Grammar::code_in))]
 pub(crate) fn code(words: &mut Words<'_>) -> Option<Option<Key>>
     ensures { result ≡ code_in (left words.old) }
@@ -55,7 +55,7 @@ fn link_key(word: &[u8]) -> Option<Key>
     }
 }
 
-/// A network address and the IEEE address of the node that has it.
+/// Reads a network address and the IEEE address of the node that has it.
 #[tactic(auto, unfolding(crate::specs::Grammar::addr_in))]
 pub(crate) fn addr(words: &mut Words<'_>) -> Option<(Short, Eui)>
     ensures { result ≡ addr_in (left words.old) }
@@ -75,7 +75,7 @@ fn is_address(eui: Eui) -> bool
     0 < eui.0 && eui.0 < u64::MAX
 }
 
-/// A frame of 1 to 127 bytes.
+/// Reads a frame of 1 to 127 bytes.
 #[tactic(auto, unfolding(crate::specs::Grammar::frame_in))]
 pub(crate) fn frame(words: &mut Words<'_>) -> Option<Frame>
     ensures { result ≡ frame_in (left words.old) }

@@ -8,8 +8,10 @@ use std::marker::Model;
 use std::mem;
 use zb_base::{Frame, NoMemory};
 
-/// The frames of a capture, in the order in which they were caught. They stay in the runs in which they were read, so none
-/// is copied where runs are put behind each other. A contract sees them as one list.
+/// Keeps the frames of a capture, in the order in which they were caught.
+///
+/// They stay in the runs in which they were read, so none is copied where runs are put behind each other. A contract
+/// sees them as one list.
 #[derive(Debug, Drop)]
 pub struct Frames {
     runs: Vec<Run>,
@@ -34,7 +36,7 @@ impl Model for Frames {
 impl Frames {
     ghost use Rattle.std.specs.Prelude.{◌≡◌, ◌+◌, ◌<◌, ◌≤◌, ◌++◌, [], ◌∷◌, length, take, drop, IfOk, OnOk, OnErr};
 
-    /// No frames.
+    /// Makes a list of no frames.
     pub fn new(alloc: Global) -> Frames
         ensures { result ≡ [] }
     {
@@ -45,7 +47,7 @@ impl Frames {
         }
     }
 
-    /// No frames, with room for those of a text of so many bytes.
+    /// Makes a list of no frames, with room for those of a text of so many bytes.
     pub(crate) fn with_room(alloc: Global, text: usize) -> Result<Frames, NoMemory>
         ensures { IfOk result (λ f. f ≡ []) }
     {
@@ -57,7 +59,9 @@ impl Frames {
         })
     }
 
-    /// How many frames there are.
+    /// Answers how many frames there are.
+    ///
+    /// Requires at most 100,000 frames.
     pub fn len(&self) -> usize
         requires { length self.now ≤ 100000 }
         ensures { result ≡ length self.now }
@@ -65,7 +69,9 @@ impl Frames {
         self.count + self.last.len()
     }
 
-    /// The frames from a place on, counted from 0, to the end of the run in which that place is.
+    /// Gives the frames from a place on, counted from 0, to the end of the run in which that place is.
+    ///
+    /// Requires a place of one of the frames.
     pub fn from(&self, place: usize) -> FrameRun<'_>
         requires { place < length self.now }
         ensures some { 0 < length result }
@@ -74,7 +80,9 @@ impl Frames {
         run_from(self.runs.as_slice(), &self.last, place)
     }
 
-    /// Puts a frame behind these.
+    /// Puts a frame behind these; changes nothing where there is no memory.
+    ///
+    /// Requires fewer than 100,000 frames.
     pub fn push(&mut self, frame: &Frame) -> Result<(), NoMemory>
         requires { length self.old < 100000 }
         ensures added { OnOk result (self.new ≡ self.old ++ frame.now ∷ []) }
@@ -85,6 +93,8 @@ impl Frames {
     }
 
     /// Puts further frames behind these.
+    ///
+    /// Requires at most 100,000 frames in all.
     pub fn append(&mut self, more: Frames) -> Result<(), NoMemory>
         requires { length self.old + length more ≤ 100000 }
         ensures { OnOk result (self.new ≡ self.old ++ more) }

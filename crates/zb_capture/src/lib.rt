@@ -15,8 +15,6 @@ mod pieces;
 mod reader;
 mod reading;
 mod run;
-#[cfg(test)]
-mod tests;
 
 pub use capture::Capture;
 pub use fault::{CaptureCause, CaptureError};

@@ -10,16 +10,19 @@ use std::alloc::Global;
 use std::thread::{Threads, map_vec};
 use zb_base::{NoMemory, OrMemory};
 
-/// Consecutive lines of a text.
+/// Is the work of one job: consecutive lines of a text.
 #[derive(Drop)]
 pub(crate) struct Piece<'a> {
+    /// The lines.
     pub text: &'a [u8],
 }
 
-/// What the lines of a piece give by themselves.
+/// Holds what the lines of a piece give by themselves.
 #[derive(Drop)]
 pub(crate) struct Found<'a> {
+    /// The lines.
     pub text: &'a [u8],
+    /// What they give, or the first bad one of them.
     pub read: Result<CaptureReader, OrMemory<CaptureError>>,
 }
 
@@ -76,11 +79,12 @@ fn cut<'a>(alloc: Global, text: &'a [u8], jobs: u32) -> Result<Vec<Piece<'a>>, N
     Ok(pieces)
 }
 
-/// How many bytes the whole lines of a text have: what stands behind them may go on.
+/// Answers how many bytes the whole lines of a text have. What stands behind them may go on.
 pub fn whole_lines(text: &[u8]) -> usize
     ensures within { result ≤ length text.now }
     ensures all { list_any (λ byte. byte == 10) (drop result text.now) ≡ false }
-    ensures lines { (more : List ℕ) → lines (text.now ++ more) ≡ lines (take result text.now) ++ lines (drop result text.now ++ more) }
+    ensures lines { (more : List ℕ) → lines (text.now ++ more)
+        ≡ lines (take result text.now) ++ lines (drop result text.now ++ more) }
 {
     match memchr::memrchr(b'\n', text) {
         Some(at) => at + 1,
@@ -88,7 +92,7 @@ pub fn whole_lines(text: &[u8]) -> usize
     }
 }
 
-/// The first place, from `least` on, at which a line ends.
+/// Finds the first place, from `least` on, at which a line ends.
 fn lines_end(text: &[u8], least: usize) -> usize
     requires { (1 ≤ least) × (least ≤ length text.now) }
     ensures within { (least ≤ result) × (result ≤ length text.now) }

@@ -13,8 +13,9 @@ use std::thread::Threads;
 use zb_base::OrMemory;
 use zb_text::lines::next_line;
 
-/// A capture that is being read, part after part of its text. A contract sees it as what the lines so far give, and how
-/// many they are.
+/// Reads a capture, part after part of its text.
+///
+/// A contract sees it as what the lines so far give, and how many they are.
 #[derive(Drop)]
 pub struct CaptureReader {
     lines: u32,
@@ -38,7 +39,7 @@ impl CaptureReader {
     ghost use Rattle.zb_capture.specs.Grammar.{IsCapture};
     ghost use Rattle.zb_capture.specs.Readings.{AreRead, IsAlone, IsReadAlone, no_lines};
 
-    /// A reader of no lines.
+    /// Makes a reader that has read no lines.
     pub fn new(alloc: Global) -> CaptureReader
         ensures { result ≡ no_lines }
     {
@@ -48,7 +49,13 @@ impl CaptureReader {
         }
     }
 
-    /// What the lines of a text give by themselves.
+    /// Reads the lines of a text by themselves.
+    ///
+    /// Requires fewer than 2^32 - 1 bytes, since a line has its number in 32 bits.
+    ///
+    /// # Errors
+    ///
+    /// The first bad line, with its first cause.
     pub fn alone(alloc: Global, text: &[u8]) -> Result<CaptureReader, OrMemory<CaptureError>>
         requires { length text.now < 2 ^ 32 - 1 }
         ensures { IsReadAlone result text.now }
@@ -61,8 +68,13 @@ impl CaptureReader {
         Ok(reader)
     }
 
-    /// Reads the lines of a text by so many jobs, behind those before. The fault is that of the first bad line, with its
-    /// first cause; the reader is of no use then.
+    /// Reads the lines of a text by so many jobs, behind those before.
+    ///
+    /// Requires a job, and that all lines have their numbers in 32 bits.
+    ///
+    /// # Errors
+    ///
+    /// The first bad line, with its first cause. The reader is of no use then.
     pub fn read<T: Threads + Sync>(
         &mut self,
         rt: &T,
@@ -87,6 +99,12 @@ impl CaptureReader {
     }
 
     /// Reads the lines of a text, behind those before.
+    ///
+    /// Requires that all lines have their numbers in 32 bits.
+    ///
+    /// # Errors
+    ///
+    /// The first bad line, with its first cause. The reader is of no use then.
     pub fn read_lines(&mut self, text: &[u8]) -> Result<(), OrMemory<CaptureError>>
         requires room { self.old.lines + length text.now < 2 ^ 32 - 1 }
         ensures exact { AreRead result self.old self.new text.now }
@@ -103,8 +121,14 @@ impl CaptureReader {
         Ok(())
     }
 
-    /// Takes the lines of a text, behind those before, where `alone` is what they give by themselves. Where they give no
-    /// capture then, or one that doesn't fit behind the lines before, they are read one by one.
+    /// Takes the lines of a text, behind those before, where `alone` is what they give by themselves.
+    ///
+    /// Where they give no capture then, or one that doesn't fit behind the lines before, they are read one by one.
+    /// Requires that `alone` is of this text, and that all lines have their numbers in 32 bits.
+    ///
+    /// # Errors
+    ///
+    /// The first bad line, with its first cause. The reader is of no use then.
     pub fn add(
         &mut self,
         alloc: Global,
@@ -122,8 +146,9 @@ impl CaptureReader {
         }
     }
 
-    /// Takes the lines of a text, of which `more` is what they give by themselves. Where that doesn't fit behind the lines
-    /// before, they are read one by one.
+    /// Takes the lines of a text, of which `more` is what they give by themselves.
+    ///
+    /// Where that doesn't fit behind the lines before, they are read one by one.
     fn take_lines(
         &mut self,
         alloc: Global,
@@ -145,7 +170,7 @@ impl CaptureReader {
         Ok(())
     }
 
-    /// The capture of all lines.
+    /// Gives the capture of all lines.
     pub fn into_capture(self) -> Capture
         ensures exact { result ≡ self.capture }
         ensures valid { IsCapture result }
@@ -154,7 +179,7 @@ impl CaptureReader {
     }
 }
 
-/// A fault of a line, with its number.
+/// Gives a fault of a line its number.
 fn at_line(line: u32, fault: OrMemory<CaptureCause>) -> OrMemory<CaptureError>
     ensures { result ≡ numbered line fault }
 {

@@ -1,4 +1,4 @@
-//! A whole capture.
+//! Reading a whole capture.
 ghost use Rattle.std.specs.Prelude.{◌≡◌, ◌≤◌, ◌<◌, ◌^◌, ◌-◌, length, IfOk};
 ghost use Rattle.zb_capture.specs.Drafts.{Answers};
 ghost use Rattle.zb_capture.specs.Grammar.{IsCapture, captured};
@@ -10,7 +10,13 @@ use std::alloc::Global;
 use std::thread::Threads;
 use zb_base::OrMemory;
 
-/// Reads a capture. The fault is that of the first bad line, with its first cause.
+/// Reads a capture.
+///
+/// Requires fewer than 2^32 - 1 bytes, since a line has its number in 32 bits.
+///
+/// # Errors
+///
+/// The first bad line, with its first cause.
 #[tactic(auto, unfolding(crate::specs::Grammar::captured))]
 pub fn read_capture(alloc: Global, bytes: &[u8]) -> Result<Capture, OrMemory<CaptureError>>
     requires { length bytes.now < 2 ^ 32 - 1 }
@@ -23,6 +29,12 @@ pub fn read_capture(alloc: Global, bytes: &[u8]) -> Result<Capture, OrMemory<Cap
 }
 
 /// Reads a capture as `read_capture` does, by so many jobs, each over consecutive lines.
+///
+/// Requires a job, and fewer than 2^32 - 1 bytes.
+///
+/// # Errors
+///
+/// The first bad line, with its first cause.
 #[tactic(auto, unfolding(crate::specs::Grammar::captured))]
 pub fn read_in_pieces<T: Threads + Sync>(
     rt: &T,

@@ -8,8 +8,9 @@ use std::marker::Model;
 use zb_base::{Frame, NoMemory};
 use zb_cursor::frame_from;
 
-/// Frames that follow each other: their bytes, one frame behind the other, and where each frame ends. So a frame takes
-/// hardly more memory than it has bytes. A contract sees them as the list of the frames.
+/// Keeps frames that follow each other: their bytes, one frame behind the other, and where each frame ends.
+///
+/// So a frame takes hardly more memory than it has bytes. A contract sees them as the list of the frames.
 #[derive(Debug, Drop)]
 pub(crate) struct Run {
     bytes: Vec<u8>,
@@ -31,7 +32,7 @@ impl Model for Run {
 impl Run {
     ghost use Rattle.std.specs.Prelude.{◌≡◌, ◌<◌, ◌++◌, [], ◌∷◌, length, drop, IfOk, OnOk, OnErr};
 
-    /// No frames.
+    /// Makes a list of no frames.
     pub fn new(alloc: Global) -> Run
         ensures { result ≡ [] }
     {
@@ -41,7 +42,7 @@ impl Run {
         }
     }
 
-    /// No frames, with room for so many bytes in so many frames.
+    /// Makes a list of no frames, with room for so many bytes in so many frames.
     pub fn with_room(alloc: Global, bytes: usize, frames: usize) -> Result<Run, NoMemory>
         ensures { IfOk result (λ run. run ≡ []) }
     {
@@ -51,7 +52,7 @@ impl Run {
         })
     }
 
-    /// How many frames there are.
+    /// Answers how many frames there are.
     #[tactic(auto, using(crate::proofs::RunLaws::frame_count))]
     pub fn len(&self) -> usize
         ensures { result ≡ length self.now }
@@ -72,7 +73,7 @@ impl Run {
         Ok(())
     }
 
-    /// The frames from a place on, counted from 0.
+    /// Gives the frames from a place on, counted from 0.
     #[tactic(auto, using(crate::proofs::RunLaws::frame_count))]
     pub fn from(&self, place: usize) -> FrameRun<'_>
         requires { place < length self.now }
@@ -93,7 +94,7 @@ fn run_from<'a>(bytes: &'a [u8], ends: &'a [u32], place: usize) -> FrameRun<'a>
     FrameRun { bytes, start, ends }
 }
 
-/// Where the frame at a place starts, of which the first starts at `start`.
+/// Answers where the frame at a place starts, of which the first starts at `start`.
 fn start_of(start: u32, ends: &[u32], place: usize) -> u32
     requires { place < length ends.now }
     ensures { result ≡ get_or (start ∷ ends.now) place 0 }
@@ -101,7 +102,9 @@ fn start_of(start: u32, ends: &[u32], place: usize) -> u32
     if place == 0 { start } else { ends[place - 1] }
 }
 
-/// Frames of a capture that follow each other. A contract sees them as the list of the frames.
+/// Shows frames of a capture that follow each other.
+///
+/// A contract sees them as the list of the frames.
 #[derive(Drop)]
 pub struct FrameRun<'a> {
     bytes: &'a [u8],
@@ -127,7 +130,7 @@ impl<'a> FrameRun<'a> {
     ghost use Rattle.std.specs.Prelude.{◌≡◌, ◌<◌, ℕ, length, get_or};
     ghost use Rattle.arrayvec.specs.ArrayVec.{ArrayVec};
 
-    /// How many frames there are.
+    /// Answers how many frames there are.
     #[tactic(auto, using(crate::proofs::RunLaws::frame_count))]
     pub fn len(&self) -> usize
         ensures { result ≡ length self.now }
@@ -135,7 +138,9 @@ impl<'a> FrameRun<'a> {
         self.ends.len()
     }
 
-    /// The frame at a place, counted from 0.
+    /// Gives the frame at a place, counted from 0.
+    ///
+    /// Requires a place of one of the frames.
     #[tactic(auto, using(crate::proofs::RunLaws::frame_count))]
     pub fn at(&self, place: usize) -> Frame
         requires { place < length self.now }
@@ -155,7 +160,7 @@ fn frame_at(bytes: &[u8], start: u32, ends: &[u32], place: usize) -> Frame
     frame_from(part(bytes, from, ends[place] as usize))
 }
 
-/// The bytes from one place to another.
+/// Gives the bytes from one place to another.
 fn part(bytes: &[u8], start: usize, end: usize) -> &[u8]
     requires { (start ≤ end) × (end ≤ length bytes.now) }
     ensures { result.now ≡ take (end - start) (drop start bytes.now) }

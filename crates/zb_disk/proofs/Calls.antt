@@ -1,12 +1,12 @@
 -- The calls of a disk in memory meet what the trait says of them.
-use Rattle.std.proofs.Common.{◌≡◌, inl, inr, ℕ, ◌+◌, ◌-◌, ◌≤◌, ◌<◌, List, length, get_or, replicate, Bool, true, false, nat_le, nat_lt, nat_eq, ◌==◌, if◌then◌else◌, IsTrue, cond, Result, Ok, Err, refl, sym, ◌∙◌, ap, subst, arith}
+use Rattle.std.proofs.Common.{◌≡◌, inr, ℕ, ◌+◌, ◌-◌, ◌≤◌, List, length, replicate, Bool, true, false, nat_le, nat_lt, ◌==◌, if◌then◌else◌, cond, Ok, Err, refl, sym, ◌∙◌, ap, subst, arith}
 use Rattle.std.proofs.lemmas.Bool.{false≢true, le-leb, le-ltb, lt-ltb, eqb-true}
 use Rattle.std.proofs.lemmas.Bool.Decides.{nat_tests}
-use Rattle.zb_base.specs.Outside.{risen, HasCause}
+use Rattle.zb_base.specs.Outside.{risen}
 use Rattle.zb_disk.specs.declared.memory.Arming.{Arming}
 use Rattle.zb_disk.specs.declared.memory.Arming.TheVariants.{Unarmed, Stop, Fail, Stopped}
-use Rattle.zb_disk.specs.View.{Torn, Follows, Opens, Only, IsSame}
-use Rattle.zb_disk.specs.Calls.{IsForetold, IsCounted, IsWrite, IsSync, Elapses}
+use Rattle.zb_disk.specs.View.{Torn}
+use Rattle.zb_disk.specs.Calls.{IsCounted, IsWrite, IsSync, Elapses}
 use Rattle.zb_disk.specs.Memory.{Medium, IsImage, refuses, after_call, is_stopped, off_after, counted, stored, synced, memory_tells, memory_view}
 use Rattle.zb_disk.specs.MemoryLaws.{image_seen}
 use Rattle.zb_disk.proofs.Lists.{overwrite_spread}

@@ -1,7 +1,7 @@
 -- A sweep over the runs lowers all flags.
-use Rattle.std.proofs.Common.{◌≡◌, ◌⊎◌, inl, inr, ℕ, suc, ◌+◌, ◌-◌, ◌≤◌, ◌<◌, ◌||◌, ◌&&◌, List, [], ◌∷◌, length, get_or, take, drop, replicate, Bool, true, false, nat_le, nat_lt, min, refl, sym, ◌∙◌, ap, arith, rules, length-take, length-drop, length-append}
+use Rattle.std.proofs.Common.{◌≡◌, inl, inr, ℕ, ◌+◌, ◌-◌, ◌≤◌, ◌<◌, List, [], ◌∷◌, length, get_or, replicate, Bool, true, false, nat_le, nat_lt, min, sym, ◌∙◌, arith}
 use Rattle.std.specs.List.{list_any}
-use Rattle.std.proofs.lemmas.List.{length-replicate, same_lists, places, drop_all, drop_more, get_or-replicate, get_or_default, get_or_past}
+use Rattle.std.proofs.lemmas.List.{length-replicate, same_lists, get_or-replicate, get_or_default, get_or_past}
 use Rattle.std.proofs.lemmas.Bool.{false≢true, cases_lt, cases_Bool, or_cases, and_parts, leb-true, ltb-true}
 use Rattle.zb_disk.specs.declared.runs.Run.{Run}
 use Rattle.zb_disk.specs.Memory.{is_within, Covers, patch, spread}

@@ -1,11 +1,11 @@
 -- What a write and a sync do to the images of a disk in memory.
 use Rattle.std.proofs.Common.{◌≡◌, ◌⊎◌, inl, inr, ⊎_elim, ℕ, ◌+◌, ◌-◌, ◌≤◌, ◌<◌, ◌&&◌, List, length, get_or, take, drop, replicate, map, max, min, Bool, true, false, cond, nat_le, nat_lt, refl, sym, ◌∙◌, ap, arith, length-take, length-drop, get_or-take, get_or-drop}
 use Rattle.std.specs.List.{range_with_len}
-use Rattle.std.proofs.lemmas.List.{ext_get_or, length-replicate, get_or-replicate, get_or_past, drop_all}
+use Rattle.std.proofs.lemmas.List.{ext_get_or, length-replicate, get_or-replicate, get_or_past}
 use Rattle.std.proofs.lemmas.List.FromFn.{get_or-map-range_with_len, length-map-range_with_len}
-use Rattle.std.proofs.lemmas.Bool.{false≢true, cases_lt, cases_Bool, and_from, and_left, and_right, le-leb, lt-leb, lt-ltb, le-ltb}
+use Rattle.std.proofs.lemmas.Bool.{false≢true, cases_lt, and_from, and_left, and_right, le-leb, lt-leb, lt-ltb, le-ltb}
 use Rattle.zb_disk.specs.View.{Torn, Follows, Opens, Only}
-use Rattle.zb_disk.specs.Memory.{Medium, IsImage, spread, patch, stored, synced}
+use Rattle.zb_disk.specs.Memory.{Medium, IsImage, spread, patch, stored}
 use Rattle.zb_disk.proofs.Lists.{length-patch, length-spread, get_or-patch_before, get_or-patch_in, get_or-patch_after, get_or-spread}
 
 -- the images of a disk in memory

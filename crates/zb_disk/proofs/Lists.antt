@@ -1,6 +1,6 @@
 -- Places of lists that were written over.
-use Rattle.std.proofs.Common.{◌≡◌, ◌⊎◌, inl, inr, ℕ, ◌+◌, ◌-◌, ◌≤◌, ◌<◌, List, [], ◌∷◌, ◌++◌, length, get_or, take, drop, replicate, max, min, refl, sym, ◌∙◌, ap, arith, rules, length-take, length-drop, length-append, get_or-take, get_or-drop}
-use Rattle.std.proofs.lemmas.List.{length-replicate, take-append-le, take_at, take_all, drop_min, drop_all, drop-append-le, append_assoc, append-nil, replicate-append-replicate, same_lists, places, get_or-append_right, get_or_append_left, get_or-replicate, get_or_past}
+use Rattle.std.proofs.Common.{◌≡◌, inl, inr, ℕ, ◌+◌, ◌-◌, ◌≤◌, ◌<◌, List, ◌++◌, length, get_or, take, drop, replicate, max, min, refl, sym, ◌∙◌, ap, arith, rules, length-take, length-drop, length-append, get_or-drop}
+use Rattle.std.proofs.lemmas.List.{length-replicate, take-append-le, take_all, drop_min, drop_all, append_assoc, append-nil, replicate-append-replicate, places, get_or-append_right, get_or_append_left, get_or-replicate, get_or_past}
 use Rattle.std.proofs.lemmas.Bool.{cases_lt}
 use Rattle.zb_disk.specs.View.{overwrite, window}
 use Rattle.zb_disk.specs.Memory.{spread, patch}

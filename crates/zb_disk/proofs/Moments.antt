@@ -1,6 +1,6 @@
 -- How a run of device calls goes on.
-use Rattle.std.proofs.Common.{◌⊎◌, inl, inr, ⊎_elim, ℕ, ◌≤◌, List, refl, sym, ◌∙◌, subst, arith}
-use Rattle.zb_disk.specs.View.{Telling, View, IsSame, IsStill, LeavesOnly}
+use Rattle.std.proofs.Common.{inl, inr, ⊎_elim, ℕ, List, refl, sym, ◌∙◌, subst, arith}
+use Rattle.zb_disk.specs.View.{Telling, View, IsStill, LeavesOnly}
 use Rattle.zb_disk.specs.Calls.{Elapses}
 
 -- before the first call

@@ -1,6 +1,6 @@
 -- What the power leaves when it comes back after a stop.
-use Rattle.std.proofs.Common.{◌≡◌, ◌⊎◌, inl, inr, ⊎_elim, ℕ, zero, suc, ◌+◌, ◌-◌, ◌%◌, ◌≤◌, ◌<◌, List, [], ◌∷◌, ◌++◌, length, get_or, set, take, drop, replicate, Bool, true, false, nat_lt, if◌then◌else◌, refl, sym, ◌∙◌, ap, subst, arith, length-set, get_or-set_same, get_or-set_other, append_assoc}
-use Rattle.std.proofs.lemmas.List.{ext_get_or, drop_more, drop-set-lt, take-set-le, take_more_set, take_more, take_all, take-append-drop, set_split, get_or_past, take-append-le, append-nil, length-take-le, get_or-take, get_or-drop, drop-drop}
+use Rattle.std.proofs.Common.{◌≡◌, ◌⊎◌, inl, inr, ⊎_elim, ℕ, zero, suc, ◌+◌, ◌-◌, ◌%◌, ◌≤◌, ◌<◌, List, [], ◌∷◌, ◌++◌, length, get_or, set, take, drop, replicate, Bool, true, false, nat_lt, if◌then◌else◌, refl, sym, ◌∙◌, ap, arith, length-set, get_or-set_same, get_or-set_other, append_assoc}
+use Rattle.std.proofs.lemmas.List.{ext_get_or, drop_more, drop-set-lt, take-set-le, take_more_set, take_more, set_split, take-append-le, length-take-le, get_or-take, get_or-drop, drop-drop}
 use Rattle.std.proofs.lemmas.Bool.{false≢true, cases_lt, cases_eq, cases_Bool, lt-ltb}
 use Rattle.zb_disk.specs.View.{Torn, IsUnsynced, overwrite}
 use Rattle.zb_disk.specs.Memory.{Medium, IsImage, tear, torn_by, settled, synced, powered, is_stopped, memory_view}

@@ -1,13 +1,13 @@
 -- The calls of a disk with a trail meet what the trait says of them.
-use Rattle.std.proofs.Common.{◌≡◌, ◌⊎◌, inl, inr, ℕ, zero, suc, ◌+◌, ◌-◌, ◌≤◌, ◌<◌, List, [], ◌∷◌, ◌++◌, length, take, drop, reverse, Bool, true, false, IsTrue, Result, Ok, Err, refl, sym, ◌∙◌, ap, subst, arith, length-append, length-drop}
-use Rattle.std.proofs.lemmas.List.{take-append-le, drop-append-le, take_at, reverse-append, take_all, length-reverse}
+use Rattle.std.proofs.Common.{◌≡◌, ◌⊎◌, inl, inr, ℕ, zero, suc, ◌+◌, ◌≤◌, List, [], ◌∷◌, ◌++◌, length, take, drop, reverse, Ok, Err, refl, sym, ◌∙◌, ap, subst, arith, length-drop}
+use Rattle.std.proofs.lemmas.List.{take-append-le, drop-append-le, reverse-append, take_all, length-reverse}
 use Rattle.std.proofs.lemmas.Bool.{false≢true}
-use Rattle.zb_base.specs.Outside.{risen, HasCause}
+use Rattle.zb_base.specs.Outside.{risen}
 use Rattle.zb_disk.specs.declared.trail.Logged.{Logged}
 use Rattle.zb_disk.specs.declared.trail.Logged.TheVariants.{Wrote, Synced}
-use Rattle.zb_disk.specs.View.{Torn, IsSame}
-use Rattle.zb_disk.specs.Calls.{IsForetold, IsCounted, IsWrite, IsSync, Elapses}
-use Rattle.zb_disk.specs.Trail.{Trail, Step, writes, syncs, replayed, LeftAfter, trail_tells, trail_view, refused, kept_write, kept_sync, steps_of, total}
+use Rattle.zb_disk.specs.View.{Torn}
+use Rattle.zb_disk.specs.Calls.{IsCounted, IsWrite, IsSync, Elapses}
+use Rattle.zb_disk.specs.Trail.{Trail, Step, writes, syncs, LeftAfter, trail_tells, trail_view, refused, kept_write, kept_sync, steps_of, total}
 use Rattle.zb_disk.specs.TrailLaws.{left_now}
 
 push_write : (log : List Logged) (pool piece : List ℕ) (at : ℕ) → total log ≡ length pool → steps_of (log ++ Wrote at (length piece) ∷ []) (pool ++ piece) ≡ steps_of log pool ++ writes at piece ∷ []

@@ -1,7 +1,7 @@
 -- What the calls of a disk do to it.
-use Rattle.std.specs.Prelude.{ℕ, ◌+◌, ◌≤◌, ◌≡◌, ◌⊎◌, List, length, Bool, false, IsTrue, Result, OnOk, OnErr, IfOk, is_err}
+use Rattle.std.specs.Prelude.{ℕ, ◌+◌, ◌≤◌, ◌≡◌, ◌⊎◌, List, length, false, IsTrue, Result, OnOk, OnErr, is_err}
 use Rattle.zb_base.specs.Outside.{risen, HasCause}
-use Rattle.zb_disk.specs.View.{Telling, View, window, overwrite, Torn, Follows, Opens, Only, IsSame, IsStill}
+use Rattle.zb_disk.specs.View.{Telling, View, overwrite, Torn, Follows, Opens, Only, IsSame, IsStill}
 
 -- Time goes on: a crash since t might have left what it might have left before, or what it may leave now.
 pub record Elapses (tells : Telling) (old new : View) : Type 0 where

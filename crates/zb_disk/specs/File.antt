@@ -1,5 +1,5 @@
 -- A disk over a file: it tells nothing of what the file holds.
-use Rattle.std.specs.Prelude.{ℕ, List, [], Bool, false}
+use Rattle.std.specs.Prelude.{ℕ, [], false}
 use Rattle.zb_disk.specs.View.{View, Telling}
 
 abbrev pub file_tells : Telling

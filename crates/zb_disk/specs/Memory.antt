@@ -1,5 +1,5 @@
 -- A disk in memory: what it reads, which bytes were written since the last sync, and what is armed.
-use Rattle.std.specs.Prelude.{ℕ, ◌+◌, ◌-◌, ◌%◌, ◌≤◌, ◌<◌, ◌≡◌, ◌==◌, ◌&&◌, ◌||◌, List, [], ◌∷◌, ◌++◌, length, get_or, replicate, take, drop, Bool, true, false, nat_le, nat_lt, if◌then◌else◌}
+use Rattle.std.specs.Prelude.{ℕ, ◌+◌, ◌-◌, ◌%◌, ◌≤◌, ◌<◌, ◌≡◌, ◌==◌, ◌&&◌, List, [], ◌∷◌, ◌++◌, length, get_or, replicate, take, drop, Bool, true, false, nat_le, nat_lt, if◌then◌else◌}
 use Rattle.std.specs.List.{list_any}
 use Rattle.zb_base.specs.Outside.{risen}
 use Rattle.zb_disk.specs.declared.memory.Arming.{Arming}

@@ -1,5 +1,5 @@
 -- What the fields of a memory disk keep.
-use Rattle.std.specs.Prelude.{ℕ, ◌≤◌, ◌<◌, ◌≡◌, vec_len, vec_capacity}
+use Rattle.std.specs.Prelude.{◌≤◌, ◌<◌, ◌≡◌, vec_len, vec_capacity}
 use Rattle.zb_disk.specs.declared.memory.MemDisk.TheInside.{Inside}
 use Rattle.zb_disk.specs.Memory.{Medium, Covers}
 

@@ -1,5 +1,5 @@
 -- The laws of the trait, at a disk in memory.
-use Rattle.std.specs.Prelude.{ℕ, ◌+◌, ◌≤◌, ◌≡◌, List, length, Bool, refl}
+use Rattle.std.specs.Prelude.{ℕ, List, Bool, refl}
 use native.Mathlib.Omega.{arith}
 use Rattle.zb_disk.specs.Memory.{IsImage}
 

@@ -1,5 +1,5 @@
 -- What the fields of a disk with a trail keep.
-use Rattle.std.specs.Prelude.{ℕ, ◌+◌, ◌≤◌, ◌≡◌, length, reverse, vec_len, vec_capacity}
+use Rattle.std.specs.Prelude.{◌≤◌, ◌≡◌, length, reverse, vec_capacity}
 use Rattle.zb_disk.specs.declared.trail.TrailDisk.TheInside.{Inside}
 use Rattle.zb_disk.specs.Trail.{Trail, replayed, steps_of, total}
 

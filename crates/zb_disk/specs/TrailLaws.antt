@@ -1,9 +1,9 @@
 -- The laws of the trait, at a disk with a trail.
 use Rattle.std.specs.Prelude.{ℕ, ◌+◌, ◌-◌, ◌≤◌, ◌≡◌, ◌++◌, List, [], ◌∷◌, length, take, drop, replicate, refl}
-use Rattle.std.proofs.Common.{sym, ◌∙◌, ap, subst, arith, zero, length-take, length-drop, length-append, append_assoc}
+use Rattle.std.proofs.Common.{sym, ◌∙◌, ap, subst, arith, length-take, length-drop, length-append, append_assoc}
 use Rattle.std.proofs.lemmas.List.{take-take, drop-drop, drop_at, take-append-le, length-replicate}
 use Rattle.zb_disk.specs.View.{Torn, overwrite}
-use Rattle.zb_disk.specs.Trail.{Trail, Step, writes, syncs, replayed, LeftAfter, trail_view}
+use Rattle.zb_disk.specs.Trail.{Trail, Step, writes, syncs, replayed, LeftAfter}
 
 -- a write is one of its torn results
 module _ (d : List ℕ) (at : ℕ) (bytes : List ℕ) where

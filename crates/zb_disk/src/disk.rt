@@ -5,10 +5,12 @@ ghost use Rattle.zb_disk.specs.Calls.{IsRead, IsWrite, IsSync};
 
 use zb_base::Failed;
 
-/// A disk of at most 131,072 bytes.
+/// Stores at most 131,072 bytes, which outlast a crash once they are synced.
 ///
 /// Since the last sync each written range, and the part past the old end, may hold any bytes after a crash. All other
-/// bytes stand. Each method answers `Failed` only where the count of faults rose.
+/// bytes stand.
+///
+/// Errors: each method answers `Failed` only where the count of faults rose.
 pub trait Disk {
     /// What this kind of disk tells of itself.
     ghost tells: { Telling };
@@ -16,17 +18,19 @@ pub trait Disk {
     /// The disk at this moment.
     ghost state: { Self → View };
 
-    /// The size in bytes.
+    /// Answers the size in bytes.
     fn size(&mut self) -> Result<u64, Failed>
         ensures size { IfOk result (λ n. IsTrue tells.content → n ≡ length (state self.old).seen) }
         ensures read { IsRead tells (state self.old) (state self.new) result };
 
     /// Fills `buf` with the bytes from a place on. Bytes past the end read as 00.
     fn read(&mut self, at: u64, buf: &mut [u8]) -> Result<(), Failed>
-        ensures bytes { OnOk result (IsTrue tells.content → buf.new ≡ window (state self.old).seen at (length buf.old)) }
+        ensures bytes { OnOk result (IsTrue tells.content
+            → buf.new ≡ window (state self.old).seen at (length buf.old)) }
         ensures read { IsRead tells (state self.old) (state self.new) result };
 
-    /// Writes a range, and lengthens the disk where needed. A failed write leaves its range open to any bytes.
+    /// Writes a range, and lengthens the disk where needed. A failed write leaves its range open to any bytes. Requires
+    /// that the range ends within 131,072 bytes.
     fn write(&mut self, at: u64, bytes: &[u8]) -> Result<(), Failed>
         requires { at + length bytes.now ≤ 131072 }
         ensures { IsWrite tells at bytes.now (state self.old) (state self.new) result };
@@ -39,7 +43,8 @@ pub trait Disk {
     ghost reads_image: { (d : Self) → IsTrue tells.content → (state d).images (state d).seen };
 
     /// This moment is one of those since an earlier one.
-    ghost counts_now: { (d : Self) (t : ℕ) (c : List ℕ) → t ≤ (state d).moment → (state d).images c → (state d).since t c };
+    ghost counts_now: { (d : Self) (t : ℕ) (c : List ℕ) → t ≤ (state d).moment → (state d).images c
+        → (state d).since t c };
 
     /// Since this moment there is no other.
     ghost only_now: { (d : Self) (c : List ℕ) → (state d).since (state d).moment c → (state d).images c };

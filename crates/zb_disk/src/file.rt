@@ -10,20 +10,24 @@ use std::io;
 use std::io::{Read, Seek, SeekFrom, Write};
 use zb_base::{Failed, NoMemory};
 
-/// A disk over a file, which is opened, and made if it is missing, at first use. It tells nothing of content.
+/// Stores its bytes in a file. It tells nothing of content.
+///
+/// The file is opened at first use, and made where it is missing.
 #[derive(Drop)]
 pub struct FileDisk<'a, T: Files + AllocGlobal + Drop> {
     rt: &'a T,
     path: String,
     file: Option<T::File>,
-    /// How many writes and syncs were asked for.
+    /// Counts the writes and syncs that were asked for.
     pub calls: u64,
-    /// How many calls failed.
+    /// Counts the calls that failed.
     pub faults: u64,
 }
 
 impl<'a, T: Files + AllocGlobal + Drop> FileDisk<'a, T> {
-    /// A disk over the file at this path. It opens nothing.
+    /// Makes a disk over the file at this path; opens nothing.
+    ///
+    /// Errors: `NoMemory`, for the path.
     pub fn new(rt: &'a T, path: &str) -> Result<FileDisk<'a, T>, NoMemory>
         ensures calls { IfOk result (λ d. d.calls ≡ 0) }
         ensures faults { IfOk result (λ d. d.faults ≡ 0) }

@@ -19,22 +19,22 @@ const SIZE: usize = 131_072;
 /// How many runs of written bytes are told apart between two syncs.
 const RUNS: usize = 1_024;
 
-/// Which calls a memory disk is going to refuse.
+/// Says which calls a disk in memory is going to refuse.
 #[derive(Clone, Copy, Debug, PartialEq, Eq)]
 pub enum Arming {
-    /// None.
+    /// Refuses none.
     Unarmed,
-    /// After so many further writes and syncs the next one, and every call after it.
+    /// Refuses the next write or sync after so many, and every call after it.
     Stop {
-        /// How many writes and syncs go through first.
+        /// Counts the writes and syncs that go through first.
         calls: u8,
     },
-    /// The write or sync of that number, counted from 1, alone. None has the number 0.
+    /// Refuses one write or sync alone.
     Fail {
-        /// The number.
+        /// Its number, counted from 1; none has the number 0.
         call: u8,
     },
-    /// Every call, until the power comes back.
+    /// Refuses every call until the power comes back.
     Stopped,
 }
 
@@ -72,10 +72,10 @@ fn arm(arming: &mut Arming, next: Arming)
     }
 }
 
-/// A disk in memory. Its room is taken when it is made, and its other calls take no memory.
+/// Stores its bytes in memory, refuses the calls that it is armed for, and tears what a stop catches.
 ///
-/// It tells what it reads and its images, that a refused call leaves all as it was, and which calls it will refuse. It
-/// tells nothing of past moments.
+/// Its room is taken when it is made, and its other calls take no memory. It tells what it reads and its images, that a
+/// refused call leaves all as it was, and which calls it will refuse. It tells nothing of past moments.
 #[derive(Drop)]
 pub struct MemDisk {
     // What is read, and of each byte whether it was written since the last sync.
@@ -104,7 +104,9 @@ impl Model for MemDisk {
 }
 
 impl MemDisk {
-    /// A disk of these bytes, which are its one image. Nothing is armed.
+    /// Makes a disk of these bytes, which are its one image. Nothing is armed. Requires at most 131,072 bytes.
+    ///
+    /// Errors: `NoMemory`.
     pub fn new(alloc: Global, bytes: &[u8]) -> Result<MemDisk, NoMemory>
         requires { length bytes.now ≤ 131072 }
         ensures { IfOk result (λ d. d ≡ fresh bytes.now) }
@@ -125,14 +127,14 @@ impl MemDisk {
         })
     }
 
-    /// The bytes that the disk reads.
+    /// Answers the bytes that the disk reads.
     pub fn bytes(&self) -> &[u8]
         ensures { result.now ≡ self.now.bytes }
     {
         self.bytes.as_slice()
     }
 
-    /// Whether a stop has fired and the power isn't back.
+    /// Answers whether a stop has fired and the power isn't back.
     pub fn is_off(&self) -> bool
         ensures { result ≡ is_stopped self.now.arming }
     {
@@ -142,7 +144,7 @@ impl MemDisk {
         }
     }
 
-    /// Arms a stop: after so many further writes and syncs the next one is refused, and so is every call after it until
+    /// Arms a stop of the write or sync that comes after so many. It is refused, and so is every call after it until
     /// `power_on`. The runs of bytes that were written and not synced then become `torn`, repeated. An earlier arming
     /// is replaced. A stopped disk stays as it is.
     pub fn arm_stop(&mut self, calls: u8, torn: ArrayVec<u8, 32>)
@@ -157,8 +159,8 @@ impl MemDisk {
         }
     }
 
-    /// Arms a failure: the write or sync of that number, counted from now and from 1, is refused alone. An earlier
-    /// arming is replaced. A stopped disk stays as it is.
+    /// Arms a failure of one write or sync alone, by its number, counted from now and from 1. An earlier arming is
+    /// replaced. A stopped disk stays as it is.
     pub fn arm_fail(&mut self, call: u8)
         ensures { self.new ≡ record self.old { arming = armed self.old.arming (Arming.Fail call) } }
     {
@@ -173,7 +175,8 @@ impl MemDisk {
     }
 
     /// Ends a stop or the state after a failed call. After a stop with `torn`, each longest run of bytes that were
-    /// written and not synced becomes `torn`, repeated from the first byte of the run. Then what reads is the one image.
+    /// written and not synced becomes `torn`, repeated from the first byte of the run. Then what reads is the one
+    /// image.
     pub fn power_on(&mut self)
         ensures after { self.new ≡ powered self.old }
         ensures one_of_the_images { (memory_view self.old).images self.new.bytes }

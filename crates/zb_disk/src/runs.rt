@@ -65,7 +65,8 @@ fn lengthen_flags(written: &mut Vec<bool>, end: usize)
 pub(crate) fn mark(written: &mut Vec<bool>, start: usize, end: usize)
     requires order { start ≤ end }
     requires room { end ≤ vec_capacity written.old }
-    ensures after { written.new.items ≡ patch (spread written.old.items end false) start (replicate (end - start) true) }
+    ensures after { written.new.items
+        ≡ patch (spread written.old.items end false) start (replicate (end - start) true) }
     ensures room { vec_capacity written.old ≤ vec_capacity written.new }
 {
     lengthen_flags(written, end);
@@ -75,8 +76,10 @@ pub(crate) fn mark(written: &mut Vec<bool>, start: usize, end: usize)
 /// Notes that a run was written. Where there is no room for another run, one run stands for the whole disk.
 pub(crate) fn note(runs: &mut Vec<Run>, start: usize, end: usize)
     requires { 0 < vec_capacity runs.old }
-    ensures kept { (k : ℕ) → k < 131072 → list_any (is_within k) runs.old.items ≡ true → list_any (is_within k) runs.new.items ≡ true }
-    ensures added { (k : ℕ) → k < 131072 → start ≤ k → k < end → list_any (is_within k) runs.new.items ≡ true }
+    ensures kept { (k : ℕ) → k < 131072 → list_any (is_within k) runs.old.items ≡ true
+        → list_any (is_within k) runs.new.items ≡ true }
+    ensures added { (k : ℕ) → k < 131072 → start ≤ k → k < end
+        → list_any (is_within k) runs.new.items ≡ true }
     ensures room { vec_capacity runs.old ≤ vec_capacity runs.new }
 {
     if runs.len() < runs.capacity() {

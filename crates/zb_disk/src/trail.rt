@@ -20,8 +20,9 @@ pub(crate) enum Logged {
     Synced,
 }
 
-/// A disk in memory that keeps each write and sync in room that is taken when it is made. A call past that room is
-/// refused and leaves all as it was.
+/// Stores its bytes in memory and keeps each write and sync, so that it tells its past moments.
+///
+/// The room for them is taken when it is made. A call past that room is refused and leaves all as it was.
 #[derive(Drop)]
 pub struct TrailDisk {
     bytes: Vec<u8>,
@@ -48,7 +49,10 @@ impl Model for TrailDisk {
 }
 
 impl TrailDisk {
-    /// A disk of these bytes, with room for so many calls and so many written bytes.
+    /// Makes a disk of these bytes, with room for so many calls and so many written bytes. Requires at most 131,072
+    /// bytes.
+    ///
+    /// Errors: `NoMemory`.
     pub fn new(alloc: Global, bytes: &[u8], calls: u32, room: u32) -> Result<TrailDisk, NoMemory>
         requires { length bytes.now ≤ 131072 }
         ensures { IfOk result (λ d. d ≡ fresh_trail bytes.now calls room) }
@@ -67,7 +71,7 @@ impl TrailDisk {
         })
     }
 
-    /// The bytes that the disk reads.
+    /// Answers the bytes that the disk reads.
     pub fn bytes(&self) -> &[u8]
         ensures { result.now ≡ replayed self.now.start self.now.steps }
     {

@@ -17,6 +17,10 @@ pub record Words (C D : Type 0) : Type 1 where
   pub recorded : C → List ℕ
   pub payload : List Change → List ℕ
 
+-- the ghost members of a core and of a disk, as such words
+abbrev pub words_of : {C D : Type 0} → Telling → (D → View) → Restoring → (C → List ℕ) → (List Change → List ℕ) → Words C D
+words_of tells state restored recorded payload = record { tells = tells; state = state; restored = restored; recorded = recorded; payload = payload }
+
 -- what `handle` answers: the changes and what goes out, or why not
 abbrev pub Handled : Type 0 → Type 0
 Handled O = Result (ArrayVec Change 16 (Unit {0}) × O) HostFault

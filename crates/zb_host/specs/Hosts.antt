@@ -5,6 +5,7 @@ use Rattle.zb_base.specs.Outside.{Rose}
 use Rattle.zb_disk.specs.View.{Telling, View, IsStill, LeavesOnly}
 use Rattle.zb_store.specs.declared.fault.StoreFault.{StoreFault}
 use Rattle.zb_store.specs.declared.fault.StoreFault.TheVariants.{Disk, NoRecord, TooLarge, NoMemory, Worn}
+use Rattle.zb_store.specs.Sizes.{entries_room}
 use Rattle.zb_store.specs.Layout.{Standing, IsWhole, stands}
 use Rattle.zb_store.specs.Steps.{WentThrough}
 use Rattle.zb_store.specs.Store.{Place, place_of, IsHeld, IsReady, IsWholeEither, appended, replaced, AppendStop, PutStop}
@@ -44,9 +45,9 @@ pub record IsCurrent {C : Type 0} (restored : Restoring) (recorded : C → List 
   pub gives_it : Gives restored s (recorded host.core)
   pub later : host.whole ≡ false → get_or s.content 0 0 ≢ 1
 
--- 32 entries stand
+-- no entry more fits
 abbrev pub is_full : Option Place → Bool
-is_full (Some store) = store.entries == 32
+is_full (Some store) = store.entries == entries_room
 is_full None = false
 
 -- whether the next commit writes the whole record
@@ -71,6 +72,10 @@ commit_calls false = 4
 abbrev pub CommitStop : Telling → Bool → Standing → List ℕ → List ℕ → View → View → Type 0
 CommitStop tells true s content payload old new = PutStop tells s content old new
 CommitStop tells false s content payload old new = AppendStop tells s payload old new
+
+-- where a commit stopped, and that what it would have left gives the core of the record
+abbrev pub HasStopped : Telling → Restoring → Bool → Standing → List ℕ → List ℕ → View → View → Type 0
+HasStopped tells restored whole s content payload old new = CommitStop tells whole s content payload old new × Gives restored (next_standing whole s content payload) content
 
 -- of a commit: the disk, where its count of faults rose, or the last generation where the whole record is written
 abbrev pub IsCommitFault : Bool → Place → View → View → StoreFault → Type 0

@@ -3,7 +3,7 @@ use std::error::Error;
 use std::fmt;
 use zb_node_types::Changes;
 
-/// Why a host's call failed. After a failed `handle` the host is down, and the node boots again from its disk.
+/// Says why a host's call failed. After a failed `handle` the host is down, and the node boots again from its disk.
 #[derive(Debug, Drop, PartialEq, Eq)]
 pub enum HostFault {
     /// The disk failed. What is committed shows at the next boot.

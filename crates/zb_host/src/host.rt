@@ -4,22 +4,22 @@ ghost use Rattle.zb_base.specs.Config.{IsConfig};
 ghost use Rattle.zb_disk.specs.View.{IsStill};
 ghost use Rattle.zb_store.specs.Layout.{Standing, stands};
 ghost use Rattle.zb_store.specs.Steps.{WentThrough};
-ghost use Rattle.zb_store.specs.Store.{place_of, AllWhole, WasThere, both_gates_open, OpenStop};
+ghost use Rattle.zb_store.specs.Store.{place_of, AllWhole, WasThere, open_calls, OpenStop};
 ghost use Rattle.zb_host.specs.declared.plan.Plan.{Plan as plan};
-ghost use Rattle.zb_host.specs.Hosts.{Gives, IsCurrent, StandsForEither, writes_whole, next_standing, commit_calls, CommitStop, IsWorn};
+ghost use Rattle.zb_host.specs.Hosts.{IsCurrent, writes_whole, commit_calls, HasStopped, IsWorn};
 ghost use Rattle.zb_host.specs.HostFaults.{IsHandleFault, host_fault};
-ghost use Rattle.zb_host.specs.Calls.{IsHandled, IsBooted};
+ghost use Rattle.zb_host.specs.Calls.{words_of, IsHandled, IsBooted};
 
 use crate::commit::commit;
 use crate::{Core, HostFault};
 use std::alloc::Global;
 use std::marker::Model;
 use zb_base::{Config, OrMemory};
-use zb_node_types::{Changes, KeyError};
 use zb_disk::Disk;
-use zb_store::{Store, StoreFault};
+use zb_node_types::{Changes, KeyError};
+use zb_store::{RECORD_ROOM, Store, StoreFault};
 
-/// A node's core over its store.
+/// Runs a node's core over its store: what goes out is stored first.
 #[derive(Drop)]
 pub struct Host<C: Core> {
     core: C,
@@ -34,17 +34,22 @@ pub struct Host<C: Core> {
 impl<C: Core> Model for Host<C> {
     ghost use Rattle.zb_host.specs.Hosts.{Hosted};
     ghost use Rattle.std.specs.Prelude.{◌≤◌, length};
+    ghost use Rattle.zb_store.specs.Sizes.{record_room};
 
     ghost Value = { Hosted C };
 
     ghost view = { λ h. record { core = h.core; whole = h.whole; store = h.store } };
 
-    ghost invariant = { λ h. 49152 ≤ length h.room.items };
+    ghost invariant = { λ h. record_room ≤ length h.room.items };
 }
 
 impl<C: Core> Host<C> {
-    /// Handles an event: what goes out is answered once its changes are stored, by one entry, or by the whole record
-    /// where 32 entries stand. After a fault the host is down. It takes no memory.
+    /// Handles an event, and answers its changes and what goes out once they are stored.
+    ///
+    /// They are stored by one entry, or by the whole record where no entry more fits. It takes no memory. Requires a
+    /// host that is up. After a fault the host is down.
+    ///
+    /// Errors: `Disk`, with the changes; `Worn`.
     pub fn handle<D: Disk>(
         &mut self,
         disk: &mut D,
@@ -53,34 +58,40 @@ impl<C: Core> Host<C> {
         requires up { IsTrue (is_some self.old.store) }
 
         // The changes and what goes out are those of a plan of the core, and the core is the one after it.
-        ensures planned { (p : plan C.Out) × C.is_plan self.old.core event.now p × C.is_after self.old.core p self.new.core
-            × IfOk result (λ r. (r.0 ≡ p.changes) × (r.1 ≡ p.out)) × IfErr result (λ e. (e ≡ HostFault.Disk p.changes) ⊎ (e ≡ HostFault.Worn)) }
+        ensures planned { (p : plan C.Out) × C.is_plan self.old.core event.now p
+            × C.is_after self.old.core p self.new.core × IfOk result (λ r. (r.0 ≡ p.changes) × (r.1 ≡ p.out))
+            × IfErr result (λ e. (e ≡ HostFault.Disk p.changes) ⊎ (e ≡ HostFault.Worn)) }
 
         // A crash at any moment leaves the old record's core or the new one's. What goes out goes out where every image
         // stands for the new. After a fault the host is down.
-        ensures step { IsHandled (record { tells = D.tells; state = D.state; restored = C.restored; recorded = C.recorded; payload = C.payload }) self.old disk.old result self.new disk.new }
-        ensures through { IfOk result (λ r. r.0.items ≢ [] → WentThrough D.tells (commit_calls (writes_whole self.old)) (D.state disk.old) (D.state disk.new)) }
+        ensures step { IsHandled (words_of D.tells D.state C.restored C.recorded C.payload)
+            self.old disk.old result self.new disk.new }
+        ensures through { IfOk result (λ r. r.0.items ≢ []
+            → WentThrough D.tells (commit_calls (writes_whole self.old)) (D.state disk.old) (D.state disk.new)) }
 
         // Without changes there is no call to the disk.
         ensures idle { IfOk result (λ r. r.0.items ≡ [] → disk.new ≡ disk.old) }
         ensures idle_store { IfOk result (λ r. r.0.items ≡ [] → self.new.store ≡ self.old.store) }
         ensures idle_whole { IfOk result (λ r. r.0.items ≡ [] → self.new.whole ≡ self.old.whole) }
 
-        // Where the disk failed, it stopped at one of the calls, and an image in which the gate is open stands for the new.
-        ensures stopped { IfErr result (λ e. (changes : _) → e ≡ HostFault.Disk changes → (s : Standing) → IsCurrent C.restored C.recorded s self.old (D.state disk.old)
+        // Where the disk failed, it stopped at one of the calls, and an image in which the gate is open stands for the
+        // new.
+        ensures stopped { IfErr result (λ e. (changes : _) → e ≡ HostFault.Disk changes
+            → (s : Standing) → IsCurrent C.restored C.recorded s self.old (D.state disk.old)
             → IsTrue D.tells.content → IsTrue D.tells.steady
-            → CommitStop D.tells (writes_whole self.old) s (C.recorded self.new.core) (C.payload changes.items) (D.state disk.old) (D.state disk.new)
-            × Gives C.restored (next_standing (writes_whole self.old) s (C.recorded self.new.core) (C.payload changes.items)) (C.recorded self.new.core)) }
+            → HasStopped D.tells C.restored (writes_whole self.old) s
+            (C.recorded self.new.core) (C.payload changes.items) (D.state disk.old) (D.state disk.new)) }
 
-        // After a commit the next one is an entry, unless 32 stand. Where the whole record would need one generation more
-        // than there are, nothing is stored, and the disk is left as it was.
+        // After a commit the next one is an entry, unless no entry more fits. Where the whole record would need one
+        // generation more than there are, nothing is stored, and the disk is left as it was.
         ensures entry_next { IfOk result (λ r. r.0.items ≢ [] → self.new.whole ≡ false) }
         ensures not_worn { IfOk result (λ r. r.0.items ≢ [] → IsWorn self.old → ⊥) }
         ensures worn { IfErr result (λ e. e ≡ HostFault.Worn → IsStill (D.state disk.old) (D.state disk.new)) }
         ensures not_worn_disk { IfErr result (λ e. (changes : _) → e ≡ HostFault.Disk changes → IsWorn self.old → ⊥) }
 
         ensures up { OnOk result (IsTrue (is_some self.new.store)) }
-        ensures faults { IfErr result (IsHandleFault (writes_whole self.old) self.old.store (D.state disk.old) (D.state disk.new)) }
+        ensures faults { IfErr result
+            (IsHandleFault (writes_whole self.old) self.old.store (D.state disk.old) (D.state disk.new)) }
         ensures count { (D.state disk.old).faults ≤ (D.state disk.new).faults }
     {
         let plan = self.core.plan(event);
@@ -106,25 +117,30 @@ impl<C: Core> Host<C> {
         }
     }
 
-    /// Makes the host of the node whose record and entries stand on the disk. It makes the device calls of `Store::open`: one,
-    /// or three where the gates of both slots are open.
+    /// Makes the host of the node whose record and entries stand on the disk.
+    ///
+    /// It makes the device calls of `Store::open`: one, or three where the gates of both slots are open.
+    ///
+    /// Errors: `Disk`; `NoMemory`; `NoRecord`; `BadRecord`, with the place of the fault.
     pub fn boot<D: Disk>(alloc: Global, config: &Config, disk: &mut D) -> Result<Host<C>, HostFault>
         requires config { IsConfig config.now }
 
-        // Its core is that of the record and the entries that the disk as it reads stands for, and then every image stands
-        // for them. Each image at each moment stands for what one at entry stood for.
-        ensures step { IsBooted (record { tells = D.tells; state = D.state; restored = C.restored; recorded = C.recorded; payload = C.payload }) disk.old result disk.new }
+        // Its core is that of the record and the entries that the disk as it reads stands for, and then every image
+        // stands for them. Each image at each moment stands for what one at entry stood for.
+        ensures step { IsBooted (words_of D.tells D.state C.restored C.recorded C.payload) disk.old result disk.new }
         ensures through { OnOk result (IsTrue D.tells.content
-            → WentThrough D.tells (if both_gates_open (D.state disk.old).seen then 3 else 1) (D.state disk.old) (D.state disk.new)) }
-        ensures stopped { IfErr result (λ e. (changes : _) → e ≡ HostFault.Disk changes → AllWhole (D.state disk.old) → IsTrue D.tells.content → IsTrue D.tells.steady
-            → (s : Standing) → stands (D.state disk.old).seen ≡ Some s → OpenStop D.tells s (D.state disk.old) (D.state disk.new)) }
+            → WentThrough D.tells (open_calls (D.state disk.old).seen) (D.state disk.old) (D.state disk.new)) }
+        ensures stopped { IfErr result (λ e. (changes : _) → e ≡ HostFault.Disk changes → AllWhole (D.state disk.old)
+            → IsTrue D.tells.content → IsTrue D.tells.steady
+            → (s : Standing) → stands (D.state disk.old).seen ≡ Some s
+            → OpenStop D.tells s (D.state disk.old) (D.state disk.new)) }
         ensures count { (D.state disk.old).faults ≤ (D.state disk.new).faults }
     {
-        let mut room = match Vec::with_capacity(alloc, 49_152) {
+        let mut room = match Vec::with_capacity(alloc, RECORD_ROOM) {
             Ok(room) => room,
             Err(_) => return Err(HostFault::NoMemory),
         };
-        room.resize(49_152, 0).unwrap();
+        room.resize(RECORD_ROOM, 0).unwrap();
         let (store, record, payloads) = match Store::open(alloc, disk) {
             Ok(opened) => opened,
             Err(StoreFault::Disk) => {
@@ -149,14 +165,14 @@ impl<C: Core> Host<C> {
         }
     }
 
-    /// Whether no fault has come.
+    /// Answers whether the host is up: no fault has come.
     pub fn is_up(&self) -> bool
         ensures { result ≡ is_some self.now.store }
     {
         self.store.is_some()
     }
 
-    /// The core of a host that is up.
+    /// Answers the core. Requires a host that is up.
     pub fn core(&self) -> &C
         requires { IsTrue (is_some self.now.store) }
         ensures { result.now ≡ self.now.core }

@@ -6,42 +6,54 @@ ghost use Rattle.zb_store.specs.Layout.{Standing};
 ghost use Rattle.zb_store.specs.Power.{stop_commits, failure_commits, stop_opens_both, failure_opens_both};
 ghost use Rattle.zb_store.specs.Store.{AllWhole, both_gates_open};
 ghost use Rattle.zb_host.specs.Hosts.{Restoring, Gives, next_standing, CommitStop, AnswersOn};
+ghost use Rattle.zb_host.specs.Calls.{words_of};
 ghost use Rattle.zb_host.specs.Lives.{Step, AreSteps, EachBootGoesOn};
 
 use crate::Core;
 use zb_disk::Disk;
 use zb_store::stopped_commits;
 
-/// Over any list of calls, with crashes at any moment inside them and between them: each boot answers the core of the
-/// record that the core of the boot before it had after the first of the events handled since, and these have every
-/// event whose output was handed out. Once a boot has answered, one that fails does so for the disk or for want of
-/// memory: no record is lost.
+/// Says that over any list of calls and crashes each boot goes on from the boot before it.
+///
+/// Crashes come at any moment, inside calls and between them. Each boot answers the core of the record that the core of
+/// the boot before it had after the first of the events handled since, and these have every event whose output was
+/// handed out. Once a boot has answered, one that fails does so for the disk or for want of memory: no record is lost.
 ///
 /// The premises are what `handle` and `boot` promise of each call, in their clause `step`. At the beginning the disk's
 /// images are whole, as a store that was formatted leaves them.
 pub fn each_boot_goes_on<C: Core, D: Disk>()
     ensures { (disk : D) (steps : List (Step C D C.Out)) → IsTrue D.tells.content → AllWhole (D.state disk)
-        → AreSteps (record { tells = D.tells; state = D.state; restored = C.restored; recorded = C.recorded; payload = C.payload }) None disk steps
+        → AreSteps (words_of D.tells D.state C.restored C.recorded C.payload) None disk steps
         → EachBootGoesOn C.recorded steps }
 {}
 
-/// Whether an event stands whose commit an armed stop or failure ended, on a disk in memory once its power is back: what
-/// stands is the record of the core after the event or of the one before it. And whether the next boot finds the gates of
-/// both slots open, and so makes three calls. The stop or failure counts from the beginning of the event.
+/// Says whether an event stands whose commit an armed stop or failure ended, on a disk in memory.
+///
+/// Once the power is back, what stands is the record of the core after the event or of the one before it. It also says
+/// whether the next boot finds the gates of both slots open, and so makes three calls. The stop or failure counts from
+/// the beginning of the event.
 ///
 /// The premise is the clause `stopped` of `handle`; `before` and `after` are the records of the cores.
 pub fn stopped_events()
-    ensures stopped { (restored : Restoring) (before after booted : List ℕ) (whole : Bool) (s : Standing) (payload : List ℕ) (old new : Medium) (calls : ℕ)
-        → Gives restored s before → Gives restored (next_standing whole s after payload) after → CommitStop memory_tells whole s after payload (memory_view old) (memory_view new)
-        → old.arming ≡ Stop calls → AnswersOn restored (powered new).bytes booted → booted ≡ (if stop_commits calls old.torn then after else before) }
-    ensures failed { (restored : Restoring) (before after booted : List ℕ) (whole : Bool) (s : Standing) (payload : List ℕ) (old new : Medium) (call : ℕ)
-        → Gives restored s before → Gives restored (next_standing whole s after payload) after → CommitStop memory_tells whole s after payload (memory_view old) (memory_view new)
-        → old.arming ≡ Fail call → AnswersOn restored (powered new).bytes booted → booted ≡ (if failure_commits call then after else before) }
+    ensures stopped { (restored : Restoring) (before after booted : List ℕ) (whole : Bool) (s : Standing)
+        (payload : List ℕ) (old new : Medium) (calls : ℕ)
+        → Gives restored s before → Gives restored (next_standing whole s after payload) after
+        → CommitStop memory_tells whole s after payload (memory_view old) (memory_view new)
+        → old.arming ≡ Stop calls → AnswersOn restored (powered new).bytes booted
+        → booted ≡ (if stop_commits calls old.torn then after else before) }
+    ensures failed { (restored : Restoring) (before after booted : List ℕ) (whole : Bool) (s : Standing)
+        (payload : List ℕ) (old new : Medium) (call : ℕ)
+        → Gives restored s before → Gives restored (next_standing whole s after payload) after
+        → CommitStop memory_tells whole s after payload (memory_view old) (memory_view new)
+        → old.arming ≡ Fail call → AnswersOn restored (powered new).bytes booted
+        → booted ≡ (if failure_commits call then after else before) }
     ensures stopped_gates { (whole : Bool) (s : Standing) (content payload : List ℕ) (old new : Medium) (calls : ℕ)
-        → CommitStop memory_tells whole s content payload (memory_view old) (memory_view new) → old.arming ≡ Stop calls
+        → CommitStop memory_tells whole s content payload (memory_view old) (memory_view new)
+        → old.arming ≡ Stop calls
         → both_gates_open (powered new).bytes ≡ (whole && stop_opens_both calls old.torn) }
     ensures failed_gates { (whole : Bool) (s : Standing) (content payload : List ℕ) (old new : Medium) (call : ℕ)
-        → CommitStop memory_tells whole s content payload (memory_view old) (memory_view new) → old.arming ≡ Fail call
+        → CommitStop memory_tells whole s content payload (memory_view old) (memory_view new)
+        → old.arming ≡ Fail call
         → both_gates_open (powered new).bytes ≡ (whole && failure_opens_both call) }
 {
     stopped_commits();

@@ -2,13 +2,14 @@
 #![tactic(auto)]
 
 mod commit;
-pub mod fault;
-pub mod host;
-pub mod law;
-pub mod outcome;
-pub mod plan;
+mod fault;
+mod host;
+mod law;
+mod outcome;
+mod plan;
 
 pub use crate::fault::HostFault;
 pub use crate::host::Host;
+pub use crate::law::{each_boot_goes_on, stopped_events};
 pub use crate::outcome::Outcome;
 pub use crate::plan::{Core, Plan};

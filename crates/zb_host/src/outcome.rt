@@ -3,8 +3,10 @@ ghost use Rattle.std.specs.Prelude.{◌≡◌, None};
 
 use zb_base::Frame;
 
-/// What an event of a node gives beside its changes, for terms `T` and refusals `R`: at most one term is accepted and
-/// sealed at each layer. Where something is refused behind an acceptance, both are there.
+/// Tells what an event of a node gives beside its changes, for terms `T` and refusals `R`.
+///
+/// At most one term is accepted and sealed at each layer. Where something is refused behind an acceptance, both are
+/// there.
 #[derive(Debug, Drop, PartialEq, Eq)]
 pub struct Outcome<T, R> {
     /// The term that was accepted at NWK.
@@ -22,7 +24,7 @@ pub struct Outcome<T, R> {
 }
 
 impl<T, R> Outcome<T, R> {
-    /// Nothing was accepted, refused, sealed or sent.
+    /// Makes the outcome of an event by which nothing was accepted, refused, sealed or sent.
     pub fn nothing() -> Outcome<T, R>
         ensures { result ≡ record {
           accepted_nwk = None;

@@ -2,13 +2,14 @@
 ghost use Rattle.std.specs.Prelude.{◌≡◌, ◌≢◌, ◌≤◌, ◌++◌, List, [], ℕ, length, take, get_or, IfOk, IfErr};
 ghost use Rattle.zb_node_types.specs.declared.change.Change.{Change as change};
 ghost use Rattle.zb_base.specs.Config.{IsConfig};
+ghost use Rattle.zb_store.specs.Sizes.{record_room, payload_room, payloads_room};
 ghost use Rattle.zb_host.specs.Plans.{Restored, gives, IsRestoreFault};
 
 use std::alloc::Global;
 use zb_base::{Config, OrMemory};
 use zb_node_types::{Changes, KeyError};
 
-/// What an event leads to: the changes of the stable state, and what goes out once they are stored.
+/// Says what an event leads to: the changes of the stable state, and what goes out once they are stored.
 #[derive(Debug, Drop)]
 pub struct Plan<O> {
     /// The changes, in order.
@@ -17,8 +18,10 @@ pub struct Plan<O> {
     pub out: O,
 }
 
-/// A node's policy over its tables. It keeps nothing stable but what its record has, and it is of one role: a record of
-/// another role is bad at the byte of the role.
+/// Decides what a node does, over its tables.
+///
+/// It keeps nothing stable but what its record has, and it is of one role: a record of another role is bad at the byte
+/// of the role.
 pub trait Core: Drop {
     ghost use Rattle.zb_host.specs.declared.plan.Plan.{Plan};
 
@@ -31,8 +34,8 @@ pub trait Core: Drop {
     /// The core's record.
     ghost recorded: { Self → List ℕ };
 
-    /// This is a plan of the core for the event. What else a core's laws need of it may stand here, as a rule that it keeps
-    /// by itself and that `plan` shows.
+    /// This is a plan of the core for the event. What else a core's laws need of it may stand here, as a rule that it
+    /// keeps by itself and that `plan` shows.
     ghost is_plan: { Self → Self.Event → Plan Self.Out → Type 0 };
 
     /// What applying it makes of the core.
@@ -44,31 +47,34 @@ pub trait Core: Drop {
     /// The record of the core that a record and the payloads behind it give.
     ghost restored: { List ℕ → List ℕ → Restored };
 
-    /// Plans an event and changes nothing.
+    /// Plans an event; changes nothing.
     fn plan(&self, event: &Self::Event) -> Plan<Self::Out>
         ensures { is_plan self.now event.now result };
 
-    /// Makes the changes of a plan of this core.
+    /// Makes the changes of a plan. Requires a plan of this core.
     fn apply(&mut self, plan: &Plan<Self::Out>)
         requires { (e : Self.Event) × is_plan self.old e plan.now }
         ensures { is_after self.old plan.now self.new };
 
-    /// Writes the record, for which there are 49,152 bytes of room, and answers its length.
+    /// Writes the record and answers its length. Requires room for `RECORD_ROOM` bytes.
     fn record(&self, into: &mut [u8]) -> u32
-        requires { 49152 ≤ length into.old }
+        requires { record_room ≤ length into.old }
         ensures len { result ≡ length (recorded self.now) }
-        ensures small { result ≤ 49152 }
+        ensures small { result ≤ record_room }
         ensures bytes { take result into.new ≡ recorded self.now };
 
-    /// Writes the payload of changes, which has at most 481 bytes, and answers its length. There are 481 bytes of room.
+    /// Writes the payload of changes and answers its length. Requires that it has at most `PAYLOAD_ROOM` bytes, and
+    /// room for so many.
     fn change_bytes(changes: &Changes, into: &mut [u8]) -> u32
-        requires short { length (payload changes.now.items) ≤ 481 }
-        requires room { 481 ≤ length into.old }
+        requires short { length (payload changes.now.items) ≤ payload_room }
+        requires room { payload_room ≤ length into.old }
         ensures len { result ≡ length (payload changes.now.items) }
         ensures bytes { take result into.new ≡ payload changes.now.items };
 
-    /// Makes the core of a node from a record of at most 49,152 bytes and the payloads behind it, of at most 15,488 bytes.
-    /// `room` has 49,152 bytes.
+    /// Makes the core of a node from a record and the payloads behind it, one after the other. Requires no more bytes
+    /// than a store has of them, and room for a record.
+    ///
+    /// Errors: `BadRecord`, with the place of the fault; want of memory.
     fn restore(
         alloc: Global,
         config: &Config,
@@ -77,25 +83,29 @@ pub trait Core: Drop {
         room: &mut [u8],
     ) -> Result<Self, OrMemory<KeyError>>
         requires config { IsConfig config.now }
-        requires record_size { length content.now ≤ 49152 }
-        requires payloads_size { length payloads.now ≤ 15488 }
-        requires room { 49152 ≤ length room.old }
+        requires record_size { length content.now ≤ record_room }
+        requires payloads_size { length payloads.now ≤ payloads_room }
+        requires room { record_room ≤ length room.old }
         ensures core { IfOk result (λ c. restored content.now payloads.now ≡ gives (recorded c)) }
         ensures fault { IfErr result (IsRestoreFault (restored content.now payloads.now)) };
 
     /// The payload of a plan's changes fits an entry.
-    ghost short: { (c : Self) (e : Self.Event) (p : Plan Self.Out) → is_plan c e p → length (payload p.changes.items) ≤ 481 };
+    ghost short: { (c : Self) (e : Self.Event) (p : Plan Self.Out) → is_plan c e p
+        → length (payload p.changes.items) ≤ payload_room };
 
     /// An entry behind a record that isn't of the first version leads from the core to the one after the plan.
-    ghost adds: { (c d : Self) (e : Self.Event) (p : Plan Self.Out) (r q : List ℕ) → is_plan c e p → is_after c p d → get_or r 0 0 ≢ 1
-        → restored r q ≡ gives (recorded c) → restored r (q ++ payload p.changes.items) ≡ gives (recorded d) };
+    ghost adds: { (c d : Self) (e : Self.Event) (p : Plan Self.Out) (r q : List ℕ) → is_plan c e p → is_after c p d
+        → get_or r 0 0 ≢ 1 → restored r q ≡ gives (recorded c)
+        → restored r (q ++ payload p.changes.items) ≡ gives (recorded d) };
 
     /// After a plan the record alone gives the core that wrote it.
-    ghost keeps: { (c d : Self) (e : Self.Event) (p : Plan Self.Out) → is_plan c e p → is_after c p d → restored (recorded d) [] ≡ gives (recorded d) };
+    ghost keeps: { (c d : Self) (e : Self.Event) (p : Plan Self.Out) → is_plan c e p → is_after c p d
+        → restored (recorded d) [] ≡ gives (recorded d) };
 
     /// It isn't of the first version.
     ghost newest: { (c : Self) → get_or (recorded c) 0 0 ≢ 1 };
 
     /// A plan without changes leaves the record.
-    ghost idle: { (c d : Self) (e : Self.Event) (p : Plan Self.Out) → is_plan c e p → is_after c p d → p.changes.items ≡ [] → recorded d ≡ recorded c };
+    ghost idle: { (c d : Self) (e : Self.Event) (p : Plan Self.Out) → is_plan c e p → is_after c p d
+        → p.changes.items ≡ [] → recorded d ≡ recorded c };
 }

@@ -12,17 +12,17 @@ use Rattle.zb_base.specs.declared.address.Short.{Short}
 use Rattle.zb_base.specs.declared.key.Key.{Key}
 use Rattle.zb_capture.specs.Grammar.{IsCapture}
 use Rattle.zb_capture.specs.declared.capture.Capture.{Capture}
-use Rattle.zb_inspect_frame.specs.Lines.{sights_text}
-use Rattle.zb_inspect_frame.specs.declared.sight.Sight.{Sight}
-use Rattle.zb_inspect_frame.proofs.UnopenedSights.{unopened_lines}
-use Rattle.zb_inspect_ring.specs.Pieces.{all_blocks, all_frames, frames_in, found_in, seen_text, HasRoom, StandsFor, Numbered, Shown, AllShown, IsCut, IsWithin}
-use Rattle.zb_inspect_ring.specs.Rings.{keys_of, sights, ring_of}
+use Rattle.zb_inspect_frame.specs.Lines.{frames_text}
+use Rattle.zb_inspect_frame.specs.declared.shown.Shown.{Shown}
+use Rattle.zb_inspect_frame.proofs.UnopenedFrames.{unopened_lines}
+use Rattle.zb_inspect_ring.specs.Pieces.{all_blocks, all_frames, frames_in, found_in, seen_text, HasRoom, StandsFor, Numbered, IsShown, AreShown, IsCut, IsWithin}
+use Rattle.zb_inspect_ring.specs.Rings.{keys_of, frames_shown, ring_of}
 use Rattle.zb_inspect_ring.specs.declared.block.Block.{Block}
 use Rattle.zb_inspect_ring.specs.declared.block.Seen.{Seen}
-use Rattle.zb_inspect_ring.specs.declared.block.Seen.TheVariants.{Nothing, Unopened, Lines, Sights}
+use Rattle.zb_inspect_ring.specs.declared.block.Seen.TheVariants.{Nothing, Unopened, Lines, Whole}
 use Rattle.zb_inspect_ring.specs.declared.piece.Piece.{Piece}
 use Rattle.zb_inspect_ring.specs.declared.ring.Ring.{Ring}
-use Rattle.zb_inspect_ring.proofs.JoinLaws.{sights_append}
+use Rattle.zb_inspect_ring.proofs.JoinLaws.{shown_append}
 use Rattle.zb_inspect_ring.proofs.PieceLists.{frames_count, in_pieces, whole_frames, within_cut}
 use Rattle.zb_inspect.specs.Report.{tail_text, report_text, report_of}
 use Rattle.zb_inspect.specs.Texts.{block_text, blocks_text, pages_text, BlockHasRoom, HaveRoom}
@@ -42,46 +42,46 @@ pages_printed (piece ∷ pieces) (page ∷ pages) all =
 
 -- Blocks that are shown
 
-seen_shown : (first : ℕ) (found : List Sight) (seen : Seen) → StandsFor first found seen → seen_text first (length found) seen ≡ sights_text first found
+seen_shown : (first : ℕ) (found : List Shown) (seen : Seen) → StandsFor first found seen → seen_text first (length found) seen ≡ frames_text first found
 seen_shown first found Nothing s = absurd s
 seen_shown first found Unopened s = sym (unopened_lines first found s)
 seen_shown first found (Lines text) s = s.0
-seen_shown first found (Sights kept) s = ap (sights_text first) s
+seen_shown first found (Whole kept) s = ap (frames_text first) s
 
-has_room : (first : ℕ) (found : List Sight) (seen : Seen) → StandsFor first found seen → first + length found < 4294967296 → HasRoom first (length found) seen
+has_room : (first : ℕ) (found : List Shown) (seen : Seen) → StandsFor first found seen → first + length found < 4294967296 → HasRoom first (length found) seen
 has_room first found Nothing s room = tt
 has_room first found Unopened s room = room
 has_room first found (Lines text) s room = tt
-has_room first found (Sights kept) s room = omega (arith, ap (length {A = Sight}) s, room)
+has_room first found (Whole kept) s room = omega (arith, ap (length {A = Shown}) s, room)
 
 found_count : (frames : List (ArrayVec ℕ)) (addrs : List (Short × Eui)) (keys : List Key) (b : Block) → IsWithin (length frames) b
     → length (found_in frames addrs keys b) ≡ b.count
 found_count frames addrs keys b within = length-map (frames_in frames b) _ ∙ frames_count frames b within
 
 shown_text : (frames : List (ArrayVec ℕ)) (addrs : List (Short × Eui)) (keys : List Key) (frame : ℕ) (blocks : List Block) → Numbered frame blocks
-    → AllByRecursion (IsWithin (length frames)) blocks → AllShown frames addrs keys blocks
-    → blocks_text blocks ≡ sights_text frame (sights addrs keys (all_frames frames blocks))
+    → AllByRecursion (IsWithin (length frames)) blocks → AreShown frames addrs keys blocks
+    → blocks_text blocks ≡ frames_text frame (frames_shown addrs keys (all_frames frames blocks))
 shown_text frames addrs keys frame [] numbers within all = refl
 shown_text frames addrs keys frame (b ∷ blocks) numbers within all =
     let found = found_in frames addrs keys b in
-    let more = sights addrs keys (all_frames frames blocks) in
+    let more = frames_shown addrs keys (all_frames frames blocks) in
     ap (λ zs. zs ++ blocks_text blocks)
     (ap (λ n. seen_text b.first n b.seen) (sym (found_count frames addrs keys b within.0)) ∙ seen_shown b.first found b.seen all.0
-    ∙ ap (λ n. sights_text n found) numbers.0)
-    ∙ ap (λ zs. sights_text frame found ++ zs) (shown_text frames addrs keys (frame + b.count) blocks numbers.1 within.1 all.1)
-    ∙ ap (λ n. sights_text frame found ++ sights_text (frame + n) more) (sym (found_count frames addrs keys b within.0))
-    ∙ sym (sights_append frame found more)
-    ∙ ap (sights_text frame) (sym (map-append _ (frames_in frames b) (all_frames frames blocks)))
+    ∙ ap (λ n. frames_text n found) numbers.0)
+    ∙ ap (λ zs. frames_text frame found ++ zs) (shown_text frames addrs keys (frame + b.count) blocks numbers.1 within.1 all.1)
+    ∙ ap (λ n. frames_text frame found ++ frames_text (frame + n) more) (sym (found_count frames addrs keys b within.0))
+    ∙ sym (shown_append frame found more)
+    ∙ ap (frames_text frame) (sym (map-append _ (frames_in frames b) (all_frames frames blocks)))
 
 block_room : (frames : List (ArrayVec ℕ)) (addrs : List (Short × Eui)) (keys : List Key) (b : Block) → length frames ≤ 100000 → IsWithin (length frames) b
-    → Shown frames addrs keys b → BlockHasRoom b
+    → IsShown frames addrs keys b → BlockHasRoom b
 block_room frames addrs keys b few within shown =
     let count = found_count frames addrs keys b within in
     let P : ℕ → Type 0 = λ n. HasRoom b.first n b.seen in
     subst P count (has_room b.first (found_in frames addrs keys b) b.seen shown (omega (arith, count, within.last, few)))
 
 shown_room : (frames : List (ArrayVec ℕ)) (addrs : List (Short × Eui)) (keys : List Key) (blocks : List Block) → length frames ≤ 100000
-    → AllByRecursion (IsWithin (length frames)) blocks → AllShown frames addrs keys blocks → HaveRoom blocks
+    → AllByRecursion (IsWithin (length frames)) blocks → AreShown frames addrs keys blocks → HaveRoom blocks
 shown_room frames addrs keys [] few within all = tt
 shown_room frames addrs keys (b ∷ blocks) few within all = (
   block_room frames addrs keys b few within.0 all.0,
@@ -89,19 +89,19 @@ shown_room frames addrs keys (b ∷ blocks) few within all = (
 )
 
 pub room_in_pieces : (c : Capture) (keys : List Key) (pieces : List Piece) → IsCapture c → IsCut c pieces
-    → AllShown c.frames c.addrs keys (all_blocks pieces) → AllByRecursion (λ (p : Piece). HaveRoom p.blocks.items) pieces
+    → AreShown c.frames c.addrs keys (all_blocks pieces) → AllByRecursion (λ (p : Piece). HaveRoom p.blocks.items) pieces
 room_in_pieces c keys pieces limits cut shown =
     in_pieces BlockHasRoom pieces (shown_room c.frames c.addrs keys (all_blocks pieces) limits.frames (within_cut c pieces cut) shown)
 
 -- the report
 pub is_report : (c : Capture) (ring : Ring) (pieces : List Piece) (frames : ℕ) (lines tail : List ℕ) → ring ≡ ring_of c → IsCut c pieces
-    → AllShown c.frames c.addrs (keys_of ring.keys) (all_blocks pieces) → frames ≡ length c.frames → lines ≡ blocks_text (all_blocks pieces)
+    → AreShown c.frames c.addrs (keys_of ring.keys) (all_blocks pieces) → frames ≡ length c.frames → lines ≡ blocks_text (all_blocks pieces)
     → tail ≡ tail_text frames ring → lines ++ tail ≡ report_of c
 unfolding report_of
 is_report c ring pieces frames lines tail is cut shown count printed ends =
     ap (λ zs. zs ++ tail) (printed ∙ shown_text c.frames c.addrs (keys_of ring.keys) 1 (all_blocks pieces) cut.numbers (within_cut c pieces cut) shown
-    ∙ ap (λ fs. sights_text 1 (sights c.addrs (keys_of ring.keys) fs)) (whole_frames c pieces cut))
-    ∙ ap (λ zs. sights_text 1 (sights c.addrs (keys_of ring.keys) c.frames) ++ zs) (ends ∙ ap (λ n. tail_text n ring) count)
+    ∙ ap (λ fs. frames_text 1 (frames_shown c.addrs (keys_of ring.keys) fs)) (whole_frames c pieces cut))
+    ∙ ap (λ zs. frames_text 1 (frames_shown c.addrs (keys_of ring.keys) c.frames) ++ zs) (ends ∙ ap (λ n. tail_text n ring) count)
     ∙ ap (report_text c) is
 
 -- Fronts

@@ -2,10 +2,10 @@
 use Rattle.std.specs.Prelude.{ℕ, ◌+◌, List, [], ◌∷◌, ◌++◌, length, codes, decimal, Option, Some, None}
 use Rattle.hex.specs.Hex.{encode_upper}
 use Rattle.zb_capture.specs.declared.capture.Capture.{Capture}
-use Rattle.zb_inspect_ring.specs.Rings.{keys_of, sights, ring_of}
+use Rattle.zb_inspect_ring.specs.Rings.{keys_of, frames_shown, ring_of}
 use Rattle.zb_inspect_ring.specs.declared.ring.Ring.{Ring}
 use Rattle.zb_inspect_ring.specs.declared.ring.RingKey.{RingKey}
-use Rattle.zb_inspect_frame.specs.Lines.{sights_text}
+use Rattle.zb_inspect_frame.specs.Lines.{frames_text}
 use Rattle.zb_text.specs.Words.{then}
 
 abbrev pub found_text : Option (ℕ × ℕ) → List ℕ
@@ -29,7 +29,7 @@ tail_text frames ring = keys_text 1 ring.keys ++ end_line frames (length ring.ke
 
 -- The report under a ring: what each frame shows under its keys, the keys, and the counts
 abbrev pub report_text : Capture → Ring → List ℕ
-report_text c ring = sights_text 1 (sights c.addrs (keys_of ring.keys) c.frames) ++ tail_text (length c.frames) ring
+report_text c ring = frames_text 1 (frames_shown c.addrs (keys_of ring.keys) c.frames) ++ tail_text (length c.frames) ring
 
 -- The report on a capture, under its last ring.
 unfoldable pub report_of : Capture → List ℕ

@@ -1,4 +1,4 @@
-//! Why a report isn't written to its end.
+//! What keeps a report from being written to its end.
 ghost use Rattle.std.specs.Prelude.{◌≡◌};
 ghost use Rattle.zb_inspect.specs.declared.fault.InspectFault.TheVariants.{Write as unwritten, NoMemory as lacks};
 
@@ -7,7 +7,7 @@ use std::error::Error;
 use std::fmt;
 use zb_base::{Failed, NoMemory};
 
-/// The faults of `report`.
+/// Says why a report isn't written to its end.
 #[derive(Clone, Copy, Debug, PartialEq, Eq)]
 pub enum InspectFault {
     /// The sink failed: its count of faults rose.

@@ -4,8 +4,6 @@
 mod fault;
 mod lines;
 mod reporting;
-#[cfg(test)]
-mod tests;
 
 pub use fault::InspectFault;
 pub use reporting::report;

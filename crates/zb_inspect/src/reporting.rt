@@ -15,9 +15,16 @@ use std::alloc::{AllocError, Global};
 use std::thread::{Threads, map_vec};
 use zb_base::{Failed, NoMemory, Sink};
 use zb_capture::Capture;
-use zb_inspect_ring::{Gate, Piece, Ring, open_all};
+use zb_inspect_ring::{Piece, Ring, open_all};
+use zb_jobs::Gate;
 
 /// Writes the report on a capture, worked out by so many jobs. Nothing is written before the report is known.
+///
+/// Requires a job.
+///
+/// # Errors
+///
+/// `Write` where the sink failed, which then has a front of the report; `NoMemory`.
 pub fn report<T: Threads + Sync, G: Gate, W: Sink>(
     rt: &T,
     alloc: Global,
@@ -28,7 +35,8 @@ pub fn report<T: Threads + Sync, G: Gate, W: Sink>(
 ) -> Result<(), InspectFault>
     requires capture { IsCapture capture.now }
     requires jobs { 1 ≤ jobs }
-    ensures ends { Reports capture.now (W.taken out.old) (W.taken out.new) (W.faults out.old) (W.faults out.new) result }
+    ensures ends { Reports capture.now (W.taken out.old) (W.taken out.new) (W.faults out.old)
+        (W.faults out.new) result }
     ensures later { W.faults out.old ≤ W.faults out.new }
 {
     let opened = open_all(rt, alloc, capture, jobs, gate)?;
@@ -39,7 +47,7 @@ pub fn report<T: Threads + Sync, G: Gate, W: Sink>(
     Ok(())
 }
 
-/// The lines of the keys, and the end.
+/// Prints the lines of the keys, and the end.
 fn print_tail(alloc: Global, frames: u32, ring: &Ring) -> Result<Vec<u8>, AllocError>
     requires { length ring.now.keys ≤ 300256 }
     ensures { IfOk result (λ v. v.items ≡ tail_text frames ring.now) }
@@ -49,7 +57,7 @@ fn print_tail(alloc: Global, frames: u32, ring: &Ring) -> Result<Vec<u8>, AllocE
     Ok(page)
 }
 
-/// The lines of the frames of all pieces, a page for each piece, which is printed in a thread of its own.
+/// Prints the lines of the frames of all pieces, a page for each piece, which is printed in a thread of its own.
 fn print_all<T: Threads + Sync, G: Gate>(
     rt: &T,
     alloc: Global,
@@ -73,7 +81,7 @@ fn print_all<T: Threads + Sync, G: Gate>(
     gather(alloc, printed)
 }
 
-/// The lines of the frames of a piece.
+/// Prints the lines of the frames of a piece.
 fn print_piece(alloc: Global, piece: Piece) -> Result<Vec<u8>, NoMemory>
     requires { HaveRoom piece.blocks.items }
     ensures { IfOk result (λ page. page.items ≡ blocks_text piece.blocks.items) }
@@ -86,7 +94,7 @@ fn print_piece(alloc: Global, piece: Piece) -> Result<Vec<u8>, NoMemory>
     Ok(page)
 }
 
-/// The pages, where none lacked memory.
+/// Gives the pages, where none lacked memory.
 fn gather(alloc: Global, printed: Vec<Result<Vec<u8>, NoMemory>>) -> Result<Vec<Vec<u8>>, NoMemory>
     ensures { IfOk result (λ v. printed.items ≡ map (λ page. Ok page) v.items) }
 {

@@ -1,5 +1,6 @@
 pub mod Trying
 pub mod MoreKeys
-pub mod SettledSights
+pub mod SettledFrames
 pub mod Noted
-pub mod UnopenedSights
+pub mod UnopenedFrames
+mod ReadOnce

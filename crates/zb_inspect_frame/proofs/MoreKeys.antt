@@ -18,11 +18,11 @@ use Rattle.zb_seal.specs.Keys.{sealing_key}
 use Rattle.zb_seal.specs.Opening.{seen_nwk, seen_aps, content_of}
 use Rattle.zb_seal.specs.declared.envelope.Envelope.{Envelope}
 use Rattle.zb_inspect_frame.specs.Layers.{unsealed, opened_by, tried, is_closed, looked, found_nwk, found_aps}
-use Rattle.zb_inspect_frame.specs.Sights.{payload_in, given_in, data_in, tunnel_of, tunnelled, source_known, below, sight_of, sight}
+use Rattle.zb_inspect_frame.specs.Shows.{payload_in, given_in, data_in, tunnel_of, tunnelled, source_known, below, shown_under, frame_shown}
 use Rattle.zb_inspect_frame.specs.declared.layer.Finding.{Finding}
 use Rattle.zb_inspect_frame.specs.declared.layer.Finding.TheVariants.{Malformed, NotSecured, NoSource, Closed, Opened}
-use Rattle.zb_inspect_frame.specs.declared.sight.Below.{Below}
-use Rattle.zb_inspect_frame.specs.declared.sight.Sight.{Sight}
+use Rattle.zb_inspect_frame.specs.declared.shown.Below.{Below}
+use Rattle.zb_inspect_frame.specs.declared.shown.Shown.{Shown}
 
 -- what others give under further keys is what they give, and one key in front of them changes nothing in that
 one_before : (s : Envelope) (source : Eui) (number m : ℕ) (key : Key) (fresh : List Key) (found : Option (List ℕ)) (more before : Finding)
@@ -144,40 +144,86 @@ from_old f g (Some p) now old new e keeps under =
 abbrev frame_of : List ℕ → Result NwkFrame NwkError
 frame_of bytes = nwk_reading.frame_of bytes
 
-pub sight_parts : (addrs : List (Short × Eui)) (keys : List Key) (nwk : Finding) (r : Result NwkFrame NwkError)
-    → sight_of addrs keys nwk r ≡ record { nwk = nwk; below = option_map (below keys (given_in addrs r)) (payload_in nwk r) }
-sight_parts addrs keys nwk (Err fault) = refl
-sight_parts addrs keys nwk (Ok f) = refl
+pub shown_parts : (addrs : List (Short × Eui)) (keys : List Key) (nwk : Finding) (r : Result NwkFrame NwkError)
+    → shown_under addrs keys nwk r ≡ record { nwk = nwk; below = option_map (below keys (given_in addrs r)) (payload_in nwk r) }
+shown_parts addrs keys nwk (Err fault) = refl
+shown_parts addrs keys nwk (Ok f) = refl
 
-abbrev whole : Finding → Option Below → Sight
+abbrev whole : Finding → Option Below → Shown
 whole nwk b = record { nwk = nwk; below = b }
 
+-- A frame that is looked at again below its NWK layer.
+pub frame_anew : (known : ℕ) (addrs : List (Short × Eui)) (keys : List Key) (bytes : List ℕ) (seen : Shown) → known ≤ length keys
+    → seen ≡ frame_shown addrs (take known keys) bytes
+    → shown_under addrs keys (tried known (drop known keys) seen.nwk) (frame_of bytes) ≡ frame_shown addrs keys bytes
+unfolding frame_shown
+frame_anew known addrs keys bytes seen within is =
+    let first = take known keys in
+    let nwk_is : seen.nwk ≡ found_nwk first bytes = ap (λ (s : Shown). s.nwk) (is ∙ shown_parts addrs first (found_nwk first bytes) (frame_of bytes)) in
+    ap (λ n. shown_under addrs keys n (frame_of bytes)) (ap (tried known (drop known keys)) nwk_is ∙ nwk_further known keys bytes within)
+
 -- A frame whose data was known under the first keys.
-pub sight_further : (known : ℕ) (addrs : List (Short × Eui)) (keys : List Key) (bytes : List ℕ) (seen : Sight) (old new : Below)
-    → known ≤ length keys → seen ≡ sight addrs (take known keys) bytes → seen.below ≡ Some old
+frame_further : (known : ℕ) (addrs : List (Short × Eui)) (keys : List Key) (bytes : List ℕ) (seen : Shown) (old new : Below)
+    → known ≤ length keys → seen ≡ frame_shown addrs (take known keys) bytes → seen.below ≡ Some old
     → IfSome (payload_in (tried known (drop known keys) seen.nwk) (frame_of bytes)) (λ p. new ≡ below keys (given_in addrs (frame_of bytes)) p)
-    → record { nwk = tried known (drop known keys) seen.nwk; below = Some new } ≡ sight addrs keys bytes
-unfolding sight
-sight_further known addrs keys bytes seen old new within is some under =
+    → record { nwk = tried known (drop known keys) seen.nwk; below = Some new } ≡ frame_shown addrs keys bytes
+unfolding frame_shown
+frame_further known addrs keys bytes seen old new within is some under =
     let first = take known keys in
     let fresh = drop known keys in
     let r = frame_of bytes in
-    let parts = is ∙ sight_parts addrs first (found_nwk first bytes) r in
-    let nwk_is : seen.nwk ≡ found_nwk first bytes = ap (λ (s : Sight). s.nwk) parts in
+    let parts = is ∙ shown_parts addrs first (found_nwk first bytes) r in
+    let nwk_is : seen.nwk ≡ found_nwk first bytes = ap (λ (s : Shown). s.nwk) parts in
     let was : option_map (below first (given_in addrs r)) (payload_in seen.nwk r) ≡ Some old =
-    ap (λ n. option_map (below first (given_in addrs r)) (payload_in n r)) nwk_is ∙ sym (ap (λ (s : Sight). s.below) parts) ∙ some in
+    ap (λ n. option_map (below first (given_in addrs r)) (payload_in n r)) nwk_is ∙ sym (ap (λ (s : Shown). s.below) parts) ∙ some in
     let all : tried known fresh seen.nwk ≡ found_nwk keys bytes = ap (tried known fresh) nwk_is ∙ nwk_further known keys bytes within in
     let now = from_old (below first (given_in addrs r)) (below keys (given_in addrs r)) (payload_in seen.nwk r)
     (payload_in (tried known fresh seen.nwk) r) old new was (payload_kept known fresh seen.nwk r) under in
-    ap (λ b. whole (tried known fresh seen.nwk) b) (sym now) ∙ sym (sight_parts addrs keys (tried known fresh seen.nwk) r)
-    ∙ ap (λ n. sight_of addrs keys n r) all
+    ap (λ b. whole (tried known fresh seen.nwk) b) (sym now) ∙ sym (shown_parts addrs keys (tried known fresh seen.nwk) r)
+    ∙ ap (λ n. shown_under addrs keys n r) all
+
+if_some : (now : Option (List ℕ)) (Q : List ℕ → Type 0) → ((p : List ℕ) → now ≡ Some p → Q p) → IfSome now Q
+if_some None Q each = tt
+if_some (Some p) Q each = each p refl
+
+old_is : (f : List ℕ → Below) (o now : Option (List ℕ)) (old : Below) → option_map f o ≡ Some old → ((p : List ℕ) → o ≡ Some p → now ≡ Some p)
+    → (p : List ℕ) → now ≡ Some p → old ≡ f p
+old_is f None now old e keeps p is = cc
+old_is f (Some q) now old e keeps p is = let kept : now ≡ Some q = keeps q refl in cc
+
+-- The same, where `nwk` is what the NWK layer is found to be under all keys: what was known below it, and what is known then.
+
+pub below_before : (known : ℕ) (addrs : List (Short × Eui)) (keys : List Key) (bytes : List ℕ) (seen : Shown) (nwk : Finding) (old : Below)
+    → seen ≡ frame_shown addrs (take known keys) bytes → nwk ≡ tried known (drop known keys) seen.nwk → seen.below ≡ Some old
+    → IfSome (payload_in nwk (frame_of bytes)) (λ p. old ≡ below (take known keys) (given_in addrs (frame_of bytes)) p)
+unfolding frame_shown
+below_before known addrs keys bytes seen nwk old is found some =
+    let first = take known keys in
+    let fresh = drop known keys in
+    let r = frame_of bytes in
+    let parts = is ∙ shown_parts addrs first (found_nwk first bytes) r in
+    let nwk_is : seen.nwk ≡ found_nwk first bytes = ap (λ (s : Shown). s.nwk) parts in
+    let was : option_map (below first (given_in addrs r)) (payload_in seen.nwk r) ≡ Some old =
+    ap (λ n. option_map (below first (given_in addrs r)) (payload_in n r)) nwk_is ∙ sym (ap (λ (s : Shown). s.below) parts) ∙ some in
+    let P : Finding → Type 0 = λ n. IfSome (payload_in n r) (λ p. old ≡ below first (given_in addrs r) p) in
+    subst P (sym found) (if_some (payload_in (tried known fresh seen.nwk) r) (λ p. old ≡ below first (given_in addrs r) p)
+    (old_is (below first (given_in addrs r)) (payload_in seen.nwk r) (payload_in (tried known fresh seen.nwk) r) old was
+    (payload_kept known fresh seen.nwk r)))
+
+pub frame_found : (known : ℕ) (addrs : List (Short × Eui)) (keys : List Key) (bytes : List ℕ) (seen : Shown) (nwk : Finding) (old new : Below)
+    → known ≤ length keys → seen ≡ frame_shown addrs (take known keys) bytes → nwk ≡ tried known (drop known keys) seen.nwk → seen.below ≡ Some old
+    → IfSome (payload_in nwk (frame_of bytes)) (λ p. new ≡ below keys (given_in addrs (frame_of bytes)) p)
+    → record { nwk = nwk; below = Some new } ≡ frame_shown addrs keys bytes
+frame_found known addrs keys bytes seen nwk old new within is found some under =
+    let P : Finding → Type 0 = λ n. IfSome (payload_in n (frame_of bytes)) (λ p. new ≡ below keys (given_in addrs (frame_of bytes)) p) in
+    ap (λ n. whole n (Some new)) found ∙ frame_further known addrs keys bytes seen old new within is some (subst P found under)
 
 none_either : (b : Bool) (f : List ℕ → Below) → option_map f (if b then None else None) ≡ None
 none_either true f = refl
 none_either false f = refl
 
 closed_below : (addrs : List (Short × Eui)) (keys : List Key) (nwk : Finding) (f : NwkFrame) → is_closed nwk ≡ true
-    → sight_of addrs keys nwk (Ok f) ≡ whole nwk None
+    → shown_under addrs keys nwk (Ok f) ≡ whole nwk None
 closed_below addrs keys Malformed f e = cc
 closed_below addrs keys NotSecured f e = cc
 closed_below addrs keys NoSource f e = cc
@@ -186,10 +232,10 @@ closed_below addrs keys (Closed s source) f e =
 closed_below addrs keys (Opened key term) f e = cc
 
 -- Nothing is known below a closed layer.
-pub closed_sight : (addrs : List (Short × Eui)) (keys : List Key) (nwk : Finding) (r : Result NwkFrame NwkError) → is_closed nwk ≡ true
-    → sight_of addrs keys nwk r ≡ whole nwk None
-closed_sight addrs keys nwk (Err fault) e = refl
-closed_sight addrs keys nwk (Ok f) e = closed_below addrs keys nwk f e
+pub closed_frame : (addrs : List (Short × Eui)) (keys : List Key) (nwk : Finding) (r : Result NwkFrame NwkError) → is_closed nwk ≡ true
+    → shown_under addrs keys nwk r ≡ whole nwk None
+closed_frame addrs keys nwk (Err fault) e = refl
+closed_frame addrs keys nwk (Ok f) e = closed_below addrs keys nwk f e
 
 -- What is below the NWK layer, where no Tunnel was known in it.
 pub below_anew : (o : Option (List ℕ)) (known : ℕ) (keys : List Key) (given : Option Eui) (seen : Below) (aps : Finding) (inner : Option Finding)

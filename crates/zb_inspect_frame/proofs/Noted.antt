@@ -7,7 +7,7 @@ use Rattle.std.specs.Prelude.{if◌then◌else◌}
 use Rattle.zb_base.specs.declared.address.Eui.{Eui}
 use Rattle.zb_base.specs.declared.address.Short.{Short}
 use Rattle.zb_inspect_frame.specs.Known.{known_of, short_cmp}
-use Rattle.zb_inspect_frame.specs.Sights.{addr_of}
+use Rattle.zb_inspect_frame.specs.Shows.{addr_of}
 
 alike : (a b : ℕ) → is_eq (nat_cmp a b) ≡ (a == b)
 alike a b = grind arith

@@ -5,8 +5,8 @@ use Rattle.zb_transported.specs.Carrying.{carried}
 use Rattle.zb_inspect_frame.specs.declared.carried.Carried.{Carried}
 use Rattle.zb_inspect_frame.specs.declared.layer.Finding.{Finding}
 use Rattle.zb_inspect_frame.specs.declared.layer.Finding.TheVariants.{Malformed, NotSecured, NoSource, Closed, Opened}
-use Rattle.zb_inspect_frame.specs.declared.sight.Below.{Below}
-use Rattle.zb_inspect_frame.specs.declared.sight.Sight.{Sight}
+use Rattle.zb_inspect_frame.specs.declared.shown.Below.{Below}
+use Rattle.zb_inspect_frame.specs.declared.shown.Shown.{Shown}
 
 -- only what a key of the ring opened carries a key
 abbrev pub carries : Finding → Option Key
@@ -25,5 +25,5 @@ keys_of_layers nwk None = record { inner = None; aps = None; nwk = carries nwk }
 keys_of_layers nwk (Some below) = record { inner = key_below below.inner; aps = carries below.aps; nwk = carries nwk }
 
 -- the keys of a frame, from the innermost layer outwards
-abbrev pub keys_carried : Sight → Carried
-keys_carried sight = keys_of_layers sight.nwk sight.below
+abbrev pub keys_carried : Shown → Carried
+keys_carried shown = keys_of_layers shown.nwk shown.below

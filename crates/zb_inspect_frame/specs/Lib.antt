@@ -1,5 +1,5 @@
 pub mod Layers
-pub mod Sights
+pub mod Shows
 pub mod Carrying
 pub mod Settling
 pub mod Lines

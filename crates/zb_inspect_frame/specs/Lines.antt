@@ -7,8 +7,8 @@ use Rattle.zb_base.specs.declared.label.Layer.TheVariants as layer
 use Rattle.zb_seal.specs.declared.term.Term.{Term}
 use Rattle.zb_inspect_frame.specs.declared.layer.Finding.{Finding}
 use Rattle.zb_inspect_frame.specs.declared.layer.Finding.TheVariants.{Malformed, NotSecured, NoSource, Closed, Opened}
-use Rattle.zb_inspect_frame.specs.declared.sight.Below.{Below}
-use Rattle.zb_inspect_frame.specs.declared.sight.Sight.{Sight}
+use Rattle.zb_inspect_frame.specs.declared.shown.Below.{Below}
+use Rattle.zb_inspect_frame.specs.declared.shown.Shown.{Shown}
 use Rattle.zb_text.specs.Fields.{eui_text}
 use Rattle.zb_text.specs.Hexadecimal.{bytes_text}
 use Rattle.zb_text.specs.Words.{then}
@@ -49,13 +49,13 @@ below_text frame None = []
 below_text frame (Some below) = layer_line frame (codes "aps") below.aps ++ inner_text frame below.inner
 
 -- the lines of a frame
-abbrev pub sight_text : ℕ → Sight → List ℕ
-sight_text frame sight = layer_line frame (codes "nwk") sight.nwk ++ below_text frame sight.below
+abbrev pub frame_text : ℕ → Shown → List ℕ
+frame_text frame shown = layer_line frame (codes "nwk") shown.nwk ++ below_text frame shown.below
 
 -- those of frames, the first of which has the number `frame`
-abbrev pub sights_text : ℕ → List Sight → List ℕ
-sights_text frame [] = []
-sights_text frame (sight ∷ more) = sight_text frame sight ++ sights_text (frame + 1) more
+abbrev pub frames_text : ℕ → List Shown → List ℕ
+frames_text frame [] = []
+frames_text frame (shown ∷ more) = frame_text frame shown ++ frames_text (frame + 1) more
 
 -- those of so many frames that no key opened
 abbrev pub unopened_line : ℕ → List ℕ

@@ -4,10 +4,10 @@ use Rattle.zb_base.specs.declared.address.Eui.{Eui}
 use Rattle.zb_base.specs.declared.address.Short.{Short}
 use Rattle.zb_base.specs.declared.key.Key.{Key}
 use Rattle.zb_inspect_frame.specs.Layers.{is_closed}
-use Rattle.zb_inspect_frame.specs.Sights.{sight}
+use Rattle.zb_inspect_frame.specs.Shows.{frame_shown}
 use Rattle.zb_inspect_frame.specs.declared.layer.Finding.{Finding}
-use Rattle.zb_inspect_frame.specs.declared.sight.Below.{Below}
-use Rattle.zb_inspect_frame.specs.declared.sight.Sight.{Sight}
+use Rattle.zb_inspect_frame.specs.declared.shown.Below.{Below}
+use Rattle.zb_inspect_frame.specs.declared.shown.Shown.{Shown}
 
 abbrev pub inner_settled : Option Finding → Bool
 inner_settled None = true
@@ -18,18 +18,18 @@ below_settled None = true
 below_settled (Some below) = not (is_closed below.aps) && inner_settled below.inner
 
 -- whether no layer of a frame is closed
-abbrev pub is_settled : Sight → Bool
-is_settled sight = not (is_closed sight.nwk) && below_settled sight.below
+abbrev pub is_settled : Shown → Bool
+is_settled shown = not (is_closed shown.nwk) && below_settled shown.below
 
 -- whether no key opened the NWK layer of a frame, so that nothing is known of what is below it
-abbrev pub is_unopened : Sight → Bool
-is_unopened sight = is_closed sight.nwk && not (is_some sight.below)
+abbrev pub is_unopened : Shown → Bool
+is_unopened shown = is_closed shown.nwk && not (is_some shown.below)
 
 -- A frame that shows this under some keys shows the same under any further ones.
-abbrev pub ShowsNoMore : Sight → Type 0
+abbrev pub ShowsNoMore : Shown → Type 0
 ShowsNoMore seen = (known : ℕ) (addrs : List (Short × Eui)) (keys : List Key) (bytes : List ℕ) → known ≤ length keys
-    → seen ≡ sight addrs (take known keys) bytes → sight addrs keys bytes ≡ seen
+    → seen ≡ frame_shown addrs (take known keys) bytes → frame_shown addrs keys bytes ≡ seen
 
 -- A frame that shows this under some keys shows the same under none.
-abbrev pub ShowsNothing : Sight → Type 0
-ShowsNothing seen = (addrs : List (Short × Eui)) (keys : List Key) (bytes : List ℕ) → seen ≡ sight addrs keys bytes → sight addrs [] bytes ≡ seen
+abbrev pub ShowsNothing : Shown → Type 0
+ShowsNothing seen = (addrs : List (Short × Eui)) (keys : List Key) (bytes : List ℕ) → seen ≡ frame_shown addrs keys bytes → frame_shown addrs [] bytes ≡ seen

@@ -8,8 +8,9 @@ use std::collections::BTreeMap;
 use std::marker::Model;
 use zb_base::{Eui, Short};
 
-/// The IEEE addresses that are known of network addresses, in order to be found by these. A contract sees them as their
-/// list, of which the first address counts where a network address stands there twice.
+/// Finds the IEEE addresses that are known of network addresses.
+///
+/// A contract sees them as their list, of which the first address counts where a network address stands there twice.
 #[derive(Drop)]
 pub struct Addresses<'a> {
     list: &'a [(Short, Eui)],
@@ -21,7 +22,7 @@ impl<'a> Model for Addresses<'a> {
     ghost use Rattle.zb_base.specs.declared.address.Eui.{Eui};
     ghost use Rattle.zb_base.specs.declared.address.Short.{Short};
     ghost use Rattle.zb_inspect_frame.specs.Known.{known_of};
-    ghost use Rattle.zb_inspect_frame.specs.Sights.{addr_of};
+    ghost use Rattle.zb_inspect_frame.specs.Shows.{addr_of};
 
     ghost Value = { List (Short × Eui) };
 
@@ -32,9 +33,9 @@ impl<'a> Model for Addresses<'a> {
 
 impl<'a> Addresses<'a> {
     ghost use Rattle.std.specs.Prelude.{◌≡◌, IfOk};
-    ghost use Rattle.zb_inspect_frame.specs.Sights.{addr_of};
+    ghost use Rattle.zb_inspect_frame.specs.Shows.{addr_of};
 
-    /// The addresses of a list.
+    /// Takes the addresses of a list.
     pub fn new(alloc: Global, list: &'a [(Short, Eui)]) -> Result<Addresses<'a>, AllocError>
         ensures { IfOk result (λ a. a ≡ list.now) }
     {
@@ -45,7 +46,7 @@ impl<'a> Addresses<'a> {
         Ok(Addresses { list, by_short })
     }
 
-    /// The first IEEE address of a network address.
+    /// Finds the first IEEE address of a network address.
     pub fn of(&self, short: Short) -> Option<Eui>
         ensures { result ≡ addr_of short self.now }
     {
@@ -55,7 +56,8 @@ impl<'a> Addresses<'a> {
 
 /// Notes the address of a network address, unless one is there.
 fn note(by_short: &mut BTreeMap<Short, Eui>, addr: (Short, Eui)) -> Result<(), AllocError>
-    ensures { OnOk result ((q : ℕ) → known_of by_short.new q ≡ option_or (known_of by_short.old q) (if addr.0.0 == q then Some addr.1 else None)) }
+    ensures { OnOk result ((q : ℕ) → known_of by_short.new q ≡ option_or (known_of by_short.old q)
+        (if addr.0.0 == q then Some addr.1 else None)) }
 {
     if !by_short.contains_key(&addr.0) {
         by_short.insert(addr.0, addr.1)?;

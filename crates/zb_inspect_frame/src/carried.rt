@@ -3,32 +3,35 @@ ghost use Rattle.std.specs.Prelude.{◌≡◌};
 ghost use Rattle.zb_inspect_frame.specs.Carrying.{key_below, carries, keys_carried};
 
 use crate::layer::Finding;
-use crate::sight::{Below, Sight};
+use crate::shown::{Below, Shown};
 use zb_base::Key;
 use zb_transported::carried;
 
-/// The keys that the opened contents of a frame carry, from the innermost layer outwards.
+/// Holds the keys that the opened contents of a frame carry, from the innermost layer outwards.
 #[derive(Clone, Copy, Debug, PartialEq, Eq)]
 pub struct Carried {
+    /// The key in the APS frame in a Tunnel.
     pub inner: Option<Key>,
+    /// The key at the APS layer.
     pub aps: Option<Key>,
+    /// The key at the NWK layer.
     pub nwk: Option<Key>,
 }
 
-/// The keys that the contents carry which a key of the ring opened.
-pub fn carried_keys(sight: &Sight) -> Carried
-    ensures { result ≡ keys_carried sight.now }
+/// Gives the keys in those contents of a frame that a key of the ring opened.
+pub fn carried_keys(shown: &Shown) -> Carried
+    ensures { result ≡ keys_carried shown.now }
 {
-    match &sight.below {
+    match &shown.below {
         None => Carried {
             inner: None,
             aps: None,
-            nwk: carries(&sight.nwk),
+            nwk: carries(&shown.nwk),
         },
         Some(below) => Carried {
             inner: key_below(below),
             aps: carries(&below.aps),
-            nwk: carries(&sight.nwk),
+            nwk: carries(&shown.nwk),
         },
     }
 }

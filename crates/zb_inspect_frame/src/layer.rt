@@ -4,9 +4,9 @@ ghost use Rattle.std.specs.Option.{option_copied};
 ghost use Rattle.zb_inspect_frame.specs.Layers.{looked, tried, opened_by, clear as clear_of, is_closed as closed};
 
 use zb_base::{Eui, Frame};
-use zb_seal::{Ciphers, Envelope, OpenError, Term};
+use zb_seal::{Envelope, OpenError, SealingKeys, Term};
 
-/// What is found at one layer of a frame.
+/// Says what is found at one layer of a frame.
 #[derive(Debug, Drop)]
 pub enum Finding {
     /// The bytes are no frame of the layer.
@@ -16,12 +16,22 @@ pub enum Finding {
     /// The frame names no source, and none is known.
     NoSource,
     /// No key of the ring opens the frame.
-    Closed { envelope: Envelope, source: Eui },
+    Closed {
+        /// What is needed to try further keys.
+        envelope: Envelope,
+        /// Who sealed it.
+        source: Eui,
+    },
     /// The first key of the ring that opens the frame is that of this number, from 1.
-    Opened { key: u32, term: Term },
+    Opened {
+        /// The number of the key.
+        key: u32,
+        /// What the key opened.
+        term: Term,
+    },
 }
 
-/// What a layer is before any key is tried. `given` is the source where the frame names none.
+/// Judges a layer before any key is tried. `given` is the source where the frame names none.
 pub(crate) fn look(seen: Result<Envelope, OpenError>, given: Option<Eui>) -> Finding
     ensures { result ≡ looked seen given }
 {
@@ -38,7 +48,7 @@ pub(crate) fn look(seen: Result<Envelope, OpenError>, given: Option<Eui>) -> Fin
 }
 
 /// Tries keys, one after the other, on a layer that no key before them opened; there are `number` of those.
-pub(crate) fn try_keys(finding: Finding, number: u32, keys: &[Ciphers]) -> Finding
+pub(crate) fn try_keys(finding: Finding, number: u32, keys: &[SealingKeys]) -> Finding
     requires { number + length keys.now < 2 ^ 32 }
     ensures { result ≡ tried number keys.now finding }
 {
@@ -49,20 +59,20 @@ pub(crate) fn try_keys(finding: Finding, number: u32, keys: &[Ciphers]) -> Findi
 }
 
 #[tactic(auto, using(crate::proofs::Trying::opens_here, crate::proofs::Trying::opens_later))]
-fn open_first(envelope: Envelope, source: Eui, number: u32, keys: &[Ciphers]) -> Finding
+fn open_first(envelope: Envelope, source: Eui, number: u32, keys: &[SealingKeys]) -> Finding
     requires { number + length keys.now < 2 ^ 32 }
     ensures { result ≡ opened_by envelope source number keys.now }
 {
     let mut closed = envelope;
     let mut place = number;
-    for ciphers in keys {
+    for sealing_keys in keys {
         place += 1;
-        let cipher = ciphers.of(closed.label);
+        let cipher = sealing_keys.of(closed.label);
         match closed.unseal(cipher, source) {
             Ok(()) => {
                 return Finding::Opened {
                     key: place,
-                    term: closed.into_term(ciphers.base(), source),
+                    term: closed.into_term(sealing_keys.base(), source),
                 };
             }
             Err(_) => {}
@@ -74,7 +84,7 @@ fn open_first(envelope: Envelope, source: Eui, number: u32, keys: &[Ciphers]) ->
     }
 }
 
-/// The content of a layer, where it is known: `body` where the frame is not secured, else what it was opened to.
+/// Gives the content of a layer, where it is known: `body` where the frame is not secured, else what it was opened to.
 pub(crate) fn clear<'a>(finding: &'a Finding, body: &'a Frame) -> Option<&'a [u8]>
     ensures value { option_copied result ≡ clear_of finding.now body.now.items }
     ensures fits { IfSome result (λ content. length content.now ≤ 127) }

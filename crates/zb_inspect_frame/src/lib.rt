@@ -8,12 +8,12 @@ mod further;
 mod layer;
 mod lines;
 mod settled;
-mod sight;
+mod shown;
 
 pub use addresses::Addresses;
 pub use carried::{Carried, carried_keys};
 pub use further::show_more;
 pub use layer::Finding;
-pub use lines::{put_sights, put_unopened};
+pub use lines::{put_frames, put_unopened};
 pub use settled::{is_settled, is_unopened};
-pub use sight::{Below, Sight, show};
+pub use shown::{Below, Shown, show};

@@ -1,10 +1,10 @@
 //! The lines of a frame in a report: one for each layer.
 ghost use Rattle.std.specs.Prelude.{◌≡◌, ◌+◌, ◌<◌, ◌^◌, ◌++◌, ◌∷◌, [], length, decimal, OnOk};
 ghost use Rattle.zb_text.specs.Words.{then};
-ghost use Rattle.zb_inspect_frame.specs.Lines.{label_word, label_text, opened_text, finding_text, layer_line, inner_text, below_text, sight_text, sights_text, unopened_line, unopened_text};
+ghost use Rattle.zb_inspect_frame.specs.Lines.{label_word, label_text, opened_text, finding_text, layer_line, inner_text, below_text, frame_text, frames_text, unopened_line, unopened_text};
 
 use crate::layer::Finding;
-use crate::sight::{Below, Sight};
+use crate::shown::{Below, Shown};
 use std::alloc::AllocError;
 use zb_base::{Label, Layer};
 use zb_seal::Term;
@@ -12,19 +12,23 @@ use zb_text::numbers::put_number;
 use zb_text::page::{add_bytes, add_eui, add_number, add_word, end_line};
 
 /// Prints the lines of frames, the first of which has the number `first`.
-pub fn put_sights(out: &mut Vec<u8>, first: u32, sights: &[Sight]) -> Result<(), AllocError>
-    requires { first + length sights.now < 2 ^ 32 }
-    ensures { OnOk result (out.new.items ≡ out.old.items ++ sights_text first sights.now) }
+///
+/// Requires that their numbers are below 2^32.
+pub fn put_frames(out: &mut Vec<u8>, first: u32, all_shown: &[Shown]) -> Result<(), AllocError>
+    requires { first + length all_shown.now < 2 ^ 32 }
+    ensures { OnOk result (out.new.items ≡ out.old.items ++ frames_text first all_shown.now) }
 {
     let mut frame = first;
-    for sight in sights {
-        put_sight(out, frame, sight)?;
+    for shown in all_shown {
+        put_frame(out, frame, shown)?;
         frame += 1;
     }
     Ok(())
 }
 
 /// Prints the lines of so many frames that no key opened, the first of which has the number `first`.
+///
+/// Requires that their numbers are below 2^32.
 pub fn put_unopened(out: &mut Vec<u8>, first: u32, count: u32) -> Result<(), AllocError>
     requires { first + count < 2 ^ 32 }
     ensures { OnOk result (out.new.items ≡ out.old.items ++ unopened_text first count) }
@@ -47,11 +51,11 @@ fn put_unopened_line(out: &mut Vec<u8>, frame: u32) -> Result<(), AllocError>
 }
 
 #[tactic(auto, using(std::proofs::Common::append_assoc))]
-fn put_sight(out: &mut Vec<u8>, frame: u32, sight: &Sight) -> Result<(), AllocError>
-    ensures { OnOk result (out.new.items ≡ out.old.items ++ sight_text frame sight.now) }
+fn put_frame(out: &mut Vec<u8>, frame: u32, shown: &Shown) -> Result<(), AllocError>
+    ensures { OnOk result (out.new.items ≡ out.old.items ++ frame_text frame shown.now) }
 {
-    put_layer(out, frame, b"nwk", &sight.nwk)?;
-    put_below(out, frame, &sight.below)?;
+    put_layer(out, frame, b"nwk", &shown.nwk)?;
+    put_below(out, frame, &shown.below)?;
     Ok(())
 }
 
@@ -108,7 +112,8 @@ fn put_finding(out: &mut Vec<u8>, finding: &Finding) -> Result<(), AllocError>
 
 #[tactic(auto, using(std::proofs::Common::append_assoc))]
 fn put_opened(out: &mut Vec<u8>, key: u32, term: &Term) -> Result<(), AllocError>
-    ensures { OnOk result (out.new.items ≡ out.old.items ++ (then (107 ∷ 101 ∷ 121 ∷ []) ++ then (decimal key) ++ opened_text term.now)) }
+    ensures { OnOk result (out.new.items
+        ≡ out.old.items ++ (then (107 ∷ 101 ∷ 121 ∷ []) ++ then (decimal key) ++ opened_text term.now)) }
 {
     add_word(out, b"key")?;
     add_number(out, key)?;

@@ -4,22 +4,22 @@ ghost use Rattle.std.specs.Bool.{OnTrue};
 ghost use Rattle.zb_inspect_frame.specs.Settling.{is_settled as settled, is_unopened as unopened, below_settled as below_is, inner_settled as inner_is, ShowsNoMore, ShowsNothing};
 
 use crate::layer::{Finding, is_closed};
-use crate::sight::{Below, Sight};
+use crate::shown::{Below, Shown};
 
-/// Whether no layer of a frame is closed. Such a frame shows the same under any further keys.
-pub fn is_settled(sight: &Sight) -> bool
-    ensures value { result ≡ settled sight.now }
-    ensures lasting { OnTrue result (ShowsNoMore sight.now) }
+/// Answers whether no layer of a frame is closed. Such a frame shows the same under any further keys.
+pub fn is_settled(shown: &Shown) -> bool
+    ensures value { result ≡ settled shown.now }
+    ensures lasting { OnTrue result (ShowsNoMore shown.now) }
 {
-    !is_closed(&sight.nwk) && below_settled(&sight.below)
+    !is_closed(&shown.nwk) && below_settled(&shown.below)
 }
 
-/// Whether no key opened the NWK layer of a frame. Such a frame shows what it shows under no keys.
-pub fn is_unopened(sight: &Sight) -> bool
-    ensures value { result ≡ unopened sight.now }
-    ensures nothing { OnTrue result (ShowsNothing sight.now) }
+/// Answers whether no key opened the NWK layer of a frame. Such a frame shows what it shows under no keys.
+pub fn is_unopened(shown: &Shown) -> bool
+    ensures value { result ≡ unopened shown.now }
+    ensures nothing { OnTrue result (ShowsNothing shown.now) }
 {
-    is_closed(&sight.nwk) && sight.below.is_none()
+    is_closed(&shown.nwk) && shown.below.is_none()
 }
 
 fn below_settled(below: &Option<Below>) -> bool

@@ -6,16 +6,16 @@ use Rattle.arrayvec.specs.ArrayVec.{ArrayVec}
 use Rattle.zb_base.specs.declared.address.Eui.{Eui}
 use Rattle.zb_base.specs.declared.address.Short.{Short}
 use Rattle.zb_base.specs.declared.key.Key.{Key}
-use Rattle.zb_inspect_frame.specs.Lines.{sights_text}
+use Rattle.zb_inspect_frame.specs.Lines.{frames_text}
 use Rattle.zb_inspect_frame.specs.Settling.{is_settled, is_unopened}
-use Rattle.zb_inspect_frame.specs.Sights.{sight}
-use Rattle.zb_inspect_frame.proofs.UnopenedSights.{unopened_same}
-use Rattle.zb_inspect_ring.specs.Pieces.{all_fresh, frames_in, fresh, found_in, IsNext, MayStandFor, StandsFor, SameFrames, Sees, Shown}
+use Rattle.zb_inspect_frame.specs.Shows.{frame_shown}
+use Rattle.zb_inspect_frame.proofs.UnopenedFrames.{unopened_same}
+use Rattle.zb_inspect_ring.specs.Pieces.{all_fresh, frames_in, fresh, found_in, IsNext, MayStandFor, StandsFor, SameFrames, Sees, IsShown}
 use Rattle.zb_inspect_ring.specs.declared.block.Block.{Block}
 use Rattle.zb_inspect_ring.specs.declared.block.Seen.{Seen}
 use Rattle.zb_inspect_ring.specs.declared.block.Seen.TheVariants.{Lines, Unopened}
 use Rattle.zb_inspect_ring.specs.declared.ring.Lead.{Lead}
-use Rattle.zb_inspect_ring.specs.Rings.{sights}
+use Rattle.zb_inspect_ring.specs.Rings.{frames_shown}
 use Rattle.zb_inspect_ring.proofs.FreshLeads.{both_true, settled_frames}
 use Rattle.zb_inspect_ring.proofs.Lists.{Half, half_get, half_more, all_at, flat_next}
 
@@ -26,16 +26,16 @@ lines_stay known frames addrs keys b lines within is seen =
     let P : Seen → Type 0 = λ s. MayStandFor b.first (found_in frames addrs (take known keys) b) s in
     let may = subst P (sym is) seen in
     let same = settled_frames known addrs keys (frames_in frames b) within may.1 in
-    (may.0 ∙ ap (sights_text b.first) (sym same), ap (list_all is_settled) same ∙ may.1)
+    (may.0 ∙ ap (frames_text b.first) (sym same), ap (list_all is_settled) same ∙ may.1)
 
 -- frames that no key opened show what they show under no keys
-pub unopened_frames : (addrs : List (Short × Eui)) (keys : List Key) (frames : List (ArrayVec ℕ)) → list_all is_unopened (sights addrs keys frames) ≡ true
-    → sights addrs [] frames ≡ sights addrs keys frames
+pub unopened_frames : (addrs : List (Short × Eui)) (keys : List Key) (frames : List (ArrayVec ℕ)) → list_all is_unopened (frames_shown addrs keys frames) ≡ true
+    → frames_shown addrs [] frames ≡ frames_shown addrs keys frames
 unopened_frames addrs keys [] all = refl
 unopened_frames addrs keys (f ∷ frames) all =
-    let parts = both_true (is_unopened (sight addrs keys f.items)) (list_all is_unopened (sights addrs keys frames)) all in
-    ap (λ s. s ∷ sights addrs [] frames) (sym (unopened_same addrs keys f.items parts.0))
-    ∙ ap (λ zs. sight addrs keys f.items ∷ zs) (unopened_frames addrs keys frames parts.1)
+    let parts = both_true (is_unopened (frame_shown addrs keys f.items)) (list_all is_unopened (frames_shown addrs keys frames)) all in
+    ap (λ s. s ∷ frames_shown addrs [] frames) (sym (unopened_same addrs keys f.items parts.0))
+    ∙ ap (λ zs. frame_shown addrs keys f.items ∷ zs) (unopened_frames addrs keys frames parts.1)
 
 pub unopened_before : (known : ℕ) (frames : List (ArrayVec ℕ)) (addrs : List (Short × Eui)) (keys : List Key) (b : Block) → Unopened ≡ b.seen
     → Sees frames addrs (take known keys) b → list_all is_unopened (found_in frames addrs (take known keys) b) ≡ true
@@ -44,7 +44,7 @@ unopened_before known frames addrs keys b is seen =
 
 -- one block more that is looked at
 pub next_half : (frames : List (ArrayVec ℕ)) (addrs : List (Short × Eui)) (keys : List Key) (i : ℕ) (old now : List Block) (d y : Block) → i < length old
-    → Half (IsNext frames addrs keys) i old now → SameFrames (get_or now i d) y → Shown frames addrs keys y → Half (IsNext frames addrs keys) (i + 1) old (slice_set now i y)
+    → Half (IsNext frames addrs keys) i old now → SameFrames (get_or now i d) y → IsShown frames addrs keys y → Half (IsNext frames addrs keys) (i + 1) old (slice_set now i y)
 next_half frames addrs keys i old now d y within half same shown =
     let P : Block → Type 0 = λ b. SameFrames b y in
     half_more (IsNext frames addrs keys) i old now d y within half (subst P (half_get (IsNext frames addrs keys) i old now d within half) same, shown)

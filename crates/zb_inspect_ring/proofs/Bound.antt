@@ -12,10 +12,10 @@ use Rattle.zb_base.specs.declared.key.Key.{Key}
 use Rattle.zb_capture.specs.Grammar.{IsCapture}
 use Rattle.zb_capture.specs.declared.capture.Capture.{Capture}
 use Rattle.zb_inspect_frame.specs.Carrying.{keys_carried}
-use Rattle.zb_inspect_frame.specs.Sights.{sight}
+use Rattle.zb_inspect_frame.specs.Shows.{frame_shown}
 use Rattle.zb_inspect_frame.specs.declared.carried.Carried.{Carried}
-use Rattle.zb_inspect_frame.specs.declared.sight.Sight.{Sight}
-use Rattle.zb_inspect_ring.specs.Rings.{is_key, has_key, with_key, given_from, keys_of, lead_of, leads_of, leads, sights, learnt, ring_after, ring_from, ring_of, IsRing}
+use Rattle.zb_inspect_frame.specs.declared.shown.Shown.{Shown}
+use Rattle.zb_inspect_ring.specs.Rings.{is_key, has_key, with_key, given_from, keys_of, lead_of, leads_of, leads, frames_shown, learnt, ring_after, ring_from, ring_of, IsRing}
 use Rattle.zb_inspect_ring.specs.declared.ring.Lead.{Lead}
 use Rattle.zb_inspect_ring.specs.declared.ring.Ring.{Ring}
 use Rattle.zb_inspect_ring.specs.declared.ring.RingKey.{RingKey}
@@ -142,15 +142,15 @@ known_frame ring frame a b known grows =
     )
 
 known_frames : (ring : List RingKey) (known : ℕ) (addrs : List (Short × Eui)) (keys : List Key) (frame : ℕ) (frames : List (ArrayVec ℕ)) → known ≤ length keys
-    → AllKnown ring (leads frame (sights addrs (take known keys) frames))
-    → unknown ring (leads frame (sights addrs keys frames)) + length (leads frame (sights addrs (take known keys) frames))
-    ≤ length (leads frame (sights addrs keys frames))
+    → AllKnown ring (leads frame (frames_shown addrs (take known keys) frames))
+    → unknown ring (leads frame (frames_shown addrs keys frames)) + length (leads frame (frames_shown addrs (take known keys) frames))
+    ≤ length (leads frame (frames_shown addrs keys frames))
 known_frames ring known addrs keys frame [] within all = omega arith
 known_frames ring known addrs keys frame (f ∷ frames) within all =
-    let a = keys_carried (sight addrs (take known keys) f.items) in
-    let b = keys_carried (sight addrs keys f.items) in
-    let more = leads (frame + 1) (sights addrs (take known keys) frames) in
-    let also = leads (frame + 1) (sights addrs keys frames) in
+    let a = keys_carried (frame_shown addrs (take known keys) f.items) in
+    let b = keys_carried (frame_shown addrs keys f.items) in
+    let more = leads (frame + 1) (frames_shown addrs (take known keys) frames) in
+    let also = leads (frame + 1) (frames_shown addrs keys frames) in
     let parts = known_split ring (leads_of frame a) more all in
     let here = known_frame ring frame a b parts.0 (carried_grows known addrs keys f.items within) in
     let rest = known_frames ring known addrs keys (frame + 1) frames within parts.1 in
@@ -167,7 +167,7 @@ given_most ring (key ∷ keys) =
     omega (arith, given_most (with_key ring key None) keys, given_one ring (record { key = key; found = None }) (has_key ring key))
 
 abbrev led : Capture → List RingKey → List Lead
-led c ring = leads 1 (sights c.addrs (keys_of ring) c.frames)
+led c ring = leads 1 (frames_shown c.addrs (keys_of ring) c.frames)
 
 -- a ring has no more keys than are given and than are carried under the ring of the round before
 round_most : (c : Capture) (n : ℕ) → length (ring_after c (suc n)) ≤ length c.keys + length (led c (ring_after c n))
@@ -180,15 +180,15 @@ round_most c (suc n) =
     let count = length old in
     let first : take count (keys_of ring) ≡ keys_of old = first_keys (suc n) old ring (led c old) refl in
     let within : count ≤ length (keys_of ring) = omega (arith, not_shorter (suc n) old ring (led c old) refl, length-map ring (λ (k : RingKey). k.key)) in
-    let K : List Key → Type 0 = λ keys. AllKnown ring (leads 1 (sights c.addrs keys c.frames)) in
+    let K : List Key → Type 0 = λ keys. AllKnown ring (leads 1 (frames_shown c.addrs keys c.frames)) in
     let known = known_frames ring count c.addrs (keys_of ring) 1 c.frames within (subst K (sym first) (all_known (suc n) old (led c old))) in
-    omega (arith, learnt_most (suc (suc n)) ring (led c ring), round_most c n, known, ap (λ keys. length (leads 1 (sights c.addrs keys c.frames))) first)
+    omega (arith, learnt_most (suc (suc n)) ring (led c ring), round_most c n, known, ap (λ keys. length (leads 1 (frames_shown c.addrs keys c.frames))) first)
 
 one_lead : (frame : ℕ) (o : Option Key) → length (lead_of frame o) ≤ 1
 one_lead frame None = omega arith
 one_lead frame (Some key) = omega arith
 
-three_leads : (frame : ℕ) (xs : List Sight) → length (leads frame xs) ≤ 3 * length xs
+three_leads : (frame : ℕ) (xs : List Shown) → length (leads frame xs) ≤ 3 * length xs
 three_leads frame [] = omega arith
 three_leads frame (x ∷ xs) =
     let k = keys_carried x in
@@ -207,7 +207,7 @@ pub ring_most : (c : Capture) (n : ℕ) → length (ring_after c n) ≤ length c
 unfolding ring_after
 ring_most c zero = omega (arith, given_most [] c.keys)
 ring_most c (suc n) =
-    omega (arith, round_most c n, three_leads 1 (sights c.addrs (keys_of (ring_after c n)) c.frames), length-map c.frames (λ (f : ArrayVec ℕ). sight c.addrs (keys_of (ring_after c n)) f.items))
+    omega (arith, round_most c n, three_leads 1 (frames_shown c.addrs (keys_of (ring_after c n)) c.frames), length-map c.frames (λ (f : ArrayVec ℕ). frame_shown c.addrs (keys_of (ring_after c n)) f.items))
 
 -- a capture in its limits
 pub ring_few : (c : Capture) (n : ℕ) (ring : List RingKey) → IsCapture c → ring ≡ ring_after c n → length ring ≤ 300256
@@ -250,28 +250,28 @@ test_true a b same = grind (arith, nat_tests)
 not_both : (a b : ℕ) → (a == b) ≡ false → a ≡ b → ⊥
 not_both a b other same = grind (arith, nat_tests)
 
-step_from : (greatest_counter n : ℕ) (c : Capture) (ring : Ring) (b : Bool) → IsRing c ring → n < ring.rounds
+step_from : (most n : ℕ) (c : Capture) (ring : Ring) (b : Bool) → IsRing c ring → n < ring.rounds
     → (length (ring_after c (suc n)) == length (ring_after c n)) ≡ b
-    → (suc n < ring.rounds → ring_from greatest_counter c (suc n) ≡ ring)
-    → (if b then record { keys = ring_after c (suc n); rounds = suc n } else ring_from greatest_counter c (suc n)) ≡ ring
+    → (suc n < ring.rounds → ring_from most c (suc n) ≡ ring)
+    → (if b then record { keys = ring_after c (suc n); rounds = suc n } else ring_from most c (suc n)) ≡ ring
 unfolding ring_after
-step_from greatest_counter n c ring true is within same rest =
+step_from most n c ring true is within same rest =
     let old = ring_after c n in
     let stays : ring_after c (suc n) ≡ old = unchanged (suc n) old (ring_after c (suc n)) (led c old) refl (test_true _ _ same) in
     let no_more : suc n < ring.rounds → ⊥ = λ more. is.first (suc n) (omega arith) more (stays ∙ ap (ring_after c) (omega arith)) in
     let count : suc n ≡ ring.rounds = omega (arith, within, no_more) in
     same_ring c ring is (suc n) count
-step_from greatest_counter n c ring false is within other rest =
+step_from most n c ring false is within other rest =
     rest (let more : ring.rounds ≢ suc n = λ e. not_both (length (ring_after c (suc n))) (length (ring_after c n)) other
     (ap (λ k. length (ring_after c k)) (sym e) ∙ ap (length {A = RingKey}) is.last ∙ ap (λ k. length (ring_after c (k - 1))) e ∙ ap (λ k. length (ring_after c k)) (omega arith)) in
     omega (arith, within, more))
 
-walk : (greatest_counter n : ℕ) (c : Capture) (ring : Ring) → IsRing c ring → n < ring.rounds → ring.rounds ≤ n + greatest_counter → ring_from greatest_counter c n ≡ ring
+walk : (most n : ℕ) (c : Capture) (ring : Ring) → IsRing c ring → n < ring.rounds → ring.rounds ≤ n + most → ring_from most c n ≡ ring
 unfolding ring_from
 walk zero n c ring is within most_rounds = absurd (omega (arith, within, most_rounds))
-walk (suc greatest_counter) n c ring is within most_rounds =
-    step_from greatest_counter n c ring (length (ring_after c (suc n)) == length (ring_after c n)) is within refl
-    (λ more. walk greatest_counter (suc n) c ring is more (omega (arith, most_rounds)))
+walk (suc most) n c ring is within most_rounds =
+    step_from most n c ring (length (ring_after c (suc n)) == length (ring_after c n)) is within refl
+    (λ more. walk most (suc n) c ring is more (omega (arith, most_rounds)))
 
 -- there is one ring, and it is found
 pub ring_is : (c : Capture) (ring : Ring) → IsRing c ring → ring ≡ ring_of c

@@ -1,65 +1,94 @@
--- Numbers of frames that are cut off, one block or piece after the other.
-use Rattle.std.proofs.Common.{◌≡◌, ℕ, zero, suc, ◌+◌, ◌-◌, ◌*◌, ◌<◌, ◌≤◌, List, ◌∷◌, [], ◌++◌, length, min, append_assoc, append-nil, ap, sym, ◌∙◌, subst, arith}
+-- Frames that are cut into pieces, a piece for each share.
+use Rattle.std.proofs.Common.{◌≡◌, ℕ, zero, suc, ◌+◌, ◌-◌, ◌*◌, ◌<◌, ◌≤◌, List, ◌∷◌, [], ◌++◌, length, min, refl, ap, sym, ◌∙◌, subst, arith}
 use Rattle.std.specs.Int.{div_ceil}
-use Rattle.std.specs.List.{AllByRecursion}
+use Rattle.std.specs.List.{AllByRecursion, AllZip}
 use Rattle.std.proofs.lemmas.Grind.{div_ceil_times}
-use Rattle.zb_inspect_ring.specs.Pieces.{AreSized, all_blocks, count_of, IsUnseen, Numbered}
-use Rattle.zb_inspect_ring.specs.declared.block.Block.{Block}
+use Rattle.zb_jobs.specs.Shares.{AreShares}
+use Rattle.zb_jobs.specs.declared.share.Share.{Share}
+use Rattle.zb_inspect_ring.specs.Pieces.{AreSized, all_blocks, count_of, HasShare, IsShareWithin, IsUnseen, Numbered}
 use Rattle.zb_inspect_ring.specs.declared.piece.Piece.{Piece}
 use Rattle.zb_inspect_ring.proofs.Lists.{all_append}
-use Rattle.zb_inspect_ring.proofs.PieceLists.{blocks_more, counts_append, numbered_append}
+use Rattle.zb_inspect_ring.proofs.PieceLists.{counts_append, numbered_append}
 
--- what was cut off so far
-pub record IsCutOff (first done : ℕ) (blocks : List Block) : Type 0 where
-  pub numbers : Numbered first blocks
-  pub count : count_of blocks ≡ done
-  pub unseen : AllByRecursion IsUnseen blocks
+-- one item more on each side
+pub zip_more : {A B : Type 0} (R : A → B → Type 0) (xs : List A) (ys zs : List B) (x : A) (y : B) → AllZip R xs ys → R x y → zs ≡ ys ++ y ∷ []
+    → AllZip R (xs ++ x ∷ []) zs
+zip_more R xs ys zs x y all related items = subst (λ (bs : List _). AllZip R (xs ++ x ∷ []) bs) (sym items) (zip_end R xs ys x y all related)
 
--- some blocks more
-pub cut_off : (first done size number : ℕ) (old more new : List Block) → IsCutOff first done old → new ≡ old ++ more → number ≡ first + done
-    → IsCutOff number size more → IsCutOff first (done + size) new
-cut_off first done size number old more new before items is next =
-    let N : List Block → Type 0 = λ bs. Numbered first bs in
-    let U : List Block → Type 0 = λ bs. AllByRecursion IsUnseen bs in
-    let M : ℕ → Type 0 = λ n. Numbered n more in
-    record {
-      numbers = subst N (sym items) (numbered_append first old more before.numbers (subst M (omega (arith, is, before.count)) next.numbers));
-      count = ap count_of items ∙ counts_append old more ∙ omega (arith, before.count, next.count);
-      unseen = subst U (sym items) (all_append IsUnseen old more before.unseen next.unseen);
-    }
+zip_end : {A B : Type 0} (R : A → B → Type 0) (xs : List A) (ys : List B) (x : A) (y : B) → AllZip R xs ys → R x y
+    → AllZip R (xs ++ x ∷ []) (ys ++ y ∷ [])
+zip_end R [] [] x y all related = (related, tt)
+zip_end R [] (v ∷ ys) x y all related = absurd all
+zip_end R (u ∷ xs) [] x y all related = absurd all
+zip_end R (u ∷ xs) (v ∷ ys) x y all related = (all.0, zip_end R xs ys x y all.1 related)
 
-pub piece_items : (old new : List Piece) (p : Piece) → new ≡ old ++ p ∷ [] → all_blocks new ≡ all_blocks old ++ p.blocks.items
-piece_items old new p items = ap all_blocks items ∙ blocks_more old p
+-- shares of so many items begin within them
+pub all_within : (items size number first left : ℕ) (shares : List Share) → AreShares size number first left shares → first + left ≤ items
+    → AllByRecursion (IsShareWithin items) shares
+all_within items size number first left [] cut room = tt
+all_within items size number first left (s ∷ shares) cut room = (
+  omega (arith, cut.1, cut.2, room),
+  all_within items size (number + 1) (first + min size left) (left - min size left) shares cut.4 (omega (arith, room)),
+)
 
--- some frames are given to each job
-pub some_size : (n size jobs : ℕ) → n ≤ size * jobs → 0 < n → 0 < size
-some_size n zero jobs greatest_counter some = absurd (omega arith)
-some_size n (suc size) jobs greatest_counter some = omega arith
+-- the pieces have all frames, in their order
 
--- what was cut off so far, whatever is cut off behind it
-abbrev pub AreSizedSoFar : ℕ → ℕ → ℕ → ℕ → List Piece → Type 0
-AreSizedSoFar size frames number left pieces = (more : List Piece) → AreSized size number left more → AreSized size 0 frames (pieces ++ more)
+pub cut_numbers : (size number first left : ℕ) (shares : List Share) (pieces : List Piece) → AreShares size number first left shares
+    → AllZip HasShare shares pieces → Numbered (first + 1) (all_blocks pieces)
+cut_numbers size number first left [] [] cut all = tt
+cut_numbers size number first left [] (p ∷ pieces) cut all = absurd all
+cut_numbers size number first left (s ∷ shares) [] cut all = absurd all
+cut_numbers size number first left (s ∷ shares) (p ∷ pieces) cut all =
+    let P : ℕ → Type 0 = λ n. Numbered n p.blocks.items in
+    let Q : ℕ → Type 0 = λ n. Numbered n (all_blocks pieces) in
+    numbered_append (first + 1) p.blocks.items (all_blocks pieces) (subst P (ap (λ n. n + 1) cut.1) all.0.numbers)
+    (subst Q (omega (arith, all.0.count, cut.3)) (cut_numbers size (number + 1) (first + min size left) (left - min size left) shares pieces cut.4 all.1))
 
--- a piece more
-pub sized_more : (size frames number left rest : ℕ) (old new : List Piece) (p : Piece) → AreSizedSoFar size frames number left old → new ≡ old ++ p ∷ []
-    → p.number ≡ number → 0 < left → count_of p.blocks.items ≡ min size left → rest ≡ left - min size left
-    → AreSizedSoFar size frames (number + 1) rest new
-sized_more size frames number left rest old new p so_far items numbered some count is more sized =
-    let P : List Piece → Type 0 = λ ps. AreSized size 0 frames ps in
-    let Q : ℕ → Type 0 = λ n. AreSized size (number + 1) n more in
-    subst P (sym (ap (λ ps. ps ++ more) items ∙ append_assoc old (p ∷ []) more)) (so_far (p ∷ more) (numbered, some, count, subst Q is sized))
+pub cut_counts : (size number first left : ℕ) (shares : List Share) (pieces : List Piece) → AreShares size number first left shares
+    → AllZip HasShare shares pieces → count_of (all_blocks pieces) ≡ left
+cut_counts size number first left [] [] cut all = sym cut
+cut_counts size number first left [] (p ∷ pieces) cut all = absurd all
+cut_counts size number first left (s ∷ shares) [] cut all = absurd all
+cut_counts size number first left (s ∷ shares) (p ∷ pieces) cut all =
+    omega (
+      arith,
+      counts_append p.blocks.items (all_blocks pieces),
+      all.0.count,
+      cut.3,
+      cut_counts size (number + 1) (first + min size left) (left - min size left) shares pieces cut.4 all.1,
+    )
 
--- no piece more
-pub sized_end : (size frames number left : ℕ) (pieces : List Piece) → AreSizedSoFar size frames number left pieces → left ≡ 0 → AreSized size 0 frames pieces
-sized_end size frames number left pieces so_far none =
-    let P : List Piece → Type 0 = λ ps. AreSized size 0 frames ps in subst P (append-nil pieces) (so_far [] none)
+pub cut_unseen : (shares : List Share) (pieces : List Piece) → AllZip HasShare shares pieces → AllByRecursion IsUnseen (all_blocks pieces)
+cut_unseen [] [] all = tt
+cut_unseen [] (p ∷ pieces) all = absurd all
+cut_unseen (s ∷ shares) [] all = absurd all
+cut_unseen (s ∷ shares) (p ∷ pieces) all =
+    all_append IsUnseen p.blocks.items (all_blocks pieces) all.0.unseen (cut_unseen shares pieces all.1)
+
+pub cut_sized : (size number first left : ℕ) (shares : List Share) (pieces : List Piece) → AreShares size number first left shares
+    → AllZip HasShare shares pieces → AreSized size number left pieces
+cut_sized size number first left [] [] cut all = cut
+cut_sized size number first left [] (p ∷ pieces) cut all = absurd all
+cut_sized size number first left (s ∷ shares) [] cut all = absurd all
+cut_sized size number first left (s ∷ shares) (p ∷ pieces) cut all = (
+  all.0.number ∙ cut.0,
+  cut.2,
+  all.0.count ∙ cut.3,
+  cut_sized size (number + 1) (first + min size left) (left - min size left) shares pieces cut.4 all.1,
+)
+
+pub cut_lengths : (shares : List Share) (pieces : List Piece) → AllZip HasShare shares pieces → length pieces ≡ length shares
+cut_lengths [] [] all = refl
+cut_lengths [] (p ∷ pieces) all = absurd all
+cut_lengths (s ∷ shares) [] all = absurd all
+cut_lengths (s ∷ shares) (p ∷ pieces) all = ap suc (cut_lengths shares pieces all.1)
 
 -- there are no more pieces than jobs
-pub few_pieces : (size number left jobs : ℕ) (pieces : List Piece) → AreSized size number left pieces → left ≤ size * jobs → length pieces ≤ jobs
-few_pieces size number left jobs [] sized greatest_counter = omega arith
-few_pieces size number left zero (p ∷ more) sized greatest_counter = absurd (omega (arith, greatest_counter, sized.1))
-few_pieces size number left (suc jobs) (p ∷ more) sized greatest_counter =
-    omega (arith, few_pieces size (number + 1) (left - min size left) jobs more sized.3 (omega (arith, greatest_counter)))
+few_pieces : (size number left jobs : ℕ) (pieces : List Piece) → AreSized size number left pieces → left ≤ size * jobs → length pieces ≤ jobs
+few_pieces size number left jobs [] sized most = omega arith
+few_pieces size number left zero (p ∷ more) sized most = absurd (omega (arith, most, sized.1))
+few_pieces size number left (suc jobs) (p ∷ more) sized most =
+    omega (arith, few_pieces size (number + 1) (left - min size left) jobs more sized.3 (omega (arith, most)))
 
 -- the same of so many frames as there are
 pub sized_as : (frames jobs all : ℕ) (pieces : List Piece) → all ≡ frames → AreSized (div_ceil all jobs) 0 all pieces → AreSized (div_ceil frames jobs) 0 frames pieces

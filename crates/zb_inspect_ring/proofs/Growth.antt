@@ -10,13 +10,13 @@ use Rattle.zb_transported.specs.Carrying.{carried}
 use Rattle.zb_nwk.specs.Reading as nwk_reading
 use Rattle.zb_inspect_frame.specs.Carrying.{carries, key_below, keys_of_layers, keys_carried}
 use Rattle.zb_inspect_frame.specs.Layers.{tried, found_nwk, found_aps}
-use Rattle.zb_inspect_frame.specs.Sights.{payload_in, given_in, tunnelled, below, sight_of, sight}
+use Rattle.zb_inspect_frame.specs.Shows.{payload_in, given_in, tunnelled, below, shown_under, frame_shown}
 use Rattle.zb_inspect_frame.specs.declared.carried.Carried.{Carried}
 use Rattle.zb_inspect_frame.specs.declared.layer.Finding.{Finding}
 use Rattle.zb_inspect_frame.specs.declared.layer.Finding.TheVariants.{Malformed, NotSecured, NoSource, Closed, Opened}
-use Rattle.zb_inspect_frame.specs.declared.sight.Below.{Below}
-use Rattle.zb_inspect_frame.specs.declared.sight.Sight.{Sight}
-use Rattle.zb_inspect_frame.proofs.MoreKeys.{nwk_further, aps_further, payload_kept, tunnel_kept, sight_parts}
+use Rattle.zb_inspect_frame.specs.declared.shown.Below.{Below}
+use Rattle.zb_inspect_frame.specs.declared.shown.Shown.{Shown}
+use Rattle.zb_inspect_frame.proofs.MoreKeys.{nwk_further, aps_further, payload_kept, tunnel_kept, shown_parts}
 
 -- a key that was carried still is
 abbrev pub Kept : Option Key → Option Key → Type 0
@@ -87,16 +87,16 @@ layers_grow known keys given nwk now (Some p) also within is keeps =
 
 -- a frame under further keys
 pub carried_grows : (known : ℕ) (addrs : List (Short × Eui)) (keys : List Key) (bytes : List ℕ) → known ≤ length keys
-    → Grows (keys_carried (sight addrs (take known keys) bytes)) (keys_carried (sight addrs keys bytes))
-unfolding sight
+    → Grows (keys_carried (frame_shown addrs (take known keys) bytes)) (keys_carried (frame_shown addrs keys bytes))
+unfolding frame_shown
 carried_grows known addrs keys bytes within =
     let first = take known keys in
     let r = nwk_reading.frame_of bytes in
     let nwk = found_nwk first bytes in
     let all = nwk_further known keys bytes within in
-    let G : Sight → Sight → Type 0 = λ s t. Grows (keys_carried s) (keys_carried t) in
+    let G : Shown → Shown → Type 0 = λ s t. Grows (keys_carried s) (keys_carried t) in
     let grown = layers_grow known keys (given_in addrs r) nwk (found_nwk keys bytes) (payload_in nwk r) (payload_in (found_nwk keys bytes) r) within (sym all)
     (λ p e. ap (λ n. payload_in n r) (sym all) ∙ payload_kept known (drop known keys) nwk r p e) in
-    subst (λ s. G s (sight_of addrs keys (found_nwk keys bytes) r)) (sym (sight_parts addrs first nwk r))
+    subst (λ s. G s (shown_under addrs keys (found_nwk keys bytes) r)) (sym (shown_parts addrs first nwk r))
     (subst (λ t. G (record { nwk = nwk; below = option_map (below first (given_in addrs r)) (payload_in nwk r) }) t)
-    (sym (sight_parts addrs keys (found_nwk keys bytes) r)) grown)
+    (sym (shown_parts addrs keys (found_nwk keys bytes) r)) grown)

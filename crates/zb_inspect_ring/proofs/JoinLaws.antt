@@ -6,27 +6,27 @@ use Rattle.arrayvec.specs.ArrayVec.{ArrayVec}
 use Rattle.zb_base.specs.declared.address.Eui.{Eui}
 use Rattle.zb_base.specs.declared.address.Short.{Short}
 use Rattle.zb_base.specs.declared.key.Key.{Key}
-use Rattle.zb_inspect_frame.specs.Lines.{sight_text, sights_text}
+use Rattle.zb_inspect_frame.specs.Lines.{frame_text, frames_text}
 use Rattle.zb_inspect_frame.specs.Settling.{is_settled}
-use Rattle.zb_inspect_frame.specs.declared.sight.Sight.{Sight}
-use Rattle.zb_inspect_ring.specs.Pieces.{count_of, frames_from, frames_in, found_in, has_lines, lines_of, AreJoined, IsAdded, IsWithin, Numbered, Shown, AllShown, StandsFor}
-use Rattle.zb_inspect_ring.specs.Rings.{leads, sights}
+use Rattle.zb_inspect_frame.specs.declared.shown.Shown.{Shown}
+use Rattle.zb_inspect_ring.specs.Pieces.{count_of, frames_from, frames_in, found_in, has_lines, lines_of, AreJoined, IsAdded, IsWithin, Numbered, IsShown, AreShown, StandsFor}
+use Rattle.zb_inspect_ring.specs.Rings.{leads, frames_shown}
 use Rattle.zb_inspect_ring.specs.declared.block.Block.{Block}
 use Rattle.zb_inspect_ring.specs.declared.block.Seen.{Seen}
-use Rattle.zb_inspect_ring.specs.declared.block.Seen.TheVariants.{Nothing, Unopened, Lines, Sights}
+use Rattle.zb_inspect_ring.specs.declared.block.Seen.TheVariants.{Nothing, Unopened, Lines, Whole}
 use Rattle.zb_inspect_ring.specs.declared.ring.Lead.{Lead}
 use Rattle.zb_inspect_ring.proofs.Lists.{all_append, all_front, all_back}
 use Rattle.zb_inspect_ring.proofs.PieceLists.{counts_append, drop_more, frames_count, leads_append, numbered_append, numbered_back, numbered_front, take_more}
 
-pub sights_append : (frame : ℕ) (xs ys : List Sight) → sights_text frame (xs ++ ys) ≡ sights_text frame xs ++ sights_text (frame + length xs) ys
-sights_append frame [] ys = ap (λ n. sights_text n ys) (sym (add-zero frame))
-sights_append frame (x ∷ xs) ys =
-    let first = sight_text frame x in
-    ap (λ zs. first ++ zs) (sights_append (frame + 1) xs ys)
-    ∙ sym (append_assoc first (sights_text (frame + 1) xs) (sights_text (frame + 1 + length xs) ys))
-    ∙ ap (λ n. first ++ sights_text (frame + 1) xs ++ sights_text n ys) (omega arith)
+pub shown_append : (frame : ℕ) (xs ys : List Shown) → frames_text frame (xs ++ ys) ≡ frames_text frame xs ++ frames_text (frame + length xs) ys
+shown_append frame [] ys = ap (λ n. frames_text n ys) (sym (add-zero frame))
+shown_append frame (x ∷ xs) ys =
+    let first = frame_text frame x in
+    ap (λ zs. first ++ zs) (shown_append (frame + 1) xs ys)
+    ∙ sym (append_assoc first (frames_text (frame + 1) xs) (frames_text (frame + 1 + length xs) ys))
+    ∙ ap (λ n. first ++ frames_text (frame + 1) xs ++ frames_text n ys) (omega arith)
 
-both_settled : (xs ys : List Sight) → list_all is_settled xs ≡ true → list_all is_settled ys ≡ true → list_all is_settled (xs ++ ys) ≡ true
+both_settled : (xs ys : List Shown) → list_all is_settled xs ≡ true → list_all is_settled ys ≡ true → list_all is_settled (xs ++ ys) ≡ true
 both_settled [] ys e f = f
 both_settled (x ∷ xs) ys e f = step (is_settled x) (list_all is_settled xs) (list_all is_settled (xs ++ ys)) e (λ rest. both_settled xs ys rest f)
   where
@@ -44,23 +44,23 @@ frames_joined frames first n m some =
     ∙ take_more (drop (first - 1) frames) n m)
 
 -- what is kept of lines
-lines_stand : (first : ℕ) (found : List Sight) (seen : Seen) → has_lines seen ≡ true → StandsFor first found seen
-    → (lines_of seen ≡ sights_text first found) × (list_all is_settled found ≡ true)
+lines_stand : (first : ℕ) (found : List Shown) (seen : Seen) → has_lines seen ≡ true → StandsFor first found seen
+    → (lines_of seen ≡ frames_text first found) × (list_all is_settled found ≡ true)
 lines_stand first found Nothing e s = cc
 lines_stand first found Unopened e s = cc
 lines_stand first found (Lines text) e s = s
-lines_stand first found (Sights kept) e s = cc
+lines_stand first found (Whole kept) e s = cc
 
-stand_lines : (first : ℕ) (found : List Sight) (seen : Seen) → has_lines seen ≡ true → lines_of seen ≡ sights_text first found
+stand_lines : (first : ℕ) (found : List Shown) (seen : Seen) → has_lines seen ≡ true → lines_of seen ≡ frames_text first found
     → list_all is_settled found ≡ true → StandsFor first found seen
 stand_lines first found Nothing e is settled = cc
 stand_lines first found Unopened e is settled = cc
 stand_lines first found (Lines text) e is settled = (is, settled)
-stand_lines first found (Sights kept) e is settled = cc
+stand_lines first found (Whole kept) e is settled = cc
 
 joined_shown : (frames : List (ArrayVec ℕ)) (addrs : List (Short × Eui)) (keys : List Key) (front back joined : Block) → AreJoined front back joined
     → has_lines front.seen ≡ true → has_lines back.seen ≡ true → back.first ≡ front.first + front.count → IsWithin (length frames) front
-    → Shown frames addrs keys front → Shown frames addrs keys back → Shown frames addrs keys joined
+    → IsShown frames addrs keys front → IsShown frames addrs keys back → IsShown frames addrs keys joined
 joined_shown frames addrs keys front back joined j e f next within shown also =
     let a = lines_stand front.first (found_in frames addrs keys front) front.seen e shown in
     let b = lines_stand back.first (found_in frames addrs keys back) back.seen f also in
@@ -71,22 +71,22 @@ joined_shown frames addrs keys front back joined j e f next within shown also =
     ∙ frames_joined frames front.first front.count back.count within.first
     ∙ ap (λ n. frames_in frames front ++ take back.count (drop (n - 1) frames)) (sym next) in
     let found_are : found_in frames addrs keys joined ≡ x ++ y =
-    ap (sights addrs keys) frames_are ∙ map-append _ (frames_in frames front) (frames_in frames back) in
+    ap (frames_shown addrs keys) frames_are ∙ map-append _ (frames_in frames front) (frames_in frames back) in
     let count : length x ≡ front.count = length-map (frames_in frames front) _ ∙ frames_count frames front within in
     let place : front.first + length x ≡ back.first = omega (arith, count, next) in
-    let P : List Sight → Type 0 = λ found. StandsFor joined.first found joined.seen in
+    let P : List Shown → Type 0 = λ found. StandsFor joined.first found joined.seen in
     subst P (sym found_are)
     (stand_lines joined.first (x ++ y) joined.seen j.kept
-    (j.lines ∙ ap (λ zs. zs ++ lines_of back.seen) a.0 ∙ ap (λ zs. sights_text front.first x ++ zs) b.0
-    ∙ ap (λ n. sights_text front.first x ++ sights_text n y) (sym place) ∙ sym (sights_append front.first x y)
-    ∙ ap (λ n. sights_text n (x ++ y)) (sym j.first)) (both_settled x y a.1 b.1))
+    (j.lines ∙ ap (λ zs. zs ++ lines_of back.seen) a.0 ∙ ap (λ zs. frames_text front.first x ++ zs) b.0
+    ∙ ap (λ n. frames_text front.first x ++ frames_text n y) (sym place) ∙ sym (shown_append front.first x y)
+    ∙ ap (λ n. frames_text n (x ++ y)) (sym j.first)) (both_settled x y a.1 b.1))
 
 -- a block that is put behind others, as it is or joined with the last one
 pub added_alone : (old new : List Block) (block : Block) → new ≡ old ++ block ∷ [] → IsAdded old block new
 added_alone old new block is = record {
   numbers = λ frame numbers. (let P : List Block → Type 0 = λ bs. Numbered frame bs in subst P (sym is) numbers);
   count = ap count_of is;
-  shown = λ frames addrs keys frame some numbers room all. (let P : List Block → Type 0 = λ bs. AllShown frames addrs keys bs in subst P (sym is) all);
+  shown = λ frames addrs keys frame some numbers room all. (let P : List Block → Type 0 = λ bs. AreShown frames addrs keys bs in subst P (sym is) all);
 }
 
 -- where the last two of some blocks stand
@@ -119,10 +119,10 @@ joined_count rest last block joined j =
 
 all_joined : (frames : List (ArrayVec ℕ)) (addrs : List (Short × Eui)) (keys : List Key) (frame : ℕ) (rest : List Block) (last block joined : Block)
     → AreJoined last block joined → has_lines last.seen ≡ true → has_lines block.seen ≡ true → 1 ≤ frame → Numbered frame ((rest ++ last ∷ []) ++ block ∷ [])
-    → frame + count_of ((rest ++ last ∷ []) ++ block ∷ []) ≤ length frames + 1 → AllShown frames addrs keys ((rest ++ last ∷ []) ++ block ∷ [])
-    → AllShown frames addrs keys (rest ++ joined ∷ [])
+    → frame + count_of ((rest ++ last ∷ []) ++ block ∷ []) ≤ length frames + 1 → AreShown frames addrs keys ((rest ++ last ∷ []) ++ block ∷ [])
+    → AreShown frames addrs keys (rest ++ joined ∷ [])
 all_joined frames addrs keys frame rest last block joined j e f some numbers room all =
-    let P = Shown frames addrs keys in
+    let P = IsShown frames addrs keys in
     let two = last_two frame rest last block numbers in
     let front = all_front P (rest ++ last ∷ []) (block ∷ []) all in
     let back = all_back P (rest ++ last ∷ []) (block ∷ []) all in
@@ -143,7 +143,7 @@ added_joined old rest new last block joined was is j e f =
           subst P (sym is) (joined_numbers frame rest last block joined j (subst P whole numbers)));
       count = ap count_of is ∙ joined_count rest last block joined j ∙ ap count_of (sym whole);
       shown = λ frames addrs keys frame some numbers room all. (
-          let P : List Block → Type 0 = λ bs. AllShown frames addrs keys bs in
+          let P : List Block → Type 0 = λ bs. AreShown frames addrs keys bs in
           let N : List Block → Type 0 = λ bs. Numbered frame bs in
           subst P (sym is)
           (all_joined frames addrs keys frame rest last block joined j e f some (subst N whole numbers)
@@ -155,8 +155,8 @@ pub record IsLooked (frames : List (ArrayVec ℕ)) (addrs : List (Short × Eui))
     (found : List Lead) : Type 0 where
   pub numbers : Numbered first blocks
   pub count : count_of blocks ≡ done
-  pub shown : AllShown frames addrs keys blocks
-  pub leads : found ≡ before ++ leads first (sights addrs keys (frames_from frames first done))
+  pub shown : AreShown frames addrs keys blocks
+  pub leads : found ≡ before ++ leads first (frames_shown addrs keys (frames_from frames first done))
 
 frames_done : (frames : List (ArrayVec ℕ)) (first done : ℕ) → 1 ≤ first → first + done ≤ length frames + 1 → length (frames_from frames first done) ≡ done
 frames_done frames first done some room =
@@ -165,8 +165,8 @@ frames_done frames first done some room =
 -- one block more
 pub looked_more : (frames : List (ArrayVec ℕ)) (addrs : List (Short × Eui)) (keys : List Key) (first done : ℕ) (before : List Lead) (blocks new : List Block)
     (block : Block) (found after : List Lead) → IsLooked frames addrs keys first done before blocks found → IsAdded blocks block new
-    → block.first ≡ first + done → 1 ≤ first → first + (done + block.count) ≤ length frames + 1 → Shown frames addrs keys block
-    → after ≡ found ++ leads (first + done) (sights addrs keys (frames_from frames (first + done) block.count))
+    → block.first ≡ first + done → 1 ≤ first → first + (done + block.count) ≤ length frames + 1 → IsShown frames addrs keys block
+    → after ≡ found ++ leads (first + done) (frames_shown addrs keys (frames_from frames (first + done) block.count))
     → IsLooked frames addrs keys first (done + block.count) before new after
 looked_more frames addrs keys first done before blocks new block found after so_far added is some room shown also =
     let numbers : Numbered first (blocks ++ block ∷ []) =
@@ -174,19 +174,19 @@ looked_more frames addrs keys first done before blocks new block found after so_
     let count : count_of (blocks ++ block ∷ []) ≡ done + block.count = omega (arith, counts_append blocks (block ∷ []), so_far.count) in
     let x = frames_from frames first done in
     let y = frames_from frames (first + done) block.count in
-    let found_is : leads first (sights addrs keys (frames_from frames first (done + block.count)))
-    ≡ leads first (sights addrs keys x) ++ leads (first + done) (sights addrs keys y) =
-    ap (λ fs. leads first (sights addrs keys fs)) (frames_joined frames first done block.count some)
-    ∙ ap (leads first) (map-append _ x y) ∙ leads_append first (sights addrs keys x) (sights addrs keys y)
-    ∙ ap (λ n. leads first (sights addrs keys x) ++ leads (first + n) (sights addrs keys y))
+    let found_is : leads first (frames_shown addrs keys (frames_from frames first (done + block.count)))
+    ≡ leads first (frames_shown addrs keys x) ++ leads (first + done) (frames_shown addrs keys y) =
+    ap (λ fs. leads first (frames_shown addrs keys fs)) (frames_joined frames first done block.count some)
+    ∙ ap (leads first) (map-append _ x y) ∙ leads_append first (frames_shown addrs keys x) (frames_shown addrs keys y)
+    ∙ ap (λ n. leads first (frames_shown addrs keys x) ++ leads (first + n) (frames_shown addrs keys y))
     (length-map x _ ∙ frames_done frames first done some (omega (arith, room))) in
     record {
       numbers = added.numbers first numbers;
       count = added.count ∙ count;
       shown = added.shown frames addrs keys first some numbers (omega (arith, count, room))
-          (all_append (Shown frames addrs keys) blocks (block ∷ []) so_far.shown (shown, tt));
-      leads = also ∙ ap (λ zs. zs ++ leads (first + done) (sights addrs keys y)) so_far.leads
-          ∙ append_assoc before (leads first (sights addrs keys x)) (leads (first + done) (sights addrs keys y))
+          (all_append (IsShown frames addrs keys) blocks (block ∷ []) so_far.shown (shown, tt));
+      leads = also ∙ ap (λ zs. zs ++ leads (first + done) (frames_shown addrs keys y)) so_far.leads
+          ∙ append_assoc before (leads first (frames_shown addrs keys x)) (leads (first + done) (frames_shown addrs keys y))
           ∙ ap (λ zs. before ++ zs) (sym found_is);
     }
 
@@ -194,20 +194,20 @@ pub looked_none : (frames : List (ArrayVec ℕ)) (addrs : List (Short × Eui)) (
     → IsLooked frames addrs keys first 0 before blocks before
 looked_none frames addrs keys first before blocks is =
     let N : List Block → Type 0 = λ bs. Numbered first bs in
-    let S : List Block → Type 0 = λ bs. AllShown frames addrs keys bs in
+    let S : List Block → Type 0 = λ bs. AreShown frames addrs keys bs in
     record { numbers = subst N (sym is) tt; count = ap count_of is; shown = subst S (sym is) tt; leads = sym (append-nil before) }
 
 -- the same, where the block has so many frames
 pub looked_next : (frames : List (ArrayVec ℕ)) (addrs : List (Short × Eui)) (keys : List Key) (first done size : ℕ) (before : List Lead) (blocks new : List Block)
     (block : Block) (found after : List Lead) → block.count ≡ size → IsLooked frames addrs keys first done before blocks found → IsAdded blocks block new
-    → block.first ≡ first + done → 1 ≤ first → first + (done + size) ≤ length frames + 1 → Shown frames addrs keys block
-    → after ≡ found ++ leads (first + done) (sights addrs keys (frames_from frames (first + done) size))
+    → block.first ≡ first + done → 1 ≤ first → first + (done + size) ≤ length frames + 1 → IsShown frames addrs keys block
+    → after ≡ found ++ leads (first + done) (frames_shown addrs keys (frames_from frames (first + done) size))
     → IsLooked frames addrs keys first (done + size) before new after
 looked_next frames addrs keys first done size before blocks new block found after has so_far added is some room shown also =
     let P : ℕ → Type 0 = λ n. IsLooked frames addrs keys first (done + n) before new after in
     subst P has
     (looked_more frames addrs keys first done before blocks new block found after so_far added is some (omega (arith, room, has)) shown
-    (also ∙ ap (λ n. found ++ leads (first + done) (sights addrs keys (frames_from frames (first + done) n))) (sym has)))
+    (also ∙ ap (λ n. found ++ leads (first + done) (frames_shown addrs keys (frames_from frames (first + done) n))) (sym has)))
 
 pub both_kept : (a b : Bool) → true ≡ (a && b) → (a ≡ true) × (b ≡ true)
 both_kept true b e = (refl, sym e)

@@ -26,9 +26,9 @@ known_with old new ring k before updates key =
     ∙ either (bytes_eq k.key.0 key.0) (has_key ring key)
     ∙ sym (list_any-append (is_key key) ring (k ∷ []))
 
-pub ciphers_with : (old new : List Key) (keys more : List RingKey) (x : Key) (k : RingKey) → old ≡ keys_of keys → new ≡ old ++ x ∷ [] → x ≡ k.key
+pub sealing_keys_with : (old new : List Key) (keys more : List RingKey) (x : Key) (k : RingKey) → old ≡ keys_of keys → new ≡ old ++ x ∷ [] → x ≡ k.key
     → more ≡ keys ++ k ∷ [] → new ≡ keys_of more
-ciphers_with old new keys more x k was is same also =
+sealing_keys_with old new keys more x k was is same also =
     is ∙ ap (λ ks. ks ++ x ∷ []) was ∙ ap (λ (y : Key). keys_of keys ++ y ∷ []) same ∙ sym (map-append _ keys (k ∷ [])) ∙ ap keys_of (sym also)
 
 pub known_as : (set : BTreeSet Key) (ring more : List RingKey) → more ≡ ring → ((key : Key) → is_known set key ≡ has_key ring key)

@@ -55,11 +55,11 @@ half_get R (suc i) (x ∷ old) [] d within half = absurd half
 half_get R (suc i) (x ∷ old) (z ∷ now) d within half = half_get R i old now d (omega arith) half.1
 
 pub half_end : {A : Type 0} (R : A → A → Type 0) (i : ℕ) (old now : List A) → length old ≤ i → Half R i old now → AllZip R old now
-half_end R zero [] now greatest_counter half = let P : List _ → Type 0 = λ zs. AllZip R [] zs in subst P (sym half) tt
-half_end R zero (x ∷ old) now greatest_counter half = absurd (omega arith)
-half_end R (suc i) [] now greatest_counter half = let P : List _ → Type 0 = λ zs. AllZip R [] zs in subst P (sym half) tt
-half_end R (suc i) (x ∷ old) [] greatest_counter half = absurd half
-half_end R (suc i) (x ∷ old) (y ∷ now) greatest_counter half = (half.0, half_end R i old now (omega arith) half.1)
+half_end R zero [] now most half = let P : List _ → Type 0 = λ zs. AllZip R [] zs in subst P (sym half) tt
+half_end R zero (x ∷ old) now most half = absurd (omega arith)
+half_end R (suc i) [] now most half = let P : List _ → Type 0 = λ zs. AllZip R [] zs in subst P (sym half) tt
+half_end R (suc i) (x ∷ old) [] most half = absurd half
+half_end R (suc i) (x ∷ old) (y ∷ now) most half = (half.0, half_end R i old now (omega arith) half.1)
 
 pub half_length : {A : Type 0} (R : A → A → Type 0) (i : ℕ) (old now : List A) → Half R i old now → length now ≡ length old
 half_length {A} R zero old now half = ap (length {A = A}) half

@@ -5,11 +5,11 @@ use Rattle.arrayvec.specs.ArrayVec.{ArrayVec}
 use Rattle.zb_base.specs.declared.address.Eui.{Eui}
 use Rattle.zb_base.specs.declared.address.Short.{Short}
 use Rattle.zb_base.specs.declared.key.Key.{Key}
-use Rattle.zb_inspect_ring.specs.Pieces.{all_fresh, count_of, found_in, frames_from, new_leads, is_nothing, AllShown, IsNext, IsNextPiece, IsOneUnseen, IsWithin, Numbered}
-use Rattle.zb_inspect_ring.specs.Rings.{leads, sights}
+use Rattle.zb_inspect_ring.specs.Pieces.{all_fresh, count_of, found_in, frames_from, new_leads, is_nothing, AreShown, IsNext, IsNextPiece, IsOneUnseen, IsWithin, Numbered}
+use Rattle.zb_inspect_ring.specs.Rings.{leads, frames_shown}
 use Rattle.zb_inspect_ring.specs.declared.block.Block.{Block}
 use Rattle.zb_inspect_ring.specs.declared.block.Seen.{Seen}
-use Rattle.zb_inspect_ring.specs.declared.block.Seen.TheVariants.{Nothing, Unopened, Lines, Sights}
+use Rattle.zb_inspect_ring.specs.declared.block.Seen.TheVariants.{Nothing, Unopened, Lines, Whole}
 use Rattle.zb_inspect_ring.specs.declared.piece.Piece.{Piece}
 use Rattle.zb_inspect_ring.specs.declared.ring.Lead.{Lead}
 use Rattle.zb_inspect_ring.proofs.PieceLists.{counts_append, next_shown, same_counts, same_numbers}
@@ -39,21 +39,21 @@ unseen_leads : (found : List Lead) (seen : Seen) → is_nothing seen ≡ true �
 unseen_leads found Nothing e = refl
 unseen_leads found Unopened e = cc
 unseen_leads found (Lines text) e = cc
-unseen_leads found (Sights kept) e = cc
+unseen_leads found (Whole kept) e = cc
 
 one_leads : (frames : List (ArrayVec ℕ)) (addrs : List (Short × Eui)) (keys : List Key) (os : List Block) (first count : ℕ) → IsOneUnseen os first count
-    → leads first (sights addrs keys (frames_from frames first count)) ≡ all_fresh frames addrs keys os
+    → leads first (frames_shown addrs keys (frames_from frames first count)) ≡ all_fresh frames addrs keys os
 one_leads frames addrs keys [] first count one = absurd one
 one_leads frames addrs keys (b ∷ []) first count one =
-    ap (λ n. leads n (sights addrs keys (frames_from frames n count))) (sym one.1)
-    ∙ ap (λ n. leads b.first (sights addrs keys (frames_from frames b.first n))) (sym one.2)
+    ap (λ n. leads n (frames_shown addrs keys (frames_from frames n count))) (sym one.1)
+    ∙ ap (λ n. leads b.first (frames_shown addrs keys (frames_from frames b.first n))) (sym one.2)
     ∙ sym (unseen_leads (leads b.first (found_in frames addrs keys b)) b.seen one.0)
     ∙ sym (append-nil (new_leads (leads b.first (found_in frames addrs keys b)) b.seen))
 one_leads frames addrs keys (b ∷ c ∷ more) first count one = absurd one
 
 pub first_piece : (frames : List (ArrayVec ℕ)) (addrs : List (Short × Eui)) (keys : List Key) (old new : Piece) (first count : ℕ)
     → IsOneUnseen old.blocks.items first count → new.number ≡ old.number → Numbered first new.blocks.items → count_of new.blocks.items ≡ count
-    → AllShown frames addrs keys new.blocks.items → new.leads.items ≡ leads first (sights addrs keys (frames_from frames first count))
+    → AreShown frames addrs keys new.blocks.items → new.leads.items ≡ leads first (frames_shown addrs keys (frames_from frames first count))
     → IsNextPiece frames addrs keys old new
 first_piece frames addrs keys old new first count one number numbers counted shown found = record {
   number = number;

@@ -9,12 +9,12 @@ use Rattle.zb_base.specs.declared.address.Short.{Short}
 use Rattle.zb_base.specs.declared.key.Key.{Key}
 use Rattle.zb_capture.specs.declared.capture.Capture.{Capture}
 use Rattle.zb_inspect_frame.specs.Carrying.{keys_carried}
-use Rattle.zb_inspect_frame.specs.declared.sight.Sight.{Sight}
-use Rattle.zb_inspect_ring.specs.Pieces.{AreSized, all_blocks, all_frames, all_leads, all_fresh, count_of, frames_in, fresh, found_in, IsCut, IsWithin, Numbered, StandsFor, MayStandFor, AllSee, Shown, AllShown, IsUnseen, is_nothing, IsNext, IsNextPiece}
+use Rattle.zb_inspect_frame.specs.declared.shown.Shown.{Shown}
+use Rattle.zb_inspect_ring.specs.Pieces.{AreSized, all_blocks, all_frames, all_leads, all_fresh, count_of, frames_in, fresh, found_in, IsCut, IsWithin, Numbered, StandsFor, MayStandFor, AllSee, IsShown, AreShown, IsUnseen, is_nothing, IsNext, IsNextPiece}
 use Rattle.zb_inspect_ring.specs.Rings.{leads, leads_of, learnt, with_key}
 use Rattle.zb_inspect_ring.specs.declared.block.Block.{Block}
 use Rattle.zb_inspect_ring.specs.declared.block.Seen.{Seen}
-use Rattle.zb_inspect_ring.specs.declared.block.Seen.TheVariants.{Nothing, Unopened, Lines, Sights}
+use Rattle.zb_inspect_ring.specs.declared.block.Seen.TheVariants.{Nothing, Unopened, Lines, Whole}
 use Rattle.zb_inspect_ring.specs.declared.piece.Piece.{Piece}
 use Rattle.zb_inspect_ring.specs.declared.ring.Lead.{Lead}
 use Rattle.zb_inspect_ring.specs.declared.ring.RingKey.{RingKey}
@@ -151,12 +151,12 @@ pieces_sized frames addrs keys size number left (q ∷ old) (p ∷ new) all size
 )
 
 pub pieces_shown : (frames : List (ArrayVec ℕ)) (addrs : List (Short × Eui)) (keys : List Key) (old new : List Piece)
-    → AllZip (IsNextPiece frames addrs keys) old new → AllShown frames addrs keys (all_blocks new)
+    → AllZip (IsNextPiece frames addrs keys) old new → AreShown frames addrs keys (all_blocks new)
 pieces_shown frames addrs keys [] [] all = tt
 pieces_shown frames addrs keys [] (p ∷ new) all = absurd all
 pieces_shown frames addrs keys (q ∷ old) [] all = absurd all
 pieces_shown frames addrs keys (q ∷ old) (p ∷ new) all =
-    all_append (Shown frames addrs keys) p.blocks.items (all_blocks new) all.0.shown (pieces_shown frames addrs keys old new all.1)
+    all_append (IsShown frames addrs keys) p.blocks.items (all_blocks new) all.0.shown (pieces_shown frames addrs keys old new all.1)
 
 pub led : (frames : List (ArrayVec ℕ)) (addrs : List (Short × Eui)) (keys : List Key) (old new : List Piece)
     → AllZip (IsNextPiece frames addrs keys) old new → all_leads new ≡ all_fresh frames addrs keys (all_blocks old)
@@ -189,35 +189,35 @@ same_numbers frames addrs keys frame (q ∷ old) (p ∷ new) all so_far = (
 
 -- What blocks show
 
-pub next_shown : (frames : List (ArrayVec ℕ)) (addrs : List (Short × Eui)) (keys : List Key) (old new : List Block) → AllZip (IsNext frames addrs keys) old new → AllShown frames addrs keys new
+pub next_shown : (frames : List (ArrayVec ℕ)) (addrs : List (Short × Eui)) (keys : List Key) (old new : List Block) → AllZip (IsNext frames addrs keys) old new → AreShown frames addrs keys new
 next_shown frames addrs keys [] [] all = tt
 next_shown frames addrs keys [] (p ∷ new) all = absurd all
 next_shown frames addrs keys (q ∷ old) [] all = absurd all
 next_shown frames addrs keys (q ∷ old) (p ∷ new) all = (all.0.1, next_shown frames addrs keys old new all.1)
 
-unseen_may : (first : ℕ) (found : List Sight) (seen : Seen) → is_nothing seen ≡ true → MayStandFor first found seen
+unseen_may : (first : ℕ) (found : List Shown) (seen : Seen) → is_nothing seen ≡ true → MayStandFor first found seen
 unseen_may first found Nothing e = tt
 unseen_may first found Unopened e = cc
 unseen_may first found (Lines text) e = cc
-unseen_may first found (Sights kept) e = cc
+unseen_may first found (Whole kept) e = cc
 
 pub all_unseen : (frames : List (ArrayVec ℕ)) (addrs : List (Short × Eui)) (keys : List Key) (blocks : List Block) → AllByRecursion IsUnseen blocks → AllSee frames addrs keys blocks
 all_unseen frames addrs keys [] all = tt
 all_unseen frames addrs keys (b ∷ blocks) all = (unseen_may b.first (found_in frames addrs keys b) b.seen all.0, all_unseen frames addrs keys blocks all.1)
 
-stands_may : (first : ℕ) (found : List Sight) (seen : Seen) → StandsFor first found seen → MayStandFor first found seen
+stands_may : (first : ℕ) (found : List Shown) (seen : Seen) → StandsFor first found seen → MayStandFor first found seen
 stands_may first found Nothing s = tt
 stands_may first found Unopened s = s
 stands_may first found (Lines text) s = s
-stands_may first found (Sights kept) s = s
+stands_may first found (Whole kept) s = s
 
-pub shown_seen : (frames : List (ArrayVec ℕ)) (addrs : List (Short × Eui)) (keys : List Key) (blocks : List Block) → AllShown frames addrs keys blocks → AllSee frames addrs keys blocks
+pub shown_seen : (frames : List (ArrayVec ℕ)) (addrs : List (Short × Eui)) (keys : List Key) (blocks : List Block) → AreShown frames addrs keys blocks → AllSee frames addrs keys blocks
 shown_seen frames addrs keys [] all = tt
 shown_seen frames addrs keys (b ∷ blocks) all = (stands_may b.first (found_in frames addrs keys b) b.seen all.0, shown_seen frames addrs keys blocks all.1)
 
 -- Keys that are found, and learnt one after the other
 
-pub leads_append : (frame : ℕ) (xs ys : List Sight) → leads frame (xs ++ ys) ≡ leads frame xs ++ leads (frame + length xs) ys
+pub leads_append : (frame : ℕ) (xs ys : List Shown) → leads frame (xs ++ ys) ≡ leads frame xs ++ leads (frame + length xs) ys
 leads_append frame [] ys = ap (λ n. leads n ys) (sym (add-zero frame))
 leads_append frame (x ∷ xs) ys =
     let first = leads_of frame (keys_carried x) in

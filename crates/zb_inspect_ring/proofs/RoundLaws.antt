@@ -7,8 +7,8 @@ use Rattle.zb_base.specs.declared.address.Eui.{Eui}
 use Rattle.zb_base.specs.declared.address.Short.{Short}
 use Rattle.zb_base.specs.declared.key.Key.{Key}
 use Rattle.zb_capture.specs.declared.capture.Capture.{Capture}
-use Rattle.zb_inspect_ring.specs.Pieces.{all_blocks, all_leads, Sees, AllSee, AllShown, IsCut, IsNextPiece, IsWithin}
-use Rattle.zb_inspect_ring.specs.Rings.{leads, sights, learnt, keys_of, after_round, ring_after, IsRing}
+use Rattle.zb_inspect_ring.specs.Pieces.{all_blocks, all_leads, Sees, AllSee, AreShown, IsCut, IsNextPiece, IsWithin}
+use Rattle.zb_inspect_ring.specs.Rings.{leads, frames_shown, learnt, keys_of, after_round, ring_after, IsRing}
 use Rattle.zb_inspect_ring.specs.declared.piece.Piece.{Piece}
 use Rattle.zb_inspect_ring.specs.declared.ring.RingKey.{RingKey}
 use Rattle.zb_inspect_ring.proofs.Bound.{AllKnown, all_known}
@@ -25,14 +25,14 @@ minus_one n = omega arith
 -- one round, told by what its calls say
 pub record Round (c : Capture) (rounds : ℕ) (ring new : List RingKey) (pieces : List Piece) : Type 0 where
   pub cut : IsCut c pieces
-  pub shown : AllShown c.frames c.addrs (keys_of ring) (all_blocks pieces)
+  pub shown : AreShown c.frames c.addrs (keys_of ring) (all_blocks pieces)
   pub before : ring ≡ ring_after c rounds
-  pub next : new ≡ learnt (rounds + 1) ring (leads 1 (sights c.addrs (keys_of ring) c.frames))
+  pub next : new ≡ learnt (rounds + 1) ring (leads 1 (frames_shown c.addrs (keys_of ring) c.frames))
   pub after : new ≡ ring_after c (rounds + 1)
 
 -- what is learnt in a round
 round_ends : (c : Capture) (rounds : ℕ) (ring new : List RingKey) → ring ≡ ring_after c rounds
-    → new ≡ learnt (rounds + 1) ring (leads 1 (sights c.addrs (keys_of ring) c.frames)) → new ≡ ring_after c (rounds + 1)
+    → new ≡ learnt (rounds + 1) ring (leads 1 (frames_shown c.addrs (keys_of ring) c.frames)) → new ≡ ring_after c (rounds + 1)
 unfolding ring_after
 round_ends c rounds ring new is next =
     next ∙ ap (after_round c (rounds + 1)) is
@@ -70,11 +70,11 @@ pub one_round : (c : Capture) (rounds known : ℕ) (ring new : List RingKey) (ol
     → ring ≡ ring_after c rounds → new ≡ learnt (rounds + 1) ring (all_leads pieces) → Round c rounds ring new pieces
 one_round c rounds known ring new old pieces frames addrs keys cut all f a k within seen known_ones before next =
     let zipped = next_as frames c.frames addrs c.addrs keys (keys_of ring) old pieces f a k all in
-    let learns : new ≡ learnt (rounds + 1) ring (leads 1 (sights c.addrs (keys_of ring) c.frames)) =
+    let learns : new ≡ learnt (rounds + 1) ring (leads 1 (frames_shown c.addrs (keys_of ring) c.frames)) =
     next ∙ ap (learnt (rounds + 1) ring) (led c.frames c.addrs (keys_of ring) old pieces zipped)
     ∙ fresh_learnt (rounds + 1) c.frames c.addrs (keys_of ring) known 1 (all_blocks old) ring (omega (arith, within, length-map ring (λ (r : RingKey). r.key)))
     cut.numbers (within_cut c old cut) seen known_ones
-    ∙ ap (λ fs. learnt (rounds + 1) ring (leads 1 (sights c.addrs (keys_of ring) fs))) (whole_frames c old cut) in
+    ∙ ap (λ fs. learnt (rounds + 1) ring (leads 1 (frames_shown c.addrs (keys_of ring) fs))) (whole_frames c old cut) in
     record {
       cut = record {
         numbers = pieces_numbers c.frames c.addrs (keys_of ring) 1 old pieces zipped cut.numbers;
@@ -91,7 +91,7 @@ pub last_round : (c : Capture) (rounds : ℕ) (ring new keys : List RingKey) (pi
     → ((n : ℕ) → 0 < n → n < rounds + 1 → ring_after c n ≢ ring_after c (n - 1)) → length new ≡ length ring → keys ≡ new
     → IsRing c (record { keys = keys; rounds = rounds + 1 })
 last_round c rounds ring new keys pieces round first same is =
-    let stays = unchanged (rounds + 1) ring new (leads 1 (sights c.addrs (keys_of ring) c.frames)) round.next same in
+    let stays = unchanged (rounds + 1) ring new (leads 1 (frames_shown c.addrs (keys_of ring) c.frames)) round.next same in
     record {
       some = omega arith;
       keys = is ∙ round.after;
@@ -100,10 +100,10 @@ last_round c rounds ring new keys pieces round first same is =
     }
 
 pub last_shown : (c : Capture) (rounds : ℕ) (ring new keys : List RingKey) (pieces : List Piece) → Round c rounds ring new pieces
-    → length new ≡ length ring → keys ≡ new → AllShown c.frames c.addrs (keys_of keys) (all_blocks pieces)
+    → length new ≡ length ring → keys ≡ new → AreShown c.frames c.addrs (keys_of keys) (all_blocks pieces)
 last_shown c rounds ring new keys pieces round same is =
-    let stays = unchanged (rounds + 1) ring new (leads 1 (sights c.addrs (keys_of ring) c.frames)) round.next same in
-    let P : List RingKey → Type 0 = λ r. AllShown c.frames c.addrs (keys_of r) (all_blocks pieces) in
+    let stays = unchanged (rounds + 1) ring new (leads 1 (frames_shown c.addrs (keys_of ring) c.frames)) round.next same in
+    let P : List RingKey → Type 0 = λ r. AreShown c.frames c.addrs (keys_of r) (all_blocks pieces) in
     subst P (sym (is ∙ stays)) round.shown
 
 -- a round that adds keys
@@ -122,21 +122,21 @@ pub another_seen : (c : Capture) (rounds count : ℕ) (ring new : List RingKey) 
     → count ≡ length ring → AllSee c.frames c.addrs (take count (keys_of new)) (all_blocks pieces)
 another_seen c rounds count ring new pieces round is =
     let P : List Key → Type 0 = λ k. AllSee c.frames c.addrs k (all_blocks pieces) in
-    subst P (sym (ap (λ n. take n (keys_of new)) is ∙ first_keys (rounds + 1) ring new (leads 1 (sights c.addrs (keys_of ring) c.frames)) round.next))
+    subst P (sym (ap (λ n. take n (keys_of new)) is ∙ first_keys (rounds + 1) ring new (leads 1 (frames_shown c.addrs (keys_of ring) c.frames)) round.next))
     (shown_seen c.frames c.addrs (keys_of ring) (all_blocks pieces) round.shown)
 
 pub another_length : (c : Capture) (rounds : ℕ) (ring new : List RingKey) (pieces : List Piece) → Round c rounds ring new pieces
     → length new ≢ length ring → length ring < length new
 another_length c rounds ring new pieces round grew =
-    let n = not_shorter (rounds + 1) ring new (leads 1 (sights c.addrs (keys_of ring) c.frames)) round.next in omega (arith, n, grew)
+    let n = not_shorter (rounds + 1) ring new (leads 1 (frames_shown c.addrs (keys_of ring) c.frames)) round.next in omega (arith, n, grew)
 
 pub another_learnt : (c : Capture) (rounds count : ℕ) (ring new : List RingKey) (pieces : List Piece) → Round c rounds ring new pieces
     → count ≡ length ring → AllLearnt new c.frames c.addrs (take count (keys_of new)) (all_blocks pieces)
 another_learnt c rounds count ring new pieces round is =
-    let found = leads 1 (sights c.addrs (keys_of ring) c.frames) in
+    let found = leads 1 (frames_shown c.addrs (keys_of ring) c.frames) in
     let P : List Key → Type 0 = λ k. AllLearnt new c.frames c.addrs k (all_blocks pieces) in
     let Q : List RingKey → Type 0 = λ r. AllKnown r found in
-    let R : List (ArrayVec ℕ) → Type 0 = λ fs. AllKnown new (leads 1 (sights c.addrs (keys_of ring) fs)) in
+    let R : List (ArrayVec ℕ) → Type 0 = λ fs. AllKnown new (leads 1 (frames_shown c.addrs (keys_of ring) fs)) in
     subst P (sym (ap (λ n. take n (keys_of new)) is ∙ first_keys (rounds + 1) ring new found round.next))
     (learnt_blocks new c.frames c.addrs (keys_of ring) 1 (all_blocks pieces) round.cut.numbers (within_cut c pieces round.cut)
     (subst R (sym (whole_frames c pieces round.cut)) (subst Q (sym round.next) (all_known (rounds + 1) ring found))))

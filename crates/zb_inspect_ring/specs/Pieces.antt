@@ -6,15 +6,16 @@ use Rattle.zb_base.specs.declared.address.Eui.{Eui}
 use Rattle.zb_base.specs.declared.address.Short.{Short}
 use Rattle.zb_base.specs.declared.key.Key.{Key}
 use Rattle.zb_capture.specs.declared.capture.Capture.{Capture}
-use Rattle.zb_inspect_frame.specs.Lines.{sights_text, unopened_text}
+use Rattle.zb_inspect_frame.specs.Lines.{frames_text, unopened_text}
 use Rattle.zb_inspect_frame.specs.Settling.{is_settled, is_unopened}
-use Rattle.zb_inspect_frame.specs.declared.sight.Sight.{Sight}
-use Rattle.zb_inspect_ring.specs.Rings.{leads, sights}
+use Rattle.zb_inspect_frame.specs.declared.shown.Shown.{Shown}
+use Rattle.zb_inspect_ring.specs.Rings.{leads, frames_shown}
 use Rattle.zb_inspect_ring.specs.declared.block.Block.{Block}
 use Rattle.zb_inspect_ring.specs.declared.block.Seen.{Seen}
-use Rattle.zb_inspect_ring.specs.declared.block.Seen.TheVariants.{Nothing, Unopened, Lines, Sights}
+use Rattle.zb_inspect_ring.specs.declared.block.Seen.TheVariants.{Nothing, Unopened, Lines, Whole}
 use Rattle.zb_inspect_ring.specs.declared.piece.Piece.{Piece}
 use Rattle.zb_inspect_ring.specs.declared.ring.Lead.{Lead}
+use Rattle.zb_jobs.specs.declared.share.Share.{Share}
 
 -- what pieces have, one after the other
 abbrev pub all_blocks : List Piece → List Block
@@ -53,51 +54,62 @@ pub record IsWithin (frames : ℕ) (block : Block) : Type 0 where
 
 -- What is kept of frames, the first of which has the number `first`, where `found` is what they show: nothing, where no key opened the NWK
 -- layer of any of them; the lines of a report, where no layer of any of them is closed; or else all of it.
-abbrev pub StandsFor : ℕ → List Sight → Seen → Type 0
+abbrev pub StandsFor : ℕ → List Shown → Seen → Type 0
 StandsFor first found Nothing = ⊥
 StandsFor first found Unopened = list_all is_unopened found ≡ true
-StandsFor first found (Lines text) = (text.items ≡ sights_text first found) × (list_all is_settled found ≡ true)
-StandsFor first found (Sights kept) = kept.items ≡ found
+StandsFor first found (Lines text) = (text.items ≡ frames_text first found) × (list_all is_settled found ≡ true)
+StandsFor first found (Whole kept) = kept.items ≡ found
 
 -- the same of frames that may not have been looked at yet
-abbrev pub MayStandFor : ℕ → List Sight → Seen → Type 0
+abbrev pub MayStandFor : ℕ → List Shown → Seen → Type 0
 MayStandFor first found Nothing = Unit {0}
 MayStandFor first found Unopened = StandsFor first found Unopened
 MayStandFor first found (Lines text) = StandsFor first found (Lines text)
-MayStandFor first found (Sights kept) = StandsFor first found (Sights kept)
+MayStandFor first found (Whole kept) = StandsFor first found (Whole kept)
 
-abbrev pub found_in : List (ArrayVec ℕ) → List (Short × Eui) → List Key → Block → List Sight
-found_in frames addrs keys block = sights addrs keys (frames_in frames block)
+abbrev pub found_in : List (ArrayVec ℕ) → List (Short × Eui) → List Key → Block → List Shown
+found_in frames addrs keys block = frames_shown addrs keys (frames_in frames block)
 
 -- what the frames of a block show under the keys; they may not have been looked at yet
 abbrev pub Sees : List (ArrayVec ℕ) → List (Short × Eui) → List Key → Block → Type 0
 Sees frames addrs keys block = MayStandFor block.first (found_in frames addrs keys block) block.seen
 
 -- what the frames of a block show under the keys
-abbrev pub Shown : List (ArrayVec ℕ) → List (Short × Eui) → List Key → Block → Type 0
-Shown frames addrs keys block = StandsFor block.first (found_in frames addrs keys block) block.seen
+abbrev pub IsShown : List (ArrayVec ℕ) → List (Short × Eui) → List Key → Block → Type 0
+IsShown frames addrs keys block = StandsFor block.first (found_in frames addrs keys block) block.seen
 
 abbrev pub AllSee : List (ArrayVec ℕ) → List (Short × Eui) → List Key → List Block → Type 0
 AllSee frames addrs keys blocks = AllByRecursion (Sees frames addrs keys) blocks
 
-abbrev pub AllShown : List (ArrayVec ℕ) → List (Short × Eui) → List Key → List Block → Type 0
-AllShown frames addrs keys blocks = AllByRecursion (Shown frames addrs keys) blocks
+abbrev pub AreShown : List (ArrayVec ℕ) → List (Short × Eui) → List Key → List Block → Type 0
+AreShown frames addrs keys blocks = AllByRecursion (IsShown frames addrs keys) blocks
 
 abbrev pub is_nothing : Seen → Bool
 is_nothing Nothing = true
 is_nothing Unopened = false
 is_nothing (Lines text) = false
-is_nothing (Sights kept) = false
+is_nothing (Whole kept) = false
 
 abbrev pub IsUnseen : Block → Type 0
 IsUnseen block = is_nothing block.seen ≡ true
+
+-- the first item of a share is one of so many
+abbrev pub IsShareWithin : ℕ → Share → Type 0
+IsShareWithin items share = share.first < items
+
+-- a piece that has the frames of a share, which were not looked at yet
+pub record HasShare (share : Share) (piece : Piece) : Type 0 where
+  pub number : piece.number ≡ share.number
+  pub numbers : Numbered (share.first + 1) piece.blocks.items
+  pub count : count_of piece.blocks.items ≡ share.count
+  pub unseen : AllByRecursion IsUnseen piece.blocks.items
 
 -- the keys that a look at a block finds: those of frames of which the lines are kept were found before
 abbrev pub new_leads : List Lead → Seen → List Lead
 new_leads found Nothing = found
 new_leads found Unopened = found
 new_leads found (Lines text) = []
-new_leads found (Sights kept) = found
+new_leads found (Whole kept) = found
 
 abbrev pub fresh : List (ArrayVec ℕ) → List (Short × Eui) → List Key → Block → List Lead
 fresh frames addrs keys block = new_leads (leads block.first (found_in frames addrs keys block)) block.seen
@@ -112,14 +124,14 @@ pub record SameFrames (old new : Block) : Type 0 where
 
 -- a block that was looked at under the keys
 abbrev pub IsNext : List (ArrayVec ℕ) → List (Short × Eui) → List Key → Block → Block → Type 0
-IsNext frames addrs keys old new = SameFrames old new × Shown frames addrs keys new
+IsNext frames addrs keys old new = SameFrames old new × IsShown frames addrs keys new
 
 -- A piece that was looked at under the keys, with the keys that were found. It has the same frames, in the same blocks or in others.
 pub record IsNextPiece (frames : List (ArrayVec ℕ)) (addrs : List (Short × Eui)) (keys : List Key) (old new : Piece) : Type 0 where
   pub number : new.number ≡ old.number
   pub numbers : (frame : ℕ) → Numbered frame old.blocks.items → Numbered frame new.blocks.items
   pub count : count_of new.blocks.items ≡ count_of old.blocks.items
-  pub shown : AllShown frames addrs keys new.blocks.items
+  pub shown : AreShown frames addrs keys new.blocks.items
   pub leads : new.leads.items ≡ all_fresh frames addrs keys old.blocks.items
 
 -- so many frames of a capture, of which the first has the number `first`
@@ -136,28 +148,28 @@ abbrev pub lines_of : Seen → List ℕ
 lines_of Nothing = []
 lines_of Unopened = []
 lines_of (Lines text) = text.items
-lines_of (Sights kept) = []
+lines_of (Whole kept) = []
 
 -- the lines in a report of what is kept of so many frames, the first of which has the number `first`
 abbrev pub seen_text : ℕ → ℕ → Seen → List ℕ
 seen_text first count Nothing = []
 seen_text first count Unopened = unopened_text first count
 seen_text first count (Lines text) = text.items
-seen_text first count (Sights kept) = sights_text first kept.items
+seen_text first count (Whole kept) = frames_text first kept.items
 
 -- the numbers of the frames are in their range
 abbrev pub HasRoom : ℕ → ℕ → Seen → Type 0
 HasRoom first count Nothing = Unit {0}
 HasRoom first count Unopened = first + count < 2 ^ 32
 HasRoom first count (Lines text) = Unit {0}
-HasRoom first count (Sights kept) = first + length kept.items < 2 ^ 32
+HasRoom first count (Whole kept) = first + length kept.items < 2 ^ 32
 
 -- whether lines are kept
 abbrev pub has_lines : Seen → Bool
 has_lines Nothing = false
 has_lines Unopened = false
 has_lines (Lines text) = true
-has_lines (Sights kept) = false
+has_lines (Whole kept) = false
 
 -- one block of two, with the lines of both
 pub record AreJoined (front back joined : Block) : Type 0 where
@@ -171,7 +183,7 @@ pub record IsAdded (old : List Block) (block : Block) (new : List Block) : Type 
   pub numbers : (frame : ℕ) → Numbered frame (old ++ block ∷ []) → Numbered frame new
   pub count : count_of new ≡ count_of (old ++ block ∷ [])
   pub shown : (frames : List (ArrayVec ℕ)) (addrs : List (Short × Eui)) (keys : List Key) (frame : ℕ) → 1 ≤ frame → Numbered frame (old ++ block ∷ [])
-      → frame + count_of (old ++ block ∷ []) ≤ length frames + 1 → AllShown frames addrs keys (old ++ block ∷ []) → AllShown frames addrs keys new
+      → frame + count_of (old ++ block ∷ []) ≤ length frames + 1 → AreShown frames addrs keys (old ++ block ∷ []) → AreShown frames addrs keys new
 
 -- one block that was not looked at, of these frames
 abbrev pub IsOneUnseen : List Block → ℕ → ℕ → Type 0

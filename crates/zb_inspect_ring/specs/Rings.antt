@@ -7,9 +7,9 @@ use Rattle.zb_base.specs.declared.address.Short.{Short}
 use Rattle.zb_base.specs.declared.key.Key.{Key}
 use Rattle.zb_capture.specs.declared.capture.Capture.{Capture}
 use Rattle.zb_inspect_frame.specs.Carrying.{keys_carried}
-use Rattle.zb_inspect_frame.specs.Sights.{sight}
+use Rattle.zb_inspect_frame.specs.Shows.{frame_shown}
 use Rattle.zb_inspect_frame.specs.declared.carried.Carried.{Carried}
-use Rattle.zb_inspect_frame.specs.declared.sight.Sight.{Sight}
+use Rattle.zb_inspect_frame.specs.declared.shown.Shown.{Shown}
 use Rattle.zb_inspect_ring.specs.declared.ring.Lead.{Lead}
 use Rattle.zb_inspect_ring.specs.declared.ring.Ring.{Ring}
 use Rattle.zb_inspect_ring.specs.declared.ring.RingKey.{RingKey}
@@ -42,13 +42,13 @@ abbrev pub leads_of : ℕ → Carried → List Lead
 leads_of frame carried = lead_of frame carried.inner ++ lead_of frame carried.aps ++ lead_of frame carried.nwk
 
 -- those of frames in their order, the first of which has the number `frame`
-abbrev pub leads : ℕ → List Sight → List Lead
+abbrev pub leads : ℕ → List Shown → List Lead
 leads frame [] = []
-leads frame (sight ∷ more) = leads_of frame (keys_carried sight) ++ leads (frame + 1) more
+leads frame (shown ∷ more) = leads_of frame (keys_carried shown) ++ leads (frame + 1) more
 
 -- what frames show under the keys
-abbrev pub sights : List (Short × Eui) → List Key → List (ArrayVec ℕ) → List Sight
-sights addrs keys frames = map (λ (frame : ArrayVec ℕ). sight addrs keys frame.items) frames
+abbrev pub frames_shown : List (Short × Eui) → List Key → List (ArrayVec ℕ) → List Shown
+frames_shown addrs keys frames = map (λ (frame : ArrayVec ℕ). frame_shown addrs keys frame.items) frames
 
 -- keys that were found in a round are added in order, if they are new
 abbrev pub learnt : ℕ → List RingKey → List Lead → List RingKey
@@ -57,18 +57,18 @@ learnt round ring (lead ∷ more) = learnt round (with_key ring lead.key (Some (
 
 -- In a round every frame is opened with the ring so far; then the keys that opened contents carry are added.
 abbrev pub after_round : Capture → ℕ → List RingKey → List RingKey
-after_round c round ring = learnt round ring (leads 1 (sights c.addrs (keys_of ring) c.frames))
+after_round c round ring = learnt round ring (leads 1 (frames_shown c.addrs (keys_of ring) c.frames))
 
 -- the keys after so many rounds
 unfoldable pub ring_after : Capture → ℕ → List RingKey
 ring_after c zero = given_from [] c.keys
 ring_after c (suc n) = after_round c (suc n) (ring_after c n)
 
--- The ring after a round that comes behind n others, if that adds no key, else after the next ones; at most `most` rounds are tried.
+-- The ring after a round that comes behind n others, if that adds no key, else after the next ones; at most `tries` rounds are tried.
 unfoldable pub ring_from : ℕ → Capture → ℕ → Ring
 ring_from zero c n = record { keys = ring_after c n; rounds = n }
-ring_from (suc greatest_counter) c n =
-    if length (ring_after c (suc n)) == length (ring_after c n) then record { keys = ring_after c (suc n); rounds = suc n } else ring_from greatest_counter c (suc n)
+ring_from (suc tries) c n =
+    if length (ring_after c (suc n)) == length (ring_after c n) then record { keys = ring_after c (suc n); rounds = suc n } else ring_from tries c (suc n)
 
 -- The rounds end with the first that adds no key. They do: no ring has more keys than are given and three for each frame, and each other round adds one.
 abbrev pub ring_of : Capture → Ring

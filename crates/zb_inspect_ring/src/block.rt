@@ -2,11 +2,11 @@
 ghost use Rattle.std.specs.Prelude.{◌≡◌, ℕ, ◌+◌, ◌<◌, ◌≤◌, ◌^◌, ◌++◌, [], length, get_or, take, drop, vec_len, true, IfOk, OnOk};
 ghost use Rattle.arrayvec.specs.ArrayVec.{ArrayVec};
 ghost use Rattle.std.specs.List.{list_all};
-ghost use Rattle.zb_inspect_frame.specs.Lines.{sights_text};
+ghost use Rattle.zb_inspect_frame.specs.Lines.{frames_text};
 ghost use Rattle.zb_inspect_frame.specs.Settling.{is_settled as settled, is_unopened as unopened};
-ghost use Rattle.zb_inspect_frame.specs.Sights.{sight};
-ghost use Rattle.zb_inspect_ring.specs.Rings.{lead_of, leads_of, leads as leads_in, sights as sights_of};
-ghost use Rattle.zb_inspect_ring.specs.Pieces.{SameFrames, IsWithin, StandsFor, Sees, Shown, fresh};
+ghost use Rattle.zb_inspect_frame.specs.Shows.{frame_shown};
+ghost use Rattle.zb_inspect_ring.specs.Rings.{lead_of, leads_of, leads as leads_in, frames_shown};
+ghost use Rattle.zb_inspect_ring.specs.Pieces.{SameFrames, IsWithin, StandsFor, Sees, IsShown, fresh};
 
 use crate::ring::Lead;
 use std::alloc::{AllocError, Global};
@@ -14,12 +14,12 @@ use std::mem;
 use zb_base::{Frame, Key, NoMemory};
 use zb_capture::{FrameRun, Frames};
 use zb_inspect_frame::{
-    Addresses, Carried, Finding, Sight, carried_keys, is_settled, is_unopened, put_sights,
+    Addresses, Carried, Finding, Shown, carried_keys, is_settled, is_unopened, put_frames,
     put_unopened, show, show_more,
 };
-use zb_seal::Ciphers;
+use zb_seal::SealingKeys;
 
-/// What is kept of the frames of a block.
+/// Says what is kept of the frames of a block.
 #[derive(Drop)]
 pub enum Seen {
     /// They weren't looked at yet.
@@ -29,26 +29,29 @@ pub enum Seen {
     /// Their lines in a report: no layer of any of them is closed, so further keys show no more.
     Lines(Vec<u8>),
     /// All that they show, since a layer of some of them is closed.
-    Sights(Vec<Sight>),
+    Whole(Vec<Shown>),
 }
 
-/// A few consecutive frames of a capture, and what they show under the keys that were tried on them.
+/// Holds a few consecutive frames of a capture, and what they show under the keys that were tried on them.
 #[derive(Drop)]
 pub struct Block {
     /// The number of the first frame, from 1.
     pub first: u32,
     /// How many frames there are.
     pub count: u32,
+    /// What is kept of them.
     pub seen: Seen,
 }
 
-/// Looks at a block of the frames of a capture under all keys, where it may have been looked at under the first `known`,
-/// and adds the keys that are found. Frames of which the lines are kept show no more, and their keys were found before.
+/// Looks at a block of the frames of a capture under all keys, and adds the keys that are found.
+///
+/// It may have been looked at under the first `known` keys. Frames of which the lines are kept show no more, and their
+/// keys were found before.
 pub(crate) fn look_at(
     alloc: Global,
     frames: &Frames,
     addrs: &Addresses<'_>,
-    keys: &[Ciphers],
+    keys: &[SealingKeys],
     known: u32,
     block: &mut Block,
     leads: &mut Vec<Lead>,
@@ -59,42 +62,42 @@ pub(crate) fn look_at(
     requires within { IsWithin (length frames.now) block.old }
     requires before { Sees frames.now addrs.now (take known keys.now) block.old }
     ensures same { OnOk result (SameFrames block.old block.new) }
-    ensures shown { OnOk result (Shown frames.now addrs.now keys.now block.new) }
+    ensures shown { OnOk result (IsShown frames.now addrs.now keys.now block.new) }
     ensures leads { OnOk result (leads.new.items ≡ leads.old.items ++ fresh frames.now addrs.now keys.now block.old) }
 {
     let from = block.first as usize - 1;
     let count = block.count as usize;
     match mem::replace(&mut block.seen, Seen::Nothing) {
         Seen::Nothing => {
-            let sights = show_all(alloc, frames, addrs, keys, from, count)?;
-            keep(alloc, block, sights, leads)?;
+            let all_shown = show_all(alloc, frames, addrs, keys, from, count)?;
+            keep(alloc, block, all_shown, leads)?;
         }
         Seen::Unopened => {
-            let sights = show_unopened(alloc, frames, addrs, keys, known, from, count)?;
-            keep(alloc, block, sights, leads)?;
+            let all_shown = show_unopened(alloc, frames, addrs, keys, known, from, count)?;
+            keep(alloc, block, all_shown, leads)?;
         }
         Seen::Lines(lines) => block.seen = Seen::Lines(lines),
-        Seen::Sights(sights) => {
-            let sights = show_again(frames, addrs, keys, known, from, sights);
-            keep(alloc, block, sights, leads)?;
+        Seen::Whole(all_shown) => {
+            let all_shown = show_again(frames, addrs, keys, known, from, all_shown);
+            keep(alloc, block, all_shown, leads)?;
         }
     }
     Ok(())
 }
 
-/// What so many frames show, from a place on, counted from 0.
+/// Shows so many frames, from a place on, counted from 0.
 fn show_all(
     alloc: Global,
     frames: &Frames,
     addrs: &Addresses<'_>,
-    keys: &[Ciphers],
+    keys: &[SealingKeys],
     from: usize,
     count: usize,
-) -> Result<Vec<Sight>, NoMemory>
+) -> Result<Vec<Shown>, NoMemory>
     requires keys { length keys.now < 2 ^ 32 }
     requires frames { length frames.now ≤ 100000 }
     requires within { from + count ≤ length frames.now }
-    ensures { IfOk result (λ v. v.items ≡ sights_of addrs.now keys.now (take count (drop from frames.now))) }
+    ensures { IfOk result (λ v. v.items ≡ frames_shown addrs.now keys.now (take count (drop from frames.now))) }
 {
     let mut seen = Vec::with_capacity(alloc, count)?;
     while seen.len() < count {
@@ -108,14 +111,14 @@ fn show_all(
 /// Adds what the first frames of a run show.
 fn show_run(
     addrs: &Addresses<'_>,
-    keys: &[Ciphers],
+    keys: &[SealingKeys],
     run: &FrameRun<'_>,
     count: usize,
-    seen: &mut Vec<Sight>,
+    seen: &mut Vec<Shown>,
 ) -> Result<(), NoMemory>
     requires keys { length keys.now < 2 ^ 32 }
     requires within { count ≤ length run.now }
-    ensures { OnOk result (seen.new.items ≡ seen.old.items ++ sights_of addrs.now keys.now (take count run.now)) }
+    ensures { OnOk result (seen.new.items ≡ seen.old.items ++ frames_shown addrs.now keys.now (take count run.now)) }
 {
     for i in 0..count {
         seen.push(show_at(addrs, keys, run, i))?;
@@ -123,51 +126,53 @@ fn show_run(
     Ok(())
 }
 
-/// What the frame at a place of a run shows.
-fn show_at(addrs: &Addresses<'_>, keys: &[Ciphers], run: &FrameRun<'_>, place: usize) -> Sight
+/// Shows the frame at a place of a run.
+fn show_at(addrs: &Addresses<'_>, keys: &[SealingKeys], run: &FrameRun<'_>, place: usize) -> Shown
     requires keys { length keys.now < 2 ^ 32 }
     requires within { place < length run.now }
-    ensures { (other : ArrayVec ℕ) → result ≡ sight addrs.now keys.now (get_or run.now place other).items }
+    ensures { (other : ArrayVec ℕ) → result ≡ frame_shown addrs.now keys.now (get_or run.now place other).items }
 {
     show(addrs, keys, &run.at(place))
 }
 
-/// What so many frames show under all keys, from a place on, counted from 0, none of which is opened by the first `known`.
+/// Shows so many frames under all keys, from a place on, counted from 0, none of which the first `known` open.
 fn show_unopened(
     alloc: Global,
     frames: &Frames,
     addrs: &Addresses<'_>,
-    keys: &[Ciphers],
+    keys: &[SealingKeys],
     known: u32,
     from: usize,
     count: usize,
-) -> Result<Vec<Sight>, NoMemory>
+) -> Result<Vec<Shown>, NoMemory>
     requires known { known ≤ length keys.now }
     requires keys { length keys.now < 2 ^ 32 }
     requires frames { length frames.now ≤ 100000 }
     requires within { from + count ≤ length frames.now }
-    requires before { list_all unopened (sights_of addrs.now (take known keys.now) (take count (drop from frames.now))) ≡ true }
-    ensures { IfOk result (λ v. v.items ≡ sights_of addrs.now keys.now (take count (drop from frames.now))) }
+    requires before { list_all unopened
+        (frames_shown addrs.now (take known keys.now) (take count (drop from frames.now))) ≡ true }
+    ensures { IfOk result (λ v. v.items ≡ frames_shown addrs.now keys.now (take count (drop from frames.now))) }
 {
     let before = show_all(alloc, frames, addrs, &[], from, count)?;
     Ok(show_again(frames, addrs, keys, known, from, before))
 }
 
-/// What frames show under all keys, from a place on, counted from 0, where it is known under the first `known`.
+/// Shows frames under all keys, from a place on, counted from 0, where it is known under the first `known`.
 fn show_again(
     frames: &Frames,
     addrs: &Addresses<'_>,
-    keys: &[Ciphers],
+    keys: &[SealingKeys],
     known: u32,
     from: usize,
-    seen: Vec<Sight>,
-) -> Vec<Sight>
+    seen: Vec<Shown>,
+) -> Vec<Shown>
     requires known { known ≤ length keys.now }
     requires keys { length keys.now < 2 ^ 32 }
     requires frames { length frames.now ≤ 100000 }
     requires within { from + vec_len seen ≤ length frames.now }
-    requires before { seen.items ≡ sights_of addrs.now (take known keys.now) (take (vec_len seen) (drop from frames.now)) }
-    ensures { result.items ≡ sights_of addrs.now keys.now (take (vec_len seen) (drop from frames.now)) }
+    requires before { seen.items ≡ frames_shown addrs.now (take known keys.now)
+        (take (vec_len seen) (drop from frames.now)) }
+    ensures { result.items ≡ frames_shown addrs.now keys.now (take (vec_len seen) (drop from frames.now)) }
 {
     let mut seen = seen;
     refresh_all(frames, addrs, keys, known, from, seen.as_mut_slice());
@@ -178,17 +183,18 @@ fn show_again(
 fn refresh_all(
     frames: &Frames,
     addrs: &Addresses<'_>,
-    keys: &[Ciphers],
+    keys: &[SealingKeys],
     known: u32,
     from: usize,
-    seen: &mut [Sight],
+    seen: &mut [Shown],
 )
     requires known { known ≤ length keys.now }
     requires keys { length keys.now < 2 ^ 32 }
     requires frames { length frames.now ≤ 100000 }
     requires within { from + length seen.old ≤ length frames.now }
-    requires before { seen.old ≡ sights_of addrs.now (take known keys.now) (take (length seen.old) (drop from frames.now)) }
-    ensures { seen.new ≡ sights_of addrs.now keys.now (take (length seen.old) (drop from frames.now)) }
+    requires before { seen.old ≡ frames_shown addrs.now (take known keys.now)
+        (take (length seen.old) (drop from frames.now)) }
+    ensures { seen.new ≡ frames_shown addrs.now keys.now (take (length seen.old) (drop from frames.now)) }
 {
     for i in 0..seen.len() {
         let frame = frames.from(from + i).at(0);
@@ -196,16 +202,16 @@ fn refresh_all(
     }
 }
 
-fn refresh(addrs: &Addresses<'_>, keys: &[Ciphers], known: u32, frame: &Frame, seen: &mut Sight)
+fn refresh(addrs: &Addresses<'_>, keys: &[SealingKeys], known: u32, frame: &Frame, seen: &mut Shown)
     requires within { known ≤ length keys.now }
     requires fits { length keys.now < 2 ^ 32 }
-    requires before { seen.old ≡ sight addrs.now (take known keys.now) frame.now.items }
-    ensures { seen.new ≡ sight addrs.now keys.now frame.now.items }
+    requires before { seen.old ≡ frame_shown addrs.now (take known keys.now) frame.now.items }
+    ensures { seen.new ≡ frame_shown addrs.now keys.now frame.now.items }
 {
     if is_settled(seen) {
         return;
     }
-    let nothing = Sight {
+    let nothing = Shown {
         nwk: Finding::Malformed,
         below: None,
     };
@@ -217,63 +223,63 @@ fn refresh(addrs: &Addresses<'_>, keys: &[Ciphers], known: u32, frame: &Frame, s
 fn keep(
     alloc: Global,
     block: &mut Block,
-    sights: Vec<Sight>,
+    all_shown: Vec<Shown>,
     leads: &mut Vec<Lead>,
 ) -> Result<(), AllocError>
-    requires { block.old.first + vec_len sights < 2 ^ 32 }
+    requires { block.old.first + vec_len all_shown < 2 ^ 32 }
     ensures same { OnOk result (SameFrames block.old block.new) }
-    ensures stands { OnOk result (StandsFor block.old.first sights.items block.new.seen) }
-    ensures leads { OnOk result (leads.new.items ≡ leads.old.items ++ leads_in block.old.first sights.items) }
+    ensures stands { OnOk result (StandsFor block.old.first all_shown.items block.new.seen) }
+    ensures leads { OnOk result (leads.new.items ≡ leads.old.items ++ leads_in block.old.first all_shown.items) }
 {
-    add_all_leads(leads, block.first, sights.as_slice())?;
-    block.seen = settle(alloc, block.first, sights)?;
+    add_all_leads(leads, block.first, all_shown.as_slice())?;
+    block.seen = settle(alloc, block.first, all_shown)?;
     Ok(())
 }
 
-/// Nothing, of frames that no key opened; the lines of frames of which no layer is closed; or else all that they show.
-fn settle(alloc: Global, first: u32, sights: Vec<Sight>) -> Result<Seen, AllocError>
-    requires { first + vec_len sights < 2 ^ 32 }
-    ensures { IfOk result (λ seen. StandsFor first sights.items seen) }
+/// Keeps nothing of frames that no key opened, the lines of frames of which no layer is closed, or else all they show.
+fn settle(alloc: Global, first: u32, all_shown: Vec<Shown>) -> Result<Seen, AllocError>
+    requires { first + vec_len all_shown < 2 ^ 32 }
+    ensures { IfOk result (λ seen. StandsFor first all_shown.items seen) }
 {
-    if are_unopened(sights.as_slice()) {
+    if are_unopened(all_shown.as_slice()) {
         Ok(Seen::Unopened)
-    } else if are_settled(sights.as_slice()) {
-        Ok(Seen::Lines(lines_of(alloc, first, sights.as_slice())?))
+    } else if are_settled(all_shown.as_slice()) {
+        Ok(Seen::Lines(lines_of(alloc, first, all_shown.as_slice())?))
     } else {
-        Ok(Seen::Sights(sights))
+        Ok(Seen::Whole(all_shown))
     }
 }
 
-fn are_unopened(sights: &[Sight]) -> bool
-    ensures { result ≡ list_all unopened sights.now }
+fn are_unopened(all_shown: &[Shown]) -> bool
+    ensures { result ≡ list_all unopened all_shown.now }
 {
-    sights.iter().all(|sight| is_unopened(sight))
+    all_shown.iter().all(|shown| is_unopened(shown))
 }
 
-fn are_settled(sights: &[Sight]) -> bool
-    ensures { result ≡ list_all settled sights.now }
+fn are_settled(all_shown: &[Shown]) -> bool
+    ensures { result ≡ list_all settled all_shown.now }
 {
-    sights.iter().all(|sight| is_settled(sight))
+    all_shown.iter().all(|shown| is_settled(shown))
 }
 
-/// The lines of frames, the first of which has the number `first`.
-fn lines_of(alloc: Global, first: u32, sights: &[Sight]) -> Result<Vec<u8>, AllocError>
-    requires { first + length sights.now < 2 ^ 32 }
-    ensures { IfOk result (λ v. v.items ≡ sights_text first sights.now) }
+/// Prints the lines of frames, the first of which has the number `first`.
+fn lines_of(alloc: Global, first: u32, all_shown: &[Shown]) -> Result<Vec<u8>, AllocError>
+    requires { first + length all_shown.now < 2 ^ 32 }
+    ensures { IfOk result (λ v. v.items ≡ frames_text first all_shown.now) }
 {
-    let mut lines = Vec::with_capacity(alloc, 128 * sights.len())?;
-    put_sights(&mut lines, first, sights)?;
+    let mut lines = Vec::with_capacity(alloc, 128 * all_shown.len())?;
+    put_frames(&mut lines, first, all_shown)?;
     Ok(lines)
 }
 
 /// Adds the keys that opened contents carry, in the order of the frames, and in a frame from the inside out.
-fn add_all_leads(found: &mut Vec<Lead>, first: u32, seen: &[Sight]) -> Result<(), AllocError>
+fn add_all_leads(found: &mut Vec<Lead>, first: u32, seen: &[Shown]) -> Result<(), AllocError>
     requires { first + length seen.now < 2 ^ 32 }
     ensures { OnOk result (found.new.items ≡ found.old.items ++ leads_in first seen.now) }
 {
     let mut frame = first;
-    for sight in seen {
-        add_leads(found, frame, carried_keys(sight))?;
+    for shown in seen {
+        add_leads(found, frame, carried_keys(shown))?;
         frame += 1;
     }
     Ok(())
@@ -302,7 +308,9 @@ impl Block {
     ghost use Rattle.std.specs.Prelude.{◌≡◌, ◌++◌, IfOk};
     ghost use Rattle.zb_inspect_ring.specs.Pieces.{HasRoom, lines_of as kept_lines, seen_text};
 
-    /// A page with the lines of the frames behind it. Where it is empty, lines that are kept become the page.
+    /// Puts the lines of the frames behind a page. Where that is empty, lines that are kept become the page.
+    ///
+    /// Requires that the numbers of the frames are below 2^32.
     pub fn print(self, page: Vec<u8>) -> Result<Vec<u8>, AllocError>
         requires { HasRoom self.first self.count self.seen }
         ensures { IfOk result (λ printed. printed.items ≡ page.items ++ seen_text self.first self.count self.seen) }
@@ -313,12 +321,12 @@ impl Block {
             Seen::Nothing => {}
             Seen::Unopened => put_unopened(&mut page, first, count)?,
             Seen::Lines(lines) => put_behind(&mut page, lines)?,
-            Seen::Sights(sights) => put_sights(&mut page, first, sights.as_slice())?,
+            Seen::Whole(all_shown) => put_frames(&mut page, first, all_shown.as_slice())?,
         }
         Ok(page)
     }
 
-    /// The lines of the frames, where they are kept.
+    /// Gives the lines of the frames, where they are kept.
     pub(crate) fn lines(&self) -> &[u8]
         ensures { result.now ≡ kept_lines self.now.seen }
     {
@@ -326,7 +334,7 @@ impl Block {
             Seen::Nothing => &[],
             Seen::Unopened => &[],
             Seen::Lines(lines) => lines.as_slice(),
-            Seen::Sights(_) => &[],
+            Seen::Whole(_) => &[],
         }
     }
 }

@@ -1,16 +1,18 @@
 //! Cutting the frames of a capture into pieces.
-ghost use Rattle.std.specs.Prelude.{◌≡◌, ◌+◌, ◌≤◌, length, IfOk};
-ghost use Rattle.std.specs.List.{AllByRecursion};
+ghost use Rattle.std.specs.Prelude.{◌≡◌, ◌≤◌, ◌<◌, length, IfOk};
+ghost use Rattle.std.specs.List.{AllByRecursion, AllZip};
 ghost use Rattle.std.specs.Int.{div_ceil};
-ghost use Rattle.zb_inspect_ring.specs.Pieces.{AreSized, all_blocks, count_of, IsUnseen, Numbered};
+ghost use Rattle.zb_inspect_ring.specs.Pieces.{AreSized, all_blocks, count_of, HasShare, IsShareWithin, IsUnseen, Numbered};
 
 use crate::block::{Block, Seen};
 use crate::piece::Piece;
 use std::alloc::Global;
 use zb_base::NoMemory;
+use zb_jobs::{Share, shares};
 
-/// Cuts so many frames into consecutive pieces, at most as many as there are jobs, in which no frame was looked at yet.
-/// Each but the last has as many frames as there are for a job, rounded up.
+/// Cuts so many frames into consecutive pieces, at most one for each job, in which no frame was looked at yet.
+///
+/// Each piece but the last has as many frames as there are for a job, rounded up.
 pub(crate) fn cut(alloc: Global, frames: u32, jobs: u32) -> Result<Vec<Piece>, NoMemory>
     requires jobs { 1 ≤ jobs }
     requires frames { frames ≤ 100000 }
@@ -20,34 +22,36 @@ pub(crate) fn cut(alloc: Global, frames: u32, jobs: u32) -> Result<Vec<Piece>, N
     ensures sized { IfOk result (λ v. AreSized (div_ceil frames jobs) 0 frames v.items) }
     ensures few { IfOk result (λ v. length v.items ≤ jobs) }
 {
-    let size = frames.div_ceil(jobs);
-    let mut pieces = Vec::new(alloc);
-    let mut number: u32 = 0;
-    let mut done: u32 = 0;
-    while done < frames {
-        let count = size.min(frames - done);
-        pieces.push(unseen(alloc, number, done + 1, count)?)?;
-        number += 1;
-        done += count;
+    let shares = shares(alloc, frames, jobs)?;
+    let pieces = unseen_pieces(alloc, shares)?;
+    Ok(pieces)
+}
+
+/// Makes a piece of each share.
+fn unseen_pieces(alloc: Global, shares: Vec<Share>) -> Result<Vec<Piece>, NoMemory>
+    requires { AllByRecursion (IsShareWithin 100000) shares.items }
+    ensures { IfOk result (λ v. AllZip HasShare shares.items v.items) }
+{
+    let mut pieces = Vec::with_capacity(alloc, shares.len())?;
+    for share in shares {
+        pieces.push(unseen(alloc, share)?)?;
     }
     Ok(pieces)
 }
 
-/// A piece whose frames were not looked at yet: one block.
-fn unseen(alloc: Global, number: u32, first: u32, count: u32) -> Result<Piece, NoMemory>
-    ensures number { IfOk result (λ p. p.number ≡ number) }
-    ensures numbers { IfOk result (λ p. Numbered first p.blocks.items) }
-    ensures count { IfOk result (λ p. count_of p.blocks.items ≡ count) }
-    ensures unseen { IfOk result (λ p. AllByRecursion IsUnseen p.blocks.items) }
+/// Makes a piece of a share: one block, whose frames were not looked at yet.
+fn unseen(alloc: Global, share: Share) -> Result<Piece, NoMemory>
+    requires { IsShareWithin 100000 share }
+    ensures { IfOk result (λ piece. HasShare share piece) }
 {
     let mut blocks = Vec::new(alloc);
     blocks.push(Block {
-        first,
-        count,
+        first: share.first + 1,
+        count: share.count,
         seen: Seen::Nothing,
     })?;
     Ok(Piece {
-        number,
+        number: share.number,
         blocks,
         leads: Vec::new(alloc),
     })

@@ -1,7 +1,7 @@
 //! The first look at frames: settled frames that follow each other come into one block, with their lines in one text.
 ghost use Rattle.std.specs.Prelude.{◌≡◌, ◌+◌, ◌<◌, ◌≤◌, ◌^◌, ◌++◌, ◌∷◌, ◌&&◌, [], length, true, IfOk, OnOk};
-ghost use Rattle.zb_inspect_ring.specs.Rings.{leads as leads_in, sights};
-ghost use Rattle.zb_inspect_ring.specs.Pieces.{AllShown, AreJoined, IsAdded, Numbered, count_of, frames_from, has_lines as lines_kept};
+ghost use Rattle.zb_inspect_ring.specs.Rings.{leads as leads_in, frames_shown};
+ghost use Rattle.zb_inspect_ring.specs.Pieces.{AreShown, AreJoined, IsAdded, Numbered, count_of, frames_from, has_lines as lines_kept};
 
 use crate::block::{Block, Seen, look_at};
 use crate::ring::Lead;
@@ -9,10 +9,11 @@ use std::alloc::{AllocError, Global};
 use zb_base::NoMemory;
 use zb_capture::Frames;
 use zb_inspect_frame::Addresses;
-use zb_seal::Ciphers;
+use zb_seal::SealingKeys;
 
-/// So many frames are looked at together: where some were opened and a layer of one of them is closed, all that they show
-/// is kept.
+/// How many frames are looked at together.
+///
+/// Where some of them were opened and a layer of one of them is closed, all that they show is kept.
 const FRAMES_TOGETHER: u32 = 8;
 
 /// Looks at so many frames of a capture under all keys, the first of which has the number `first`, and adds the keys
@@ -21,7 +22,7 @@ pub(crate) fn look_first(
     alloc: Global,
     frames: &Frames,
     addrs: &Addresses<'_>,
-    keys: &[Ciphers],
+    keys: &[SealingKeys],
     first: u32,
     count: u32,
     leads: &mut Vec<Lead>,
@@ -32,8 +33,9 @@ pub(crate) fn look_first(
     requires within { first + count ≤ length frames.now + 1 }
     ensures numbers { IfOk result (λ v. Numbered first v.items) }
     ensures count { IfOk result (λ v. count_of v.items ≡ count) }
-    ensures shown { IfOk result (λ v. AllShown frames.now addrs.now keys.now v.items) }
-    ensures leads { OnOk result (leads.new.items ≡ leads.old.items ++ leads_in first (sights addrs.now keys.now (frames_from frames.now first count))) }
+    ensures shown { IfOk result (λ v. AreShown frames.now addrs.now keys.now v.items) }
+    ensures leads { OnOk result (leads.new.items ≡ leads.old.items ++ leads_in first
+        (frames_shown addrs.now keys.now (frames_from frames.now first count))) }
 {
     let mut blocks = Vec::new(alloc);
     let mut done: u32 = 0;
@@ -69,7 +71,7 @@ fn add_block(blocks: &mut Vec<Block>, block: Block) -> Result<(), AllocError>
     Ok(())
 }
 
-/// Whether the lines of both blocks are kept.
+/// Answers whether the lines of both blocks are kept.
 fn have_lines(first: &Block, second: &Block) -> bool
     ensures { result ≡ (lines_kept first.now.seen && lines_kept second.now.seen) }
 {
@@ -83,11 +85,11 @@ fn has_lines(block: &Block) -> bool
         Seen::Nothing => false,
         Seen::Unopened => false,
         Seen::Lines(_) => true,
-        Seen::Sights(_) => false,
+        Seen::Whole(_) => false,
     }
 }
 
-/// One block of two whose lines are kept.
+/// Makes one block of two whose lines are kept.
 fn join(front: Block, back: &Block) -> Result<Block, AllocError>
     requires kept { lines_kept front.seen ≡ true }
     requires room { front.count + back.now.count < 2 ^ 32 }

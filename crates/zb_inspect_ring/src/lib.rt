@@ -8,15 +8,11 @@
 mod block;
 mod cut;
 mod first;
-mod gate;
-mod idle;
 mod piece;
 mod ring;
 mod rounds;
 
 pub use block::{Block, Seen};
-pub use gate::{Gate, OpenGate};
-pub use idle::IdleThread;
 pub use piece::Piece;
 pub use ring::{Lead, Ring, RingKey};
 pub use rounds::{Opened, open_all};

@@ -1,8 +1,8 @@
 //! The work of one job: consecutive blocks of frames.
 ghost use Rattle.std.specs.Prelude.{◌≡◌, ◌+◌, ◌≤◌, ◌<◌, ◌^◌, ◌++◌, ◌∷◌, [], length, take, IfOk, IfSome, OnOk};
 ghost use Rattle.std.specs.List.{AllByRecursion, AllZip};
-ghost use Rattle.zb_inspect_ring.specs.Pieces.{AllSee, AllShown, IsNext, IsNextPiece, IsOneUnseen, IsWithin, Numbered, all_fresh, count_of, frames_from};
-ghost use Rattle.zb_inspect_ring.specs.Rings.{leads as leads_in, sights};
+ghost use Rattle.zb_inspect_ring.specs.Pieces.{AllSee, AreShown, IsNext, IsNextPiece, IsOneUnseen, IsWithin, Numbered, all_fresh, count_of, frames_from};
+ghost use Rattle.zb_inspect_ring.specs.Rings.{leads as leads_in, frames_shown};
 
 use crate::block::{Block, Seen, look_at};
 use crate::first::look_first;
@@ -11,24 +11,27 @@ use std::alloc::Global;
 use zb_base::NoMemory;
 use zb_capture::Frames;
 use zb_inspect_frame::Addresses;
-use zb_seal::Ciphers;
+use zb_seal::SealingKeys;
 
-/// Consecutive blocks of the frames of a capture: the work of one job.
+/// Is the work of one job: consecutive blocks of the frames of a capture.
 #[derive(Drop)]
 pub struct Piece {
     /// The number of the piece, from 0.
     pub number: u32,
+    /// The blocks, in the order of their frames.
     pub blocks: Vec<Block>,
     /// The keys that the last look at the frames found.
     pub leads: Vec<Lead>,
 }
 
-/// Looks at a piece of the frames of a capture under all keys, where it may have been looked at under the first `known`.
+/// Looks at a piece of the frames of a capture under all keys.
+///
+/// It may have been looked at under the first `known` keys.
 pub(crate) fn look(
     alloc: Global,
     frames: &Frames,
     addrs: &Addresses<'_>,
-    keys: &[Ciphers],
+    keys: &[SealingKeys],
     known: u32,
     piece: Piece,
 ) -> Result<Piece, NoMemory>
@@ -51,12 +54,12 @@ pub(crate) fn look(
     }
 }
 
-/// The piece of so many frames, the first of which has the number `first`, looked at for the first time.
+/// Looks for the first time at so many frames, the first of which has the number `first`.
 fn look_new(
     alloc: Global,
     frames: &Frames,
     addrs: &Addresses<'_>,
-    keys: &[Ciphers],
+    keys: &[SealingKeys],
     number: u32,
     first: u32,
     count: u32,
@@ -68,8 +71,9 @@ fn look_new(
     ensures number { IfOk result (λ p. p.number ≡ number) }
     ensures numbers { IfOk result (λ p. Numbered first p.blocks.items) }
     ensures count { IfOk result (λ p. count_of p.blocks.items ≡ count) }
-    ensures shown { IfOk result (λ p. AllShown frames.now addrs.now keys.now p.blocks.items) }
-    ensures leads { IfOk result (λ p. p.leads.items ≡ leads_in first (sights addrs.now keys.now (frames_from frames.now first count))) }
+    ensures shown { IfOk result (λ p. AreShown frames.now addrs.now keys.now p.blocks.items) }
+    ensures leads { IfOk result (λ p. p.leads.items ≡ leads_in first
+        (frames_shown addrs.now keys.now (frames_from frames.now first count))) }
 {
     let mut leads = Vec::new(alloc);
     let blocks = look_first(alloc, frames, addrs, keys, first, count, &mut leads)?;
@@ -80,12 +84,12 @@ fn look_new(
     })
 }
 
-/// A piece whose blocks are looked at in their order.
+/// Looks at the blocks of a piece in their order.
 fn look_again(
     alloc: Global,
     frames: &Frames,
     addrs: &Addresses<'_>,
-    keys: &[Ciphers],
+    keys: &[SealingKeys],
     known: u32,
     piece: Piece,
 ) -> Result<Piece, NoMemory>
@@ -120,7 +124,7 @@ fn look_again(
     })
 }
 
-/// The first frame and the number of frames of a piece that wasn't looked at yet, which is one block.
+/// Gives the first frame and the number of frames of a piece that wasn't looked at yet, which is one block.
 fn unseen(blocks: &[Block]) -> Option<(u32, u32)>
     ensures { IfSome result (λ f. IsOneUnseen blocks.now f.0 f.1) }
 {
@@ -137,7 +141,7 @@ fn unseen_frames(block: &Block) -> Option<(u32, u32)>
         Seen::Nothing => Some((block.first, block.count)),
         Seen::Unopened => None,
         Seen::Lines(_) => None,
-        Seen::Sights(_) => None,
+        Seen::Whole(_) => None,
     }
 }
 
@@ -145,7 +149,7 @@ fn look_at_all(
     alloc: Global,
     frames: &Frames,
     addrs: &Addresses<'_>,
-    keys: &[Ciphers],
+    keys: &[SealingKeys],
     known: u32,
     blocks: &mut [Block],
     leads: &mut Vec<Lead>,
@@ -156,7 +160,8 @@ fn look_at_all(
     requires within { AllByRecursion (IsWithin (length frames.now)) blocks.old }
     requires before { AllSee frames.now addrs.now (take known keys.now) blocks.old }
     ensures next { OnOk result (AllZip (IsNext frames.now addrs.now keys.now) blocks.old blocks.new) }
-    ensures leads { OnOk result (leads.new.items ≡ leads.old.items ++ all_fresh frames.now addrs.now keys.now blocks.old) }
+    ensures leads { OnOk result (leads.new.items ≡ leads.old.items
+        ++ all_fresh frames.now addrs.now keys.now blocks.old) }
 {
     for i in 0..blocks.len() {
         look_at(alloc, frames, addrs, keys, known, &mut blocks[i], leads)?;

@@ -6,36 +6,42 @@ use std::alloc::Global;
 use std::collections::BTreeSet;
 use std::marker::Model;
 use zb_base::{Key, List, NoMemory};
-use zb_seal::Ciphers;
+use zb_seal::SealingKeys;
 
-/// A key of the ring, and where it was found: the number of the frame, from 1, and of the round, from 1. A given key
-/// was not found.
+/// Is a key of the ring.
 #[derive(Clone, Copy, Debug, PartialEq, Eq)]
 pub struct RingKey {
+    /// The key.
     pub key: Key,
+    /// Where it was found: the number of the frame, from 1, and of the round, from 1. A given key was not found.
     pub found: Option<(u32, u32)>,
 }
 
-/// The keys that are given or that the frames give, in the order in which they became known, and the number of rounds
-/// that it took.
+/// Holds the keys that are given or that the frames give.
 #[derive(Debug, Drop)]
 pub struct Ring {
+    /// The keys, in the order in which they became known.
     pub keys: List<RingKey>,
+    /// How many rounds it took.
     pub rounds: u32,
 }
 
-/// A key that a frame carries, and the number of the frame, from 1.
+/// Is a key that a frame carries.
 #[derive(Clone, Copy, Debug, PartialEq, Eq)]
 pub struct Lead {
+    /// The number of the frame, from 1.
     pub frame: u32,
+    /// The key.
     pub key: Key,
 }
 
-/// The ring so far, each key with its sealing keys expanded. A contract sees it as its keys.
+/// Is the ring so far, each key with its sealing keys expanded.
+///
+/// A contract sees it as its keys.
 #[derive(Drop)]
 pub(crate) struct KeyRing {
     keys: Vec<RingKey>,
-    ciphers: Vec<Ciphers>,
+    sealing_keys: Vec<SealingKeys>,
     /// The same keys, so that a key is found among them by its order.
     known: BTreeSet<Key>,
 }
@@ -51,32 +57,33 @@ impl Model for KeyRing {
 
     ghost view = { λ r. r.keys.items };
 
-    ghost invariant = { λ r. (r.ciphers.items ≡ keys_of r.keys.items) × ((key : Key) → is_known r.known key ≡ has_key r.keys.items key) };
+    ghost invariant = { λ r. (r.sealing_keys.items ≡ keys_of r.keys.items) ×
+        ((key : Key) → is_known r.known key ≡ has_key r.keys.items key) };
 }
 
 impl KeyRing {
     ghost use Rattle.std.specs.Prelude.{◌≡◌, [], length, IfOk};
     ghost use Rattle.zb_inspect_ring.specs.Rings.{has_key, with_key, keys_of};
 
-    /// No keys.
+    /// Makes a ring of no keys.
     pub fn new(alloc: Global) -> KeyRing
         ensures { result ≡ [] }
     {
         KeyRing {
             keys: Vec::new(alloc),
-            ciphers: Vec::new(alloc),
+            sealing_keys: Vec::new(alloc),
             known: BTreeSet::new(alloc),
         }
     }
 
-    /// Whether the ring has the key.
+    /// Answers whether the ring has the key.
     fn has(&self, key: &Key) -> bool
         ensures { result ≡ has_key self.now key.now }
     {
         self.known.contains(key)
     }
 
-    /// The ring with one key more, if that is new.
+    /// Adds one key, if that is new.
     pub fn with(self, key: Key, found: Option<(u32, u32)>) -> Result<KeyRing, NoMemory>
         ensures { IfOk result (λ r. r ≡ with_key self key found) }
     {
@@ -85,34 +92,34 @@ impl KeyRing {
         }
         let KeyRing {
             mut keys,
-            mut ciphers,
+            mut sealing_keys,
             mut known,
         } = self;
         known.insert(key)?;
-        ciphers.push(Ciphers::new(&key))?;
+        sealing_keys.push(SealingKeys::new(&key))?;
         keys.push(RingKey { key, found })?;
         Ok(KeyRing {
             keys,
-            ciphers,
+            sealing_keys,
             known,
         })
     }
 
-    /// The keys, each with its sealing keys.
-    pub fn ciphers(&self) -> &[Ciphers]
+    /// Gives the keys, each with its sealing keys.
+    pub fn sealing_keys(&self) -> &[SealingKeys]
         ensures { result.now ≡ keys_of self.now }
     {
-        self.ciphers.as_slice()
+        self.sealing_keys.as_slice()
     }
 
-    /// How many keys the ring has.
+    /// Answers how many keys the ring has.
     pub fn len(&self) -> usize
         ensures { result ≡ length self.now }
     {
         self.keys.len()
     }
 
-    /// The keys, and where they were found.
+    /// Gives the keys, and where they were found.
     pub fn into_keys(self) -> List<RingKey>
         ensures { result ≡ self }
     {
@@ -120,7 +127,7 @@ impl KeyRing {
     }
 }
 
-/// The ring of given keys.
+/// Makes the ring of given keys.
 pub(crate) fn given_ring(alloc: Global, keys: &[Key]) -> Result<KeyRing, NoMemory>
     ensures { IfOk result (λ r. r ≡ given_from [] keys.now) }
 {
@@ -131,7 +138,7 @@ pub(crate) fn given_ring(alloc: Global, keys: &[Key]) -> Result<KeyRing, NoMemor
     Ok(ring)
 }
 
-/// The ring with the keys that were found in a round, in their order.
+/// Adds the keys that were found in a round, in their order.
 pub(crate) fn learn(ring: KeyRing, round: u32, leads: &[Lead]) -> Result<KeyRing, NoMemory>
     ensures { IfOk result (λ r. r ≡ learnt round ring leads.now) }
 {

@@ -1,14 +1,12 @@
-//! Round after round.
+//! The rounds in which the frames of a capture are opened.
 ghost use Rattle.std.specs.Prelude.{◌≡◌, ◌+◌, ◌≤◌, ◌<◌, ◌^◌, length, take, map, IfOk, Ok};
 ghost use Rattle.std.specs.Int.{div_ceil};
 ghost use Rattle.std.specs.List.{AllByRecursion, AllZip};
-ghost use Rattle.zb_inspect_ring.specs.Pieces.{AreSized, all_blocks, all_leads, AllSee, AllShown, IsCut, IsNextPiece, IsWithin};
+ghost use Rattle.zb_inspect_ring.specs.Pieces.{AreSized, all_blocks, all_leads, AllSee, AreShown, IsCut, IsNextPiece, IsWithin};
 ghost use Rattle.zb_inspect_ring.specs.Rings.{keys_of, learnt, ring_of, IsRing};
 ghost use Rattle.zb_capture.specs.Grammar.{IsCapture};
 
 use crate::cut::cut;
-use crate::gate::Gate;
-use crate::idle::IdleThread;
 use crate::piece::{Piece, look};
 use crate::ring::{KeyRing, Ring, given_ring, learn};
 use std::alloc::Global;
@@ -16,20 +14,22 @@ use std::thread::{Threads, map_vec};
 use zb_base::NoMemory;
 use zb_capture::{Capture, Frames};
 use zb_inspect_frame::Addresses;
-use zb_seal::Ciphers;
+use zb_jobs::{Gate, IdleThread};
+use zb_seal::SealingKeys;
 
-/// The ring of a capture, and what the frames of the capture show under it.
+/// Holds the ring of a capture, and what the frames of the capture show under it.
 #[derive(Drop)]
 pub struct Opened {
+    /// The ring.
     pub ring: Ring,
     /// All frames, in consecutive pieces.
     pub pieces: Vec<Piece>,
 }
 
-/// The ring of a capture, and what its frames show under it, worked out by so many jobs.
+/// Works out the ring of a capture, and what its frames show under it, by so many jobs.
 ///
 /// In each round only the layers that are still closed are tried, and only under the keys that are new. Frames of which
-/// no layer is closed are kept as the lines that they have in a report.
+/// no layer is closed are kept as the lines that they have in a report. Requires a job.
 pub fn open_all<T: Threads + Sync, G: Gate>(
     rt: &T,
     alloc: Global,
@@ -44,9 +44,11 @@ pub fn open_all<T: Threads + Sync, G: Gate>(
     // At most all that may be given, and three for each frame.
     ensures few { IfOk result (λ o. length o.ring.keys ≤ 300256) }
     ensures pieces { IfOk result (λ o. IsCut capture.now o.pieces.items) }
-    ensures sized { IfOk result (λ o. AreSized (div_ceil (length capture.now.frames) jobs) 0 (length capture.now.frames) o.pieces.items) }
+    ensures sized { IfOk result (λ o. AreSized (div_ceil (length capture.now.frames) jobs) 0
+        (length capture.now.frames) o.pieces.items) }
     ensures few_pieces { IfOk result (λ o. length o.pieces.items ≤ jobs) }
-    ensures shown { IfOk result (λ o. AllShown capture.now.frames capture.now.addrs (keys_of o.ring.keys) (all_blocks o.pieces.items)) }
+    ensures shown { IfOk result (λ o. AreShown capture.now.frames capture.now.addrs (keys_of o.ring.keys)
+        (all_blocks o.pieces.items)) }
 {
     let frames = &capture.frames;
     let addrs = Addresses::new(alloc, capture.addrs.as_slice())?;
@@ -63,7 +65,7 @@ pub fn open_all<T: Threads + Sync, G: Gate>(
             gate,
             frames,
             &addrs,
-            ring.ciphers(),
+            ring.sealing_keys(),
             known,
             pieces,
         )?;
@@ -88,7 +90,7 @@ fn look_at_all<T: Threads + Sync, G: Gate>(
     gate: &G,
     frames: &Frames,
     addrs: &Addresses<'_>,
-    keys: &[Ciphers],
+    keys: &[SealingKeys],
     known: u32,
     pieces: Vec<Piece>,
 ) -> Result<Vec<Piece>, NoMemory>
@@ -96,7 +98,8 @@ fn look_at_all<T: Threads + Sync, G: Gate>(
     requires keys { length keys.now < 2 ^ 32 }
     requires frames { length frames.now ≤ 100000 }
     requires within { AllByRecursion (λ p. AllByRecursion (IsWithin (length frames.now)) p.blocks.items) pieces.items }
-    requires before { AllByRecursion (λ p. AllSee frames.now addrs.now (take known keys.now) p.blocks.items) pieces.items }
+    requires before { AllByRecursion (λ p. AllSee frames.now addrs.now (take known keys.now) p.blocks.items)
+        pieces.items }
     ensures { IfOk result (λ v. AllZip (IsNextPiece frames.now addrs.now keys.now) pieces.items v.items) }
 {
     let idle = IdleThread::start(rt, pieces.len());
@@ -104,7 +107,9 @@ fn look_at_all<T: Threads + Sync, G: Gate>(
         rt,
         pieces,
         &|piece: Piece| -> Result<Piece, NoMemory>
-            requires { (known ≤ length keys.now) × (length keys.now < 2 ^ 32) × (length frames.now ≤ 100000) × AllByRecursion (IsWithin (length frames.now)) piece.blocks.items × AllSee frames.now addrs.now (take known keys.now) piece.blocks.items }
+            requires { (known ≤ length keys.now) × (length keys.now < 2 ^ 32) × (length frames.now ≤ 100000)
+                × AllByRecursion (IsWithin (length frames.now)) piece.blocks.items × AllSee frames.now addrs.now
+                (take known keys.now) piece.blocks.items }
             ensures { IfOk result (λ p. IsNextPiece frames.entry.now addrs.entry.now keys.entry.now piece p) }
         {
             gate.pass(piece.number);
@@ -115,7 +120,7 @@ fn look_at_all<T: Threads + Sync, G: Gate>(
     gather(alloc, looked)
 }
 
-/// The pieces, where none lacked memory.
+/// Gives the pieces, where none lacked memory.
 fn gather(alloc: Global, looked: Vec<Result<Piece, NoMemory>>) -> Result<Vec<Piece>, NoMemory>
     ensures { IfOk result (λ v. looked.items ≡ map (λ p. Ok p) v.items) }
 {
@@ -126,7 +131,7 @@ fn gather(alloc: Global, looked: Vec<Result<Piece, NoMemory>>) -> Result<Vec<Pie
     Ok(pieces)
 }
 
-/// The ring with the keys that a round found in the pieces.
+/// Adds the keys that a round found in the pieces.
 fn learn_from(ring: KeyRing, round: u32, pieces: &[Piece]) -> Result<KeyRing, NoMemory>
     ensures { IfOk result (λ r. r ≡ learnt round ring (all_leads pieces.now)) }
 {

@@ -28,8 +28,8 @@ pub struct Route {
 /// The header of a NWK frame (05-3474-21, 3.3.1). The control word says which of the last four fields are there.
 #[derive(Debug, Drop, PartialEq, Eq)]
 pub struct NwkHeader {
-    /// Bits 0 and 1: frame type; 2 to 5: version; 6 and 7: discover route; 8: multicast; 9: security; 10: source
-    /// route; 11: destination IEEE; 12: source IEEE; 13: end device initiator; the others are free.
+    /// The control word. Bits 0 and 1: frame type; 2 to 5: version; 6 and 7: discover route; 8: multicast; 9: security;
+    /// 10: source route; 11: destination IEEE; 12: source IEEE; 13: end device initiator; the others are free.
     pub control: u16,
     /// The network address that the frame goes to.
     pub destination: Short,

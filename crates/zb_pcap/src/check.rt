@@ -4,7 +4,7 @@ ghost use Rattle.zb_pcap.specs.CheckSequence.{check_sequence};
 
 use zb_crc::divide;
 
-/// The frame check sequence of the bytes of a packet (IEEE 802.15.4).
+/// Computes the frame check sequence of the bytes of a packet (IEEE 802.15.4).
 #[tactic(auto, unfolding(crate::specs::CheckSequence::check_sequence))]
 pub fn fcs(bytes: &[u8]) -> u16
     ensures { result ≡ check_sequence bytes.now }

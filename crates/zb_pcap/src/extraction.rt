@@ -13,23 +13,33 @@ use zb_base::{Frame, Key, NoMemory, OrMemory};
 use zb_capture::{Capture, Frames};
 use zb_cursor::frame_from;
 
-/// How many packets a file has, how many of them have a wrong check sequence, and how many are neither these nor plain
-/// data frames.
+/// Counts the packets of a file.
 #[derive(Clone, Copy, Debug, PartialEq, Eq)]
 pub struct Counts {
+    /// How many packets there are.
     pub packets: u32,
+    /// How many of them have a wrong check sequence.
     pub bad_check: u32,
+    /// How many are neither these nor plain data frames.
     pub other: u32,
 }
 
-/// The capture of a file's frames, and the counts of its packets.
+/// Holds what a file gives.
 #[derive(Debug, Drop)]
 pub struct Extraction {
+    /// The capture of its frames.
     pub capture: Capture,
+    /// The counts of its packets.
     pub counts: Counts,
 }
 
-/// The frames of a capture file, under some keys. The fault is the first in the file.
+/// Extracts the frames of a capture file, under some keys.
+///
+/// Requires at most 256 keys.
+///
+/// # Errors
+///
+/// The first fault of the file.
 #[tactic(auto, unfolding(crate::specs::Extracts::extracted))]
 pub fn extract(alloc: Global, bytes: &[u8], keys: &[Key]) -> Result<Extraction, OrMemory<PcapError>>
     requires { length keys.now ≤ 256 }
@@ -90,10 +100,14 @@ impl Sorted {
     /// Takes a packet.
     fn take(&mut self, check: bool, packet: &Packet<'_>) -> Result<(), NoMemory>
         requires room { self.old.bad_check + self.old.other + length self.old.frames < 100000 }
-        ensures frames { OnOk result (self.new.frames ≡ self.old.frames ++ frames_of packet.now.bytes.now (verdict check (record_in packet.now))) }
-        ensures bad_check { OnOk result (self.new.bad_check ≡ self.old.bad_check + bad_of (verdict check (record_in packet.now))) }
-        ensures other { OnOk result (self.new.other ≡ self.old.other + other_of (verdict check (record_in packet.now))) }
-        ensures one { OnOk result (self.new.bad_check + self.new.other + length self.new.frames ≡ self.old.bad_check + self.old.other + length self.old.frames + 1) }
+        ensures frames { OnOk result (self.new.frames ≡ self.old.frames ++ frames_of packet.now.bytes.now
+            (verdict check (record_in packet.now))) }
+        ensures bad_check { OnOk result (self.new.bad_check ≡ self.old.bad_check + bad_of
+            (verdict check (record_in packet.now))) }
+        ensures other { OnOk result (self.new.other ≡ self.old.other + other_of
+            (verdict check (record_in packet.now))) }
+        ensures one { OnOk result (self.new.bad_check + self.new.other + length self.new.frames
+            ≡ self.old.bad_check + self.old.other + length self.old.frames + 1) }
     {
         match judge(check, packet) {
             Mac::Payload { at, len } => {
@@ -106,7 +120,7 @@ impl Sorted {
     }
 }
 
-/// What a packet is. One that was cut isn't judged further.
+/// Judges what a packet is. One that was cut isn't judged further.
 #[tactic(auto, unfolding(crate::specs::Extracts::verdict))]
 fn judge(check: bool, packet: &Packet<'_>) -> Mac
     ensures value { result ≡ verdict check (record_in packet.now) }
@@ -119,7 +133,7 @@ fn judge(check: bool, packet: &Packet<'_>) -> Mac
     }
 }
 
-/// The frame of `len` bytes from `at` on.
+/// Gives the frame of `len` bytes from `at` on.
 fn frame_at(bytes: &[u8], at: u32, len: u32) -> Frame
     requires within { at + len ≤ length bytes.now }
     requires fits { len ≤ 127 }

@@ -1,8 +1,8 @@
-//! Why bytes are no capture file.
+//! What is wrong with bytes that are no capture file.
 use std::error::Error;
 use std::fmt;
 
-/// What is wrong, in the order in which it is tried.
+/// Says what is wrong with a file, in the order in which it is tried.
 #[derive(Clone, Copy, Debug, PartialEq, Eq)]
 pub enum PcapCause {
     /// There are fewer than 24 bytes, or they don't begin as such a file does.
@@ -34,10 +34,12 @@ impl fmt::Display for PcapCause {
     }
 }
 
-/// The number of the record, from 1, or 0 for the header, and what is wrong with it.
+/// Names the first bad part of a file, and what is wrong with it.
 #[derive(Clone, Copy, Debug, PartialEq, Eq)]
 pub struct PcapError {
+    /// The number of the record, from 1, or 0 for the header.
     pub place: u32,
+    /// What is wrong with it.
     pub cause: PcapCause,
 }
 

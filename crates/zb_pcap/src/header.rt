@@ -4,16 +4,19 @@ ghost use Rattle.zb_pcap.specs.Files.{number16_at, number32_at, order_of as orde
 
 use crate::fault::PcapCause;
 
-/// The order of the bytes of numbers.
+/// Says in which order the bytes of a number stand.
 #[derive(Clone, Copy, Debug, PartialEq, Eq)]
 pub(crate) enum Order {
+    /// The highest one first.
     Big,
+    /// The lowest one first.
     Little,
 }
 
-/// What a header says.
+/// Holds what a header says.
 #[derive(Clone, Copy, Debug, PartialEq, Eq)]
 pub(crate) struct Form {
+    /// The order of the bytes of its numbers, and of those of records.
     pub order: Order,
     /// Whether packets end with their check sequence.
     pub check: bool,
@@ -64,7 +67,7 @@ fn is_version(order: Order, bytes: &[u8]) -> bool
     number16(order, bytes, 4) == 2 && number16(order, bytes, 6) == 4
 }
 
-/// Whether packets of a link type end with their check sequence, where the link type is known.
+/// Answers whether packets of a link type end with their check sequence, where the link type is known.
 fn link_of(link: u32) -> Option<bool>
     ensures { result ≡ link_in link }
 {
@@ -86,7 +89,7 @@ fn number16(order: Order, bytes: &[u8], at: usize) -> u16
     }
 }
 
-/// The number of four bytes at a place.
+/// Reads the number of four bytes at a place.
 pub(crate) fn number32(order: Order, bytes: &[u8], at: usize) -> u32
     requires { at + 4 ≤ length bytes.now }
     ensures { result ≡ number32_at order bytes.now at }

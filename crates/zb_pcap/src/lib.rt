@@ -11,8 +11,6 @@ mod fault;
 mod header;
 mod mac;
 mod packets;
-#[cfg(test)]
-mod tests;
 
 pub use check::fcs;
 pub use extraction::{Counts, Extraction, extract};

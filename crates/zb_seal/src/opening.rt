@@ -28,8 +28,8 @@ fn restore_level(bytes: &mut [u8], place: usize)
     bytes[place] = real_level(bytes[place]);
 }
 
-/// What is authenticated: the front of the bytes up to the body, with the level that counts in the control byte that
-/// stands `size` bytes before its end.
+/// Answers what is authenticated: the front of the bytes up to the body, with the level that counts in the control
+/// byte that stands `size` bytes before its end.
 fn authenticated(bytes: &[u8], body: usize, size: usize) -> Frame
     requires some { 0 < size }
     requires room { size + body + 4 ≤ length bytes.now }
@@ -51,7 +51,7 @@ fn nwk_header(bytes: &[u8], frame: &NwkFrame, aux: &NwkAux) -> Frame
     authenticated(bytes, frame.body.len(), 14)
 }
 
-/// Says how a NWK frame that was read is addressed, and what it says of itself before any key is tried.
+/// Answers how a NWK frame is addressed, and what it says of itself before any key is tried.
 ///
 /// Requires the bytes that the frame was read from.
 ///
@@ -86,7 +86,7 @@ pub fn envelope_nwk(bytes: &[u8], frame: &NwkFrame) -> Result<NwkEnvelope, OpenE
     }
 }
 
-/// Says what the bytes of a NWK frame say of it before any key is tried.
+/// Reads a NWK frame and answers what it says of itself before any key is tried.
 ///
 /// # Errors
 ///
@@ -120,7 +120,7 @@ fn label_of(control: u8) -> Label
     }
 }
 
-/// The length of an auxiliary header at APS.
+/// Answers the length of an auxiliary header at APS.
 fn aps_size(source: Option<Eui>) -> usize
     ensures size { result ≡ size_of_aps source }
     ensures some { 0 < result }
@@ -139,7 +139,7 @@ fn aps_header(bytes: &[u8], frame: &ApsFrame, aux: &ApsAux) -> Frame
     authenticated(bytes, frame.body.len(), aps_size(aux.source))
 }
 
-/// Says what an APS frame that was read says of itself before any key is tried.
+/// Answers what an APS frame says of itself before any key is tried.
 ///
 /// Requires the bytes that the frame was read from.
 ///
@@ -165,7 +165,7 @@ pub fn envelope_aps(bytes: &[u8], frame: &ApsFrame) -> Result<Envelope, OpenErro
     }
 }
 
-/// Says what the bytes of an APS frame say of it before any key is tried.
+/// Reads an APS frame and answers what it says of itself before any key is tried.
 ///
 /// # Errors
 ///

@@ -10,7 +10,7 @@ use zb_base::{Frame, Layer};
 use zb_ccm::seal_with;
 use zb_cursor::{TooLong, frame_from, has_bit, put};
 
-/// How far before the header's end its auxiliary control byte stands.
+/// Answers how far before the header's end its auxiliary control byte stands.
 fn aux_size(layer: Layer, control: u8) -> usize
     ensures size { result ≡ size_of_aux layer control }
     ensures some { 5 ≤ result }
@@ -35,7 +35,7 @@ fn clear_level(bytes: &mut [u8], place: usize)
     bytes[place] = zero_level(bytes[place]);
 }
 
-/// The header with level bits 000, where it is long enough for an auxiliary header.
+/// Answers the header with level bits 000, where it is long enough for an auxiliary header.
 fn on_air(size: usize, header: &Frame) -> Frame
     requires { 5 ≤ size }
     ensures { result.items ≡ air size header.now.items }
@@ -48,7 +48,7 @@ fn on_air(size: usize, header: &Frame) -> Frame
     out
 }
 
-/// The cipher text of the content, and its code.
+/// Encrypts the content: answers the cipher text and its code.
 fn seal_content(cipher: &Cipher, term: &Term) -> (Frame, [u8; 4])
     ensures text { result.0.items ≡ (sealed_term cipher.now term.now).text }
     ensures mic { result.1 ≡ (sealed_term cipher.now term.now).mic }

@@ -1,9 +1,10 @@
 -- When each fault of a store comes.
-use Rattle.std.specs.Prelude.{ℕ, ◌<◌, ◌≤◌, ◌≡◌, List, length, None, IsTrue}
+use Rattle.std.specs.Prelude.{ℕ, ◌<◌, ◌≤◌, ◌≡◌, ◌≢◌, List, length, None, true, IsTrue, Result, IfErr, IsErrOf}
 use Rattle.zb_base.specs.Outside.{Rose}
-use Rattle.zb_disk.specs.View.{Telling, View}
+use Rattle.zb_disk.specs.View.{Telling, View, IsStill}
 use Rattle.zb_store.specs.declared.fault.StoreFault.{StoreFault}
 use Rattle.zb_store.specs.declared.fault.StoreFault.TheVariants.{Disk, NoRecord, TooLarge, NoMemory, Worn}
+use Rattle.zb_store.specs.Sizes.{record_room, payload_room}
 use Rattle.zb_store.specs.Layout.{stands}
 use Rattle.zb_store.specs.Store.{Place}
 
@@ -11,7 +12,7 @@ use Rattle.zb_store.specs.Store.{Place}
 abbrev pub IsAppendFault : List ℕ → View → View → StoreFault → Type 0
 IsAppendFault payload old new Disk = Rose old.faults new.faults
 IsAppendFault payload old new NoRecord = ⊥
-IsAppendFault payload old new (TooLarge len) = (len ≡ length payload) × (481 < length payload)
+IsAppendFault payload old new (TooLarge len) = (len ≡ length payload) × (payload_room < length payload)
 IsAppendFault payload old new NoMemory = ⊥
 IsAppendFault payload old new Worn = ⊥
 
@@ -19,15 +20,15 @@ IsAppendFault payload old new Worn = ⊥
 abbrev pub IsPutFault : Place → List ℕ → View → View → StoreFault → Type 0
 IsPutFault store content old new Disk = Rose old.faults new.faults
 IsPutFault store content old new NoRecord = ⊥
-IsPutFault store content old new (TooLarge len) = (len ≡ length content) × (49152 < length content)
+IsPutFault store content old new (TooLarge len) = (len ≡ length content) × (record_room < length content)
 IsPutFault store content old new NoMemory = ⊥
-IsPutFault store content old new Worn = (length content ≤ 49152) × (store.generation ≡ 18446744073709551615)
+IsPutFault store content old new Worn = (length content ≤ record_room) × (store.generation ≡ 18446744073709551615)
 
 -- of `format`: the disk, too large a record, or want of memory, of which nothing is said
 abbrev pub IsFormatFault : List ℕ → View → View → StoreFault → Type 0
 IsFormatFault content old new Disk = Rose old.faults new.faults
 IsFormatFault content old new NoRecord = ⊥
-IsFormatFault content old new (TooLarge len) = (len ≡ length content) × (49152 < length content)
+IsFormatFault content old new (TooLarge len) = (len ≡ length content) × (record_room < length content)
 IsFormatFault content old new NoMemory = Unit {0}
 IsFormatFault content old new Worn = ⊥
 
@@ -54,3 +55,13 @@ IsBytesFault old new NoRecord = ⊥
 IsBytesFault old new (TooLarge len) = ⊥
 IsBytesFault old new NoMemory = Unit {0}
 IsBytesFault old new Worn = ⊥
+
+-- a call that only reads: nothing changes but the count of faults, and it fails for the disk only where that is off
+pub record OnlyReads {T : Type 0} (tells : Telling) (old new : View) (result : Result T StoreFault) : Type 0 where
+  pub still : IsStill old new
+  pub refusal : IsErrOf result Disk → IsTrue tells.refusals → old.off 0 ≡ true
+  pub count : old.faults ≤ new.faults
+
+-- where it wasn't the disk that failed, nothing has changed
+abbrev pub IsSpared : {T : Type 0} → Result T StoreFault → View → View → Type 0
+IsSpared result old new = IfErr result (λ fault. fault ≢ Disk → IsStill old new)

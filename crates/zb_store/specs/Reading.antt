@@ -4,6 +4,7 @@ use Rattle.zb_store.specs.declared.reading.Header.{Header}
 use Rattle.std.specs.List.{concat}
 use Rattle.zb_store.specs.declared.reading.Found.{Found}
 use Rattle.zb_store.specs.declared.reading.Contents.{Contents}
+use Rattle.zb_store.specs.Sizes.{record_room}
 use Rattle.zb_store.specs.Layout.{Standing, end_of, slot, stands, standing_in, IsOpen, fields_of, gate_of, generation_of, size_of, open_gate, entry_of}
 
 -- the first 13 bytes of a slot
@@ -14,7 +15,7 @@ pub record IsHeaderOf (x : List ℕ) (h : Header) : Type 0 where
 
 -- whether the slot is open, which has so many bytes
 abbrev pub opens : Header → ℕ → Bool
-opens h room = h.gate == open_gate && nat_le h.size 49152 && nat_le (13 + h.size) room
+opens h room = h.gate == open_gate && nat_le h.size record_room && nat_le (13 + h.size) room
 
 abbrev pub found_in : Bool → Header → ℕ → Header → Found
 found_in second h room other = record { second = second; generation = h.generation; size = h.size; room = room; other_open = other.gate == open_gate }
@@ -57,6 +58,14 @@ pub record IsReadAs (s : Standing) (r : Contents) (seen : List ℕ) : Type 0 whe
   pub entries : r.entries ≡ length s.payloads
   pub end : r.end ≡ end_of s
   pub other : r.found.other_open ≡ (gate_of (slot (not s.second) seen) == open_gate)
+
+-- the generation that stands, and how many entries
+abbrev pub AreCounted : ℕ → ℕ → List ℕ → Type 0
+AreCounted generation entries seen = (s : Standing) × (stands seen ≡ Some s) × (generation ≡ s.generation) × (entries ≡ length s.payloads)
+
+-- the record that stands, and the payloads behind it one after the other
+abbrev pub AreContents : List ℕ → List ℕ → List ℕ → Type 0
+AreContents content payloads seen = (s : Standing) × (stands seen ≡ Some s) × (content ≡ s.content) × (payloads ≡ concat s.payloads)
 
 abbrev pub IsReadIn : Contents → List ℕ → Type 0
 IsReadIn r seen = (s : Standing) × IsReadAs s r seen

@@ -3,6 +3,7 @@ use Rattle.std.specs.List.{concat}
 use Rattle.std.specs.Prelude.{◌&&◌, true, false, ◌^◌, ◌==◌, if◌then◌else◌, Result, OnOk, OnErr, ℕ, ◌+◌, ◌≤◌, ◌<◌, ◌≡◌, ◌≢◌, ◌⊎◌, ◌++◌, List, [], ◌∷◌, length, get_or, Bool, not, IsTrue, Some}
 use Rattle.zb_base.specs.Outside.{HasCause}
 use Rattle.zb_disk.specs.View.{Telling, View, IsSame, IsStill, IsUnsynced, Only, LeavesOnly}
+use Rattle.zb_store.specs.Sizes.{record_room}
 use Rattle.zb_store.specs.Layout.{Standing, IsWhole, stands, slot, gate_of, open_gate, base_of, end_of, body}
 use Rattle.zb_store.specs.Steps.{WentThrough, StoppedAfter}
 
@@ -101,7 +102,7 @@ IsUnchanged old new = IsStill old new
 pub record IsReplacement (s : Standing) (content : List ℕ) (second : Bool) (bytes : List ℕ) : Type 0 where
   pub place : second ≡ not s.second
   pub bytes_are : bytes ≡ body (s.generation + 1) content
-  pub small : length content ≤ 49152
+  pub small : length content ≤ record_room
   pub later : s.generation + 1 < 2 ^ 64
 
 -- a record with no entries is written into a slot, its gate is opened, and that of the other slot is closed
@@ -136,13 +137,17 @@ formatted content = record { second = false; generation = 1; content = content; 
 
 -- the body of a first record is written, and its gate is opened
 pub record IsLaidOut {T E : Type 0} (tells : Telling) (bytes : List ℕ) (old new : View) (result : Result T E) : Type 0 where
-  pub held : OnOk result ((content : List ℕ) → bytes ≡ body 1 content → length content ≤ 49152 → IsTrue tells.content → IsHeld (formatted content) new)
+  pub held : OnOk result ((content : List ℕ) → bytes ≡ body 1 content → length content ≤ record_room → IsTrue tells.content → IsHeld (formatted content) new)
   pub through : OnOk result (WentThrough tells 5 old new)
   pub cause : HasCause old.faults new.faults result
 
 -- the gates of both slots are open
 abbrev pub both_gates_open : List ℕ → Bool
 both_gates_open bytes = gate_of (slot false bytes) == open_gate && gate_of (slot true bytes) == open_gate
+
+-- how many writes and syncs an `open` makes: where both gates are open it closes one of them
+abbrev pub open_calls : List ℕ → ℕ
+open_calls bytes = if both_gates_open bytes then 3 else 1
 
 -- each image is whole
 abbrev pub AllWhole : View → Type 0

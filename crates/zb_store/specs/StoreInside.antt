@@ -1,6 +1,7 @@
 -- What the fields of a store keep.
 use Rattle.std.specs.Prelude.{◌+◌, ◌*◌, ◌≤◌, vec_capacity}
 use Rattle.zb_store.specs.declared.store.Store.TheInside.{Inside}
+use Rattle.zb_store.specs.Sizes.{entries_room, body_room}
 use Rattle.zb_store.specs.Store.{Place}
 
 abbrev pub place_inside : Inside → Place
@@ -8,6 +9,6 @@ place_inside s = record { second = s.second; generation = s.generation; end = s.
 
 -- the entries lie within their slot, and the buffer has room for a record
 pub record IsStore (s : Inside) : Type 0 where
-  pub few : s.entries ≤ 32
-  pub end : s.end ≤ 49165 + 484 * s.entries
-  pub room : 49165 ≤ vec_capacity s.buffer
+  pub few : s.entries ≤ entries_room
+  pub end : s.end ≤ body_room + 484 * s.entries
+  pub room : body_room ≤ vec_capacity s.buffer

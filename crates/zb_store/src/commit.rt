@@ -1,6 +1,7 @@
 //! The writes of the store. A range is on the disk before the gate that opens it is written.
 ghost use Rattle.std.specs.Prelude.{◌≡◌, ◌+◌, ◌≤◌, length};
 ghost use Rattle.zb_store.specs.Layout.{base_of};
+ghost use Rattle.zb_store.specs.Sizes.{body_room};
 ghost use Rattle.zb_store.specs.Steps.{IsPlaced, IsGated};
 ghost use Rattle.zb_store.specs.Store.{IsReplaced, IsSettled, IsLaidOut};
 
@@ -40,7 +41,7 @@ pub(crate) fn write_gated<D: Disk>(disk: &mut D, gate: u64, bytes: &[u8]) -> Res
 
 /// Writes a record into a slot, opens its gate, and closes that of the other slot.
 pub(crate) fn replace<D: Disk>(disk: &mut D, second: bool, bytes: &[u8]) -> Result<(), Failed>
-    requires { length bytes.now ≤ 49165 }
+    requires { length bytes.now ≤ body_room }
     ensures { IsReplaced D.tells second bytes.now (D.state disk.old) (D.state disk.new) result }
 {
     write_gated(disk, base(second), bytes)?;
@@ -60,7 +61,7 @@ pub(crate) fn settle<D: Disk>(disk: &mut D, second: bool, other_open: bool) -> R
 
 /// Writes the body of the first slot and closes the gate of the second, and then opens the first.
 pub(crate) fn lay_out<D: Disk>(disk: &mut D, bytes: &[u8]) -> Result<(), Failed>
-    requires { length bytes.now ≤ 49165 }
+    requires { length bytes.now ≤ body_room }
     ensures { IsLaidOut D.tells bytes.now (D.state disk.old) (D.state disk.new) result }
 {
     disk.write(1, bytes)?;

@@ -6,16 +6,16 @@ use std::alloc::AllocError;
 use std::error::Error;
 use std::fmt;
 
-/// Why a call of the store failed. After a failed `put` or `append` the store is opened again.
+/// Says why a call of the store failed. After a failed `put` or `append` the store is opened again.
 #[derive(Clone, Copy, Debug, PartialEq, Eq)]
 pub enum StoreFault {
     /// The disk failed.
     Disk,
     /// No slot of the disk stands open.
     NoRecord,
-    /// The record has more than 49,152 bytes, or the payload more than 481.
+    /// The record has more bytes than `RECORD_ROOM`, or the payload more than `PAYLOAD_ROOM`.
     TooLarge {
-        /// How many.
+        /// How many it has.
         len: u32,
     },
     /// There was no memory left.

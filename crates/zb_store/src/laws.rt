@@ -1,5 +1,5 @@
-//! What stands on a disk in memory after a call of the store that a stop or a failure ended, once the power is back. Each
-//! function here says laws and does nothing.
+//! What stands on a disk in memory after a call of the store that a stop or a failure ended, once the power is back.
+//! Each function here says laws and does nothing.
 ghost use Rattle.std.specs.Prelude.{◌≡◌, if◌then◌else◌, ℕ, List, true, false};
 ghost use Rattle.zb_disk.specs.declared.memory.Arming.TheVariants.{Stop, Fail};
 ghost use Rattle.zb_disk.specs.View.{Only};
@@ -8,36 +8,50 @@ ghost use Rattle.zb_store.specs.Layout.{Standing, IsWhole};
 ghost use Rattle.zb_store.specs.Store.{AppendStop, PutStop, OpenStop, appended, replaced, both_gates_open};
 ghost use Rattle.zb_store.specs.Power.{stop_commits, failure_commits, stop_opens_both, failure_opens_both, open_stop_leaves_both, open_failure_leaves_both};
 
-/// On which write or sync of a commit an armed stop or failure falls, what stands then, and whether the next `open` finds
-/// the gates of both slots open. The stop or failure counts from the beginning of the commit.
+/// Says what stands after a commit that an armed stop or failure ended, by the call on which that fell.
+///
+/// It also says whether the next `open` finds the gates of both slots open. The stop or failure counts from the
+/// beginning of the commit.
 pub fn stopped_commits()
-    ensures append { (s : Standing) (payload : List ℕ) (old new : Medium) (calls : ℕ) → AppendStop memory_tells s payload (memory_view old) (memory_view new)
-        → old.arming ≡ Stop calls → IsWhole (if stop_commits calls old.torn then appended s payload else s) (powered new).bytes }
-    ensures append_failed { (s : Standing) (payload : List ℕ) (old new : Medium) (call : ℕ) → AppendStop memory_tells s payload (memory_view old) (memory_view new)
-        → old.arming ≡ Fail call → IsWhole (if failure_commits call then appended s payload else s) (powered new).bytes }
-    ensures append_gates { (s : Standing) (payload : List ℕ) (old new : Medium) → AppendStop memory_tells s payload (memory_view old) (memory_view new)
+    ensures append { (s : Standing) (payload : List ℕ) (old new : Medium) (calls : ℕ)
+        → AppendStop memory_tells s payload (memory_view old) (memory_view new) → old.arming ≡ Stop calls
+        → IsWhole (if stop_commits calls old.torn then appended s payload else s) (powered new).bytes }
+    ensures append_failed { (s : Standing) (payload : List ℕ) (old new : Medium) (call : ℕ)
+        → AppendStop memory_tells s payload (memory_view old) (memory_view new) → old.arming ≡ Fail call
+        → IsWhole (if failure_commits call then appended s payload else s) (powered new).bytes }
+    ensures append_gates { (s : Standing) (payload : List ℕ) (old new : Medium)
+        → AppendStop memory_tells s payload (memory_view old) (memory_view new)
         → both_gates_open (powered new).bytes ≡ false }
-    ensures put { (s : Standing) (content : List ℕ) (old new : Medium) (calls : ℕ) → PutStop memory_tells s content (memory_view old) (memory_view new)
-        → old.arming ≡ Stop calls → IsWhole (if stop_commits calls old.torn then replaced s content else s) (powered new).bytes }
-    ensures put_failed { (s : Standing) (content : List ℕ) (old new : Medium) (call : ℕ) → PutStop memory_tells s content (memory_view old) (memory_view new)
-        → old.arming ≡ Fail call → IsWhole (if failure_commits call then replaced s content else s) (powered new).bytes }
-    ensures put_gates { (s : Standing) (content : List ℕ) (old new : Medium) (calls : ℕ) → PutStop memory_tells s content (memory_view old) (memory_view new)
-        → old.arming ≡ Stop calls → both_gates_open (powered new).bytes ≡ stop_opens_both calls old.torn }
-    ensures put_failed_gates { (s : Standing) (content : List ℕ) (old new : Medium) (call : ℕ) → PutStop memory_tells s content (memory_view old) (memory_view new)
-        → old.arming ≡ Fail call → both_gates_open (powered new).bytes ≡ failure_opens_both call }
+    ensures put { (s : Standing) (content : List ℕ) (old new : Medium) (calls : ℕ)
+        → PutStop memory_tells s content (memory_view old) (memory_view new) → old.arming ≡ Stop calls
+        → IsWhole (if stop_commits calls old.torn then replaced s content else s) (powered new).bytes }
+    ensures put_failed { (s : Standing) (content : List ℕ) (old new : Medium) (call : ℕ)
+        → PutStop memory_tells s content (memory_view old) (memory_view new) → old.arming ≡ Fail call
+        → IsWhole (if failure_commits call then replaced s content else s) (powered new).bytes }
+    ensures put_gates { (s : Standing) (content : List ℕ) (old new : Medium) (calls : ℕ)
+        → PutStop memory_tells s content (memory_view old) (memory_view new) → old.arming ≡ Stop calls
+        → both_gates_open (powered new).bytes ≡ stop_opens_both calls old.torn }
+    ensures put_failed_gates { (s : Standing) (content : List ℕ) (old new : Medium) (call : ℕ)
+        → PutStop memory_tells s content (memory_view old) (memory_view new) → old.arming ≡ Fail call
+        → both_gates_open (powered new).bytes ≡ failure_opens_both call }
 {}
 
-/// The same of an `open` of a disk on which all is synced. What stood stands; where the gates of both slots were open, the
-/// other clauses say whether they still are.
+/// Says the same of an `open` of a disk on which all is synced.
+///
+/// What stood stands; where the gates of both slots were open, the other clauses say whether they still are.
 pub fn stopped_open()
-    ensures stands { (s : Standing) (old new : Medium) (calls : ℕ) → OpenStop memory_tells s (memory_view old) (memory_view new) → IsWhole s old.bytes
+    ensures stands { (s : Standing) (old new : Medium) (calls : ℕ)
+        → OpenStop memory_tells s (memory_view old) (memory_view new) → IsWhole s old.bytes
         → Only old.bytes (memory_view old).images → old.arming ≡ Stop calls → IsWhole s (powered new).bytes }
-    ensures stands_failed { (s : Standing) (old new : Medium) (call : ℕ) → OpenStop memory_tells s (memory_view old) (memory_view new) → IsWhole s old.bytes
+    ensures stands_failed { (s : Standing) (old new : Medium) (call : ℕ)
+        → OpenStop memory_tells s (memory_view old) (memory_view new) → IsWhole s old.bytes
         → Only old.bytes (memory_view old).images → old.arming ≡ Fail call → IsWhole s (powered new).bytes }
-    ensures gates { (s : Standing) (old new : Medium) (calls : ℕ) → OpenStop memory_tells s (memory_view old) (memory_view new)
-        → Only old.bytes (memory_view old).images → both_gates_open old.bytes ≡ true → old.arming ≡ Stop calls
+    ensures gates { (s : Standing) (old new : Medium) (calls : ℕ)
+        → OpenStop memory_tells s (memory_view old) (memory_view new) → Only old.bytes (memory_view old).images
+        → both_gates_open old.bytes ≡ true → old.arming ≡ Stop calls
         → both_gates_open (powered new).bytes ≡ open_stop_leaves_both calls old.torn }
-    ensures gates_failed { (s : Standing) (old new : Medium) (call : ℕ) → OpenStop memory_tells s (memory_view old) (memory_view new)
-        → Only old.bytes (memory_view old).images → both_gates_open old.bytes ≡ true → old.arming ≡ Fail call
+    ensures gates_failed { (s : Standing) (old new : Medium) (call : ℕ)
+        → OpenStop memory_tells s (memory_view old) (memory_view new) → Only old.bytes (memory_view old).images
+        → both_gates_open old.bytes ≡ true → old.arming ≡ Fail call
         → both_gates_open (powered new).bytes ≡ open_failure_leaves_both call }
 {}

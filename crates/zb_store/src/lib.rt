@@ -4,15 +4,14 @@
 #![tactic(auto)]
 
 mod commit;
-pub mod fault;
+mod fault;
 mod laws;
 mod reading;
+mod sizes;
 mod spelling;
-pub mod store;
+mod store;
 
 pub use fault::StoreFault;
 pub use laws::{stopped_commits, stopped_open};
+pub use sizes::{ENTRIES_ROOM, PAYLOAD_ROOM, RECORD_ROOM};
 pub use store::Store;
-
-#[cfg(test)]
-mod tests;

@@ -6,11 +6,12 @@ ghost use Rattle.zb_base.specs.Outside.{HasCause};
 ghost use Rattle.zb_disk.specs.View.{IsStill, window};
 ghost use Rattle.zb_disk.specs.Calls.{IsRead};
 ghost use Rattle.zb_store.specs.Layout.{Standing, slot, stands, entry_of, payloads_of, extent};
-ghost use Rattle.zb_store.specs.Reading.{IsHeaderOf, opens, chosen, IsFoundIn, IsReadIn, IsBehind, size_at};
-ghost use Rattle.zb_store.specs.Faults.{IsBytesFault, IsReadFault, IsStandingFault};
+ghost use Rattle.zb_store.specs.Reading.{IsHeaderOf, opens, chosen, IsFoundIn, IsReadIn, IsBehind, size_at, AreCounted};
+ghost use Rattle.zb_store.specs.Sizes.{record_room, payload_room, entries_room, payloads_room, body_room};
+ghost use Rattle.zb_store.specs.Faults.{OnlyReads, IsBytesFault, IsReadFault, IsStandingFault};
 
-use crate::StoreFault;
 use crate::commit::{OPEN, base};
+use crate::{ENTRIES_ROOM, PAYLOAD_ROOM, RECORD_ROOM, StoreFault};
 use std::alloc::{AllocError, Global};
 use zb_base::Failed;
 use zb_disk::Disk;
@@ -73,7 +74,9 @@ fn read_header<D: Disk>(disk: &mut D, second: bool) -> Result<Header, Failed>
 fn is_open(header: Header, room: u64) -> bool
     ensures { result ≡ opens header room }
 {
-    header.gate == OPEN && header.size <= 49_152 && 13 + u64::from(header.size) <= room
+    header.gate == OPEN
+        && header.size as usize <= RECORD_ROOM
+        && 13 + u64::from(header.size) <= room
 }
 
 // The newer of two open slots, and the first on a tie.
@@ -102,12 +105,12 @@ fn choose(first: Header, first_room: u64, second: Header, second_room: u64) -> O
     })
 }
 
-/// The slot that stands.
+/// Finds the slot that stands.
 pub(crate) fn find<D: Disk>(disk: &mut D) -> Result<Option<Found>, Failed>
     ensures still { IsStill (D.state disk.old) (D.state disk.new) }
     ensures cause { HasCause (D.state disk.old).faults (D.state disk.new).faults result }
     ensures refusal { OnErr result (IsTrue D.tells.refusals → (D.state disk.old).off 0 ≡ true) }
-    ensures small { IfOk result (λ found. IfSome found (λ f. f.size ≤ 49152)) }
+    ensures small { IfOk result (λ found. IfSome found (λ f. f.size ≤ record_room)) }
     ensures found { IfOk result (λ found. IsTrue D.tells.content
         → MatchOption found (stands (D.state disk.old).seen ≡ None) (λ f. IsFoundIn f (D.state disk.old).seen)) }
 {
@@ -120,7 +123,7 @@ pub(crate) fn find<D: Disk>(disk: &mut D) -> Result<Option<Found>, Failed>
 // The length of the entry that stands at a place of the disk, behind which its slot has so many bytes.
 fn entry_size<D: Disk>(disk: &mut D, at: u64, room: u64) -> Result<Option<u16>, Failed>
     ensures read { IsRead D.tells (D.state disk.old) (D.state disk.new) result }
-    ensures small { IfOk result (λ size. IfSome size (λ n. n ≤ 481)) }
+    ensures small { IfOk result (λ size. IfSome size (λ n. n ≤ payload_room)) }
     ensures entry { IfOk result (λ size. IsTrue D.tells.content
         → (b : List ℕ) → IsBehind b at room 3 (D.state disk.old).seen → size ≡ size_at b) }
 {
@@ -132,9 +135,9 @@ fn entry_size<D: Disk>(disk: &mut D, at: u64, room: u64) -> Result<Option<u16>, 
 
 // Whether an entry stands, of which the gate, the length and the bytes of the slot from its gate on are known.
 fn is_entry(gate: u8, size: u16, room: u64) -> bool
-    ensures { result ≡ (gate == OPEN && nat_le size 481 && nat_le (3 + size) room) }
+    ensures { result ≡ (gate == OPEN && nat_le size payload_room && nat_le (3 + size) room) }
 {
-    gate == OPEN && size <= 481 && 3 + u64::from(size) <= room
+    gate == OPEN && usize::from(size) <= PAYLOAD_ROOM && 3 + u64::from(size) <= room
 }
 
 /// How many entries stand from a place of the disk on, and how many bytes they take.
@@ -147,20 +150,21 @@ pub(crate) fn count_entries<D: Disk>(
     ensures still { IsStill (D.state disk.old) (D.state disk.new) }
     ensures cause { HasCause (D.state disk.old).faults (D.state disk.new).faults result }
     ensures refusal { OnErr result (IsTrue D.tells.refusals → (D.state disk.old).off 0 ≡ true) }
-    ensures few { IfOk result (λ r. r.0 ≤ 32) }
+    ensures few { IfOk result (λ r. r.0 ≤ entries_room) }
     ensures short { IfOk result (λ r. r.1 ≤ 484 * r.0) }
-    ensures entries { IfOk result (λ r. IsTrue D.tells.content → (b : List ℕ) → IsBehind b start room 15616 (D.state disk.old).seen
-        → (r.0 ≡ length (payloads_of 32 b)) × (r.1 ≡ extent (payloads_of 32 b))) }
+    ensures entries { IfOk result (λ r. IsTrue D.tells.content
+        → (b : List ℕ) → IsBehind b start room 15616 (D.state disk.old).seen
+        → (r.0 ≡ length (payloads_of entries_room b)) × (r.1 ≡ extent (payloads_of entries_room b))) }
 {
     let mut taken = 0;
-    for count in 0..32 {
+    for count in 0..ENTRIES_ROOM {
         match entry_size(disk, start + taken, room.saturating_sub(taken)) {
             Ok(None) => return Ok((count, taken)),
             Ok(Some(size)) => taken += 3 + u64::from(size),
             Err(Failed) => return Err(Failed),
         }
     }
-    Ok((32, taken))
+    Ok((ENTRIES_ROOM, taken))
 }
 
 // The entry at the front, and what lies behind it.
@@ -182,13 +186,13 @@ fn split_entry(bytes: &[u8]) -> Option<(&[u8], &[u8])>
 
 /// The payloads of the entries one after the other.
 pub(crate) fn payload_bytes(alloc: Global, entries: &[u8]) -> Result<Vec<u8>, AllocError>
-    ensures payloads { IfOk result (λ v. v.items ≡ concat (payloads_of 32 entries.now)) }
+    ensures payloads { IfOk result (λ v. v.items ≡ concat (payloads_of entries_room entries.now)) }
     ensures short { IfOk result (λ v. length v.items ≤ length entries.now) }
 {
     let mut payloads = Vec::with_capacity(alloc, entries.len())?;
     let mut rest = entries;
-    for entry in 0..32u32 {
-        prove!(entry < 32);
+    for entry in 0..ENTRIES_ROOM {
+        prove!(entry < ENTRIES_ROOM);
         let Some((payload, behind)) = split_entry(rest) else {
             return Ok(payloads);
         };
@@ -216,9 +220,7 @@ fn read_bytes<D: Disk>(
     at: u64,
     len: usize,
 ) -> Result<Vec<u8>, StoreFault>
-    ensures still { IsStill (D.state disk.old) (D.state disk.new) }
-    ensures later { (D.state disk.old).faults ≤ (D.state disk.new).faults }
-    ensures refusal { IsErrOf result StoreFault.Disk → IsTrue D.tells.refusals → (D.state disk.old).off 0 ≡ true }
+    ensures reads { OnlyReads D.tells (D.state disk.old) (D.state disk.new) result }
     ensures faults { IfErr result (IsBytesFault (D.state disk.old) (D.state disk.new)) }
     ensures bytes { IfOk result (λ v. IsTrue D.tells.content → v.items ≡ window (D.state disk.old).seen at len) }
     ensures size { IfOk result (λ v. length v.items ≡ len) }
@@ -233,17 +235,16 @@ fn read_bytes<D: Disk>(
 
 // What stands in the slot that was found.
 fn read_found<D: Disk>(alloc: Global, disk: &mut D, found: Found) -> Result<Contents, StoreFault>
-    requires { found.size ≤ 49152 }
-    ensures still { IsStill (D.state disk.old) (D.state disk.new) }
-    ensures later { (D.state disk.old).faults ≤ (D.state disk.new).faults }
-    ensures refusal { IsErrOf result StoreFault.Disk → IsTrue D.tells.refusals → (D.state disk.old).off 0 ≡ true }
+    requires { found.size ≤ record_room }
+    ensures reads { OnlyReads D.tells (D.state disk.old) (D.state disk.new) result }
     ensures faults { IfErr result (IsBytesFault (D.state disk.old) (D.state disk.new)) }
     ensures found { IfOk result (λ r. r.found ≡ found) }
-    ensures few { IfOk result (λ r. r.entries ≤ 32) }
-    ensures end { IfOk result (λ r. r.end ≤ 49165 + 484 * r.entries) }
-    ensures record_size { IfOk result (λ r. length r.content.items ≤ 49152) }
-    ensures payloads_size { IfOk result (λ r. length r.payloads.items ≤ 15488) }
-    ensures read { IfOk result (λ r. IsTrue D.tells.content → IsFoundIn found (D.state disk.old).seen → IsReadIn r (D.state disk.old).seen) }
+    ensures few { IfOk result (λ r. r.entries ≤ entries_room) }
+    ensures end { IfOk result (λ r. r.end ≤ body_room + 484 * r.entries) }
+    ensures record_size { IfOk result (λ r. length r.content.items ≤ record_room) }
+    ensures payloads_size { IfOk result (λ r. length r.payloads.items ≤ payloads_room) }
+    ensures read { IfOk result (λ r. IsTrue D.tells.content → IsFoundIn found (D.state disk.old).seen
+        → IsReadIn r (D.state disk.old).seen) }
 {
     let record_at = base(found.second) + 13;
     let start = record_at + u64::from(found.size);
@@ -266,14 +267,12 @@ fn read_found<D: Disk>(alloc: Global, disk: &mut D, found: Found) -> Result<Cont
 
 /// What stands on the disk.
 pub(crate) fn read_standing<D: Disk>(alloc: Global, disk: &mut D) -> Result<Contents, StoreFault>
-    ensures still { IsStill (D.state disk.old) (D.state disk.new) }
-    ensures later { (D.state disk.old).faults ≤ (D.state disk.new).faults }
-    ensures refusal { IsErrOf result StoreFault.Disk → IsTrue D.tells.refusals → (D.state disk.old).off 0 ≡ true }
+    ensures reads { OnlyReads D.tells (D.state disk.old) (D.state disk.new) result }
     ensures faults { IfErr result (IsReadFault D.tells (D.state disk.old) (D.state disk.new)) }
-    ensures few { IfOk result (λ r. r.entries ≤ 32) }
-    ensures end { IfOk result (λ r. r.end ≤ 49165 + 484 * r.entries) }
-    ensures record_size { IfOk result (λ r. length r.content.items ≤ 49152) }
-    ensures payloads_size { IfOk result (λ r. length r.payloads.items ≤ 15488) }
+    ensures few { IfOk result (λ r. r.entries ≤ entries_room) }
+    ensures end { IfOk result (λ r. r.end ≤ body_room + 484 * r.entries) }
+    ensures record_size { IfOk result (λ r. length r.content.items ≤ record_room) }
+    ensures payloads_size { IfOk result (λ r. length r.payloads.items ≤ payloads_room) }
     ensures read { IfOk result (λ r. IsTrue D.tells.content → IsReadIn r (D.state disk.old).seen) }
 {
     match find(disk) {
@@ -285,13 +284,11 @@ pub(crate) fn read_standing<D: Disk>(alloc: Global, disk: &mut D) -> Result<Cont
 
 // How many entries stand in the slot that was found.
 fn count_found<D: Disk>(disk: &mut D, found: Found) -> Result<(u64, u32), StoreFault>
-    requires { found.size ≤ 49152 }
-    ensures still { IsStill (D.state disk.old) (D.state disk.new) }
-    ensures later { (D.state disk.old).faults ≤ (D.state disk.new).faults }
-    ensures refusal { IsErrOf result StoreFault.Disk → IsTrue D.tells.refusals → (D.state disk.old).off 0 ≡ true }
+    requires { found.size ≤ record_room }
+    ensures reads { OnlyReads D.tells (D.state disk.old) (D.state disk.new) result }
     ensures faults { IfErr result (IsStandingFault D.tells (D.state disk.old) (D.state disk.new)) }
     ensures answer { IfOk result (λ r. IsTrue D.tells.content → IsFoundIn found (D.state disk.old).seen
-        → (s : Standing) × (stands (D.state disk.old).seen ≡ Some s) × (r.0 ≡ s.generation) × (r.1 ≡ length s.payloads)) }
+        → AreCounted r.0 r.1 (D.state disk.old).seen) }
 {
     let start = base(found.second) + 13 + u64::from(found.size);
     let room = found.room.saturating_sub(13 + u64::from(found.size));
@@ -303,12 +300,10 @@ fn count_found<D: Disk>(disk: &mut D, found: Found) -> Result<(u64, u32), StoreF
 
 /// The generation that stands, and how many entries.
 pub(crate) fn count_standing<D: Disk>(disk: &mut D) -> Result<(u64, u32), StoreFault>
-    ensures still { IsStill (D.state disk.old) (D.state disk.new) }
-    ensures later { (D.state disk.old).faults ≤ (D.state disk.new).faults }
-    ensures refusal { IsErrOf result StoreFault.Disk → IsTrue D.tells.refusals → (D.state disk.old).off 0 ≡ true }
+    ensures reads { OnlyReads D.tells (D.state disk.old) (D.state disk.new) result }
     ensures faults { IfErr result (IsStandingFault D.tells (D.state disk.old) (D.state disk.new)) }
     ensures answer { IfOk result (λ r. IsTrue D.tells.content
-        → (s : Standing) × (stands (D.state disk.old).seen ≡ Some s) × (r.0 ≡ s.generation) × (r.1 ≡ length s.payloads)) }
+        → AreCounted r.0 r.1 (D.state disk.old).seen) }
 {
     match find(disk) {
         Ok(Some(found)) => count_found(disk, found),

@@ -1,22 +1,26 @@
 //! The store: where it stands, and its calls.
-ghost use Rattle.std.specs.Prelude.{if◌then◌else◌, Some, ◌≡◌, ◌+◌, ◌<◌, ◌≤◌, ◌^◌, [], ◌∷◌, ℕ, length, true, IsTrue, IfOk, IfErr, OnOk, OnErr, IsErrOf};
+ghost use Rattle.std.specs.Prelude.{Some, ◌≡◌, ◌+◌, ◌<◌, ◌≤◌, ◌^◌, [], ◌∷◌, ℕ, length, true, IsTrue, IfOk, IfErr, OnOk, OnErr, IsErrOf};
 ghost use Rattle.zb_disk.specs.View.{IsStill, LeavesOnly};
-ghost use Rattle.std.specs.List.{concat};
 ghost use Rattle.zb_store.specs.Layout.{Standing, stands};
+ghost use Rattle.zb_store.specs.Reading.{AreCounted, AreContents};
+ghost use Rattle.zb_store.specs.Sizes.{record_room, payload_room, entries_room, payloads_room};
 ghost use Rattle.zb_store.specs.Steps.{WentThrough};
-ghost use Rattle.zb_store.specs.Store.{IsReady, IsWholeEither, appended, replaced, formatted, both_gates_open, IsAnswer, AllWhole, WasThere, AppendStop, PutStop, OpenStop};
-ghost use Rattle.zb_store.specs.Faults.{IsAppendFault, IsPutFault, IsFormatFault, IsReadFault, IsStandingFault};
+ghost use Rattle.zb_store.specs.Store.{IsReady, IsWholeEither, appended, replaced, formatted, open_calls, IsAnswer, AllWhole, WasThere, AppendStop, PutStop, OpenStop};
+ghost use Rattle.zb_store.specs.Faults.{OnlyReads, IsSpared, IsAppendFault, IsPutFault, IsFormatFault, IsReadFault, IsStandingFault};
 
-use crate::StoreFault;
 use crate::commit::{base, lay_out, replace, settle, write_gated};
 use crate::reading::{count_standing, read_standing};
-use crate::spelling::{MAX_BODY, MAX_ENTRY, MAX_RECORD, spell_body, spell_entry};
+use crate::sizes::BODY_ROOM;
+use crate::spelling::{spell_body, spell_entry};
+use crate::{PAYLOAD_ROOM, RECORD_ROOM, StoreFault};
 use std::alloc::Global;
 use std::marker::Model;
 use zb_base::Failed;
 use zb_disk::Disk;
 
-/// A store that is open: where its record stands on the disk and where the next entry goes.
+/// Keeps one record, and the entries behind it, on any disk.
+///
+/// It is open: it knows where its record stands on the disk and where the next entry goes.
 #[derive(Drop)]
 pub struct Store {
     second: bool,
@@ -41,37 +45,42 @@ impl Model for Store {
 }
 
 impl Store {
-    /// How many entries stand behind the record: at most 32.
+    /// Answers how many entries stand behind the record: at most `ENTRIES_ROOM`.
     pub fn entries(&self) -> u32
         ensures count { result ≡ self.now.entries }
-        ensures few { self.now.entries ≤ 32 }
+        ensures few { self.now.entries ≤ entries_room }
     {
         self.entries
     }
 
-    /// Adds an entry with this payload in four device calls. After a fault the store is opened again.
+    /// Adds an entry with this payload in four device calls. Requires room for one more entry. After a fault the store
+    /// is opened again.
+    ///
+    /// Errors: `Disk`; `TooLarge`, for more bytes than `PAYLOAD_ROOM`, before any device call.
     pub fn append<D: Disk>(mut self, disk: &mut D, change: &[u8]) -> Result<Store, StoreFault>
-        requires few { self.entries < 32 }
+        requires few { self.entries < entries_room }
         requires short { length change.now < 2 ^ 32 }
 
         // It goes on from a ready store: every moment leaves the old or the new, and after Ok the new is held.
         ensures moments { (s : Standing) → IsReady self s (D.state disk.old) → IsTrue D.tells.content
             → LeavesOnly (D.state disk.old) (D.state disk.new) (IsWholeEither s (appended s change.now)) }
-        ensures ready { IfOk result (λ store. (s : Standing) → IsReady self s (D.state disk.old) → IsTrue D.tells.content
-            → IsReady store (appended s change.now) (D.state disk.new)) }
+        ensures ready { IfOk result (λ store. (s : Standing) → IsReady self s (D.state disk.old)
+            → IsTrue D.tells.content → IsReady store (appended s change.now) (D.state disk.new)) }
         ensures through { OnOk result (WentThrough D.tells 4 (D.state disk.old) (D.state disk.new)) }
 
         // Where the disk failed, it stopped at one of the four calls.
-        ensures stopped { IsErrOf result StoreFault.Disk → (s : Standing) → IsReady self s (D.state disk.old) → IsTrue D.tells.content
-            → IsTrue D.tells.steady → AppendStop D.tells s change.now (D.state disk.old) (D.state disk.new) }
+        ensures stopped { IsErrOf result StoreFault.Disk → (s : Standing) → IsReady self s (D.state disk.old)
+            → IsTrue D.tells.content → IsTrue D.tells.steady
+            → AppendStop D.tells s change.now (D.state disk.old) (D.state disk.new) }
 
         // Too large a payload is refused before any device call.
-        ensures too_large { 481 < length change.now → result ≡ Err (StoreFault.TooLarge (length change.now)) }
-        ensures untouched { 481 < length change.now → IsStill (D.state disk.old) (D.state disk.new) }
+        ensures too_large { payload_room < length change.now
+            → result ≡ Err (StoreFault.TooLarge (length change.now)) }
+        ensures untouched { payload_room < length change.now → IsStill (D.state disk.old) (D.state disk.new) }
         ensures faults { IfErr result (IsAppendFault change.now (D.state disk.old) (D.state disk.new)) }
         ensures count { (D.state disk.old).faults ≤ (D.state disk.new).faults }
     {
-        if change.len() > MAX_ENTRY {
+        if change.len() > PAYLOAD_ROOM {
             return Err(StoreFault::TooLarge {
                 len: change.len() as u32,
             });
@@ -89,27 +98,32 @@ impl Store {
     }
 
     /// Writes a new record, with no entries, in six device calls. After a fault the store is opened again.
+    ///
+    /// Errors: `Disk`; `TooLarge`, for more bytes than `RECORD_ROOM`, and `Worn`, before any device call.
     pub fn put<D: Disk>(mut self, disk: &mut D, content: &[u8]) -> Result<Store, StoreFault>
         requires short { length content.now < 2 ^ 32 }
 
         ensures moments { (s : Standing) → IsReady self s (D.state disk.old) → IsTrue D.tells.content
             → LeavesOnly (D.state disk.old) (D.state disk.new) (IsWholeEither s (replaced s content.now)) }
-        ensures ready { IfOk result (λ store. (s : Standing) → IsReady self s (D.state disk.old) → IsTrue D.tells.content
-            → IsReady store (replaced s content.now) (D.state disk.new)) }
+        ensures ready { IfOk result (λ store. (s : Standing) → IsReady self s (D.state disk.old)
+            → IsTrue D.tells.content → IsReady store (replaced s content.now) (D.state disk.new)) }
         ensures through { OnOk result (WentThrough D.tells 6 (D.state disk.old) (D.state disk.new)) }
 
         // Where the disk failed, it stopped at one of the six calls.
-        ensures stopped { IsErrOf result StoreFault.Disk → (s : Standing) → IsReady self s (D.state disk.old) → IsTrue D.tells.content
-            → IsTrue D.tells.steady → PutStop D.tells s content.now (D.state disk.old) (D.state disk.new) }
+        ensures stopped { IsErrOf result StoreFault.Disk → (s : Standing) → IsReady self s (D.state disk.old)
+            → IsTrue D.tells.content → IsTrue D.tells.steady
+            → PutStop D.tells s content.now (D.state disk.old) (D.state disk.new) }
 
         // Too large a record, and the last generation, are refused before any device call.
-        ensures too_large { 49152 < length content.now → result ≡ Err (StoreFault.TooLarge (length content.now)) }
-        ensures worn { length content.now ≤ 49152 → self.generation ≡ 18446744073709551615 → result ≡ Err StoreFault.Worn }
-        ensures untouched { IfErr result (λ fault. (fault ≡ StoreFault.Disk → ⊥) → IsStill (D.state disk.old) (D.state disk.new)) }
+        ensures too_large { record_room < length content.now
+            → result ≡ Err (StoreFault.TooLarge (length content.now)) }
+        ensures worn { length content.now ≤ record_room → self.generation ≡ 18446744073709551615
+            → result ≡ Err StoreFault.Worn }
+        ensures untouched { IsSpared result (D.state disk.old) (D.state disk.new) }
         ensures faults { IfErr result (IsPutFault self content.now (D.state disk.old) (D.state disk.new)) }
         ensures count { (D.state disk.old).faults ≤ (D.state disk.new).faults }
     {
-        if content.len() > MAX_RECORD {
+        if content.len() > RECORD_ROOM {
             return Err(StoreFault::TooLarge {
                 len: content.len() as u32,
             });
@@ -132,23 +146,26 @@ impl Store {
 
     /// Makes a store whose first record this is, with generation 1, in five device calls. Whatever the disk held is
     /// given up.
+    ///
+    /// Errors: `Disk`; `NoMemory`; `TooLarge`, for more bytes than `RECORD_ROOM`, before any device call.
     pub fn format<D: Disk>(alloc: Global, disk: &mut D, first: &[u8]) -> Result<Store, StoreFault>
         requires short { length first.now < 2 ^ 32 }
-        ensures ready { IfOk result (λ store. IsTrue D.tells.content → IsReady store (formatted first.now) (D.state disk.new)) }
+        ensures ready { IfOk result (λ store. IsTrue D.tells.content
+            → IsReady store (formatted first.now) (D.state disk.new)) }
         ensures through { OnOk result (WentThrough D.tells 5 (D.state disk.old) (D.state disk.new)) }
 
         // Too large a record is refused before any device call.
-        ensures too_large { 49152 < length first.now → result ≡ Err (StoreFault.TooLarge (length first.now)) }
-        ensures untouched { IfErr result (λ fault. (fault ≡ StoreFault.Disk → ⊥) → IsStill (D.state disk.old) (D.state disk.new)) }
+        ensures too_large { record_room < length first.now → result ≡ Err (StoreFault.TooLarge (length first.now)) }
+        ensures untouched { IsSpared result (D.state disk.old) (D.state disk.new) }
         ensures faults { IfErr result (IsFormatFault first.now (D.state disk.old) (D.state disk.new)) }
         ensures count { (D.state disk.old).faults ≤ (D.state disk.new).faults }
     {
-        if first.len() > MAX_RECORD {
+        if first.len() > RECORD_ROOM {
             return Err(StoreFault::TooLarge {
                 len: first.len() as u32,
             });
         }
-        let mut buffer = Vec::with_capacity(alloc, MAX_BODY)?;
+        let mut buffer = Vec::with_capacity(alloc, BODY_ROOM)?;
         spell_body(&mut buffer, 1, first);
         match lay_out(disk, &buffer) {
             Ok(()) => Ok(Store {
@@ -162,33 +179,39 @@ impl Store {
         }
     }
 
-    /// Opens the store that stands on the disk: answers it, its record, and the payloads of the entries one after the
-    /// other. It makes its reads first, then one device call, or three where the gates of both slots are open.
+    /// Opens the store that stands on the disk, and answers it, its record, and the payloads one after the other.
+    ///
+    /// It makes its reads first, then one device call, or three where the gates of both slots are open.
+    ///
+    /// Errors: `Disk`; `NoRecord`; `NoMemory`.
     pub fn open<D: Disk>(
         alloc: Global,
         disk: &mut D,
     ) -> Result<(Store, Vec<u8>, Vec<u8>), StoreFault>
         // What it answers is what the disk as it reads stands for.
-        ensures answer { IfOk result (λ r. IsTrue D.tells.content → IsAnswer r.0 r.1.items r.2.items (D.state disk.old).seen) }
-        ensures record_size { IfOk result (λ r. length r.1.items ≤ 49152) }
-        ensures payloads_size { IfOk result (λ r. length r.2.items ≤ 15488) }
+        ensures answer { IfOk result (λ r. IsTrue D.tells.content
+            → IsAnswer r.0 r.1.items r.2.items (D.state disk.old).seen) }
+        ensures record_size { IfOk result (λ r. length r.1.items ≤ record_room) }
+        ensures payloads_size { IfOk result (λ r. length r.2.items ≤ payloads_room) }
 
         // Where each image at entry is whole, each image at each moment is whole too, and stands for what one at entry
         // stood for. After Ok the store is ready.
-        ensures moments { AllWhole (D.state disk.old) → IsTrue D.tells.content → LeavesOnly (D.state disk.old) (D.state disk.new) (WasThere (D.state disk.old)) }
+        ensures moments { AllWhole (D.state disk.old) → IsTrue D.tells.content
+            → LeavesOnly (D.state disk.old) (D.state disk.new) (WasThere (D.state disk.old)) }
         ensures ready { IfOk result (λ r. AllWhole (D.state disk.old) → IsTrue D.tells.content
             → (s : Standing) → stands (D.state disk.old).seen ≡ Some s → IsReady r.0 s (D.state disk.new)) }
         ensures through { OnOk result (IsTrue D.tells.content
-            → WentThrough D.tells (if both_gates_open (D.state disk.old).seen then 3 else 1) (D.state disk.old) (D.state disk.new)) }
+            → WentThrough D.tells (open_calls (D.state disk.old).seen) (D.state disk.old) (D.state disk.new)) }
 
         // Where the disk failed, it stopped at a read or at one of the three calls.
-        ensures stopped { IsErrOf result StoreFault.Disk → AllWhole (D.state disk.old) → IsTrue D.tells.content → IsTrue D.tells.steady
-            → (s : Standing) → stands (D.state disk.old).seen ≡ Some s → OpenStop D.tells s (D.state disk.old) (D.state disk.new) }
-        ensures untouched { IfErr result (λ fault. (fault ≡ StoreFault.Disk → ⊥) → IsStill (D.state disk.old) (D.state disk.new)) }
+        ensures stopped { IsErrOf result StoreFault.Disk → AllWhole (D.state disk.old) → IsTrue D.tells.content
+            → IsTrue D.tells.steady → (s : Standing) → stands (D.state disk.old).seen ≡ Some s
+            → OpenStop D.tells s (D.state disk.old) (D.state disk.new) }
+        ensures untouched { IsSpared result (D.state disk.old) (D.state disk.new) }
         ensures faults { IfErr result (IsReadFault D.tells (D.state disk.old) (D.state disk.new)) }
         ensures count { (D.state disk.old).faults ≤ (D.state disk.new).faults }
     {
-        let buffer = Vec::with_capacity(alloc, MAX_BODY)?;
+        let buffer = Vec::with_capacity(alloc, BODY_ROOM)?;
         let contents = read_standing(alloc, disk)?;
         match settle(disk, contents.found.second, contents.found.other_open) {
             Ok(()) => Ok((
@@ -206,28 +229,27 @@ impl Store {
         }
     }
 
-    /// The generation that stands on the disk, and how many entries. It writes nothing and takes no memory.
+    /// Answers the generation that stands on the disk, and how many entries. It writes nothing and takes no memory.
+    ///
+    /// Errors: `Disk`; `NoRecord`.
     pub fn standing<D: Disk>(disk: &mut D) -> Result<(u64, u32), StoreFault>
-        ensures still { IsStill (D.state disk.old) (D.state disk.new) }
-        ensures refusal { IsErrOf result StoreFault.Disk → IsTrue D.tells.refusals → (D.state disk.old).off 0 ≡ true }
-        ensures answer { IfOk result (λ r. IsTrue D.tells.content
-            → (s : Standing) × (stands (D.state disk.old).seen ≡ Some s) × (r.0 ≡ s.generation) × (r.1 ≡ length s.payloads)) }
+        ensures reads { OnlyReads D.tells (D.state disk.old) (D.state disk.new) result }
+        ensures answer { IfOk result (λ r. IsTrue D.tells.content → AreCounted r.0 r.1 (D.state disk.old).seen) }
         ensures faults { IfErr result (IsStandingFault D.tells (D.state disk.old) (D.state disk.new)) }
-        ensures count { (D.state disk.old).faults ≤ (D.state disk.new).faults }
     {
         count_standing(disk)
     }
 
-    /// The record that stands on the disk, and the payloads of the entries one after the other. It writes nothing.
+    /// Answers the record that stands on the disk, and the payloads one after the other. It writes nothing.
+    ///
+    /// Errors: `Disk`; `NoRecord`; `NoMemory`.
     pub fn peek<D: Disk>(alloc: Global, disk: &mut D) -> Result<(Vec<u8>, Vec<u8>), StoreFault>
-        ensures still { IsStill (D.state disk.old) (D.state disk.new) }
-        ensures refusal { IsErrOf result StoreFault.Disk → IsTrue D.tells.refusals → (D.state disk.old).off 0 ≡ true }
+        ensures reads { OnlyReads D.tells (D.state disk.old) (D.state disk.new) result }
         ensures answer { IfOk result (λ r. IsTrue D.tells.content
-            → (s : Standing) × (stands (D.state disk.old).seen ≡ Some s) × (r.0.items ≡ s.content) × (r.1.items ≡ concat s.payloads)) }
-        ensures record_size { IfOk result (λ r. length r.0.items ≤ 49152) }
-        ensures payloads_size { IfOk result (λ r. length r.1.items ≤ 15488) }
+            → AreContents r.0.items r.1.items (D.state disk.old).seen) }
+        ensures record_size { IfOk result (λ r. length r.0.items ≤ record_room) }
+        ensures payloads_size { IfOk result (λ r. length r.1.items ≤ payloads_room) }
         ensures faults { IfErr result (IsReadFault D.tells (D.state disk.old) (D.state disk.new)) }
-        ensures count { (D.state disk.old).faults ≤ (D.state disk.new).faults }
     {
         let contents = read_standing(alloc, disk)?;
         Ok((contents.content, contents.payloads))

@@ -12,7 +12,7 @@ use Rattle.zb_cmd.specs.declared.command.Command.TheVariants.{TransportNetwork, 
 use Rattle.zb_cmd.specs.declared.fault.CmdError.{CmdError}
 use Rattle.zb_seal.specs.declared.term.Term.{Term}
 
--- the key in a Transport-Key (05-3474-21, 4.4.9.2), of any of its three types
+-- the key in a Transport-Key (05-3474-21, 4.4.10.1), of any of its three types
 abbrev pub key_in : Result Command CmdError → Option Key
 key_in (Ok (TransportNetwork key sequence destination source)) = Some key
 key_in (Ok (TransportApplication key partner initiator)) = Some key

@@ -9,7 +9,7 @@ use zb_base::{Key, Layer};
 use zb_cmd::{Command, read_command};
 use zb_seal::Term;
 
-/// Answers the key that a term carries, if any (05-3474-21, 4.4.9.2).
+/// Answers the key that a term carries, if any (05-3474-21, 4.4.10.1).
 ///
 /// It is that of a Transport-Key which is the content of the term: sealed at the application support layer as a
 /// command, or standing in clear in a network frame.

@@ -3,11 +3,11 @@ use Rattle.tc_cli.specs.Inputs.{Grows}
 use Rattle.tc_cli.proofs.input.read_on.Given as goal
 
 abbrev pub decreases-loop-buffer : goal.decreases-loop-buffer
-decreases-loop-buffer g l = l.greatest_counter - vec_len l.bytes
+decreases-loop-buffer g l = l.limit - vec_len l.bytes
 
 abbrev pub invariant-loop-buffer : goal.invariant-loop-buffer
 invariant-loop-buffer g l = record {
   grown : Grows (g.R.Source.rest l.fn.input) (g.R.Source.rest l.input) l.fn.bytes.items l.bytes.items;
-  room : vec_len l.bytes ≤ l.greatest_counter;
+  room : vec_len l.bytes ≤ l.limit;
   later : g.R.Source.faults l.fn.input ≤ g.R.Source.faults l.input;
 }

@@ -1,4 +1,4 @@
-use Rattle.std.proofs.Common.{◌≡◌, ◌+◌, ◌<◌, List, ◌++◌, ℕ, length, take, drop, rules, sym, ◌∙◌, ap, subst, arith}
+use Rattle.std.proofs.Common.{◌+◌, ◌<◌, List, ◌++◌, ℕ, length, take, drop, ◌∙◌, ap, arith}
 use Rattle.zb_disk.specs.Memory.{tear}
 use Rattle.zb_disk.proofs.Tearing.{tear_up, tear_down}
 use Rattle.zb_disk.proofs.memory.tear_runs.Goals as goal

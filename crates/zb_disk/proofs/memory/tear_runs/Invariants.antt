@@ -1,4 +1,4 @@
-use Rattle.std.proofs.Common.{◌≡◌, ◌≤◌, ◌++◌, length, take, drop}
+use Rattle.std.proofs.Common.{◌≡◌, ◌≤◌, ◌++◌, take, drop}
 use Rattle.zb_disk.specs.Memory.{tear}
 use Rattle.zb_disk.proofs.memory.tear_runs.Given as goal
 

@@ -1,4 +1,4 @@
-use Rattle.std.proofs.Common.{◌≡◌, ◌+◌, ◌-◌, ◌<◌, List, [], ◌∷◌, length, drop, replicate, Bool, false, min, get_or, sym, ◌∙◌, ap, subst, arith}
+use Rattle.std.proofs.Common.{◌≡◌, ◌+◌, ◌-◌, ◌<◌, List, ◌∷◌, length, drop, replicate, Bool, false, min, get_or, sym, ◌∙◌, ap, subst, arith}
 use Rattle.std.proofs.lemmas.List.{drop_more, drop_all}
 use Rattle.zb_disk.specs.declared.runs.Run.{Run}
 use Rattle.zb_disk.specs.Memory.{Covers, patch}

@@ -1,4 +1,4 @@
-use Rattle.std.proofs.Common.{◌≡◌, length, drop}
+use Rattle.std.proofs.Common.{drop}
 use Rattle.zb_disk.specs.Memory.{Covers}
 use Rattle.zb_disk.proofs.runs.sweep.Given as goal
 

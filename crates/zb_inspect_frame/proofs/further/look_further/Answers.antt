@@ -1,5 +1,5 @@
 use Rattle.zb_nwk.specs.Reading as nwk_reading
-use Rattle.zb_inspect_frame.specs.Sights.{payload_in, given_in}
+use Rattle.zb_inspect_frame.specs.Shows.{payload_in, given_in}
 use Rattle.zb_inspect_frame.proofs.MoreKeys.{below_anew}
 use Rattle.zb_inspect_frame.proofs.further.look_further.Goals as goal
 

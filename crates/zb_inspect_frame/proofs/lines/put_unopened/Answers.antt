@@ -1,6 +1,6 @@
 use Rattle.std.proofs.Common.{◌+◌, ◌++◌, arith}
 use Rattle.zb_inspect_frame.specs.Lines.{unopened_text}
-use Rattle.zb_inspect_frame.proofs.UnopenedSights.{printed_one, printed_all}
+use Rattle.zb_inspect_frame.proofs.UnopenedFrames.{printed_one, printed_all}
 use Rattle.zb_inspect_frame.proofs.lines.put_unopened.Goals as goal
 
 pub loop-frame-preserved : goal.loop-frame-preserved

@@ -1,7 +1,7 @@
 use Rattle.std.proofs.Common.{◌≡◌, ◌<◌, ℕ, length, take, drop, arith, List, get_or}
 use Rattle.arrayvec.specs.ArrayVec.{ArrayVec}
-use Rattle.zb_inspect_frame.specs.Sights.{sight}
-use Rattle.zb_inspect_frame.specs.declared.sight.Sight.{Sight}
+use Rattle.zb_inspect_frame.specs.Shows.{frame_shown}
+use Rattle.zb_inspect_frame.specs.declared.shown.Shown.{Shown}
 use Rattle.zb_inspect_ring.proofs.Lists.{half_mapped, not_yet_mapped}
 use Rattle.zb_inspect_ring.proofs.RunLaws.{first_of_run, part_count}
 use Rattle.zb_inspect_ring.proofs.block.refresh_all.Goals as goal
@@ -11,11 +11,11 @@ use Rattle.zb_inspect_ring.proofs.block.refresh_all.Goals.{After-at-frame}
 abbrev own : After-at-frame → List (ArrayVec ℕ)
 own c = take (length c.args.seen.now) (drop c.args.from c.args.frames.now)
 
-abbrev under : After-at-frame → ArrayVec ℕ → Sight
-under c frame = sight c.args.addrs.now c.args.keys.now frame.items
+abbrev under : After-at-frame → ArrayVec ℕ → Shown
+under c frame = frame_shown c.args.addrs.now c.args.keys.now frame.items
 
-abbrev before : After-at-frame → ArrayVec ℕ → Sight
-before c frame = sight c.args.addrs.now (take c.args.known c.args.keys.now) frame.items
+abbrev before : After-at-frame → ArrayVec ℕ → Shown
+before c frame = frame_shown c.args.addrs.now (take c.args.known c.args.keys.now) frame.items
 
 within : (c : After-at-frame) → c.loop-i.i < length (own c)
 within c = omega (arith, part_count c.args.frames.now c.args.from (length c.args.seen.now) c.requires.within, c.loop-i-test.true)

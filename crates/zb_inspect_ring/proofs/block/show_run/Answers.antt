@@ -1,13 +1,13 @@
 use Rattle.std.proofs.Common.{◌∙◌, ◌++◌, ◌∷◌, [], ℕ, take, map, ap, sym, arith, add-one, append_assoc}
 use Rattle.arrayvec.specs.ArrayVec.{ArrayVec}
-use Rattle.zb_inspect_frame.specs.Sights.{sight}
-use Rattle.zb_inspect_frame.specs.declared.sight.Sight.{Sight}
+use Rattle.zb_inspect_frame.specs.Shows.{frame_shown}
+use Rattle.zb_inspect_frame.specs.declared.shown.Shown.{Shown}
 use Rattle.zb_inspect_ring.proofs.RunLaws.{one_mapped}
 use Rattle.zb_inspect_ring.proofs.block.show_run.Goals as goal
 
 pub loop-i-preserved : goal.loop-i-preserved
 loop-i-preserved c =
-    let f : ArrayVec ℕ → Sight = λ frame. sight c.args.addrs.now c.args.keys.now frame.items in
+    let f : ArrayVec ℕ → Shown = λ frame. frame_shown c.args.addrs.now c.args.keys.now frame.items in
     let run = c.args.run.now in
     let i = c.loop-i.i in
     let none : ArrayVec ℕ = record { items = [] } in

@@ -1,7 +1,7 @@
 use Rattle.std.proofs.Common.{◌≡◌, ◌∙◌, length, take, drop, vec_len, ap, sym}
 use Rattle.std.proofs.lemmas.List.{length-map}
-use Rattle.zb_inspect_frame.specs.declared.sight.Sight.{Sight}
-use Rattle.zb_inspect_ring.specs.Rings.{sights}
+use Rattle.zb_inspect_frame.specs.declared.shown.Shown.{Shown}
+use Rattle.zb_inspect_ring.specs.Rings.{frames_shown}
 use Rattle.zb_inspect_ring.proofs.BlockLaws.{unopened_frames}
 use Rattle.zb_inspect_ring.proofs.RunLaws.{part_count}
 use Rattle.zb_inspect_ring.proofs.block.show_unopened.Goals as goal
@@ -12,6 +12,6 @@ show_again-requires-clause-before c =
     let first = take c.args.known c.args.keys.now in
     let seen = c.in_ok-before.before in
     let count : vec_len seen ≡ c.args.count =
-    seen.ok.0 ∙ ap (length {A = Sight}) c.in_ok-before.ensures ∙ length-map own _ ∙ part_count c.args.frames.now c.args.from c.args.count c.requires.within in
+    seen.ok.0 ∙ ap (length {A = Shown}) c.in_ok-before.ensures ∙ length-map own _ ∙ part_count c.args.frames.now c.args.from c.args.count c.requires.within in
     c.in_ok-before.ensures ∙ unopened_frames c.args.addrs.now first own c.requires.before
-    ∙ ap (λ n. sights c.args.addrs.now first (take n (drop c.args.from c.args.frames.now))) (sym count)
+    ∙ ap (λ n. frames_shown c.args.addrs.now first (take n (drop c.args.from c.args.frames.now))) (sym count)

@@ -30,22 +30,22 @@ look_at_all-requires-clause-within g c κs within =
 
 pub look_at_all-requires-clause-before : goal.look_at_all-requires-clause-before
 look_at_all-requires-clause-before g c κs within =
-    ready c.args.capture.now c.rounds.known c.rounds.ring c.rounds.pieces.items c.args.capture.now.frames c.in_ok-addrs.addrs c.ciphers.result.now
-    refl (c.in_ok-addrs.ensures ∙ c.as_slice.ensures) c.ciphers.ensures c.rounds.invariant.seen
+    ready c.args.capture.now c.rounds.known c.rounds.ring c.rounds.pieces.items c.args.capture.now.frames c.in_ok-addrs.addrs c.sealing_keys.result.now
+    refl (c.in_ok-addrs.ensures ∙ c.as_slice.ensures) c.sealing_keys.ensures c.rounds.invariant.seen
 
 -- the round that was done
 done : (g : _) (c : In_ok-ring-2 g) → Round c.args.capture.now c.rounds.rounds c.rounds.ring c.in_ok-ring-2.ring c.in_ok-pieces-2.pieces.items
 done g c =
     one_round c.args.capture.now c.rounds.rounds c.rounds.known c.rounds.ring c.in_ok-ring-2.ring c.rounds.pieces.items c.in_ok-pieces-2.pieces.items
-    c.args.capture.now.frames c.in_ok-addrs.addrs c.ciphers.result.now c.rounds.invariant.pieces c.in_ok-pieces-2.ensures refl
-    (c.in_ok-addrs.ensures ∙ c.as_slice.ensures) c.ciphers.ensures c.rounds.invariant.known c.rounds.invariant.seen c.rounds.invariant.learnt
+    c.args.capture.now.frames c.in_ok-addrs.addrs c.sealing_keys.result.now c.rounds.invariant.pieces c.in_ok-pieces-2.ensures refl
+    (c.in_ok-addrs.ensures ∙ c.as_slice.ensures) c.sealing_keys.ensures c.rounds.invariant.known c.rounds.invariant.seen c.rounds.invariant.learnt
     c.rounds.invariant.ring
     (c.in_ok-ring-2.ensures ∙ ap (λ ps. learnt (c.rounds.rounds + 1) c.rounds.ring (all_leads ps)) c.as_slice-in-rounds.ensures.value)
 
 still_sized : (g : _) (c : In_ok-ring-2 g)
     → AreSized (div_ceil (length c.args.capture.now.frames) c.args.jobs) 0 (length c.args.capture.now.frames) c.in_ok-pieces-2.pieces.items
 still_sized g c =
-    pieces_sized c.args.capture.now.frames c.in_ok-addrs.addrs c.ciphers.result.now (div_ceil (length c.args.capture.now.frames) c.args.jobs) 0
+    pieces_sized c.args.capture.now.frames c.in_ok-addrs.addrs c.sealing_keys.result.now (div_ceil (length c.args.capture.now.frames) c.args.jobs) 0
     (length c.args.capture.now.frames) c.rounds.pieces.items c.in_ok-pieces-2.pieces.items c.in_ok-pieces-2.ensures c.rounds.invariant.sized
 
 pub returns-then-len-count-clause-rounds : goal.returns-then-len-count-clause-rounds

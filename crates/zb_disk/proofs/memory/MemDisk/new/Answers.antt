@@ -1,4 +1,4 @@
-use Rattle.std.proofs.Common.{◌≡◌, ◌≤◌, ◌+◌, ◌-◌, List, [], ◌++◌, length, replicate, Bool, false, vec_len, vec_capacity, rules, sym, ◌∙◌, ap, subst, arith}
+use Rattle.std.proofs.Common.{◌≡◌, List, [], length, replicate, Bool, false, rules, sym, subst, arith}
 use Rattle.std.proofs.lemmas.Grind.{common_steps}
 use Rattle.zb_disk.specs.declared.runs.Run.{Run}
 use Rattle.zb_disk.specs.Memory.{Covers}

@@ -1,6 +1,5 @@
-use Rattle.std.proofs.Common.{◌≡◌, ◌<◌, ◌≤◌, List, ℕ, ◌∷◌, [], length, get_or, Bool, true, false, IsTrue, rules, sym, ◌∙◌, ap, subst}
-use Rattle.zb_disk.specs.View.{overwrite, IsUnsynced}
-use Rattle.zb_disk.specs.Memory.{Medium, IsImage, is_stopped, torn_by, settled, powered, synced, memory_view}
+use Rattle.std.proofs.Common.{◌≡◌, List, ℕ, Bool, true, false, rules, sym, ◌∙◌, ap, subst}
+use Rattle.zb_disk.specs.Memory.{Medium, IsImage, is_stopped, torn_by, settled, powered}
 use Rattle.zb_disk.specs.MemoryInside.{medium_of}
 use Rattle.zb_disk.proofs.Tearing.{settled_image, settled_byte, powered_on, powered_off}
 use Rattle.zb_disk.proofs.memory.MemDisk.power_on.Goals as goal

@@ -1,7 +1,6 @@
-use Rattle.std.proofs.Common.{◌≡◌, ◌≤◌, List, [], length, replicate, Bool, false, rules, sym, ◌∙◌, ap, subst, arith}
-use Rattle.std.proofs.lemmas.Grind.{common_steps}
+use Rattle.std.proofs.Common.{List, [], length, Bool, sym, ◌∙◌, subst, arith}
 use Rattle.zb_disk.specs.declared.runs.Run.{Run}
-use Rattle.zb_disk.specs.Memory.{Covers, synced}
+use Rattle.zb_disk.specs.Memory.{Covers}
 use Rattle.zb_disk.proofs.Flags.{covers_none}
 use Rattle.zb_disk.proofs.memory.MemDisk.settle.Goals as goal
 

@@ -1,7 +1,7 @@
 use Rattle.std.proofs.Common.{◌≡◌, ◌≤◌, true, false, Ok, Err, sym, ◌∙◌, ap, subst}
 use Rattle.zb_base.specs.declared.fault.Failed.{Failed}
 use Rattle.zb_disk.specs.Calls.{IsSync}
-use Rattle.zb_disk.specs.Memory.{Medium, refuses, counted, synced, memory_tells, memory_view}
+use Rattle.zb_disk.specs.Memory.{Medium, refuses, synced, memory_tells, memory_view}
 use Rattle.zb_disk.proofs.Calls.{sync_ok, sync_err}
 use Rattle.zb_disk.proofs.memory.MemDiskDisk.sync.Goals as goal
 

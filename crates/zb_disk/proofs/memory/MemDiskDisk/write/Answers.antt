@@ -1,7 +1,7 @@
 use Rattle.std.proofs.Common.{◌≡◌, ◌≤◌, true, false, Ok, Err, sym, ◌∙◌, ap, subst}
 use Rattle.zb_base.specs.declared.fault.Failed.{Failed}
 use Rattle.zb_disk.specs.Calls.{IsWrite}
-use Rattle.zb_disk.specs.Memory.{Medium, refuses, counted, stored, memory_tells, memory_view}
+use Rattle.zb_disk.specs.Memory.{Medium, refuses, stored, memory_tells, memory_view}
 use Rattle.zb_disk.proofs.Calls.{write_ok, write_err}
 use Rattle.zb_disk.proofs.memory.MemDiskDisk.write.Goals as goal
 

@@ -1,13 +1,12 @@
-use Rattle.std.proofs.Common.{◌≡◌, ◌+◌, ◌<◌, ◌≤◌, ◌++◌, List, ℕ, [], ◌∷◌, length, reverse, min, rules, refl, sym, ◌∙◌, ap, subst, arith, length-append}
+use Rattle.std.proofs.Common.{◌≡◌, ◌+◌, ◌++◌, List, ℕ, [], ◌∷◌, length, reverse, sym, ◌∙◌, ap, arith, length-append}
 use Rattle.zb_base.specs.Outside.{risen}
 use Rattle.zb_disk.specs.declared.trail.Logged.{Logged}
-use Rattle.zb_disk.specs.declared.trail.Logged.TheVariants.{Wrote, Synced}
+use Rattle.zb_disk.specs.declared.trail.Logged.TheVariants.{Wrote}
 use Rattle.zb_disk.specs.View.{overwrite}
-use Rattle.zb_disk.specs.Memory.{spread, patch}
-use Rattle.zb_disk.specs.Trail.{Trail, Step, writes, syncs, replayed, steps_of, total, has_room, kept_write, kept_sync}
+use Rattle.zb_disk.specs.Trail.{Trail, writes, replayed, steps_of, total, kept_write}
 use Rattle.zb_disk.specs.TrailInside.{trail_of}
 use Rattle.zb_disk.proofs.Lists.{overwrite_spread}
-use Rattle.zb_disk.proofs.Trails.{length-steps, same_trail, newest_write, newest_sync, total_write, total_sync}
+use Rattle.zb_disk.proofs.Trails.{length-steps, same_trail, newest_write, total_write}
 use Rattle.zb_disk.proofs.trail.TrailDisk.keep_write.Goals as goal
 
 pub append-requires : goal.append-requires

@@ -1,7 +1,7 @@
-use Rattle.std.proofs.Common.{◌≡◌, ◌≤◌, Ok, Err, sym, ◌∙◌, ap, subst}
+use Rattle.std.proofs.Common.{◌≤◌, Ok, Err, sym, subst}
 use Rattle.zb_base.specs.declared.fault.Failed.{Failed}
 use Rattle.zb_disk.specs.Calls.{IsSync}
-use Rattle.zb_disk.specs.Trail.{Trail, refused, trail_tells, trail_view}
+use Rattle.zb_disk.specs.Trail.{Trail, trail_tells, trail_view}
 use Rattle.zb_disk.proofs.Trails.{trail_sync_ok, trail_sync_err}
 use Rattle.zb_disk.proofs.trail.TrailDiskDisk.sync.Goals as goal
 

@@ -1,7 +1,7 @@
-use Rattle.std.proofs.Common.{◌≡◌, ◌≤◌, Ok, Err, sym, ◌∙◌, ap, subst}
+use Rattle.std.proofs.Common.{◌≤◌, Ok, Err, sym, subst}
 use Rattle.zb_base.specs.declared.fault.Failed.{Failed}
 use Rattle.zb_disk.specs.Calls.{IsWrite}
-use Rattle.zb_disk.specs.Trail.{Trail, refused, trail_tells, trail_view}
+use Rattle.zb_disk.specs.Trail.{Trail, trail_tells, trail_view}
 use Rattle.zb_disk.proofs.Trails.{trail_write_ok, trail_write_err}
 use Rattle.zb_disk.proofs.trail.TrailDiskDisk.write.Goals as goal
 

@@ -1,7 +1,7 @@
 use Rattle.std.proofs.Common.{◌≡◌, ℕ, drop}
 use Rattle.std.specs.Option.{option_or}
 use Rattle.zb_inspect_frame.specs.Known.{known_of}
-use Rattle.zb_inspect_frame.specs.Sights.{addr_of}
+use Rattle.zb_inspect_frame.specs.Shows.{addr_of}
 use Rattle.zb_inspect_frame.proofs.addresses.Addresses.new.Given as goal
 
 abbrev pub invariant-loop-addr : goal.invariant-loop-addr

@@ -1,5 +1,5 @@
 use Rattle.std.proofs.Common.{◌∙◌, ap}
-use Rattle.zb_inspect_frame.specs.Sights.{addr_of}
+use Rattle.zb_inspect_frame.specs.Shows.{addr_of}
 use Rattle.zb_inspect_frame.proofs.addresses.Addresses.of.Goals as goal
 
 pub returns : goal.returns

@@ -1,0 +1,17 @@
+//! Gates, which shares of work pass.
+
+/// Stands before the shares of each phase of work, which pass it once.
+///
+/// Nothing that is worked out depends on it. A test may hold a share there until another one has come.
+pub trait Gate: Sync {
+    /// Lets the share of this number, from 0, pass.
+    fn pass(&self, share: u32);
+}
+
+/// Stands open: every share passes at once.
+#[derive(Clone, Copy, Debug, Default, PartialEq, Eq)]
+pub struct OpenGate;
+
+impl Gate for OpenGate {
+    fn pass(&self, _share: u32) {}
+}

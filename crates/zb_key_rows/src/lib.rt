@@ -1,5 +1,0 @@
-//! Tests of tables: records and payloads from outside.
-#![tactic(auto)]
-
-#[cfg(test)]
-mod tests;
