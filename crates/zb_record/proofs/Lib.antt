@@ -13,3 +13,4 @@ pub mod Mapping
 pub mod SenderLemmas
 pub mod WritingLemmas
 pub mod RecordLemmas
+pub mod Tested

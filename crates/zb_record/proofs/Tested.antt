@@ -5,8 +5,7 @@ use Rattle.std.specs.List.{AllByRecursion, list_all}
 use Rattle.std.proofs.lemmas.Bool.{ltb-true, lt-ltb, eqb-true, eq-eqb, and_from}
 use Rattle.zb_model_fits.proofs.Tests.{both}
 use Rattle.zb_model.specs.State.{SenderFloor, NetKey, LinkKey, PairKey, NodeState}
-use Rattle.zb_record.specs.Ranges.{NetFits, LinkFits, PairFits, FitsBytes}
-use Rattle.zb_stored_tables.specs.Stored.{floor_fits, net_fits, link_fits, pair_fits, fits_widths}
+use Rattle.zb_record.specs.Ranges.{NetFits, LinkFits, PairFits, FitsBytes, floor_fits, net_fits, link_fits, pair_fits, fits_widths}
 
 abbrev FloorFits : SenderFloor → Type 0
 FloorFits f = (f.sender < 2 ^ 64) × (f.stored < 2 ^ 32)
