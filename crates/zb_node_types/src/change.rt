@@ -2,7 +2,7 @@
 use arrayvec::ArrayVec;
 use zb_base::{Attribute, Eui, Key, Layer, Rollover, State};
 
-/// Names one change of what a node keeps over a reset.
+/// One change of what a node keeps over a reset.
 #[derive(Clone, Copy, Debug, PartialEq, Eq)]
 pub enum Change {
     /// The outgoing counter of a layer is reserved up to, but not with, `limit`. At NWK it is that of the active key.
@@ -83,7 +83,7 @@ pub enum Change {
     },
 }
 
-/// Holds the changes of one event, in the order in which they are made: at most 16.
+/// The changes of one event, in the order in which they are made. An event makes at most 16.
 pub type Changes = ArrayVec<Change, 16>;
 
 impl Default for Change {

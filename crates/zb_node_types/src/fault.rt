@@ -3,7 +3,7 @@ use std::error::Error;
 use std::fmt;
 use zb_base::Eui;
 
-/// Names why a call on a node's tables is refused.
+/// The refusals of the calls on tables.
 #[derive(Clone, Copy, Debug, PartialEq, Eq)]
 pub enum KeyError {
     /// The network key was dropped before; its row stands at that place, from 0.

@@ -1,9 +1,7 @@
 //! Why an event of a node is refused.
 use zb_base::{Eui, Place};
 
-/// Names why an event of a node is refused, in the order in which the reasons are tried.
-///
-/// `NoFrame` alone is tried out of this order, right after `Down`.
+/// The reasons, in the order in which they are tried, but for `NoFrame`, which is tried right after `Down`.
 #[derive(Clone, Copy, Debug, PartialEq, Eq)]
 pub enum Refusal {
     /// The node is down.
@@ -50,7 +48,7 @@ impl Refusal {
     ghost use Rattle.std.specs.Prelude.{◌≡◌};
     ghost use Rattle.zb_node_types.specs.Changes.{place_of};
 
-    /// Answers where the event is refused.
+    /// Where the event is refused.
     pub fn place(&self) -> Place
         ensures { result ≡ place_of self.now }
     {
