@@ -49,14 +49,7 @@ impl Contents {
         Ok(())
     }
 
-    /// Makes the changes of journal entries again, behind a record of a version.
-    ///
-    /// `entries` is their payloads, one behind the other, as `change_bytes` wrote them. Behind a record of version 1
-    /// all network keys have one NWK limit, which is the declared start: a NWK reserve sets it, whether a key is active
-    /// or not, and a new key goes on from it, started.
-    ///
-    /// Errors: `BadRecord` where a change isn't whole, is none or doesn't fit, at the place of its first byte, which is
-    /// its kind. Behind a record of version 1 a start and a pair are none. Then the changes before it are made.
+    /// Makes the changes of all payloads again.
     fn redo(&mut self, version: Version, reader: &mut Reader<usize>) -> Result<(), usize>
         requires { IsSound self.old }
         ensures redone { Redoes result [] (state_of self.new) (redone version reader.old.rest.now (state_of self.old)) }
@@ -81,13 +74,14 @@ fn next_count(reader: &mut Reader<usize>) -> Option<u8>
 }
 
 impl Tables {
-    /// Makes the changes of journal entries again: `entries` is their payloads, one behind the other, as `change_bytes`
-    /// wrote them, behind a record of a version. Behind one of version 1 all network keys have one NWK limit, which is
-    /// the declared start: a NWK reserve sets it, whether a key is active or not, and a new key goes on from it,
-    /// started.
+    /// Makes the changes of journal entries again, behind a record of a version.
     ///
-    /// Refused as `BadRecord` where a change isn't whole, is none or doesn't fit: at the place of its first byte, which
-    /// is its kind. Behind a record of version 1 a start and a pair are none. Then the changes before it are made.
+    /// `entries` is their payloads, one behind the other, as `change_bytes` wrote them. Behind a record of version 1
+    /// all network keys have one NWK limit, which is the declared start: a NWK reserve sets it, whether a key is active
+    /// or not, and a new key goes on from it, started.
+    ///
+    /// Errors: `BadRecord` where a change isn't whole, is none or doesn't fit, at the place of its first byte, which is
+    /// its kind. Behind a record of version 1 a start and a pair are none. Then the changes before it are made.
     pub fn redo(&mut self, version: Version, entries: &[u8]) -> Result<(), KeyError>
         ensures answer { result ≡ redo_answer (length entries.now) (redone version entries.now self.old).1 }
         ensures made { self.new ≡ (redone version entries.now self.old).0 }
