@@ -10,4 +10,5 @@ pub mod PlanLemmas
 pub mod RecordLemmas
 pub mod FittingLemmas
 pub mod RestoreLemmas
+pub mod BootLemmas
 mod FirstLemmas

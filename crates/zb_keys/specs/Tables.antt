@@ -7,7 +7,7 @@ use Rattle.zb_record.specs.declared.record.Record.{Record}
 use Rattle.zb_record.specs.declared.write.Heading.{Heading}
 use Rattle.zb_record.specs.Headings.{active_bytes}
 use Rattle.zb_record.specs.Records.{record_seen}
-use Rattle.zb_model.specs.State.{NodeState, NetKey, has_net, shown_net}
+use Rattle.zb_model.specs.State.{NodeState, NetKey, has_net, shown_net, booted_net, booted_link}
 use Rattle.zb_model.specs.Fits.{keeps_rules, most_nets, most_links, most_pairs}
 
 abbrev pub state_of : Contents → NodeState
@@ -31,6 +31,13 @@ heading_of a = record { role = a.role; state = a.state; declared = a.declared; a
 -- a row is added where its key has none
 abbrev pub with_row : NetKey → NodeState → NodeState
 with_row row s = record s { nets = if has_net row.key s.nets then s.nets else s.nets ++ row ∷ [] }
+
+-- the network keys, and the link keys, as a boot sets them back
+abbrev pub nets_booted : NodeState → NodeState
+nets_booted s = record s { nets = map booted_net s.nets }
+
+abbrev pub links_booted : NodeState → NodeState
+links_booted s = record s { links = map booted_link s.links }
 
 -- a dropped network key keeps no floors
 abbrev pub Forgets : NodeState → Type 0

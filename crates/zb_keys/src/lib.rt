@@ -2,6 +2,7 @@
 //! of pairs of devices.
 #![tactic(auto)]
 
+mod boot;
 mod calls;
 mod contents;
 mod first;

@@ -5,7 +5,7 @@ ghost use Rattle.std.specs.Option.{option_copied};
 ghost use Rattle.zb_node_types.specs.Changes.{model_role, model_attribute};
 ghost use Rattle.zb_model.specs.Fits.{most_links};
 ghost use Rattle.zb_record.specs.RowViews.{link_key};
-ghost use Rattle.zb_model.specs.State.{at_link, is_link, has_link, is_live_of, dropped_link, link_floor, link_kept, revived, new_link, told_as, with_told, is_unverified, is_verified, same_key};
+ghost use Rattle.zb_model.specs.State.{at_link, booted_link, is_link, has_link, is_live_of, dropped_link, link_floor, link_kept, revived, new_link, told_as, with_told, is_unverified, is_verified, same_key};
 
 use zb_base::{Attribute, Eui, Key, Role};
 use zb_counter::Floor;
@@ -73,6 +73,13 @@ impl LinkRow {
         ensures { result ≡ is_verified (link_key self.now).attribute }
     {
         matches!(self.attribute, Attribute::Verified)
+    }
+
+    /// Goes on from the stored floor.
+    fn boot(&mut self)
+        ensures { link_key self.new ≡ booted_link (link_key self.old) }
+    {
+        self.floor.kept = self.floor.stored;
     }
 
     /// Drops the row, if it is of that partner and key.
@@ -180,6 +187,15 @@ pub fn untell_links(rows: &mut [LinkRow])
 {
     for row in rows.iter_mut() {
         row.untell();
+    }
+}
+
+/// Sets all rows back to what is stored, as after a boot.
+pub fn boot_links(rows: &mut [LinkRow])
+    ensures { map link_key rows.new ≡ map booted_link (map link_key rows.old) }
+{
+    for row in rows.iter_mut() {
+        row.boot();
     }
 }
 

@@ -3,7 +3,7 @@ ghost use Rattle.std.specs.Prelude.{◌≡◌, ◌+◌, ◌<◌, ◌≤◌, [], 
 ghost use Rattle.std.specs.List.{list_any};
 ghost use Rattle.std.specs.Option.{option_copied};
 ghost use Rattle.zb_record.specs.RowViews.{net_key, heard_floor};
-ghost use Rattle.zb_model.specs.State.{greatest_counter, at_net, new_net, given_net, same_key, reserved, started_at, dropped_net, shown_net, next_at, net_floor, net_kept, floor_stored, floor_kept};
+ghost use Rattle.zb_model.specs.State.{greatest_counter, booted_floor, booted_net, at_net, new_net, given_net, same_key, reserved, started_at, dropped_net, shown_net, next_at, net_floor, net_kept, floor_stored, floor_kept};
 ghost use Rattle.zb_record.specs.Redoing.{limited};
 ghost use Rattle.zb_record.specs.Senders.{IsPlace, IsAbsent, HasRoom, live_floor, counted_row};
 
@@ -83,6 +83,14 @@ impl NetRow {
         self.started = true;
         self.limit = self.limit.max(limit);
         self.next = self.next.max(limit);
+    }
+
+    /// Goes on from what is stored: the counter from its limit, each floor from the stored one.
+    fn boot(&mut self)
+        ensures { net_key self.new ≡ booted_net (net_key self.old) }
+    {
+        self.next = self.limit;
+        boot_floors(&mut self.floors);
     }
 
     /// Drops the row and forgets its floors, if it has that key.
@@ -213,6 +221,31 @@ impl SenderFloor {
         if self.sender == sender {
             self.kept = kept;
         }
+    }
+
+    /// Goes on from the stored floor.
+    fn boot(&mut self)
+        ensures { heard_floor self.new ≡ booted_floor (heard_floor self.old) }
+    {
+        self.kept = self.stored;
+    }
+}
+
+/// Sets all floors back to the stored ones.
+fn boot_floors(floors: &mut [SenderFloor])
+    ensures { map heard_floor floors.new ≡ map booted_floor (map heard_floor floors.old) }
+{
+    for floor in floors.iter_mut() {
+        floor.boot();
+    }
+}
+
+/// Sets all keys back to what is stored, as after a boot.
+pub fn boot_nets(rows: &mut [NetRow])
+    ensures { map net_key rows.new ≡ map booted_net (map net_key rows.old) }
+{
+    for row in rows.iter_mut() {
+        row.boot();
     }
 }
 

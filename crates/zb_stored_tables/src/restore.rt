@@ -9,7 +9,7 @@ ghost use Rattle.zb_record.specs.Sizes.{payloads_room, record_room};
 ghost use Rattle.zb_stored_tables.specs.Stored.{behind, is_of_other, state_given, version_in, IsGivenFault};
 
 use std::alloc::Global;
-use zb_base::{NoMemory, OrMemory, Role};
+use zb_base::{OrMemory, Role};
 use zb_keys::Tables;
 use zb_node_types::KeyError;
 use zb_record::{Version, role_byte, version_of};
@@ -77,40 +77,21 @@ fn read(
     }
 }
 
-// The tables of a node that boots: those of their record.
-fn boot(alloc: Global, tables: &Tables, room: &mut [u8]) -> Result<Tables, NoMemory>
-    requires room { record_room ≤ length room.old }
-    requires widths { FitsBytes tables.now }
-    ensures { IfOk result (λ t. t ≡ after_boot tables.now) }
-{
-    tables.keep_rules();
-    let len = tables.record_bytes(room) as usize;
-    match Tables::from_record(alloc, &room[..len]) {
-        Ok(booted) => Ok(booted),
-        // A record that was written is one.
-        Err(_) => Err(NoMemory),
-    }
-}
-
 /// Makes the tables with which a node of that role boots on a record and the payloads behind it.
 pub(crate) fn restore(
     alloc: Global,
     role: Role,
     content: &[u8],
     entries: &[u8],
-    room: &mut [u8],
 ) -> Result<Tables, OrMemory<KeyError>>
     requires record_size { length content.now ≤ record_room }
     requires entries_size { length entries.now ≤ payloads_room }
-    requires room { record_room ≤ length room.old }
     ensures given { IfOk result (λ t. state_given (model_role role) content.now entries.now ≡ Ok t) }
     ensures widths { IfOk result (λ t. FitsBytes t) }
     ensures role { IfOk result (λ t. t.role ≡ model_role role) }
     ensures fault { IfErr result (IsGivenFault (state_given (model_role role) content.now entries.now)) }
 {
-    let tables = read(alloc, role, content, entries)?;
-    match boot(alloc, &tables, room) {
-        Ok(booted) => Ok(booted),
-        Err(NoMemory) => Err(OrMemory::NoMemory),
-    }
+    let mut tables = read(alloc, role, content, entries)?;
+    tables.boot();
+    Ok(tables)
 }

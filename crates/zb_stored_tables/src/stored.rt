@@ -41,8 +41,6 @@ impl Model for StoredTables {
 impl StoredTables {
     /// Makes the tables with which a node of that role boots on a record and the payloads behind it.
     ///
-    /// Requires `RECORD_ROOM` bytes of `room`.
-    ///
     /// Errors: `BadRecord` at the place of the first fault: at 1 where the record is of another role, in the record
     /// where `Tables::from_record` finds it, and in the entries where `Tables::redo` finds it, counted on from the
     /// record's length. `NoMemory` where memory is short.
@@ -51,11 +49,9 @@ impl StoredTables {
         role: Role,
         content: &[u8],
         entries: &[u8],
-        room: &mut [u8],
     ) -> Result<StoredTables, OrMemory<KeyError>>
         requires record_size { length content.now ≤ record_room }
         requires entries_size { length entries.now ≤ payloads_room }
-        requires room { record_room ≤ length room.old }
         ensures given { IfOk result (λ t. state_given (model_role role) content.now entries.now ≡ Ok t) }
         ensures role { IfOk result (λ t. t.role ≡ model_role role) }
         ensures fault { IfErr result (IsGivenFault (state_given (model_role role) content.now entries.now)) }
@@ -64,7 +60,7 @@ impl StoredTables {
         ensures core { IfOk result (λ t. restored (model_role role) content.now entries.now ≡ gives (record_of t)) }
         ensures no_core { IfErr result (IsRestoreFault (restored (model_role role) content.now entries.now)) }
     {
-        let tables = restore(alloc, role, content, entries, room)?;
+        let tables = restore(alloc, role, content, entries)?;
         Ok(StoredTables { tables })
     }
 
