@@ -94,7 +94,8 @@ pub fn a_boot_gives_the_tables_again()
 /// Says that at most 14 changes of values that can be spelled have room in an entry.
 #[tactic(auto, using(crate::proofs::Short::few_short))]
 pub fn few_changes_fit_an_entry()
-    ensures { (cs : List Change) → AllByRecursion InRange cs → length cs ≤ 14 → length (payload (edits cs)) ≤ payload_room }
+    ensures { (cs : List Change) → AllByRecursion InRange cs → length cs ≤ 14
+        → length (payload (edits cs)) ≤ payload_room }
 {}
 
 /// Says that a reserve fits where its limit isn't below the stored one, and makes room.
