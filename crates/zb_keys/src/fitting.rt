@@ -415,16 +415,14 @@ fn has_rival(rows: &[LinkRow], partner: Eui, key: &Key, attribute: Attribute) ->
     ensures { result ≡ list_any (λ r. is_rival partner.0 key.now.0 (model_attribute attribute) (link_key r)) rows.now }
 {
     rows.iter()
-        .any(|row| row.is_rival_of(partner, key, attribute))
+        .any(|row| is_rival_of(row, partner, key, attribute))
 }
 
-impl LinkRow {
-    /// Whether it is another row of the partner in use, which is offered where this one is to be, or else isn't.
-    fn is_rival_of(&self, partner: Eui, key: &Key, attribute: Attribute) -> bool
-        ensures { result ≡ is_rival partner.0 key.now.0 (model_attribute attribute) (link_key self.now) }
-    {
-        self.is_live_of(partner)
-            && !self.is_of(partner, key)
-            && self.is_unverified() == matches!(attribute, Attribute::Unverified)
-    }
+/// Whether it is another row of the partner in use, which is offered where this one is to be, or else isn't.
+fn is_rival_of(row: &LinkRow, partner: Eui, key: &Key, attribute: Attribute) -> bool
+    ensures { result ≡ is_rival partner.0 key.now.0 (model_attribute attribute) (link_key row.now) }
+{
+    row.is_live_of(partner)
+        && !row.is_of(partner, key)
+        && row.is_unverified() == matches!(attribute, Attribute::Unverified)
 }
