@@ -17,7 +17,7 @@ use Rattle.zb_pcap.specs.declared.fault.PcapError.{PcapError}
 use Rattle.zb_player.specs.Text.{text}
 use Rattle.zb_player.specs.Wire.{wire}
 use Rattle.zb_reader.specs.Reading.{schedule}
-use Rattle.zb_sched.specs.Plan as sched
+use Rattle.zb_sched.specs.Schedules as sched
 use Rattle.zb_sched.specs.Printed.{printed}
 use Rattle.zb_sched.specs.declared.error.SchedError.{SchedError}
 use Rattle.tc_cli.specs.CountsLine.{counts_line}
@@ -55,7 +55,7 @@ install_answer (Err e) = Refuses 1 (cause_of e)
 
 -- ---- `make`: the printed text of the made schedule of start value 0, or where its lines clash
 
-abbrev pub make_answer : Result sched.Plan SchedError → Answer
+abbrev pub make_answer : Result sched.Schedule SchedError → Answer
 make_answer (Ok plan) = Writes (printed plan)
 make_answer (Err e) = Refuses e.line (schedule_cause e.cause)
 

@@ -9,9 +9,9 @@ use Rattle.zb_model.specs.FirstPath.{Plan, Lawful, Fresh, Counted}
 use Rattle.zb_player.specs.Text.{text}
 use Rattle.zb_player.specs.Wire.{wire}
 use Rattle.zb_reader.specs.Reading.{schedule}
-use Rattle.zb_sched.specs.Plan as sched
+use Rattle.zb_sched.specs.Schedules as sched
 use Rattle.zb_sched.specs.Printed.{printed}
-use Rattle.zb_sched.specs.Reading.{schedule_of}
+use Rattle.zb_sched.specs.Reading.{schedule_in}
 use Rattle.zb_sched.specs.Valid.{IsSchedule}
 use Rattle.tc_cli.specs.Answers.{Answer, Writes, Refuses, Exceeds, longest, output_of}
 use Rattle.tc_cli.specs.Commands.{Task, Playing, Installing, Making, Inspecting, Sniffing}
@@ -81,8 +81,8 @@ pub record Played (input : Bytes) (before after : Option Bytes) : Type 0 where
 
 -- A schedule was made, and its printed text was written, which is a text that reads as that schedule.
 pub record Made (count : ℕ) (before after : Option Bytes) : Type 0 where
-  pub plan : sched.Plan
+  pub plan : sched.Schedule
   pub is : made 0 count ≡ Ok plan
   pub valid : IsSchedule plan
-  pub reads : schedule_of (printed plan) ≡ Ok plan
+  pub reads : schedule_in (printed plan) ≡ Ok plan
   pub written : Appends before after (printed plan)

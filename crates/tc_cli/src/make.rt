@@ -1,7 +1,7 @@
 //! The command `make`.
 ghost use Rattle.std.specs.Prelude.{◌≡◌, ◌≤◌, Some};
 ghost use Rattle.zb_gen.specs.Made.{made};
-ghost use Rattle.zb_sched.specs.Plan.{plan_of};
+ghost use Rattle.zb_sched.specs.Schedules.{schedule_of};
 ghost use Rattle.zb_sched.specs.Printed.{printed};
 ghost use Rattle.tc_cli.specs.Answers.{make_answer, Writes};
 ghost use Rattle.tc_cli.specs.Outcomes.{Ends, Made};
@@ -32,7 +32,7 @@ pub(crate) fn make_schedule<W: Sink>(alloc: Global, count: u32, output: &mut W) 
 
 /// Writes the text of a schedule.
 fn print_schedule<W: Sink>(alloc: Global, schedule: &Schedule, output: &mut W) -> Status
-    ensures ends { Ends result (Some (Writes (printed (plan_of schedule.now)))) (W.taken output.old)
+    ensures ends { Ends result (Some (Writes (printed (schedule_of schedule.now)))) (W.taken output.old)
         (W.taken output.new) (W.faults output.old) (W.faults output.new) }
     ensures read_fault { result ≡ Status.ReadFault → ⊥ }
 {

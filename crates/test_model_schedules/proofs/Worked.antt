@@ -1,4 +1,4 @@
--- Worked schedules from their texts: each world is the one whose run is computed in the crate of the model.
+-- Worked schedules from their texts: each is the one whose run is computed in the crate of the model.
 use Rattle.std.specs.Prelude.{◌≡◌, ℕ, List, ◌++◌, Some, codes, refl}
 use Rattle.std.specs.Option.{option_map}
 use Rattle.std.specs.Result.{result_ok}
@@ -16,8 +16,8 @@ use Rattle.zb_model.proofs.Rows.ConfirmationStopped as confirmation_stopped
 use Rattle.zb_model.proofs.Rows.JoinUnderCentre as join_under_centre
 use Rattle.zb_model.proofs.Rows.KeyComesInUnseen as key_comes_in_unseen
 use Rattle.zb_model.proofs.Rows.RemovalAndRollover as removal_and_rollover
-use Rattle.zb_sched.specs.Reading.{schedule_of}
-use Rattle.zb_model_schedules.specs.Schedules.{act_for, schedule_of}
+use Rattle.zb_sched.specs.Reading.{schedule_in}
+use Rattle.zb_model_schedules.specs.Schedules.{event_for, schedule_of}
 
 -- A device joins under the centre and confirms its key.
 abbrev join_under_centre_text : List ℕ
@@ -27,9 +27,9 @@ join_under_centre_text =
     ++ (codes "draw A0A1A2A3A4A5A6A7A8A9AAABACADAEAF\nprovision d 83FED3407A939723A5C639B26916D505C3B5\nknock d\nchild c d join\n"
     ++ (codes "deliver 1 d\ntimer d\ndeliver 2 c\ndeliver 3 d\ntimer d\ndeliver 4 c\ndeliver 5 d\n")))
 
-join_under_centre_is_its_world : option_map schedule_of (result_ok (schedule_of join_under_centre_text)) ≡ Some join_under_centre.schedule
-unfolding schedule_of act_for centre_of code_of crc remainder added divided message_bits decode_pairs hash blocks_of xored enciphered last_round round_key next_key state_after round mix_column substitute times
-join_under_centre_is_its_world = refl
+join_under_centre_is_its_model : option_map schedule_of (result_ok (schedule_in join_under_centre_text)) ≡ Some join_under_centre.schedule
+unfolding schedule_of event_for centre_of code_of crc remainder added divided message_bits decode_pairs hash blocks_of xored enciphered last_round round_key next_key state_after round mix_column substitute times
+join_under_centre_is_its_model = refl
 
 -- Two devices get a key of their own and use it.
 abbrev application_keys_text : List ℕ
@@ -43,9 +43,9 @@ application_keys_text =
     ++ (codes "child c e join\ndeliver 6 e\ntimer e\ndeliver 7 c\ndeliver 8 e\ntimer e\ndeliver 9 c\ndeliver 10 e\nask d e\n"
     ++ (codes "deliver 11 c\ndeliver 12 d\nshare e d\ndeliver 13 e\ntell d e 55\ndeliver 14 e\n")))))))
 
-application_keys_is_its_world : option_map schedule_of (result_ok (schedule_of application_keys_text)) ≡ Some application_keys.schedule
-unfolding schedule_of act_for centre_of code_of crc remainder added divided message_bits decode_pairs hash blocks_of xored enciphered last_round round_key next_key state_after round mix_column substitute times
-application_keys_is_its_world = refl
+application_keys_is_its_model : option_map schedule_of (result_ok (schedule_in application_keys_text)) ≡ Some application_keys.schedule
+unfolding schedule_of event_for centre_of code_of crc remainder added divided message_bits decode_pairs hash blocks_of xored enciphered last_round round_key next_key state_after round mix_column substitute times
+application_keys_is_its_model = refl
 
 -- The centre stops as it confirms a key that a device got through a router.
 abbrev confirmation_stopped_text : List ℕ
@@ -57,9 +57,9 @@ confirmation_stopped_text =
     ++ (codes "deliver 1 c\ndeliver 2 r\ndeliver 3 d\ntimer d\ntimer d\ndeliver 5 c\ntimer d\ndeliver 7 c\ndeliver 8 d\ntimer d\n"
     ++ (codes "stop c 3 -\ndeliver 9 c\nboot c\ntimer d\ndeliver 10 c\ntimer d\ndeliver 11 c\n")))))
 
-confirmation_stopped_is_its_world : option_map schedule_of (result_ok (schedule_of confirmation_stopped_text)) ≡ Some confirmation_stopped.schedule
-unfolding schedule_of act_for centre_of code_of crc remainder added divided message_bits decode_pairs hash blocks_of xored enciphered last_round round_key next_key state_after round mix_column substitute times
-confirmation_stopped_is_its_world = refl
+confirmation_stopped_is_its_model : option_map schedule_of (result_ok (schedule_in confirmation_stopped_text)) ≡ Some confirmation_stopped.schedule
+unfolding schedule_of event_for centre_of code_of crc remainder added divided message_bits decode_pairs hash blocks_of xored enciphered last_round round_key next_key state_after round mix_column substitute times
+confirmation_stopped_is_its_model = refl
 
 -- A device is removed, and the network key is changed twice.
 abbrev removal_and_rollover_text : List ℕ
@@ -76,9 +76,9 @@ removal_and_rollover_text =
     ++ (codes "forge 5E6F 1A2B 00124B0000000002 net 000102030405060708090A0B0C0D0E0F 0 900 0001\ndeliver 16 e\ndeliver 12 d\n"
     ++ (codes "deliver 13 d\ndeliver 14 d\ndeliver 15 d\n"))))))))))
 
-removal_and_rollover_is_its_world : option_map schedule_of (result_ok (schedule_of removal_and_rollover_text)) ≡ Some removal_and_rollover.schedule
-unfolding schedule_of act_for centre_of code_of crc remainder added divided message_bits decode_pairs hash blocks_of xored enciphered last_round round_key next_key state_after round mix_column substitute times
-removal_and_rollover_is_its_world = refl
+removal_and_rollover_is_its_model : option_map schedule_of (result_ok (schedule_in removal_and_rollover_text)) ≡ Some removal_and_rollover.schedule
+unfolding schedule_of event_for centre_of code_of crc remainder added divided message_bits decode_pairs hash blocks_of xored enciphered last_round round_key next_key state_after round mix_column substitute times
+removal_and_rollover_is_its_model = refl
 
 -- A key comes in that nobody sealed, and the disk stops.
 abbrev key_comes_in_unseen_text : List ℕ
@@ -89,6 +89,6 @@ key_comes_in_unseen_text =
     ++ (codes "inject 08002B1A00001E002100300000000001000000004B12000501A0A1A2A3A4A5A6A7A8A9AAABACADAEAF0702000000004B120001000000004B1200F0B69009\n"
     ++ (codes "stop d 3 -\ndeliver 1 d\nremove d via c\nroll\n"))))
 
-key_comes_in_unseen_is_its_world : option_map schedule_of (result_ok (schedule_of key_comes_in_unseen_text)) ≡ Some key_comes_in_unseen.schedule
-unfolding schedule_of act_for centre_of code_of crc remainder added divided message_bits decode_pairs hash blocks_of xored enciphered last_round round_key next_key state_after round mix_column substitute times
-key_comes_in_unseen_is_its_world = refl
+key_comes_in_unseen_is_its_model : option_map schedule_of (result_ok (schedule_in key_comes_in_unseen_text)) ≡ Some key_comes_in_unseen.schedule
+unfolding schedule_of event_for centre_of code_of crc remainder added divided message_bits decode_pairs hash blocks_of xored enciphered last_round round_key next_key state_after round mix_column substitute times
+key_comes_in_unseen_is_its_model = refl

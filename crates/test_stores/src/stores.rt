@@ -317,77 +317,58 @@ fn reads_each_prefix(rt: HostRuntime) -> Result<(), Fail> {
     Ok(())
 }
 
-#[test]
-fn refuses_bad_slots(rt: HostRuntime) -> Result<(), Fail> {
-    let alloc = rt.alloc();
-    let good = slot(alloc, 0xA5, 5, 1, &[1], &[0])?;
-    let tie = slot(alloc, 0xA5, 5, 2, &[1, 2], &[0])?;
-    let newer = slot(alloc, 0xA5, 6, 2, &[1, 2], &[0])?;
-    let too_large = slot(alloc, 0xA5, 9, 49_153, &[0; 50_000], &[0])?;
-    let cut = slot(alloc, 0xA5, 9, 5, &[1, 2], &[])?;
-    let odd_gate = slot(alloc, 0xA6, 9, 1, &[1], &[0])?;
-    let largest = slot(alloc, 0xA5, 3, 49_152, &[4; 49_152], &[0])?;
-    let long_entry = slot(alloc, 0xA5, 5, 1, &[1], &[0xA5, 0xE2, 1])?;
-    let odd_entry = slot(alloc, 0xA5, 5, 1, &[1], &[1, 1, 0, 4])?;
-    assert_eq!(rt; reading(&rt, &two(alloc, &good, &tie)?)?, Some((5, 0, 1)));
-    assert_eq!(rt; reading(&rt, &two(alloc, &good, &newer)?)?, Some((6, 0, 2)));
-    assert_eq!(rt;
-        reading(&rt, &two(alloc, &good, &too_large)?)?,
-        Some((5, 0, 1))
-    );
-    assert_eq!(rt; reading(&rt, &two(alloc, &good, &cut)?)?, Some((5, 0, 1)));
-    assert_eq!(rt;
-        reading(&rt, &two(alloc, &odd_gate, &good)?)?,
-        Some((5, 0, 1))
-    );
-    assert_eq!(rt; reading(&rt, &odd_gate)?, None);
-    assert_eq!(rt;
-        reading(&rt, &two(alloc, &largest, &[])?)?,
-        Some((3, 0, 49_152))
-    );
-    assert_eq!(rt;
-        reading(&rt, &two(alloc, &long_entry, &[])?)?,
-        Some((5, 0, 1))
-    );
-    assert_eq!(rt;
-        reading(&rt, &two(alloc, &odd_entry, &[])?)?,
-        Some((5, 0, 1))
-    );
-    Ok(())
+// A slot: its gate, its generation, the length that it gives of its record, how many bytes of it there are, and what
+// lies behind them.
+type Slot = (u8, u64, u32, usize, &'static [u8]);
+
+const GOOD: Slot = (0xA5, 5, 1, 1, &[0]);
+
+const TIE: Slot = (0xA5, 5, 2, 2, &[0]);
+
+const NEWER: Slot = (0xA5, 6, 2, 2, &[0]);
+
+const TOO_LARGE: Slot = (0xA5, 9, 49_153, 50_000, &[0]);
+
+const CUT: Slot = (0xA5, 9, 5, 2, &[]);
+
+const ODD_GATE: Slot = (0xA6, 9, 1, 1, &[0]);
+
+const LARGEST: Slot = (0xA5, 3, 49_152, 49_152, &[0]);
+
+const LONG_ENTRY: Slot = (0xA5, 5, 1, 1, &[0xA5, 0xE2, 1]);
+
+const ODD_ENTRY: Slot = (0xA5, 5, 1, 1, &[1, 1, 0, 4]);
+
+const SHUT: Slot = (0, 0, 0, 0, &[]);
+
+// What stands on a disk of two slots.
+const SLOTS: [(Slot, Slot, Option<(u64, u32, usize)>); 9] = [
+    (GOOD, TIE, Some((5, 0, 1))),
+    (GOOD, NEWER, Some((6, 0, 2))),
+    (GOOD, TOO_LARGE, Some((5, 0, 1))),
+    (GOOD, CUT, Some((5, 0, 1))),
+    (ODD_GATE, GOOD, Some((5, 0, 1))),
+    (ODD_GATE, SHUT, None),
+    (LARGEST, SHUT, Some((3, 0, 49_152))),
+    (LONG_ENTRY, SHUT, Some((5, 0, 1))),
+    (ODD_ENTRY, SHUT, Some((5, 0, 1))),
+];
+
+// The bytes of a slot, whose record is filled with 7.
+fn filled(alloc: Global, (gate, generation, size, len, behind): Slot) -> Result<Vec<u8>, Fail> {
+    let mut record = Vec::new(alloc);
+    record.resize(len, 7)?;
+    slot(alloc, gate, generation, size, &record, behind)
 }
 
 #[test]
-fn keeps_to_sizes(rt: HostRuntime) -> Result<(), Fail> {
-    let alloc = rt.alloc();
-    let large = [1u8; 49_153];
-    let mut disk = MemDisk::new(alloc, &[])?;
-    assert_eq!(rt;
-        Store::format(alloc, &mut disk, &large).err(),
-        Some(StoreFault::TooLarge { len: 49_153 })
-    );
-    let store = Store::format(alloc, &mut disk, &[])?;
-    let store = store.put(&mut disk, &large[..49_152])?;
-    assert_eq!(rt;
-        store.put(&mut disk, &large).err(),
-        Some(StoreFault::TooLarge { len: 49_153 })
-    );
-    let (store, _, _) = Store::open(alloc, &mut disk)?;
-    assert!(rt; store.entries() < 31);
-    let store = store.append(&mut disk, &[])?;
-    assert!(rt; store.entries() < 32);
-    let store = store.append(&mut disk, &large[..481])?;
-    assert!(rt; store.entries() < 32);
-    assert_eq!(rt;
-        store.append(&mut disk, &large[..482]).err(),
-        Some(StoreFault::TooLarge { len: 482 })
-    );
-    assert_eq!(rt; Store::standing(&mut disk), Ok((2, 2)));
-    let worn = slot(alloc, 0xA5, 18_446_744_073_709_551_615, 1, &[1], &[0])?;
-    let bytes = two(alloc, &worn, &[0])?;
-    assert!(rt; bytes.len() <= 131_072);
-    let mut disk = MemDisk::new(alloc, &bytes)?;
-    let (store, _, _) = Store::open(alloc, &mut disk)?;
-    assert_eq!(rt; store.put(&mut disk, &[1]).err(), Some(StoreFault::Worn));
+fn refuses_bad_slots(rt: HostRuntime) -> Result<(), Fail> {
+    for (first, second, want) in SLOTS {
+        let first = filled(rt.alloc(), first)?;
+        let second = filled(rt.alloc(), second)?;
+        let bytes = two(rt.alloc(), &first, &second)?;
+        assert_eq!(rt; reading(&rt, &bytes)?, want);
+    }
     Ok(())
 }
 

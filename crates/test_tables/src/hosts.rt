@@ -280,24 +280,3 @@ fn entries_at_fault(rt: HostRuntime) -> Result<(), Fail> {
     }
     Ok(())
 }
-
-// The last generation: entries go on up to the 32nd, and then nothing is stored any more.
-#[test]
-fn wears_out(rt: HostRuntime) -> Result<(), Fail> {
-    let entries: [&[u8]; 32] = [&RESERVED; 32];
-    for standing in [31, 32] {
-        let bytes = slot(rt.alloc(), u64::MAX, &THIRD, &entries[..standing])?;
-        let mut disk = disk_of(&rt, bytes.as_slice())?;
-        let mut host: Host<Sealer> = Host::boot(rt.alloc(), &alone(1), &mut disk)?;
-        if standing == 31 {
-            assert_eq!(rt; seal(&rt, &mut host, &mut disk)?, Some(16));
-        }
-        let before = disk.bytes().to_vec(rt.alloc())?;
-        assert_eq!(rt;
-            seal(&rt, &mut host, &mut disk).err(),
-            Some(HostFault::Worn)
-        );
-        assert!(rt; !host.is_up() && disk.bytes() == before.as_slice());
-    }
-    Ok(())
-}

@@ -1,2 +1,12 @@
-//! Tests of texts over their public calls: lines and words, schedules, made schedules, transcripts.
+//! Tests of texts over their public calls: pages of words, schedules, made schedules, transcripts. Worked transcripts
+//! are read back by the program `test_transcripts`.
 #![tactic(auto)]
+
+#[cfg(test)]
+mod made_schedules;
+#[cfg(test)]
+mod pages;
+#[cfg(test)]
+mod schedules;
+#[cfg(test)]
+mod transcripts;

@@ -8,8 +8,8 @@ use Rattle.hex.specs.Hex.{encode_upper}
 use Rattle.zb_install.specs.Crc.{crc}
 use Rattle.zb_text.specs.Fields.{eui_text, short_text}
 use Rattle.zb_text.specs.Pages.{line_of_words, page}
-use Rattle.zb_sched.specs.Plan.{Plan}
-use Rattle.zb_sched.specs.Reading.{schedule_of}
+use Rattle.zb_sched.specs.Schedules.{Schedule}
+use Rattle.zb_sched.specs.Reading.{schedule_in}
 use Rattle.zb_sched.specs.declared.error.SchedError.{SchedError}
 use Rattle.zb_gen.specs.Words.{word, key_at}
 
@@ -96,5 +96,5 @@ made_lines start n =
     ++ map (λ k. late_line start n (88 * n + 8 + 2 * k)) (range_with_len 0 (10 * n)))))))))
 
 -- The made schedule, or the first of its lines that no schedule has there, with the cause.
-abbrev pub made : ℕ → ℕ → Result Plan SchedError
-made start n = schedule_of (page (made_lines start n))
+abbrev pub made : ℕ → ℕ → Result Schedule SchedError
+made start n = schedule_in (page (made_lines start n))

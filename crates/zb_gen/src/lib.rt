@@ -5,8 +5,6 @@
 mod lines;
 mod maker;
 mod steps;
-#[cfg(test)]
-mod tests;
 mod words;
 
 pub use maker::{GenFault, make};

@@ -48,7 +48,8 @@ fn role(i: u32) -> &'static [u8]
 
 #[tactic(auto, using(std::proofs::Common::append_assoc))]
 fn put_node_head(out: &mut Vec<u8>, i: u32) -> Result<(), AllocError>
-    ensures { OnOk result (out.new.items ≡ out.old.items ++ (codes "node" ++ (then (node_name i) ++ then (role_word i)))) }
+    ensures { OnOk result
+        (out.new.items ≡ out.old.items ++ (codes "node" ++ (then (node_name i) ++ then (role_word i)))) }
 {
     put(out, b"node")?;
     add_node(out, i)?;
@@ -149,7 +150,9 @@ pub fn put_deliver_line(out: &mut Vec<u8>, frame: u32, i: u32) -> Result<(), All
 #[tactic(auto, using(std::proofs::Common::append_assoc))]
 fn put_provision_line(out: &mut Vec<u8>, start: u32, i: u32) -> Result<(), AllocError>
     requires { (1 ≤ i) × (i ≤ 60) }
-    ensures { OnOk result (out.new.items ≡ out.old.items ++ ended (line_of_words (codes "provision" ∷ node_name i ∷ code_word start i ∷ []))) }
+    ensures { OnOk result
+        (out.new.items ≡ out.old.items
+        ++ ended (line_of_words (codes "provision" ∷ node_name i ∷ code_word start i ∷ []))) }
 {
     put(out, b"provision")?;
     add_node(out, i)?;
@@ -160,7 +163,9 @@ fn put_provision_line(out: &mut Vec<u8>, start: u32, i: u32) -> Result<(), Alloc
 
 #[tactic(auto, using(std::proofs::Common::append_assoc))]
 fn put_child_line(out: &mut Vec<u8>, i: u32) -> Result<(), AllocError>
-    ensures { OnOk result (out.new.items ≡ out.old.items ++ ended (line_of_words (codes "child" ∷ codes "c" ∷ node_name i ∷ codes "join" ∷ []))) }
+    ensures { OnOk result
+        (out.new.items ≡ out.old.items
+        ++ ended (line_of_words (codes "child" ∷ codes "c" ∷ node_name i ∷ codes "join" ∷ []))) }
 {
     put(out, b"child c")?;
     add_node(out, i)?;
@@ -186,7 +191,9 @@ fn put_join(out: &mut Vec<u8>, start: u32, i: u32) -> Result<(), AllocError>
 #[tactic(auto, using(std::proofs::Common::append_assoc))]
 fn put_rest_of_join(out: &mut Vec<u8>, sent: u32, i: u32) -> Result<(), AllocError>
     requires { sent ≤ 300 }
-    ensures { OnOk result (out.new.items ≡ out.old.items ++ page (deliver_line (sent + 2) 0 ∷ deliver_line (sent + 3) i ∷ own_line (codes "timer") i
+    ensures { OnOk result
+        (out.new.items ≡ out.old.items
+        ++ page (deliver_line (sent + 2) 0 ∷ deliver_line (sent + 3) i ∷ own_line (codes "timer") i
         ∷ deliver_line (sent + 4) 0 ∷ deliver_line (sent + 5) i ∷ [])) }
 {
     put_deliver_line(out, sent + 2, 0)?;
@@ -223,7 +230,9 @@ pub fn put_codes(out: &mut Vec<u8>, start: u32, n: u32) -> Result<(), AllocError
 #[tactic(auto, using(std::proofs::Common::append_assoc))]
 pub fn put_supply(out: &mut Vec<u8>, start: u32, n: u32) -> Result<(), AllocError>
     requires { n ≤ 60 }
-    ensures { OnOk result (out.new.items ≡ out.old.items ++ page (netkey_line start n ∷ map (λ j. draw_line start n j) (range_with_len 0 (n + 1)))) }
+    ensures { OnOk result
+        (out.new.items ≡ out.old.items
+        ++ page (netkey_line start n ∷ map (λ j. draw_line start n j) (range_with_len 0 (n + 1)))) }
 {
     put_netkey_line(out, start, n)?;
     put_draws(out, start, n)?;
@@ -232,7 +241,8 @@ pub fn put_supply(out: &mut Vec<u8>, start: u32, n: u32) -> Result<(), AllocErro
 
 fn put_draws(out: &mut Vec<u8>, start: u32, n: u32) -> Result<(), AllocError>
     requires { n ≤ 60 }
-    ensures { OnOk result (out.new.items ≡ out.old.items ++ page (map (λ j. draw_line start n j) (range_with_len 0 (n + 1)))) }
+    ensures { OnOk result
+        (out.new.items ≡ out.old.items ++ page (map (λ j. draw_line start n j) (range_with_len 0 (n + 1)))) }
 {
     for j in 0..n + 1 {
         put_draw_line(out, start, n, j)?;
@@ -243,7 +253,8 @@ fn put_draws(out: &mut Vec<u8>, start: u32, n: u32) -> Result<(), AllocError>
 /// Prints the joins of all nodes.
 pub fn put_joins(out: &mut Vec<u8>, start: u32, n: u32) -> Result<(), AllocError>
     requires { n ≤ 60 }
-    ensures { OnOk result (out.new.items ≡ out.old.items ++ page (flat_map (λ i. join_lines start i) (range_with_len 1 n))) }
+    ensures { OnOk result
+        (out.new.items ≡ out.old.items ++ page (flat_map (λ i. join_lines start i) (range_with_len 1 n))) }
 {
     for i in 0..n {
         put_join(out, start, i + 1)?;

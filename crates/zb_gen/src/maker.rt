@@ -1,9 +1,9 @@
 //! A made schedule.
 
 ghost use Rattle.std.specs.Prelude.{◌≡◌, ◌≤◌, ◌++◌, IfOk, OnOk, Ok};
-ghost use Rattle.zb_sched.specs.Plan.{plan_of};
+ghost use Rattle.zb_sched.specs.Schedules.{schedule_of};
 ghost use Rattle.zb_sched.specs.Printed.{printed};
-ghost use Rattle.zb_sched.specs.Reading.{schedule_of};
+ghost use Rattle.zb_sched.specs.Reading.{schedule_in};
 ghost use Rattle.zb_sched.specs.Valid.{IsSchedule};
 ghost use Rattle.zb_text.specs.Pages.{page};
 ghost use Rattle.zb_gen.specs.Made.{made, made_lines};
@@ -17,7 +17,7 @@ use zb_base::OrMemory;
 use zb_sched::{SchedCause, SchedError, Schedule, read};
 use zb_text::page::put;
 
-/// Why there is no made schedule.
+/// Says why there is no made schedule.
 #[derive(Clone, Copy, Debug, PartialEq, Eq)]
 pub enum GenFault {
     /// Two of the keys are equal, or one is the well-known key: the first line that is no schedule's, and why.
@@ -34,13 +34,14 @@ impl From<AllocError> for GenFault {
     }
 }
 
-/// The made schedule of a start value for `n` routers and devices. Printed, it reads as itself.
+/// Makes the schedule of a start value for `n` routers and devices. Printed, it reads as itself. Requires 1 to 60 of
+/// them.
 #[tactic(auto, using(crate::proofs::Lengths::made_length))]
 pub fn make(alloc: Global, start: u32, n: u32) -> Result<Schedule, GenFault>
     requires { (1 ≤ n) × (n ≤ 60) }
     ensures exact { Makes result (made start n) }
-    ensures valid { IfOk result (λ schedule. IsSchedule (plan_of schedule)) }
-    ensures again { IfOk result (λ schedule. schedule_of (printed (plan_of schedule)) ≡ Ok (plan_of schedule)) }
+    ensures valid { IfOk result (λ schedule. IsSchedule (schedule_of schedule)) }
+    ensures again { IfOk result (λ schedule. schedule_in (printed (schedule_of schedule)) ≡ Ok (schedule_of schedule)) }
 {
     let mut text = Vec::new(alloc);
     put_made(&mut text, start, n)?;

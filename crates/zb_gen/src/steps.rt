@@ -110,7 +110,8 @@ pub fn put_rollover(out: &mut Vec<u8>, n: u32) -> Result<(), AllocError>
 }
 
 fn put_timers(out: &mut Vec<u8>, count: u32) -> Result<(), AllocError>
-    ensures { OnOk result (out.new.items ≡ out.old.items ++ page (map (λ k. codes "timer c") (range_with_len 0 count))) }
+    ensures { OnOk result
+        (out.new.items ≡ out.old.items ++ page (map (λ k. codes "timer c") (range_with_len 0 count))) }
 {
     for k in 0..count {
         put(out, b"timer c\n")?;

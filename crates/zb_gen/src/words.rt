@@ -11,7 +11,7 @@ use rand_core::SeedableRng;
 use rand_core::utils::NextWord;
 use std::marker::Model;
 
-/// A generator of words for a start value.
+/// Generates the words of a start value.
 #[derive(Drop)]
 pub struct Words {
     rng: ChaCha8Rng,
@@ -31,7 +31,7 @@ impl Model for Words {
 }
 
 impl Words {
-    /// The words from the one of that number on.
+    /// Makes a generator that stands at the word of that number.
     #[tactic(auto, using(crate::proofs::Seeds::seed_words))]
     pub fn from(start: u32, place: u32) -> Words
         ensures { result ≡ record { start = start; place = place } }
@@ -89,7 +89,7 @@ fn seed(start: u32) -> [u8; 32]
     ]
 }
 
-/// The bytes of the key of the four words from one on.
+/// Answers the key of the four words from one on.
 pub fn key_from(start: u32, place: u32) -> ArrayVec<u8, 16>
     requires { place + 4 < 2 ^ 32 }
     ensures { result.items ≡ key_at start place }

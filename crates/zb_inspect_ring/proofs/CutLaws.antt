@@ -11,9 +11,6 @@ use Rattle.zb_inspect_ring.proofs.Lists.{all_append}
 use Rattle.zb_inspect_ring.proofs.PieceLists.{counts_append, numbered_append}
 
 -- one item more on each side
-pub zip_more : {A B : Type 0} (R : A → B → Type 0) (xs : List A) (ys zs : List B) (x : A) (y : B) → AllZip R xs ys → R x y → zs ≡ ys ++ y ∷ []
-    → AllZip R (xs ++ x ∷ []) zs
-zip_more R xs ys zs x y all related items = subst (λ (bs : List _). AllZip R (xs ++ x ∷ []) bs) (sym items) (zip_end R xs ys x y all related)
 
 zip_end : {A B : Type 0} (R : A → B → Type 0) (xs : List A) (ys : List B) (x : A) (y : B) → AllZip R xs ys → R x y
     → AllZip R (xs ++ x ∷ []) (ys ++ y ∷ [])
@@ -21,6 +18,11 @@ zip_end R [] [] x y all related = (related, tt)
 zip_end R [] (v ∷ ys) x y all related = absurd all
 zip_end R (u ∷ xs) [] x y all related = absurd all
 zip_end R (u ∷ xs) (v ∷ ys) x y all related = (all.0, zip_end R xs ys x y all.1 related)
+
+pub zip_more : {A B : Type 0} (R : A → B → Type 0) (xs : List A) (ys zs : List B) (x : A) (y : B) → AllZip R xs ys → R x y → zs ≡ ys ++ y ∷ []
+    → AllZip R (xs ++ x ∷ []) zs
+zip_more {A} {B} R xs ys zs x y all related items =
+    let P : List B → Type 0 = λ bs. AllZip R (xs ++ x ∷ []) bs in subst P (sym items) (zip_end R xs ys x y all related)
 
 -- shares of so many items begin within them
 pub all_within : (items size number first left : ℕ) (shares : List Share) → AreShares size number first left shares → first + left ≤ items

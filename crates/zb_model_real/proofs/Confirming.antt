@@ -18,7 +18,7 @@ use Rattle.zb_model_laws.specs.Commanding.{SpellsConfirm}
 use Rattle.zb_model.specs.Data as model
 use Rattle.zb_model.specs.Tools.{CommandShown, Known}
 use Rattle.zb_model_real.specs.Real.{eui_of, real}
-use Rattle.zb_trace_watch.specs.Readers.{command, command_shown}
+use Rattle.zb_trace_watch.specs.Readers.{model_command, command_shown}
 
 -- readings that give no Confirm-Key
 
@@ -93,7 +93,7 @@ verify-none cut bytes =
     follow-none (List ℕ) (bytes_at 16 cut r) (λ h r. Ok (Verify k s h, r)) (λ h r. tt)))
 
 -- what was read is shown, where no bytes are left
-known-none : (c : Command) → NoConfirm c → IsNone (Known (command c))
+known-none : (c : Command) → NoConfirm c → IsNone (Known (model_command c))
 known-none (TransportNetwork k q d s) n = tt
 known-none (TransportApplication k p i) n = tt
 known-none (TransportLink k d s) n = tt

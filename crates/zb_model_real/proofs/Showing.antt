@@ -38,7 +38,7 @@ some-same A x y e = ap (λ o. Rattle.std.specs.Prelude.unwrap_or o x) e
 
 -- the term of an envelope: its layer, base key, source and counter
 abbrev Facts : Envelope → Bytes → ℕ → Term → Type 0
-Facts s key source t = (t.layer ≡ Rattle.zb_node_types.specs.Changes.layer s.layer) × (t.base ≡ key) × (t.source ≡ source) × (t.counter ≡ s.counter)
+Facts s key source t = (t.layer ≡ Rattle.zb_node_types.specs.Changes.model_layer s.layer) × (t.base ≡ key) × (t.source ≡ source) × (t.counter ≡ s.counter)
 
 term-facts : (s : Envelope) (key : Bytes) (source : Eui) (o : Option (List ℕ)) (t : Term) → opened (opened_term s (key_of key) source o) ≡ Some t → Facts s key source.0 t
 term-facts s key source None t e = absurd (none-is Term t e)
@@ -51,8 +51,8 @@ term-facts s key source (Some content) t e = let q = some-same Term (model_term 
 
 -- NWK
 
-nwk_shown : NwkFrame → NwkAux → Envelope
-nwk_shown f a = record {
+nwk_envelope_of : NwkFrame → NwkAux → Envelope
+nwk_envelope_of f a = record {
   layer = layer.Nwk;
   label = label.Network;
   source = Some a.source;
@@ -65,9 +65,9 @@ nwk_shown f a = record {
 
 nwk-aux : (key : Bytes) (f : NwkFrame) (x : Option NwkAux) (aux : NwkAuxiliary) (t : Term) → option_map nwk_auxiliary x ≡ Some aux → opened (opened_seen (nwk_envelope f x) (key_of key) None) ≡ Some t
     → (t.layer ≡ Nwk) × (t.base ≡ key) × (t.source ≡ aux.source) × (t.counter ≡ aux.counter)
-unfolding opening.opened nwk_shown
+unfolding opening.opened nwk_envelope_of
 nwk-aux key f None aux t a e = absurd (none-is NwkAuxiliary aux a)
-nwk-aux key f (Some x) aux t a e = let q = some-same NwkAuxiliary (nwk_auxiliary x) aux a in let g = term-facts (nwk_shown f x) key x.source (content_of (nwk_shown f x) (sealing_key label.Network key) x.source) t e in (g.0, g.1, g.2 ∙ ap (λ (y : NwkAuxiliary). y.source) q, g.3 ∙ ap (λ (y : NwkAuxiliary). y.counter) q)
+nwk-aux key f (Some x) aux t a e = let q = some-same NwkAuxiliary (nwk_auxiliary x) aux a in let g = term-facts (nwk_envelope_of f x) key x.source (content_of (nwk_envelope_of f x) (sealing_key label.Network key) x.source) t e in (g.0, g.1, g.2 ∙ ap (λ (y : NwkAuxiliary). y.source) q, g.3 ∙ ap (λ (y : NwkAuxiliary). y.counter) q)
 
 nwk-by : (key : Bytes) (r : Result NwkFrame NwkError) (f : NwkShown) (aux : NwkAuxiliary) (t : Term) → nwk_shown r ≡ Some f → f.auxiliary ≡ Some aux → opened (opened_seen (nwk_seen r) (key_of key) None) ≡ Some t
     → (t.layer ≡ Nwk) × (t.base ≡ key) × (t.source ≡ aux.source) × (t.counter ≡ aux.counter)
@@ -84,8 +84,8 @@ aps-from : (s : Envelope) (key : Bytes) (given : ℕ) (o : Option Eui) (t : Term
 aps-from s key given None t e = term-facts s key (eui_of given) (content_of s (sealing_key s.label key) (eui_of given)) t e
 aps-from s key given (Some x) t e = term-facts s key x (content_of s (sealing_key s.label key) x) t e
 
-aps_shown : ApsFrame → ApsAux → Envelope
-aps_shown f a = record {
+aps_envelope_of : ApsFrame → ApsAux → Envelope
+aps_envelope_of f a = record {
   layer = layer.Aps;
   label = opening.label_of (key_id a.control);
   source = a.source;
@@ -98,9 +98,9 @@ aps_shown f a = record {
 
 aps-aux : (key : Bytes) (given : ℕ) (f : ApsFrame) (x : Option ApsAux) (aux : ApsAuxiliary) (t : Term) → option_map auxiliary x ≡ Some aux → opened (opened_seen (aps_envelope f x) (key_of key) (Some (eui_of given))) ≡ Some t
     → (t.layer ≡ Aps) × (t.base ≡ key) × (t.source ≡ shown_source given aux.source) × (t.counter ≡ aux.counter)
-unfolding opening.opened aps_shown
+unfolding opening.opened aps_envelope_of
 aps-aux key given f None aux t a e = absurd (none-is ApsAuxiliary aux a)
-aps-aux key given f (Some x) aux t a e = let q = some-same ApsAuxiliary (auxiliary x) aux a in let g = aps-from (aps_shown f x) key given x.source t e in (g.0, g.1, g.2 ∙ ap (λ (y : ApsAuxiliary). shown_source given y.source) q, g.3 ∙ ap (λ (y : ApsAuxiliary). y.counter) q)
+aps-aux key given f (Some x) aux t a e = let q = some-same ApsAuxiliary (auxiliary x) aux a in let g = aps-from (aps_envelope_of f x) key given x.source t e in (g.0, g.1, g.2 ∙ ap (λ (y : ApsAuxiliary). shown_source given y.source) q, g.3 ∙ ap (λ (y : ApsAuxiliary). y.counter) q)
 
 aps-by : (key : Bytes) (given : ℕ) (r : Result ApsFrame ApsError) (f : ApsShown) (aux : ApsAuxiliary) (t : Term) → aps_shown r ≡ Some f → f.auxiliary ≡ Some aux → opened (opened_seen (aps_seen r) (key_of key) (Some (eui_of given))) ≡ Some t
     → (t.layer ≡ Aps) × (t.base ≡ key) × (t.source ≡ shown_source given aux.source) × (t.counter ≡ aux.counter)

@@ -1,4 +1,4 @@
--- A schedule with each form of line: what it reads as, and the world that it is.
+-- A schedule with each form of line: what it reads as, and what it is in the model.
 use Rattle.std.specs.Prelude.{◌≡◌, ℕ, ◌+◌, ◌-◌, ◌*◌, if◌then◌else◌, List, [], ◌∷◌, ◌++◌, Some, None, true, false, nat_lt, codes, refl}
 use Rattle.std.specs.Result.{result_ok}
 use Prim.Native.String.{String}
@@ -14,12 +14,12 @@ use Rattle.zb_install.specs.Crc.{crc}
 use Rattle.zb_mmo.specs.Hash.{blocks_of, hash}
 use Rattle.zb_model.specs.Data.{Bytes, Role, Station, ForTransport, ForLoad, SayTo, TellTo, DoKnock, DoRejoin, DoTimer, AskFor, HasChild, DoProvision, DoRemove, DoSwitch, DoAgain, DoShare}
 use Rattle.zb_model.specs.Play as model
-use Rattle.zb_model.specs.Play.{Schedule, Own, RollOver, Deliver, Reset, PowerOn, ShowRecord, ArmStop, ArmFail, InjectBytes, ForgeNet, ForgeNetAps, ForgeOpen}
+use Rattle.zb_model.specs.Play.{Own, RollOver, Deliver, Reset, PowerOn, ShowRecord, ArmStop, ArmFail, InjectBytes, ForgeNet, ForgeNetAps, ForgeOpen}
 use Rattle.zb_model.specs.Rules.{centre_of}
-use Rattle.zb_sched.specs.Plan.{Node, Plan}
-use Rattle.zb_sched.specs.Reading.{schedule_of}
+use Rattle.zb_sched.specs.Schedules.{Node, Schedule}
+use Rattle.zb_sched.specs.Reading.{schedule_in}
 use Rattle.zb_sched_line.specs.Said.{Event, Says, Delivers, Ticks, Knocks, Rejoins, Adopts, Provisions, Repeats, Rolls, Switches, Removes, Resets, Boots, Dumps, Stops, Fails, Injects, ForgesNet, ForgesBoth, ForgesOpen, Asks, Shares, Tells}
-use Rattle.zb_model_schedules.specs.Schedules.{act_for, schedule_of}
+use Rattle.zb_model_schedules.specs.Schedules.{event_for, schedule_of}
 
 -- hexadecimal digits as bytes
 abbrev digit : ℕ → ℕ
@@ -99,16 +99,16 @@ d_name = codes "d"
 abbrev e_name : Bytes
 e_name = codes "e"
 
-abbrev plan_members : List Node
-plan_members =
+abbrev read_nodes : List Node
+read_nodes =
     record { name = r_name; role = role.Router; eui = r; short = 11068; out_block = 5; in_block = 2; code = None; network = Some (key, 7); start_nwk = 0; start_aps = 0 } ∷
     record { name = c_name; role = role.Centre; eui = c; short = 0; out_block = 16; in_block = 4; code = None; network = Some (key, 6); start_nwk = 7; start_aps = 0 } ∷
     record { name = d_name; role = role.Device; eui = d; short = 6699; out_block = 8; in_block = 3; code = Some code; network = None; start_nwk = 0; start_aps = 9 } ∷
     record { name = e_name; role = role.Device; eui = e; short = 24175; out_block = 4; in_block = 1; code = None; network = None; start_nwk = 0; start_aps = 0 } ∷
     []
 
-abbrev plan_events : List Event
-plan_events =
+abbrev read_events : List Event
+read_events =
     Provisions d_name code ∷
     Knocks d_name ∷
     Adopts c_name d_name false ∷
@@ -136,14 +136,14 @@ plan_events =
     Tells d_name e_name (x "55") ∷
     []
 
-abbrev plan : Plan
-plan = record { nodes = plan_members; draws = other ∷ third ∷ []; events = plan_events }
+abbrev read_schedule : Schedule
+read_schedule = record { nodes = read_nodes; draws = other ∷ third ∷ []; events = read_events }
 
-text_reads_as_plan : result_ok (schedule_of text) ≡ Some plan
+text_reads_as_schedule : result_ok (schedule_in text) ≡ Some read_schedule
 unfolding code_of crc remainder added divided message_bits decode_pairs hash blocks_of xored enciphered last_round round_key next_key state_after round mix_column substitute times
-text_reads_as_plan = refl
+text_reads_as_schedule = refl
 
--- the world that it is
+-- what it is in the model
 
 abbrev nodes : List model.Node
 nodes =
@@ -182,12 +182,12 @@ events =
     Own d (TellTo e (x "55")) ∷
     []
 
-abbrev schedule : Schedule
+abbrev schedule : model.Schedule
 schedule = record { nodes = nodes; draws = other ∷ third ∷ []; events = events }
 
-plan_is_world : schedule_of plan ≡ schedule
-unfolding schedule_of act_for centre_of
-plan_is_world = refl
+schedule_is_the_models : schedule_of read_schedule ≡ schedule
+unfolding schedule_of event_for centre_of
+schedule_is_the_models = refl
 
 -- the link key of the install code of d
 code_is_key : code_key code ≡ x "66B6900981E1EE3CA4206B6B861C02BB"

@@ -1,14 +1,14 @@
 -- The laws of each schedule.
 use Rattle.zb_model_laws.specs.Premises.{Premises}
-use Rattle.zb_sched.specs.Plan.{Plan}
+use Rattle.zb_sched.specs.Schedules.{Schedule}
 use Rattle.zb_sched.specs.Valid.{IsSchedule}
 use Rattle.zb_model_real.specs.Headline.{Holds}
 use Rattle.zb_model_real.proofs.RealRuns.{holds}
 use Rattle.zb_model_schedules.specs.Schedules.{schedule_of}
 use Rattle.zb_model_schedules.proofs.Meets.{is_schedule, keys_apart, one}
 
-pub premises : (p : Plan) → IsSchedule p → Premises (schedule_of p)
+pub premises : (p : Schedule) → IsSchedule p → Premises (schedule_of p)
 premises p is = record { schedule = is_schedule p is; one_centre = one p is; keys = keys_apart p is }
 
-pub all_hold : (p : Plan) → IsSchedule p → Holds (schedule_of p)
+pub all_hold : (p : Schedule) → IsSchedule p → Holds (schedule_of p)
 all_hold p is = holds (schedule_of p) (premises p is)

@@ -1,4 +1,4 @@
--- What every schedule keeps gives what the laws over runs ask of its world.
+-- What every schedule keeps gives what the laws over runs ask of its model.
 use Rattle.std.proofs.Common.{◌≡◌, ℕ, ◌&&◌, ◌||◌, not, Bool, true, false, cond, List, [], ◌∷◌, ◌++◌, map, find, Option, Some, None, option_to_list, nat_eq, bytes_eq, refl, sym, ap, ◌∙◌, subst, arith, eq-eqb}
 use Rattle.std.specs.Prelude.{is_some, IfSome}
 use Rattle.std.specs.List.{AllByRecursion, list_any}
@@ -18,15 +18,15 @@ use Rattle.zb_model.specs.Rules.{centre_of, eui_or, station_of as model_station}
 use Rattle.zb_model.specs.Schedules.{IsMember, IsSchedule, Names, NamesNode}
 use Rattle.zb_model.specs.State.{is_centre as is_centre_role}
 use Rattle.zb_sched.specs.Judge.{Seat, clashes, has_its_nodes, has_name, is_drawn, is_joiner, is_key, is_link_of_other, is_network, is_parent, link_of, network_of, role_named, well_known}
-use Rattle.zb_sched.specs.Plan.{Node, Plan}
+use Rattle.zb_sched.specs.Schedules.{Node, Schedule}
 use Rattle.zb_sched.specs.Reading.{is_centre}
 use Rattle.zb_sched.specs.Valid as sched
-use Rattle.zb_sched.specs.Valid.{Apart, Differ, FitsMember, FitsPlan, Pairwise, seated, seen_of}
+use Rattle.zb_sched.specs.Valid.{Apart, Differ, FitsNode, FitsSchedule, Pairwise, seated, seen_of}
 use Rattle.zb_sched.proofs.Lists.{all_map, all_map2, any_false, neither, unequal}
 use Rattle.zb_sched.proofs.OneCentre.{one_centre}
 use Rattle.zb_sched.proofs.Splits.{mapped_all}
 use Rattle.zb_sched_line.specs.Said.{Bytes, Event, Says, Delivers, Ticks, Knocks, Rejoins, Adopts, Provisions, Repeats, Rolls, Switches, Removes, Resets, Boots, Dumps, Stops, Fails, Injects, ForgesNet, ForgesBoth, ForgesOpen, Asks, Shares, Tells}
-use Rattle.zb_model_schedules.specs.Schedules.{station_for, stations_for, member_for, named, act_for, schedule_of}
+use Rattle.zb_model_schedules.specs.Schedules.{station_for, stations_for, node_for, named, event_for, schedule_of}
 use Rattle.zb_model_schedules.proofs.Nodes.{NotBoth, EuisDiffer, declared, first_by, passes, the_one}
 
 -- Nodes
@@ -61,7 +61,7 @@ of_that_name name ms apart =
 
 some_role : (name : Bytes) (m : Node) (ms : List Node) (b : Bool) → bytes_eq m.name name ≡ b
     → (is_some (role_named name (map seated ms)) ≡ true → is_some (find (has_that_name name) (map station_for ms)) ≡ true)
-    → is_some (option_map (λ (seat : Seat). seat.member.role) (cond b (Some (seated m)) (find (λ seat. has_name name seat) (map seated ms)))) ≡ true
+    → is_some (option_map (λ (seat : Seat). seat.node.role) (cond b (Some (seated m)) (find (λ seat. has_name name seat) (map seated ms)))) ≡ true
     → is_some (cond b (Some (station_for m)) (find (has_that_name name) (map station_for ms))) ≡ true
 some_role name m ms true e more found = refl
 some_role name m ms false e more found = more found
@@ -70,20 +70,20 @@ found_name : (name : Bytes) (ms : List Node) → is_some (role_named name (map s
 found_name name [] found = found
 found_name name (m ∷ ms) found = some_role name m ms (bytes_eq m.name name) refl (found_name name ms) found
 
--- the stations of the world
-stations_map : (ms : List Node) → map (λ (m : model.Node). m.station) (map member_for ms) ≡ map station_for ms
+-- the stations of the model
+stations_map : (ms : List Node) → map (λ (m : model.Node). m.station) (map node_for ms) ≡ map station_for ms
 stations_map [] = refl
 stations_map (m ∷ ms) = ap (λ ps. station_for m ∷ ps) (stations_map ms)
 
-pub same_stations : (p : Plan) → model.stations (schedule_of p) ≡ stations_for p
+pub same_stations : (p : Schedule) → model.stations (schedule_of p) ≡ stations_for p
 unfolding schedule_of
 same_stations p = stations_map p.nodes
 
-pub names : (p : Plan) (n : ℕ) → is_some (model_station (stations_for p) n) ≡ true → Names (schedule_of p) n
+pub names : (p : Schedule) (n : ℕ) → is_some (model_station (stations_for p) n) ≡ true → Names (schedule_of p) n
 names p n found = subst (λ ps. is_some (model_station ps n) ≡ true) (sym (same_stations p)) found
 
 -- a name that has a part is declared
-a_node : (p : Plan) (name : Bytes) → is_some (role_named name (map seated p.nodes)) ≡ true → Names (schedule_of p) (named (stations_for p) name)
+a_node : (p : Schedule) (name : Bytes) → is_some (role_named name (map seated p.nodes)) ≡ true → Names (schedule_of p) (named (stations_for p) name)
 a_node p name found = names p (named (stations_for p) name) (declared (has_that_name name) (stations_for p) (found_name name p.nodes found))
 
 joiner_is : (o : Option Role) → is_joiner o ≡ true → is_some o ≡ true
@@ -94,7 +94,7 @@ parent_is : (o : Option Role) → is_parent o ≡ true → is_some o ≡ true
 parent_is None e = e
 parent_is (Some r) e = refl
 
-a_joiner : (p : Plan) (name : Bytes) → is_joiner (role_named name (map seated p.nodes)) ≡ true → Names (schedule_of p) (named (stations_for p) name)
+a_joiner : (p : Schedule) (name : Bytes) → is_joiner (role_named name (map seated p.nodes)) ≡ true → Names (schedule_of p) (named (stations_for p) name)
 a_joiner p name found = a_node p name (joiner_is (role_named name (map seated p.nodes)) found)
 
 found_centre_by : (m : Node) (ms : List Node) (b c : Bool) → b ≡ c → (list_any (λ (n : Node). is_centre n.role) ms ≡ true → is_some (find is_a_centre (map station_for ms)) ≡ true)
@@ -108,7 +108,7 @@ found_centre : (ms : List Node) → list_any (λ (n : Node). is_centre n.role) m
 found_centre [] found = found
 found_centre (m ∷ ms) found = found_centre_by m ms (is_centre m.role) (is_centre_role (model_role m.role)) (sym (same_centre m.role)) (found_centre ms) found
 
-the_centre : (p : Plan) → sched.IsSchedule p → Names (schedule_of p) (centre_of (stations_for p))
+the_centre : (p : Schedule) → sched.IsSchedule p → Names (schedule_of p) (centre_of (stations_for p))
 unfolding centre_of
 the_centre p is = names p (first_by is_a_centre (stations_for p)) (declared is_a_centre (stations_for p) (found_centre p.nodes is.centre))
 
@@ -120,8 +120,8 @@ joiner_of_two a b o e = (and_parts a (is_joiner o) (and_parts (a && is_joiner o)
 second_of : (a b : Bool) → (a && b) ≡ true → b ≡ true
 second_of a b e = (and_parts a b e).1
 
-event_names : (p : Plan) → sched.IsSchedule p → (event : Event) → has_its_nodes event (map seated p.nodes) ≡ true → NamesNode (schedule_of p) (act_for (stations_for p) event)
-unfolding act_for
+event_names : (p : Schedule) → sched.IsSchedule p → (event : Event) → has_its_nodes event (map seated p.nodes) ≡ true → NamesNode (schedule_of p) (event_for (stations_for p) event)
+unfolding event_for
 event_names p is (Says name to bytes) e = a_node p name e
 event_names p is (Delivers frame name) e = a_node p name e
 event_names p is (Ticks name) e = a_node p name e
@@ -149,14 +149,14 @@ event_names p is (Shares name partner) e = the_centre p is
 event_names p is (Tells name partner bytes) e =
     a_joiner p name (joiner_of_two (not (bytes_eq name partner)) (is_joiner (role_named partner (map seated p.nodes))) (role_named name (map seated p.nodes)) e)
 
-is_member : (m : Node) → FitsMember m → IsMember (member_for m)
+is_member : (m : Node) → FitsNode m → IsMember (node_for m)
 is_member m f = record { eui = f.0.1.0; out_block = grind (arith, nat_tests, f.1); in_block = grind (arith, nat_tests, f.1); start_nwk = f.4; start_aps = f.5 }
 
-pub is_schedule : (p : Plan) → sched.IsSchedule p → IsSchedule (schedule_of p)
+pub is_schedule : (p : Schedule) → sched.IsSchedule p → IsSchedule (schedule_of p)
 unfolding schedule_of
 is_schedule p is = record {
-  nodes = mapped_all FitsMember IsMember member_for is_member p.nodes is.so_far.nodes;
-  events = mapped_all (FitsPlan p) (NamesNode (schedule_of p)) (act_for (stations_for p)) (λ event f. event_names p is event f.1) p.events is.so_far.events;
+  nodes = mapped_all FitsNode IsMember node_for is_member p.nodes is.so_far.nodes;
+  events = mapped_all (FitsSchedule p) (NamesNode (schedule_of p)) (event_for (stations_for p)) (λ event f. event_names p is event f.1) p.events is.so_far.events;
 }
 
 -- One centre
@@ -167,7 +167,7 @@ not_both_centres m n one e f = one (sym (same_centre m.role) ∙ e) (sym (same_c
 abbrev CentreIs : List Station → ℕ → Type 0
 CentreIs ps c = AllByRecursion (λ (s : Station). is_a_centre s ≡ true → s.eui ≡ c) ps
 
-pub one : (p : Plan) → sched.IsSchedule p → OneCentre (schedule_of p)
+pub one : (p : Schedule) → sched.IsSchedule p → OneCentre (schedule_of p)
 unfolding centre_of
 one p is =
     subst (λ ps. CentreIs ps (first_by is_a_centre ps)) (sym (same_stations p))
@@ -178,7 +178,7 @@ one p is =
 euis_apart : (m n : Node) → Apart m n → EuisDiffer (station_for m) (station_for n)
 euis_apart m n apart = apart.1
 
-pub centre_alone : (p : Plan) → sched.IsSchedule p → AllByRecursion (λ (s : Station). s.eui ≡ centre_of (stations_for p) → is_a_centre s ≡ true) (stations_for p)
+pub centre_alone : (p : Schedule) → sched.IsSchedule p → AllByRecursion (λ (s : Station). s.eui ≡ centre_of (stations_for p) → is_a_centre s ≡ true) (stations_for p)
 unfolding centre_of
 centre_alone p is = passes is_a_centre (stations_for p) (related_map Apart EuisDiffer station_for euis_apart p.nodes is.so_far.apart) (found_centre p.nodes is.centre)
 
@@ -200,14 +200,14 @@ none_code : (o : Option Bytes) (k : Bytes) → Differ (Some k) o → IsNoneOf (o
 none_code None k differ = tt
 none_code (Some key) k differ = (λ same. differ (sym same), tt)
 
-new_of : (m : Node) (k : Bytes) → Differ (Some k) (link_of m) × Differ (Some k) (network_of m) → IsNoneOf (given_keys (member_for m)) k
+new_of : (m : Node) (k : Bytes) → Differ (Some k) (link_of m) × Differ (Some k) (network_of m) → IsNoneOf (given_keys (node_for m)) k
 new_of m k differ = none_of_both (option_to_list (link_of m)) (network_key m.network) k (none_code (link_of m) k differ.0) (none_network m.network k differ.1)
 
-is_new : (p : Plan) (k : Bytes) → sched.IsNewKey p.nodes k → IsNewKey (schedule_of p) k
+is_new : (p : Schedule) (k : Bytes) → sched.IsNewKey p.nodes k → IsNewKey (schedule_of p) k
 unfolding schedule_of
 is_new p k f = (
   f.1,
-  mapped_all (λ (m : Node). Differ (Some k) (link_of m) × Differ (Some k) (network_of m)) (λ (m : model.Node). IsNoneOf (given_keys m) k) member_for (λ m differ. new_of m k differ) p.nodes f.2,
+  mapped_all (λ (m : Node). Differ (Some k) (link_of m) × Differ (Some k) (network_of m)) (λ (m : model.Node). IsNoneOf (given_keys m) k) node_for (λ m differ. new_of m k differ) p.nodes f.2,
 )
 
 -- an entered code
@@ -216,12 +216,12 @@ no_code_by : (m : Node) (o : Option Bytes) → IfSome o (λ code. sched.FitsNode
 no_code_by m None f e = refl
 no_code_by m (Some code) f e = absurd (false≢true (sym f.1 ∙ (sym (same_centre m.role) ∙ e)))
 
-abbrev NoCode : Plan → Node → Type 0
+abbrev NoCode : Schedule → Node → Type 0
 NoCode p m = m.eui ≡ centre_of (stations_for p) → option_map code_key m.code ≡ None
 
-no_code : (p : Plan) → sched.IsSchedule p → AllByRecursion (NoCode p) p.nodes
+no_code : (p : Schedule) → sched.IsSchedule p → AllByRecursion (NoCode p) p.nodes
 no_code p is =
-    all_map2 (λ (m : Node). m.eui ≡ centre_of (stations_for p) → is_a_centre (station_for m) ≡ true) FitsMember (NoCode p) p.nodes
+    all_map2 (λ (m : Node). m.eui ≡ centre_of (stations_for p) → is_a_centre (station_for m) ≡ true) FitsNode (NoCode p) p.nodes
     (λ m alone f same. no_code_by m m.code f.2 (alone same))
     (unmapped_all (λ (s : Station). s.eui ≡ centre_of (stations_for p) → is_a_centre s ≡ true) station_for p.nodes (centre_alone p is)) is.so_far.nodes
 
@@ -229,7 +229,7 @@ no_code p is =
 
 not_centre_by : (c : ℕ) (name : Bytes) (m : Node) (ms : List Node) (b : Bool) → bytes_eq m.name name ≡ b → (m.eui ≡ c → is_a_centre (station_for m) ≡ true)
     → (is_joiner (role_named name (map seated ms)) ≡ true → named (map station_for ms) name ≡ c → ⊥)
-    → is_joiner (option_map (λ (seat : Seat). seat.member.role) (cond b (Some (seated m)) (find (λ seat. has_name name seat) (map seated ms)))) ≡ true
+    → is_joiner (option_map (λ (seat : Seat). seat.node.role) (cond b (Some (seated m)) (find (λ seat. has_name name seat) (map seated ms)))) ≡ true
     → eui_or nobody (cond b (Some (station_for m)) (find (has_that_name name) (map station_for ms))) ≡ c → ⊥
 not_centre_by c name m ms true e alone more joins same = no_joiner m.role joins (sym (same_centre m.role) ∙ alone same)
   where
@@ -273,18 +273,18 @@ code_of_other_by key name device m false e other same = no_link_key key (link_of
 abbrev SeatFree : Bytes → Bytes → Node → Type 0
 SeatFree key name m = Other key name m × (is_key key (network_of m) ≡ false)
 
-others_free : (key name : Bytes) (device : ℕ) (m : Node) → SeatFree key name m → (bytes_eq m.name name ≡ true → m.eui ≡ device) → IsNoneOf (keys_of_others device (member_for m)) key
+others_free : (key name : Bytes) (device : ℕ) (m : Node) → SeatFree key name m → (bytes_eq m.name name ≡ true → m.eui ≡ device) → IsNoneOf (keys_of_others device (node_for m)) key
 others_free key name device m free same =
     none_of_both (cond (nat_eq m.eui device) [] (option_to_list (link_of m))) (network_key m.network) key
     (code_of_other_by key name device m (nat_eq m.eui device) refl free.0 same) (no_network_key key m.network free.1)
 
-record Free (p : Plan) (key name : Bytes) : Type 0 where
-  others : list_any (λ (seat : Seat). is_key key (link_of seat.member) && not (has_name name seat)) (map seated p.nodes) ≡ false
-  networks : list_any (λ (seat : Seat). is_key key (network_of seat.member)) (map seated p.nodes) ≡ false
+record Free (p : Schedule) (key name : Bytes) : Type 0 where
+  others : list_any (λ (seat : Seat). is_key key (link_of seat.node) && not (has_name name seat)) (map seated p.nodes) ≡ false
+  networks : list_any (λ (seat : Seat). is_key key (network_of seat.node)) (map seated p.nodes) ≡ false
   draws : list_any (λ draw. bytes_eq draw key) p.draws ≡ false
   known : bytes_eq key well_known ≡ false
 
-free : (p : Plan) (key name : Bytes) → clashes key name (seen_of p) ≡ false → Free p key name
+free : (p : Schedule) (key name : Bytes) → clashes key name (seen_of p) ≡ false → Free p key name
 free p key name e = record { others = third.0; networks = third.1; draws = second.1; known = first.1 }
   where
     a : Bool
@@ -302,9 +302,9 @@ free p key name e = record { others = third.0; networks = third.1; draws = secon
     third : (a ≡ false) × (b ≡ false)
     third = neither a b second.0
 
-enters : (p : Plan) → sched.IsSchedule p → (name code : Bytes) → is_joiner (role_named name (map seated p.nodes)) ≡ true → clashes (code_key code) name (seen_of p) ≡ false
-    → EntersOwn (schedule_of p) (act_for (stations_for p) (Provisions name code))
-unfolding schedule_of act_for
+enters : (p : Schedule) → sched.IsSchedule p → (name code : Bytes) → is_joiner (role_named name (map seated p.nodes)) ≡ true → clashes (code_key code) name (seen_of p) ≡ false
+    → EntersOwn (schedule_of p) (event_for (stations_for p) (Provisions name code))
+unfolding schedule_of event_for
 enters p is name code joins clash = (
   λ same. not_centre (centre_of (stations_for p)) name p.nodes
       (unmapped_all (λ (s : Station). s.eui ≡ centre_of (stations_for p) → is_a_centre s ≡ true) station_for p.nodes (centre_alone p is)) joins
@@ -312,7 +312,7 @@ enters p is name code joins clash = (
   unequal (code_key code) well_known f.known,
   all_map (λ draw. bytes_eq draw (code_key code) ≡ false) (λ draw. draw ≡ code_key code → ⊥) p.draws (λ draw no_match. unequal draw (code_key code) no_match) (any_false (λ draw. bytes_eq draw (code_key code)) p.draws f.draws),
   mapped_all (λ (m : Node). SeatFree (code_key code) name m × (bytes_eq m.name name ≡ true → m.eui ≡ named (stations_for p) name))
-      (λ (m : model.Node). IsNoneOf (keys_of_others (named (stations_for p) name) m) (code_key code)) member_for
+      (λ (m : model.Node). IsNoneOf (keys_of_others (named (stations_for p) name) m) (code_key code)) node_for
       (λ m both. others_free (code_key code) name (named (stations_for p) name) m both.0 both.1) p.nodes
       (all_map2 (SeatFree (code_key code) name) (λ (m : Node). bytes_eq m.name name ≡ true → m.eui ≡ named (stations_for p) name)
       (λ (m : Node). SeatFree (code_key code) name m × (bytes_eq m.name name ≡ true → m.eui ≡ named (stations_for p) name)) p.nodes (λ m a b. (a, b))
@@ -322,17 +322,17 @@ enters p is name code joins clash = (
     f : Free p (code_key code) name
     f = free p (code_key code) name clash
 
-    unseated : (P : Node → Bool) (ms : List Node) → list_any (λ (seat : Seat). P seat.member) (map seated ms) ≡ false → AllByRecursion (λ (m : Node). P m ≡ false) ms
+    unseated : (P : Node → Bool) (ms : List Node) → list_any (λ (seat : Seat). P seat.node) (map seated ms) ≡ false → AllByRecursion (λ (m : Node). P m ≡ false) ms
     unseated P [] e = tt
-    unseated P (m ∷ ms) e = let both = neither (P m) (list_any (λ (seat : Seat). P seat.member) (map seated ms)) e in (both.0, unseated P ms both.1)
+    unseated P (m ∷ ms) e = let both = neither (P m) (list_any (λ (seat : Seat). P seat.node) (map seated ms)) e in (both.0, unseated P ms both.1)
 
     seats : AllByRecursion (SeatFree (code_key code) name) p.nodes
     seats = all_map2 (Other (code_key code) name) (λ (m : Node). is_key (code_key code) (network_of m) ≡ false) (SeatFree (code_key code) name) p.nodes (λ m a b. (a, b))
         (unseated (λ (m : Node). is_key (code_key code) (link_of m) && not (bytes_eq m.name name)) p.nodes f.others)
         (unseated (λ (m : Node). is_key (code_key code) (network_of m)) p.nodes f.networks)
 
-event_enters : (p : Plan) → sched.IsSchedule p → (event : Event) → FitsPlan p event → EntersOwn (schedule_of p) (act_for (stations_for p) event)
-unfolding act_for
+event_enters : (p : Schedule) → sched.IsSchedule p → (event : Event) → FitsSchedule p event → EntersOwn (schedule_of p) (event_for (stations_for p) event)
+unfolding event_for
 event_enters p is (Provisions name code) f = enters p is name code f.1 f.2
 event_enters p is (Says name to bytes) f = tt
 event_enters p is (Delivers frame name) f = tt
@@ -357,13 +357,13 @@ event_enters p is (Asks name partner) f = tt
 event_enters p is (Shares name partner) f = tt
 event_enters p is (Tells name partner bytes) f = tt
 
-pub keys_apart : (p : Plan) → sched.IsSchedule p → KeysApart (schedule_of p)
+pub keys_apart : (p : Schedule) → sched.IsSchedule p → KeysApart (schedule_of p)
 unfolding schedule_of
 keys_apart p is = record {
   draws_differ = all_differ p.draws is.so_far.draws_apart;
   draws_new = all_map (sched.IsNewKey p.nodes) (IsNewKey (schedule_of p)) p.draws (λ k f. is_new p k f) is.so_far.draws;
-  entered = mapped_all (FitsPlan p) (EntersOwn (schedule_of p)) (act_for (stations_for p)) (λ event f. event_enters p is event f) p.events is.so_far.events;
+  entered = mapped_all (FitsSchedule p) (EntersOwn (schedule_of p)) (event_for (stations_for p)) (λ event f. event_enters p is event f) p.events is.so_far.events;
   alone = subst (λ ps. AllByRecursion (λ (s : Station). s.eui ≡ centre_of ps → is_a_centre s ≡ true) ps) (sym (stations_map p.nodes)) (centre_alone p is);
-  no_code = mapped_all (NoCode p) (λ (m : model.Node). m.station.eui ≡ centre_of (model.stations (schedule_of p)) → m.code ≡ None) member_for
+  no_code = mapped_all (NoCode p) (λ (m : model.Node). m.station.eui ≡ centre_of (model.stations (schedule_of p)) → m.code ≡ None) node_for
       (λ m k same. k (same ∙ ap centre_of (stations_map p.nodes))) p.nodes (no_code p is);
 }

@@ -4,8 +4,8 @@ use Rattle.std.specs.Prelude.{IfSome, if◌then◌else◌}
 use Rattle.std.specs.List.{AllByRecursion}
 use Rattle.std.specs.Str.Lines.{lines}
 use Rattle.zb_sched.specs.Judge.{Seen}
-use Rattle.zb_sched.specs.Plan.{Plan}
-use Rattle.zb_sched.specs.Reading.{after_line, after_meaning, finished, has_centre, numbered, reads, schedule_of, start}
+use Rattle.zb_sched.specs.Schedules.{Schedule}
+use Rattle.zb_sched.specs.Reading.{after_line, after_meaning, finished, has_centre, numbered, reads, schedule_in, start}
 use Rattle.zb_sched.specs.Valid.{IsSchedule, IsSoFar}
 use Rattle.zb_sched.specs.declared.error.SchedCause.{SchedCause}
 use Rattle.zb_sched.specs.declared.error.SchedCause.TheVariants.{Syntax, NoCentre}
@@ -80,23 +80,23 @@ meant : (seen next : Seen) (line : List ℕ) (o : Option Sentence) → meaning_o
 meant seen next line None says fits step so_far = absurd (no_err Seen SchedCause Syntax next step)
 meant seen next line (Some s) says fits step so_far = kept seen next s (fits s says) step so_far
 
-abbrev at_end : ℕ → Seen → Bool → Result Plan SchedError
+abbrev at_end : ℕ → Seen → Bool → Result Schedule SchedError
 at_end number seen b = if b then Ok (finished seen) else Err (record { line = number; cause = NoCentre })
 
-ended : (number : ℕ) (seen : Seen) (p : Plan) (b : Bool) → has_centre seen.seats ≡ b → at_end number seen b ≡ Ok p → IsSoFar (finished seen) → IsSchedule p
-ended number seen p true centre step so_far = is_schedule seen p (sym (ok_same Plan SchedError (finished seen) p step)) so_far centre
-ended number seen p false centre step so_far = absurd (no_err Plan SchedError (record { line = number; cause = NoCentre }) p step)
+ended : (number : ℕ) (seen : Seen) (p : Schedule) (b : Bool) → has_centre seen.seats ≡ b → at_end number seen b ≡ Ok p → IsSoFar (finished seen) → IsSchedule p
+ended number seen p true centre step so_far = is_schedule seen p (sym (ok_same Schedule SchedError (finished seen) p step)) so_far centre
+ended number seen p false centre step so_far = absurd (no_err Schedule SchedError (record { line = number; cause = NoCentre }) p step)
 
-gone_on : (number : ℕ) (seen : Seen) (p : Plan) (line : List ℕ) (more : List (List ℕ)) (r : Result Seen SchedCause) → after_line seen line ≡ r → LineFits line → IsSoFar (finished seen)
+gone_on : (number : ℕ) (seen : Seen) (p : Schedule) (line : List ℕ) (more : List (List ℕ)) (r : Result Seen SchedCause) → after_line seen line ≡ r → LineFits line → IsSoFar (finished seen)
     → ((next : Seen) → IsSoFar (finished next) → reads (number + 1) next more ≡ Ok p → IsSchedule p)
     → numbered number r (λ next. reads (number + 1) next more) ≡ Ok p → IsSchedule p
-gone_on number seen p line more (Err cause) e fits so_far later read = absurd (no_err Plan SchedError (record { line = number; cause = cause }) p read)
+gone_on number seen p line more (Err cause) e fits so_far later read = absurd (no_err Schedule SchedError (record { line = number; cause = cause }) p read)
 gone_on number seen p line more (Ok next) e fits so_far later read = later next (meant seen next line (meaning_of line) refl fits e so_far) read
 
-whole : (ls : List (List ℕ)) → AllByRecursion LineFits ls → (number : ℕ) (seen : Seen) (p : Plan) → IsSoFar (finished seen) → reads number seen ls ≡ Ok p → IsSchedule p
+whole : (ls : List (List ℕ)) → AllByRecursion LineFits ls → (number : ℕ) (seen : Seen) (p : Schedule) → IsSoFar (finished seen) → reads number seen ls ≡ Ok p → IsSchedule p
 whole [] fits number seen p so_far read = ended number seen p (has_centre seen.seats) refl read so_far
 whole (line ∷ more) fits number seen p so_far read =
     gone_on number seen p line more (after_line seen line) refl fits.0 so_far (λ next kept_so_far rest. whole more fits.1 (number + 1) next p kept_so_far rest) read
 
-pub text_keeps : (text : List ℕ) → AllByRecursion LineFits (lines text) → (p : Plan) → schedule_of text ≡ Ok p → IsSchedule p
+pub text_keeps : (text : List ℕ) → AllByRecursion LineFits (lines text) → (p : Schedule) → schedule_in text ≡ Ok p → IsSchedule p
 text_keeps text fits p read = whole (lines text) fits 1 start p (start_keeps start refl) read

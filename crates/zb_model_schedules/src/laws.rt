@@ -2,18 +2,18 @@
 
 ghost use Rattle.zb_model_laws.specs.Premises.{Premises};
 ghost use Rattle.zb_model_schedules.specs.Schedules.{schedule_of};
-ghost use Rattle.zb_sched.specs.Plan.{Plan};
+ghost use Rattle.zb_sched.specs.Schedules.{Schedule};
 ghost use Rattle.zb_sched.specs.Valid.{IsSchedule};
 ghost use Rattle.zb_model_real.specs.Headline.{Holds};
 
-/// The world of each schedule is as the laws over runs ask: its numbers are in their ranges, its events are of
+/// Says that the model of each schedule is as the laws over runs ask: its numbers are in their ranges, its events are of
 /// declared nodes, it has one centre, and its keys are different keys.
 pub fn schedules_meet_the_premises()
-    ensures { (p : Plan) → IsSchedule p → Premises (schedule_of p) }
+    ensures { (p : Schedule) → IsSchedule p → Premises (schedule_of p) }
 {}
 
-/// All laws over runs hold of the run of each schedule: it is lawful and counted, and no other lines are; fresh
+/// Says that all laws over runs hold of the run of each schedule: it is lawful and counted, and no other lines are; fresh
 /// nonces, counters taken once, confirmed keys, and lockout where the end line says `yes yes`.
 pub fn each_schedule_holds()
-    ensures { (p : Plan) → IsSchedule p → Holds (schedule_of p) }
+    ensures { (p : Schedule) → IsSchedule p → Holds (schedule_of p) }
 {}

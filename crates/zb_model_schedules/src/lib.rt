@@ -1,5 +1,5 @@
 //! The laws over every run hold of each schedule that a text gives. Here a schedule, as zb_sched reads it, is made
-//! the world of the model: `specs/Schedules.antt` says by one clause for each form of line what that line means
+//! the schedule of the model: `specs/Schedules.antt` says by one clause for each form of line what that line means
 //! there. What every schedule keeps gives what the laws ask, so they hold of each with no premise left.
 #![tactic(auto)]
 

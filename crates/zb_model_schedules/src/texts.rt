@@ -3,8 +3,8 @@
 
 ghost use Rattle.std.specs.Prelude.{◌≡◌, Ok};
 ghost use Rattle.zb_model_schedules.specs.Schedules.{schedule_of};
-ghost use Rattle.zb_sched.specs.Plan.{Plan};
-ghost use Rattle.zb_sched.specs.Reading.{schedule_of};
+ghost use Rattle.zb_sched.specs.Schedules.{Schedule};
+ghost use Rattle.zb_sched.specs.Reading.{schedule_in};
 ghost use Rattle.zb_sched.specs.Valid.{IsSchedule};
 ghost use Rattle.zb_model_real.specs.Headline.{Holds};
 
@@ -14,7 +14,7 @@ use zb_text::lines::next_line;
 
 /// Where a text is a schedule, that keeps what every schedule keeps.
 pub fn texts_read_as_schedules(text: &[u8])
-    ensures { (p : Plan) → schedule_of text.now ≡ Ok p → IsSchedule p }
+    ensures { (p : Schedule) → schedule_in text.now ≡ Ok p → IsSchedule p }
 {
     let mut rest = text;
     while let Some((line, after)) = next_line(rest) {
@@ -25,7 +25,7 @@ pub fn texts_read_as_schedules(text: &[u8])
 
 /// Where a text is a schedule, all laws over runs hold of its run.
 pub fn each_text_holds(text: &[u8])
-    ensures { (p : Plan) → schedule_of text.now ≡ Ok p → Holds (schedule_of p) }
+    ensures { (p : Schedule) → schedule_in text.now ≡ Ok p → Holds (schedule_of p) }
 {
     texts_read_as_schedules(text);
     each_schedule_holds();

@@ -1,4 +1,5 @@
 -- What a schedule of the program is in the model.
+use Rattle.zb_node_types.specs.Changes.{model_role}
 use Rattle.std.specs.Prelude.{◌≤◌, List, map, length, Option, Some, None}
 use Rattle.zb_base.specs.Config.{ApartBy}
 use Rattle.zb_base.specs.declared.node.Role.{Role}
@@ -10,17 +11,12 @@ use Rattle.zb_player.specs.declared.script.Node.{Node}
 use Rattle.zb_player.specs.declared.script.Say.{Say}
 use Rattle.zb_player.specs.declared.script.Script.{Script}
 
-abbrev pub role_of : Role → model.Role
-role_of role.Centre = model.Centre
-role_of role.Router = model.Router
-role_of role.Device = model.Device
-
 abbrev pub station_of : Node → model.Station
 station_of node = record {
   name = node.peer.name.bytes;
   eui = node.peer.eui.0;
   short = node.peer.short.0;
-  role = role_of node.peer.role;
+  role = model_role node.peer.role;
   out_block = node.out_block;
   in_block = node.in_block;
 }

@@ -4,7 +4,8 @@ ghost use Rattle.zb_model.specs.Data.{AtEvent, NoKey};
 ghost use Rattle.zb_model.specs.FirstPath.{Tally, end_of};
 ghost use Rattle.zb_model.specs.Lines as line;
 ghost use Rattle.zb_player.specs.Text.{line_text, role_text, answer_text};
-ghost use Rattle.zb_player.specs.Views.{role_of, station_of};
+ghost use Rattle.zb_node_types.specs.Changes.{model_role};
+ghost use Rattle.zb_player.specs.Views.{station_of};
 
 use crate::script::{NetworkKey, Node};
 use std::alloc::AllocError;
@@ -13,7 +14,7 @@ use zb_text::numbers::put_number;
 use zb_text::page::{add_bytes, add_eui, add_key, add_number, add_short, add_word, end_line, put};
 
 fn role_word(role: Role) -> &'static [u8]
-    ensures { result.now ≡ role_text (role_of role) }
+    ensures { result.now ≡ role_text (model_role role) }
 {
     match role {
         Role::Centre => b"centre".as_slice(),

@@ -6,9 +6,9 @@ use Rattle.zb_base.specs.Config.{ApartBy}
 use Rattle.zb_model.specs.FirstPath.{Holder, Saying, Plan, HaveAddresses}
 use Rattle.zb_player.specs.Views.{IsPlayable}
 use Rattle.zb_reader.specs.Reading.{holder, sayings, script, scripted, schedule, first_fault, first_unplayed}
-use Rattle.zb_sched.specs.Plan as sched
-use Rattle.zb_sched.specs.Reading.{schedule_of}
-use Rattle.zb_sched.specs.Valid.{Pairwise, Apart, FitsMember, IsSchedule}
+use Rattle.zb_sched.specs.Schedules as sched
+use Rattle.zb_sched.specs.Reading.{schedule_in}
+use Rattle.zb_sched.specs.Valid.{Pairwise, Apart, FitsNode, IsSchedule}
 use Rattle.zb_sched.specs.declared.error.SchedError.{SchedError}
 use Rattle.zb_sched_line.specs.Said.{Bytes, Event, Says}
 
@@ -21,7 +21,7 @@ apart : (ms : List sched.Node) → Pairwise Apart ms → ApartBy (λ (h : Holder
 apart [] pairs = tt
 apart (m ∷ ms) pairs = (apart-from m ms pairs.0, apart ms pairs.1)
 
-addresses : (ms : List sched.Node) → AllByRecursion FitsMember ms → HaveAddresses (map holder ms)
+addresses : (ms : List sched.Node) → AllByRecursion FitsNode ms → HaveAddresses (map holder ms)
 addresses [] all = tt
 addresses (m ∷ ms) all = (all.0.0.1.0, addresses ms all.1)
 
@@ -38,15 +38,15 @@ few (act ∷ events) =
     length-append (sayings act) (flat_map sayings events) in
     omega arith
 
-pub playable : (p : sched.Plan) → IsSchedule p → IsPlayable (script p)
+pub playable : (p : sched.Schedule) → IsSchedule p → IsPlayable (script p)
 playable p valid =
     let bound : length (flat_map sayings p.events) ≤ length p.events = few p.events in
     let limit : length p.events ≤ 100000 = valid.so_far.few_events in
-    record { euis = apart p.members valid.so_far.apart; addresses = addresses p.members valid.so_far.members; few = omega arith }
+    record { euis = apart p.nodes valid.so_far.apart; addresses = addresses p.nodes valid.so_far.nodes; few = omega arith }
 
 -- a schedule all of whose lines are played
-pub all_played : (text : Bytes) (p : sched.Plan) → schedule_of text ≡ Ok p → first_unplayed 1 (lines text) ≡ None → schedule text ≡ Ok (script p)
+pub all_played : (text : Bytes) (p : sched.Schedule) → schedule_in text ≡ Ok p → first_unplayed 1 (lines text) ≡ None → schedule text ≡ Ok (script p)
 unfolding schedule
 all_played text p read none =
-    ap (λ (r : Result sched.Plan SchedError). scripted (first_fault r (first_unplayed 1 (lines text)))) read
+    ap (λ (r : Result sched.Schedule SchedError). scripted (first_fault r (first_unplayed 1 (lines text)))) read
     ∙ ap (λ (o : Option ℕ). scripted (first_fault (Ok p) o)) none

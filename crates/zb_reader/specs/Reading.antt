@@ -4,9 +4,9 @@ use Rattle.std.specs.Prelude.{ℕ, ◌+◌, Bool, true, false, if◌then◌else�
 use Rattle.std.specs.List.{flat_map}
 use Rattle.std.specs.Str.Lines.{lines}
 use Rattle.zb_model.specs.FirstPath.{HeldKey, Holder, Saying, Plan}
-use Rattle.zb_player.specs.Views.{role_of}
-use Rattle.zb_sched.specs.Plan as sched
-use Rattle.zb_sched.specs.Reading.{schedule_of}
+use Rattle.zb_node_types.specs.Changes.{model_role}
+use Rattle.zb_sched.specs.Schedules as sched
+use Rattle.zb_sched.specs.Reading.{schedule_in}
 use Rattle.zb_sched.specs.declared.error.SchedCause.TheVariants.{Syntax}
 use Rattle.zb_sched.specs.declared.error.SchedError.{SchedError}
 use Rattle.zb_sched_line.specs.Grammar.{meaning_of}
@@ -38,7 +38,7 @@ abbrev pub no_form : ℕ → SchedError
 no_form line = record { line = line; cause = Syntax }
 
 -- a fault of the schedule itself comes first; a schedule that has none is refused at its first line of another form
-abbrev pub first_fault : Result sched.Plan SchedError → Option ℕ → Result sched.Plan SchedError
+abbrev pub first_fault : Result sched.Schedule SchedError → Option ℕ → Result sched.Schedule SchedError
 first_fault (Ok plan) None = Ok plan
 first_fault (Ok plan) (Some line) = Err (no_form line)
 first_fault (Err e) unplayed = Err e
@@ -51,7 +51,7 @@ held (Some network) = Some (record { key = network.0; sequence = network.1 })
 
 abbrev pub holder : sched.Node → Holder
 holder m = record {
-  station = record { name = m.name; eui = m.eui; short = m.short; role = role_of m.role; out_block = m.out_block; in_block = m.in_block };
+  station = record { name = m.name; eui = m.eui; short = m.short; role = model_role m.role; out_block = m.out_block; in_block = m.in_block };
   net = held m.network;
 }
 
@@ -59,13 +59,13 @@ abbrev pub sayings : Event → List Saying
 sayings (Says name to bytes) = record { name = name; to = to; payload = bytes } ∷ []
 sayings act = []
 
-abbrev pub script : sched.Plan → Plan
-script plan = record { holders = map holder plan.members; sayings = flat_map sayings plan.events }
+abbrev pub script : sched.Schedule → Plan
+script plan = record { holders = map holder plan.nodes; sayings = flat_map sayings plan.events }
 
-abbrev pub scripted : Result sched.Plan SchedError → Result Plan SchedError
+abbrev pub scripted : Result sched.Schedule SchedError → Result Plan SchedError
 scripted (Ok plan) = Ok (script plan)
 scripted (Err e) = Err e
 
 -- the schedule that a text is, or its first bad line and the first cause of that
 unfoldable pub schedule : Bytes → Result Plan SchedError
-schedule text = scripted (first_fault (schedule_of text) (first_unplayed 1 (lines text)))
+schedule text = scripted (first_fault (schedule_in text) (first_unplayed 1 (lines text)))

@@ -3,14 +3,14 @@ ghost use Rattle.std.specs.Prelude.{◌≡◌, ◌<◌, ◌^◌, ◌-◌, length
 ghost use Rattle.std.specs.Str.Lines.{lines};
 ghost use Rattle.zb_reader.specs.Reading.{is_saying as says, is_played as plays, is_played_line as plays_line, first_unplayed as first};
 ghost use Rattle.zb_sched_line.specs.Grammar.{meaning_of};
-ghost use Rattle.zb_sched_line.specs.Views.{act_of, sentence_of};
+ghost use Rattle.zb_sched_line.specs.Views.{event_of, sentence_of};
 
 use zb_sched::Event;
 use zb_sched_line::{Line, read_line};
 use zb_text::lines::next_line;
 
 fn is_saying(event: &Event) -> bool
-    ensures { result ≡ says (act_of event.now) }
+    ensures { result ≡ says (event_of event.now) }
 {
     match event {
         Event::Say { .. } => true,

@@ -2,7 +2,7 @@
 ghost use Rattle.std.specs.Prelude.{◌≡◌, ◌<◌, ◌^◌, ◌-◌, Ok, length};
 ghost use Rattle.zb_reader.specs.Answers.{Reads};
 ghost use Rattle.zb_reader.specs.Reading.{schedule, script, no_form as no_form_at};
-ghost use Rattle.zb_sched.specs.Plan.{plan_of as whole};
+ghost use Rattle.zb_sched.specs.Schedules.{schedule_of as whole};
 ghost use Rattle.zb_sched.specs.Valid.{IsSchedule};
 
 use crate::forms::first_unplayed;

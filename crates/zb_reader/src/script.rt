@@ -4,8 +4,8 @@ ghost use Rattle.std.specs.List.{flat_map};
 ghost use Rattle.std.specs.Option.{option_map};
 ghost use Rattle.zb_player.specs.Views.{plan_of, holders_of, held_of, sayings_of};
 ghost use Rattle.zb_reader.specs.Reading.{holder, held, sayings, script};
-ghost use Rattle.zb_sched.specs.Plan.{plan_of as whole, member_of};
-ghost use Rattle.zb_sched_line.specs.Views.{act_of};
+ghost use Rattle.zb_sched.specs.Schedules.{schedule_of as whole, node_of};
+ghost use Rattle.zb_sched_line.specs.Views.{event_of};
 
 use std::alloc::{AllocError, Global};
 use zb_base::{Key, List};
@@ -30,7 +30,7 @@ pub(crate) fn script_of(alloc: Global, schedule: Schedule) -> Result<Script, All
 }
 
 fn nodes_of(alloc: Global, nodes: &[zb_sched::Node]) -> Result<Vec<Node>, AllocError>
-    ensures { IfOk result (λ taken. holders_of taken.items ≡ map holder (map member_of nodes.now)) }
+    ensures { IfOk result (λ taken. holders_of taken.items ≡ map holder (map node_of nodes.now)) }
 {
     let mut taken = Vec::with_capacity(alloc, nodes.len())?;
     for node in nodes {
@@ -57,7 +57,7 @@ fn network_of(network: &Option<(Key, u8)>) -> Option<NetworkKey>
 }
 
 fn says_of(alloc: Global, events: Vec<Event>) -> Result<Vec<Say>, AllocError>
-    ensures { IfOk result (λ taken. sayings_of taken.items ≡ flat_map sayings (map act_of events.items)) }
+    ensures { IfOk result (λ taken. sayings_of taken.items ≡ flat_map sayings (map event_of events.items)) }
 {
     let mut says = Vec::with_capacity(alloc, events.len())?;
     for event in events {

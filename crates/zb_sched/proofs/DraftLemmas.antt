@@ -15,8 +15,8 @@ pub any_seats : (p : Seat → Bool) (es : List Entry) → list_any (λ e. p (sea
 any_seats p [] = refl
 any_seats p (e ∷ es) = ap (λ b. p (seat_of e) || b) (any_seats p es)
 
-found : (b : Bool) (e : Entry) (o : Option Entry) (r : Option Seat) → option_map (λ x. x.node.peer.role) o ≡ option_map (λ s. s.member.role) r
-    → option_map (λ x. x.node.peer.role) (cond b (Some e) o) ≡ option_map (λ s. s.member.role) (cond b (Some (seat_of e)) r)
+found : (b : Bool) (e : Entry) (o : Option Entry) (r : Option Seat) → option_map (λ x. x.node.peer.role) o ≡ option_map (λ s. s.node.role) r
+    → option_map (λ x. x.node.peer.role) (cond b (Some e) o) ≡ option_map (λ s. s.node.role) (cond b (Some (seat_of e)) r)
 found true e o r h = refl
 found false e o r h = h
 

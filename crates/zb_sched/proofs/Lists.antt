@@ -5,7 +5,7 @@ use Rattle.std.specs.List.{AllByRecursion, list_any}
 use Rattle.std.proofs.lemmas.Bool.Decides.{nat_tests}
 use Rattle.std.proofs.lemmas.Slice.Eq.{bytes_eq-Decides}
 use Rattle.zb_sched.specs.Judge.{Seat}
-use Rattle.zb_sched.specs.Plan.{Member}
+use Rattle.zb_sched.specs.Schedules.{Node}
 use Rattle.zb_sched.specs.Valid.{Pairwise}
 
 pub all_append : {X : Type 0} (P : X → Type 0) (xs : List X) (y : X) → AllByRecursion P xs → P y → AllByRecursion P (xs ++ y ∷ [])
@@ -36,9 +36,9 @@ pub any_false : {X : Type 0} (p : X → Bool) (xs : List X) → list_any p xs �
 any_false p [] h = tt
 any_false p (x ∷ xs) h = let both = neither (p x) (list_any p xs) h in (both.0, any_false p xs both.1)
 
-pub members_false : (p : Member → Bool) (seats : List Seat) → list_any (λ s. p s.member) seats ≡ false → AllByRecursion (λ m. p m ≡ false) (map (λ (s : Seat). s.member) seats)
-members_false p [] h = tt
-members_false p (s ∷ seats) h = let both = neither (p s.member) (list_any (λ x. p x.member) seats) h in (both.0, members_false p seats both.1)
+pub nodes_false : (p : Node → Bool) (seats : List Seat) → list_any (λ s. p s.node) seats ≡ false → AllByRecursion (λ m. p m ≡ false) (map (λ (s : Seat). s.node) seats)
+nodes_false p [] h = tt
+nodes_false p (s ∷ seats) h = let both = neither (p s.node) (list_any (λ x. p x.node) seats) h in (both.0, nodes_false p seats both.1)
 
 pub unequal : (xs ys : List ℕ) → bytes_eq xs ys ≡ false → xs ≡ ys → ⊥
 unequal xs ys no_match same = cc (sym ((bytes_eq-Decides xs ys).1 same) ∙ no_match)

@@ -6,9 +6,9 @@ use Rattle.std.proofs.lemmas.Grind.{flat_map-append}
 use Rattle.zb_base.specs.declared.key.Key.{Key}
 use Rattle.zb_text.specs.Pages.{ended, page}
 use Rattle.zb_sched_line.specs.declared.event.Event.{Event}
-use Rattle.zb_sched_line.specs.Views.{act_of}
-use Rattle.zb_sched.specs.Plan.{member_of}
-use Rattle.zb_sched.specs.Printed.{act_line, code_lines, counter_lines, draw_line, netkey_lines, node_line, printed}
+use Rattle.zb_sched_line.specs.Views.{event_of}
+use Rattle.zb_sched.specs.Schedules.{node_of}
+use Rattle.zb_sched.specs.Printed.{event_line, code_lines, counter_lines, draw_line, netkey_lines, node_line, printed}
 use Rattle.zb_sched.specs.declared.schedule.Node.{Node}
 
 pub page-append : (xs ys : List (List ℕ)) → page (xs ++ ys) ≡ page xs ++ page ys
@@ -49,19 +49,19 @@ six_pages a b c d e f =
 
 -- the printed text, kind by kind, from the program's own lists
 pub printed_by_kind : (nodes : List Node) (draws : List Key) (events : List Event)
-    → printed (record { members = map member_of nodes; draws = map (λ (k : Key). k.0) draws; acts = map act_of events })
-    ≡ page (map (λ n. node_line (member_of n)) nodes) ++ (page (flat_map (λ n. code_lines (member_of n)) nodes) ++ (page (flat_map (λ n. netkey_lines (member_of n)) nodes)
-    ++ (page (flat_map (λ n. counter_lines (member_of n)) nodes) ++ (page (map (λ (k : Key). draw_line k.0) draws) ++ page (map (λ e. act_line (act_of e)) events)))))
+    → printed (record { nodes = map node_of nodes; draws = map (λ (k : Key). k.0) draws; events = map event_of events })
+    ≡ page (map (λ n. node_line (node_of n)) nodes) ++ (page (flat_map (λ n. code_lines (node_of n)) nodes) ++ (page (flat_map (λ n. netkey_lines (node_of n)) nodes)
+    ++ (page (flat_map (λ n. counter_lines (node_of n)) nodes) ++ (page (map (λ (k : Key). draw_line k.0) draws) ++ page (map (λ e. event_line (event_of e)) events)))))
 printed_by_kind nodes draws events =
-    six_pages (map node_line (map member_of nodes)) (flat_map code_lines (map member_of nodes)) (flat_map netkey_lines (map member_of nodes)) (flat_map counter_lines (map member_of nodes))
-    (map draw_line (map (λ (k : Key). k.0) draws)) (map act_line (map act_of events))
+    six_pages (map node_line (map node_of nodes)) (flat_map code_lines (map node_of nodes)) (flat_map netkey_lines (map node_of nodes)) (flat_map counter_lines (map node_of nodes))
+    (map draw_line (map (λ (k : Key). k.0) draws)) (map event_line (map event_of events))
     ∙ rw (
-      map_of node_line member_of nodes,
-      flat_map_of code_lines member_of nodes,
-      flat_map_of netkey_lines member_of nodes,
-      flat_map_of counter_lines member_of nodes,
+      map_of node_line node_of nodes,
+      flat_map_of code_lines node_of nodes,
+      flat_map_of netkey_lines node_of nodes,
+      flat_map_of counter_lines node_of nodes,
       map_of draw_line (λ (k : Key). k.0) draws,
-      map_of act_line act_of events,
+      map_of event_line event_of events,
     ) refl
 
 pub regrouped : (old a b c d e f : List ℕ) → (((((old ++ a) ++ b) ++ c) ++ d) ++ e) ++ f ≡ old ++ (a ++ (b ++ (c ++ (d ++ (e ++ f)))))

@@ -2,7 +2,7 @@
 use Rattle.std.proofs.Common.{◌≡◌, ℕ, ◌+◌, List, [], ◌∷◌, Option, Some, None, Ok, map, refl, ap, ◌∙◌}
 use Rattle.zb_text.specs.Words.{first_of}
 use Rattle.zb_sched.specs.Judge.{Seat, Seen}
-use Rattle.zb_sched.specs.Plan.{member_of}
+use Rattle.zb_sched.specs.Schedules.{node_of}
 use Rattle.zb_sched.specs.Drafts.{seat_of}
 use Rattle.zb_sched.specs.Reading.{after_line, numbered, reads}
 use Rattle.zb_sched.specs.declared.entry.Entry.{Entry}
@@ -19,6 +19,6 @@ pub go_on : (number : ℕ) (seen next : Seen) (line : List ℕ) (ls more : List 
     → reads number seen ls ≡ reads (number + 1) next more
 go_on number seen next line ls more first step = ap (reads number seen) (first_some ls line more first) ∙ ap (λ r. numbered number r (λ n. reads (number + 1) n more)) step
 
-pub members_of : (es : List Entry) → map member_of (map (λ (e : Entry). e.node) es) ≡ map (λ (s : Seat). s.member) (map seat_of es)
-members_of [] = refl
-members_of (e ∷ es) = rw (members_of es) refl
+pub nodes_of : (es : List Entry) → map node_of (map (λ (e : Entry). e.node) es) ≡ map (λ (s : Seat). s.node) (map seat_of es)
+nodes_of [] = refl
+nodes_of (e ∷ es) = rw (nodes_of es) refl

@@ -72,7 +72,7 @@ pub changed_there : (name : Bytes) (f : Seat → Seat) (xs : List Seat) (s : Sea
 changed_there name f [] s ys others named = rw named refl
 changed_there name f (x ∷ xs) s ys others named = rw others.0 (ap (λ (more : List Seat). x ∷ more) (changed_there name f xs s ys others.1 named))
 
-pub role_there : (name : Bytes) (xs : List Seat) (s : Seat) (ys : List Seat) → Others name xs → has_name name s ≡ true → role_named name (xs ++ s ∷ ys) ≡ Some s.member.role
+pub role_there : (name : Bytes) (xs : List Seat) (s : Seat) (ys : List Seat) → Others name xs → has_name name s ≡ true → role_named name (xs ++ s ∷ ys) ≡ Some s.node.role
 role_there name [] s ys others named = rw named refl
 role_there name (x ∷ xs) s ys others named = rw others.0 (role_there name xs s ys others.1 named)
 

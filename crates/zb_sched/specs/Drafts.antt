@@ -1,18 +1,24 @@
 -- What the program's unfinished schedule stands for.
-use Rattle.std.specs.Prelude.{◌≡◌, List, Bool, Option, Some, None, find, if◌then◌else◌}
+use Rattle.std.specs.Prelude.{◌≡◌, List, map, Bool, Option, Some, None, find, if◌then◌else◌}
 use Rattle.std.specs.Option.{option_map}
 use Rattle.zb_base.specs.declared.node.Role.{Role}
 use Rattle.zb_sched_line.specs.Said.{Bytes}
-use Rattle.zb_sched.specs.Judge.{Seat, has_name, is_key, link_of}
-use Rattle.zb_sched.specs.Plan.{member_of}
+use Rattle.zb_sched_line.specs.Views.{event_of}
+use Rattle.zb_sched_line.specs.declared.event.Event.{Event}
+use Rattle.zb_sched.specs.Judge.{Seat, Seen, has_name, is_key, link_of}
+use Rattle.zb_sched.specs.Schedules.{node_of}
 use Rattle.zb_sched.specs.declared.entry.Entry.{Entry}
 
 abbrev pub seat_of : Entry → Seat
-seat_of entry = record { member = member_of entry.node; nwk_declared = entry.nwk_declared; aps_declared = entry.aps_declared }
+seat_of entry = record { node = node_of entry.node; nwk_declared = entry.nwk_declared; aps_declared = entry.aps_declared }
+
+-- The schedule so far, from its entries, the keys of its supply and its events.
+abbrev pub seen_so_far : List Entry → List Bytes → List Event → Seen
+seen_so_far entries draws events = record { seats = map seat_of entries; draws = draws; events = map event_of events }
 
 -- The link key beside a node is that of its install code.
 abbrev pub IsLinked : Entry → Type 0
-IsLinked entry = option_map (λ key. key.0) entry.link ≡ link_of (member_of entry.node)
+IsLinked entry = option_map (λ key. key.0) entry.link ≡ link_of (node_of entry.node)
 
 -- Whether that key is the link key beside a node.
 abbrev pub is_linked : Bytes → Entry → Bool

@@ -8,14 +8,14 @@ use Rattle.zb_base.specs.declared.label.Layer.TheVariants.{Nwk, Aps}
 use Rattle.zb_base.specs.declared.node.Role.{Role}
 use Rattle.zb_base.specs.declared.node.Role.TheVariants.{Centre, Router, Device}
 use Rattle.zb_install.specs.Code.{code_key}
-use Rattle.zb_sched_line.specs.Said.{Bytes, Act, Says, Delivers, Ticks, Knocks, Rejoins, Adopts, Provisions, Repeats, Rolls, Switches, Removes, Resets, Boots, Dumps, Stops, Fails, Injects, ForgesNet, ForgesBoth, ForgesOpen, Asks, Shares, Tells, Sentence, Quiet, Introduces, Codes, Holds, Starts, Draws, Misprovisions, Happens}
-use Rattle.zb_sched.specs.Plan.{Member}
+use Rattle.zb_sched_line.specs.Said.{Bytes, Event, Says, Delivers, Ticks, Knocks, Rejoins, Adopts, Provisions, Repeats, Rolls, Switches, Removes, Resets, Boots, Dumps, Stops, Fails, Injects, ForgesNet, ForgesBoth, ForgesOpen, Asks, Shares, Tells, Sentence, Quiet, Introduces, Codes, Holds, Starts, Draws, Misprovisions, Happens}
+use Rattle.zb_sched.specs.Schedules.{Node}
 use Rattle.zb_sched.specs.declared.error.SchedCause.{SchedCause}
 use Rattle.zb_sched.specs.declared.error.SchedCause.TheVariants.{Syntax, DuplicateNode, DuplicateCode, DrawRepeated, UnknownNode, BadCode, Block, TooMany}
 
 -- A node so far, and whether its counters were declared (a declared 0 is as good as none, but stands once).
 pub record Seat : Type 0 where
-  pub member : Member
+  pub node : Node
   pub nwk_declared : Bool
   pub aps_declared : Bool
 
@@ -23,16 +23,16 @@ pub record Seat : Type 0 where
 pub record Seen : Type 0 where
   pub seats : List Seat
   pub draws : List Bytes
-  pub acts : List Act
+  pub events : List Event
 
 -- ---- questions
 
 abbrev pub has_name : Bytes → Seat → Bool
-has_name name seat = bytes_eq seat.member.name name
+has_name name seat = bytes_eq seat.node.name name
 
 -- The part of the node of that name.
 abbrev pub role_named : Bytes → List Seat → Option Role
-role_named name seats = option_map (λ seat. seat.member.role) (find (λ seat. has_name name seat) seats)
+role_named name seats = option_map (λ seat. seat.node.role) (find (λ seat. has_name name seat) seats)
 
 -- A declared router or device.
 abbrev pub is_joiner : Option Role → Bool
@@ -58,20 +58,20 @@ is_key key None = false
 is_key key (Some other) = bytes_eq other key
 
 -- The link key of a node's install code, and the network key that it holds.
-abbrev pub link_of : Member → Option Bytes
-link_of member = option_map code_key member.code
+abbrev pub link_of : Node → Option Bytes
+link_of node = option_map code_key node.code
 
-abbrev pub network_of : Member → Option Bytes
-network_of member = option_map (λ held. held.0) member.network
+abbrev pub network_of : Node → Option Bytes
+network_of node = option_map (λ held. held.0) node.network
 
 abbrev pub is_link : Bytes → List Seat → Bool
-is_link key seats = list_any (λ seat. is_key key (link_of seat.member)) seats
+is_link key seats = list_any (λ seat. is_key key (link_of seat.node)) seats
 
 abbrev pub is_link_of_other : Bytes → Bytes → List Seat → Bool
-is_link_of_other key name seats = list_any (λ seat. is_key key (link_of seat.member) && not (has_name name seat)) seats
+is_link_of_other key name seats = list_any (λ seat. is_key key (link_of seat.node) && not (has_name name seat)) seats
 
 abbrev pub is_network : Bytes → List Seat → Bool
-is_network key seats = list_any (λ seat. is_key key (network_of seat.member)) seats
+is_network key seats = list_any (λ seat. is_key key (network_of seat.node)) seats
 
 abbrev pub is_drawn : Bytes → List Bytes → Bool
 is_drawn key draws = list_any (λ draw. bytes_eq draw key) draws
@@ -84,23 +84,23 @@ changed name change [] = []
 changed name change (seat ∷ seats) = if has_name name seat then change seat ∷ seats else seat ∷ changed name change seats
 
 abbrev pub coded : Bytes → Seat → Seat
-coded code seat = record seat { member = record seat.member { code = Some code } }
+coded code seat = record seat { node = record seat.node { code = Some code } }
 
 abbrev pub holding : Bytes → ℕ → Seat → Seat
-holding key sequence seat = record seat { member = record seat.member { network = Some (key, sequence) } }
+holding key sequence seat = record seat { node = record seat.node { network = Some (key, sequence) } }
 
 abbrev pub starting : Layer → ℕ → Seat → Seat
-starting Nwk limit seat = record { member = record seat.member { start_nwk = limit }; nwk_declared = true; aps_declared = seat.aps_declared }
-starting Aps limit seat = record { member = record seat.member { start_aps = limit }; nwk_declared = seat.nwk_declared; aps_declared = true }
+starting Nwk limit seat = record { node = record seat.node { start_nwk = limit }; nwk_declared = true; aps_declared = seat.aps_declared }
+starting Aps limit seat = record { node = record seat.node { start_aps = limit }; nwk_declared = seat.nwk_declared; aps_declared = true }
 
 -- ---- declarations, of which none stands behind an event
 
 abbrev pub has_begun : Seen → Bool
-has_begun seen = not (length seen.acts == 0)
+has_begun seen = not (length seen.events == 0)
 
 -- A name, an EUI or a short address is taken. A second centre has the first one's short address.
 abbrev pub is_taken : Bytes → ℕ → ℕ → Seat → Bool
-is_taken name eui short seat = has_name name seat || seat.member.eui == eui || seat.member.short == short
+is_taken name eui short seat = has_name name seat || seat.node.eui == eui || seat.node.short == short
 
 -- The ranges of the blocks of counters: 1 to 65,536 outgoing and 1 to 1,024 incoming ones.
 abbrev pub are_blocks : ℕ → ℕ → Bool
@@ -108,7 +108,7 @@ are_blocks out_block in_block = nat_le 1 out_block && nat_le out_block 65536 && 
 
 abbrev pub new_seat : Bytes → Role → ℕ → ℕ → ℕ → ℕ → Seat
 new_seat name role eui short out_block in_block = record {
-  member = record { name = name; role = role; eui = eui; short = short; out_block = out_block; in_block = in_block; code = None; network = None; start_nwk = 0; start_aps = 0 };
+  node = record { name = name; role = role; eui = eui; short = short; out_block = out_block; in_block = in_block; code = None; network = None; start_nwk = 0; start_aps = 0 };
   nwk_declared = false;
   aps_declared = false;
 }
@@ -122,7 +122,7 @@ after_node seen name role eui short out_block in_block =
     else Ok (record seen { seats = seen.seats ++ new_seat name role eui short out_block in_block ∷ [] })
 
 abbrev pub has_code : Bytes → List Seat → Bool
-has_code name seats = list_any (λ seat. has_name name seat && is_some seat.member.code) seats
+has_code name seats = list_any (λ seat. has_name name seat && is_some seat.node.code) seats
 
 -- A link key that no install code of that node may have beside what stands before.
 abbrev pub clashes : Bytes → Bytes → Seen → Bool
@@ -142,7 +142,7 @@ after_code seen name code =
     else after_code_bytes seen name code
 
 abbrev pub has_network : Bytes → List Seat → Bool
-has_network name seats = list_any (λ seat. has_name name seat && is_some seat.member.network) seats
+has_network name seats = list_any (λ seat. has_name name seat && is_some seat.node.network) seats
 
 abbrev pub after_netkey : Seen → Bytes → Bytes → ℕ → Result Seen SchedCause
 after_netkey seen name key sequence =
@@ -183,7 +183,7 @@ abbrev pub are_child_and_parent : Bytes → Bytes → List Seat → Bool
 are_child_and_parent name parent seats = not (bytes_eq name parent) && is_joiner (role_named name seats) && is_parent (role_named parent seats)
 
 -- Whether the nodes that an event names are declared and have a part that it allows.
-abbrev pub has_its_nodes : Act → List Seat → Bool
+abbrev pub has_its_nodes : Event → List Seat → Bool
 has_its_nodes (Says name to bytes) seats = is_some (role_named name seats)
 has_its_nodes (Delivers frame name) seats = is_some (role_named name seats)
 has_its_nodes (Ticks name) seats = is_some (role_named name seats)
@@ -209,16 +209,16 @@ has_its_nodes (Shares name partner) seats = are_partners name partner seats
 has_its_nodes (Tells name partner bytes) seats = are_partners name partner seats
 
 -- The link key of a provision clashes.
-abbrev pub provision_clashes : Act → Seen → Bool
+abbrev pub provision_clashes : Event → Seen → Bool
 provision_clashes (Provisions name code) seen = clashes (code_key code) name seen
 provision_clashes _ seen = false
 
-abbrev pub after_act : Seen → Act → Result Seen SchedCause
-after_act seen act =
-    if provision_clashes act seen then Err DuplicateCode
-    else if not (has_its_nodes act seen.seats) then Err UnknownNode
-    else if nat_le 100000 (length seen.acts) then Err TooMany
-    else Ok (record seen { acts = seen.acts ++ act ∷ [] })
+abbrev pub after_event : Seen → Event → Result Seen SchedCause
+after_event seen event =
+    if provision_clashes event seen then Err DuplicateCode
+    else if not (has_its_nodes event seen.seats) then Err UnknownNode
+    else if nat_le 100000 (length seen.events) then Err TooMany
+    else Ok (record seen { events = seen.events ++ event ∷ [] })
 
 -- ---- lines
 
@@ -230,4 +230,4 @@ after_sentence seen (Holds name key sequence) = after_netkey seen name key seque
 after_sentence seen (Starts name layer limit) = after_counter seen name layer limit
 after_sentence seen (Draws key) = after_draw seen key
 after_sentence seen (Misprovisions name) = Err BadCode
-after_sentence seen (Happens act) = after_act seen act
+after_sentence seen (Happens event) = after_event seen event

@@ -1,7 +1,7 @@
 pub mod Drafts
 pub mod Faults
 pub mod Judge
-pub mod Plan
+pub mod Schedules
 pub mod Printed
 pub mod Reading
 pub mod Supplies

@@ -5,11 +5,11 @@ use Rattle.std.specs.List.{flat_map}
 use Rattle.zb_base.specs.declared.label.Layer.{Layer}
 use Rattle.zb_base.specs.declared.label.Layer.TheVariants.{Nwk, Aps}
 use Rattle.zb_text.specs.Pages.{line_of_words, page}
-use Rattle.zb_sched_line.specs.Said.{Bytes, Act}
-use Rattle.zb_sched_line.specs.Texts.{node_words, code_words, netkey_words, counter_words, draw_words, act_words}
-use Rattle.zb_sched.specs.Plan.{Member, Plan}
+use Rattle.zb_sched_line.specs.Said.{Bytes, Event}
+use Rattle.zb_sched_line.specs.Texts.{node_words, code_words, netkey_words, counter_words, draw_words, event_words}
+use Rattle.zb_sched.specs.Schedules.{Node, Schedule}
 
-abbrev pub node_line : Member → List ℕ
+abbrev pub node_line : Node → List ℕ
 node_line m = line_of_words (node_words m.name m.role m.eui m.short m.out_block m.in_block)
 
 abbrev pub code_line : Bytes → Option Bytes → List (List ℕ)
@@ -26,22 +26,22 @@ counter_line name layer limit = if limit == 0 then [] else line_of_words (counte
 abbrev pub draw_line : Bytes → List ℕ
 draw_line key = line_of_words (draw_words key)
 
-abbrev pub act_line : Act → List ℕ
-act_line act = line_of_words (act_words act)
+abbrev pub event_line : Event → List ℕ
+event_line event = line_of_words (event_words event)
 
-abbrev pub code_lines : Member → List (List ℕ)
+abbrev pub code_lines : Node → List (List ℕ)
 code_lines m = code_line m.name m.code
 
-abbrev pub netkey_lines : Member → List (List ℕ)
+abbrev pub netkey_lines : Node → List (List ℕ)
 netkey_lines m = netkey_line m.name m.network
 
-abbrev pub counter_lines : Member → List (List ℕ)
+abbrev pub counter_lines : Node → List (List ℕ)
 counter_lines m = counter_line m.name Nwk m.start_nwk ++ counter_line m.name Aps m.start_aps
 
-abbrev pub printed_lines : Plan → List (List ℕ)
+abbrev pub printed_lines : Schedule → List (List ℕ)
 printed_lines p =
-    map node_line p.members ++ (flat_map code_lines p.members ++ (flat_map netkey_lines p.members
-    ++ (flat_map counter_lines p.members ++ (map draw_line p.draws ++ map act_line p.acts))))
+    map node_line p.nodes ++ (flat_map code_lines p.nodes ++ (flat_map netkey_lines p.nodes
+    ++ (flat_map counter_lines p.nodes ++ (map draw_line p.draws ++ map event_line p.events))))
 
-abbrev pub printed : Plan → List ℕ
+abbrev pub printed : Schedule → List ℕ
 printed p = page (printed_lines p)

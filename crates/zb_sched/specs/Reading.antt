@@ -9,11 +9,11 @@ use Rattle.zb_base.specs.declared.node.Role.TheVariants.{Centre, Router, Device}
 use Rattle.zb_sched_line.specs.Grammar.{meaning_of}
 use Rattle.zb_sched_line.specs.Said.{Sentence}
 use Rattle.zb_sched.specs.Judge.{Seat, Seen, after_sentence}
-use Rattle.zb_sched.specs.Plan.{Plan, plan_of}
+use Rattle.zb_sched.specs.Schedules.{Schedule, schedule_of}
 use Rattle.zb_sched.specs.declared.error.SchedCause.{SchedCause}
 use Rattle.zb_sched.specs.declared.error.SchedCause.TheVariants.{Syntax, NoCentre}
 use Rattle.zb_sched.specs.declared.error.SchedError.{SchedError}
-use Rattle.zb_sched.specs.declared.schedule.Schedule.{Schedule}
+use Rattle.zb_sched.specs.declared.schedule.Schedule.{Schedule as CodeSchedule}
 
 -- After what a line means; a line that means nothing is a fault of syntax.
 abbrev pub after_meaning : Seen → Option Sentence → Result Seen SchedCause
@@ -29,28 +29,28 @@ is_centre Router = false
 is_centre Device = false
 
 abbrev pub has_centre : List Seat → Bool
-has_centre seats = list_any (λ seat. is_centre seat.member.role) seats
+has_centre seats = list_any (λ seat. is_centre seat.node.role) seats
 
-abbrev pub finished : Seen → Plan
-finished seen = record { members = map (λ seat. seat.member) seen.seats; draws = seen.draws; acts = seen.acts }
+abbrev pub finished : Seen → Schedule
+finished seen = record { nodes = map (λ seat. seat.node) seen.seats; draws = seen.draws; events = seen.events }
 
 -- Goes on after a line of that number, or stops at its cause.
-abbrev pub numbered : ℕ → Result Seen SchedCause → (Seen → Result Plan SchedError) → Result Plan SchedError
+abbrev pub numbered : ℕ → Result Seen SchedCause → (Seen → Result Schedule SchedError) → Result Schedule SchedError
 numbered number (Err cause) go_on = Err (record { line = number; cause = cause })
 numbered number (Ok seen) go_on = go_on seen
 
 -- The schedule of the lines from the one of that number on. Without a centre, the fault is behind the last line.
-abbrev pub reads : ℕ → Seen → List (List ℕ) → Result Plan SchedError
+abbrev pub reads : ℕ → Seen → List (List ℕ) → Result Schedule SchedError
 reads number seen [] = if has_centre seen.seats then Ok (finished seen) else Err (record { line = number; cause = NoCentre })
 reads number seen (line ∷ more) = numbered number (after_line seen line) (λ next. reads (number + 1) next more)
 
 -- Nothing yet.
 abbrev pub start : Seen
-start = record { seats = []; draws = []; acts = [] }
+start = record { seats = []; draws = []; events = [] }
 
 -- The schedule that a text is, or its first bad line and the first cause of that.
-abbrev pub schedule_of : List ℕ → Result Plan SchedError
-schedule_of text = reads 1 start (lines text)
+abbrev pub schedule_in : List ℕ → Result Schedule SchedError
+schedule_in text = reads 1 start (lines text)
 
 -- A call answered what a line does, or lacked memory.
 abbrev pub Steps : Result Unit (OrMemory SchedCause) → Seen → Result Seen SchedCause → Type 0
@@ -59,7 +59,7 @@ Steps (Err (Fault cause)) after expected = expected ≡ Err cause
 Steps (Err NoMemory) after expected = ⊤
 
 -- A call answered what a text is, or lacked memory.
-abbrev pub Reads : Result Schedule (OrMemory SchedError) → Result Plan SchedError → Type 0
-Reads (Ok schedule) expected = expected ≡ Ok (plan_of schedule)
+abbrev pub Reads : Result CodeSchedule (OrMemory SchedError) → Result Schedule SchedError → Type 0
+Reads (Ok schedule) expected = expected ≡ Ok (schedule_of schedule)
 Reads (Err (Fault fault)) expected = expected ≡ Err fault
 Reads (Err NoMemory) expected = ⊤

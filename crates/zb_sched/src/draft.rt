@@ -5,8 +5,8 @@ ghost use Rattle.std.specs.List.{list_any};
 ghost use Rattle.std.specs.Option.{option_map};
 ghost use Rattle.zb_base.specs.declared.fault.OrMemory.TheVariants.{Fault};
 ghost use Rattle.zb_install.specs.Code.{code_key};
-ghost use Rattle.zb_sched_line.specs.Views.{act_of, sentence_of};
-ghost use Rattle.zb_sched.specs.Judge.{after_act, after_code, after_counter, after_draw, after_netkey, after_node, after_sentence, are_blocks, clashes, has_begun, has_code as is_coded, has_counter as is_counted, changed, coded, has_its_nodes, has_name, holding, is_joiner, is_parent, has_network as is_holding, is_link as is_link_key, is_link_of_other as is_other_link, is_network as is_network_key, is_taken as clashes_with, role_named, starting};
+ghost use Rattle.zb_sched_line.specs.Views.{event_of, sentence_of};
+ghost use Rattle.zb_sched.specs.Judge.{after_event, after_code, after_counter, after_draw, after_netkey, after_node, after_sentence, are_blocks, clashes, has_begun, has_code as is_coded, has_counter as is_counted, changed, coded, has_its_nodes, has_name, holding, is_joiner, is_parent, has_network as is_holding, is_link as is_link_key, is_link_of_other as is_other_link, is_network as is_network_key, is_taken as clashes_with, role_named, starting};
 ghost use Rattle.zb_sched.specs.Reading.{has_centre, start, Steps};
 
 use crate::entry::{
@@ -22,7 +22,7 @@ use zb_base::{Key, Layer, List, Name, OrMemory, Peer, Role};
 use zb_install::InstallCode;
 use zb_sched_line::{Event, Line, read_line};
 
-/// A schedule so far.
+/// Is a schedule so far.
 #[derive(Drop)]
 pub struct Draft {
     entries: Vec<Entry>,
@@ -31,15 +31,13 @@ pub struct Draft {
 }
 
 impl Model for Draft {
-    ghost use Rattle.std.specs.Prelude.{map};
     ghost use Rattle.std.specs.List.{AllByRecursion};
-    ghost use Rattle.zb_sched_line.specs.Views.{act_of};
-    ghost use Rattle.zb_sched.specs.Drafts.{seat_of, IsLinked};
+    ghost use Rattle.zb_sched.specs.Drafts.{seen_so_far, IsLinked};
     ghost use Rattle.zb_sched.specs.Judge.{Seen};
 
     ghost Value = { Seen };
 
-    ghost view = { λ d. record { seats = map seat_of d.entries.items; draws = d.draws; acts = map act_of d.events.items } };
+    ghost view = { λ d. seen_so_far d.entries.items d.draws d.events.items };
 
     ghost invariant = { λ d. AllByRecursion IsLinked d.entries.items };
 }
@@ -48,7 +46,7 @@ impl Model for Draft {
 const WELL_KNOWN: [u8; 16] = *b"ZigBeeAlliance09";
 
 impl Draft {
-    /// Nothing yet.
+    /// Makes a draft of nothing.
     pub fn new(alloc: Global) -> Draft
         ensures { result ≡ start }
     {
@@ -66,7 +64,8 @@ impl Draft {
     }
 
     fn is_taken(&self, peer: &Peer) -> bool
-        ensures { result ≡ list_any (λ seat. clashes_with peer.now.name.bytes peer.now.eui.0 peer.now.short.0 seat) self.now.seats }
+        ensures { result ≡ list_any
+            (λ seat. clashes_with peer.now.name.bytes peer.now.eui.0 peer.now.short.0 seat) self.now.seats }
     {
         is_taken(self.entries.as_slice(), peer)
     }
@@ -122,7 +121,7 @@ impl Draft {
             || key.0 == WELL_KNOWN
     }
 
-    /// Whether the centre was declared.
+    /// Answers whether the centre was declared.
     pub fn has_centre(&self) -> bool
         ensures { result ≡ has_centre self.now.seats }
     {
@@ -136,7 +135,8 @@ impl Draft {
         out_block: u32,
         in_block: u32,
     ) -> Result<(), OrMemory<SchedCause>>
-        ensures { Steps result self.new (after_node self.old peer.name.bytes peer.role peer.eui.0 peer.short.0 out_block in_block) }
+        ensures { Steps result self.new
+            (after_node self.old peer.name.bytes peer.role peer.eui.0 peer.short.0 out_block in_block) }
     {
         if self.has_begun() {
             return refuse(SchedCause::Syntax);
@@ -250,9 +250,9 @@ impl Draft {
 
 impl Draft {
     ghost use Rattle.std.specs.Prelude.{◌≡◌, is_some, IfOk, IsTrue, OnOk};
-    ghost use Rattle.zb_sched.specs.Plan.{plan_of};
-    ghost use Rattle.zb_sched_line.specs.Views.{act_of, sentence_of};
-    ghost use Rattle.zb_sched.specs.Judge.{after_act, after_sentence, are_child_and_parent, are_partners, has_its_nodes, provision_clashes, role_named};
+    ghost use Rattle.zb_sched.specs.Schedules.{schedule_of};
+    ghost use Rattle.zb_sched_line.specs.Views.{event_of, sentence_of};
+    ghost use Rattle.zb_sched.specs.Judge.{after_event, after_sentence, are_child_and_parent, are_partners, has_its_nodes, provision_clashes, role_named};
     ghost use Rattle.zb_sched.specs.Reading.{after_line, finished, has_centre, Steps};
     ghost use Rattle.zb_sched.specs.Valid.{IsSchedule, IsSoFar};
 
@@ -284,7 +284,7 @@ impl Draft {
     }
 
     fn has_nodes_of(&self, event: &Event) -> bool
-        ensures { result ≡ has_its_nodes (act_of event.now) self.now.seats }
+        ensures { result ≡ has_its_nodes (event_of event.now) self.now.seats }
     {
         match event {
             Event::Say { name, .. }
@@ -314,7 +314,7 @@ impl Draft {
     }
 
     fn provision_clashes(&self, event: &Event) -> bool
-        ensures { result ≡ provision_clashes (act_of event.now) self.now }
+        ensures { result ≡ provision_clashes (event_of event.now) self.now }
     {
         match event {
             Event::Provision { name, code } => self.clashes(&code.link_key(), name),
@@ -324,7 +324,7 @@ impl Draft {
 
     /// Takes an event.
     fn take_event(&mut self, event: Event) -> Result<(), OrMemory<SchedCause>>
-        ensures { Steps result self.new (after_act self.old (act_of event)) }
+        ensures { Steps result self.new (after_event self.old (event_of event)) }
     {
         if self.provision_clashes(&event) {
             return refuse(SchedCause::DuplicateCode);
@@ -339,10 +339,11 @@ impl Draft {
         Ok(())
     }
 
-    /// The schedule that was read.
+    /// Makes the schedule that was read.
     pub fn finish(self, alloc: Global) -> Result<Schedule, AllocError>
-        ensures plan { IfOk result (λ schedule. plan_of schedule ≡ finished self) }
-        ensures valid { IsSoFar (finished self) → IsTrue (has_centre self.seats) → IfOk result (λ schedule. IsSchedule (plan_of schedule)) }
+        ensures schedule { IfOk result (λ schedule. schedule_of schedule ≡ finished self) }
+        ensures valid { IsSoFar (finished self) → IsTrue (has_centre self.seats)
+            → IfOk result (λ schedule. IsSchedule (schedule_of schedule)) }
     {
         let Draft {
             entries,

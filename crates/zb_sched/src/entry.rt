@@ -13,7 +13,7 @@ use std::alloc::{AllocError, Global};
 use zb_base::{Key, Layer, Name, Peer, Role};
 use zb_install::InstallCode;
 
-/// A node so far, the link key of its install code, and which of its counters were declared.
+/// Is a node so far, the link key of its install code, and which of its counters were declared.
 #[derive(Drop)]
 pub struct Entry {
     /// The node.
@@ -26,9 +26,10 @@ pub struct Entry {
     pub aps_declared: bool,
 }
 
-/// Whether a node's name, EUI or short address is taken.
+/// Answers whether a node's name, EUI or short address is taken.
 pub fn is_taken(entries: &[Entry], peer: &Peer) -> bool
-    ensures { result ≡ list_any (λ entry. clashes_with peer.now.name.bytes peer.now.eui.0 peer.now.short.0 (seat_of entry)) entries.now }
+    ensures { result ≡ list_any
+        (λ entry. clashes_with peer.now.name.bytes peer.now.eui.0 peer.now.short.0 (seat_of entry)) entries.now }
 {
     entries.iter().any(|entry| {
         let other = &entry.node.peer;
@@ -36,7 +37,7 @@ pub fn is_taken(entries: &[Entry], peer: &Peer) -> bool
     })
 }
 
-/// Where the node of a name stands.
+/// Answers where the node of a name stands.
 pub fn place(entries: &[Entry], name: &Name) -> Option<usize>
     ensures { result ≡ position (λ entry. has_name name.now.bytes (seat_of entry)) entries.now }
 {
@@ -45,7 +46,7 @@ pub fn place(entries: &[Entry], name: &Name) -> Option<usize>
         .position(|entry| entry.node.peer.name == *name)
 }
 
-/// The part of the node of a name.
+/// Answers the part of the node of a name.
 pub fn role(entries: &[Entry], name: &Name) -> Option<Role>
     ensures { result ≡ role_among name.now.bytes entries.now }
 {
@@ -54,12 +55,13 @@ pub fn role(entries: &[Entry], name: &Name) -> Option<Role>
 }
 
 fn find<'a>(entries: &'a [Entry], name: &Name) -> Option<&'a Entry>
-    ensures { option_map (λ entry. entry.now) result ≡ find (λ entry. has_name name.now.bytes (seat_of entry)) entries.now }
+    ensures { option_map (λ entry. entry.now) result
+        ≡ find (λ entry. has_name name.now.bytes (seat_of entry)) entries.now }
 {
     entries.iter().find(|entry| entry.node.peer.name == *name)
 }
 
-/// The parts of the nodes of two names, found in one walk.
+/// Answers the parts of the nodes of two names, found in one walk.
 #[tactic(auto, using(crate::proofs::RoleLemmas::role_step, crate::proofs::RoleLemmas::role_end))]
 pub fn roles(entries: &[Entry], first: &Name, second: &Name) -> (Option<Role>, Option<Role>)
     ensures first { result.0 ≡ role_among first.now.bytes entries.now }
@@ -74,44 +76,48 @@ pub fn roles(entries: &[Entry], first: &Name, second: &Name) -> (Option<Role>, O
     (one, two)
 }
 
-/// Whether the node of a name has an install code.
+/// Answers whether the node of a name has an install code.
 pub fn has_code(entries: &[Entry], name: &Name) -> bool
-    ensures { result ≡ list_any (λ entry. has_name name.now.bytes (seat_of entry) && is_some (seat_of entry).member.code) entries.now }
+    ensures { result ≡ list_any
+        (λ entry. has_name name.now.bytes (seat_of entry) && is_some (seat_of entry).node.code) entries.now }
 {
     entries.iter().any(|entry| entry.node.peer.name == *name && entry.node.code.is_some())
 }
 
-/// Whether the node of a name holds a network key.
+/// Answers whether the node of a name holds a network key.
 pub fn has_network(entries: &[Entry], name: &Name) -> bool
-    ensures { result ≡ list_any (λ entry. has_name name.now.bytes (seat_of entry) && is_some (seat_of entry).member.network) entries.now }
+    ensures { result ≡ list_any
+        (λ entry. has_name name.now.bytes (seat_of entry) && is_some (seat_of entry).node.network) entries.now }
 {
     entries.iter().any(|entry| entry.node.peer.name == *name && entry.node.network.is_some())
 }
 
-/// Whether a counter of the node of a name was declared.
+/// Answers whether a counter of the node of a name was declared.
 pub fn has_counter(entries: &[Entry], name: &Name, layer: Layer) -> bool
-    ensures { result ≡ list_any (λ entry. has_name name.now.bytes (seat_of entry) && is_declared layer (seat_of entry)) entries.now }
+    ensures { result ≡ list_any
+        (λ entry. has_name name.now.bytes (seat_of entry) && is_declared layer (seat_of entry)) entries.now }
 {
     entries.iter().any(|entry| entry.node.peer.name == *name && entry.is_declared(layer))
 }
 
-/// Whether a key is the link key of a node.
+/// Answers whether a key is the link key of a node.
 pub fn is_link(entries: &[Entry], key: &Key) -> bool
     ensures { result ≡ list_any (λ entry. is_linked key.now.0 entry) entries.now }
 {
     entries.iter().any(|entry| entry.has_link(key))
 }
 
-/// Whether a key is the link key of a node of another name.
+/// Answers whether a key is the link key of a node of another name.
 pub fn is_link_of_other(entries: &[Entry], key: &Key, name: &Name) -> bool
-    ensures { result ≡ list_any (λ entry. is_linked key.now.0 entry && not (has_name name.now.bytes (seat_of entry))) entries.now }
+    ensures { result ≡ list_any
+        (λ entry. is_linked key.now.0 entry && not (has_name name.now.bytes (seat_of entry))) entries.now }
 {
     entries.iter().any(|entry| entry.has_link(key) && entry.node.peer.name != *name)
 }
 
-/// Whether a key is the network key of a node.
+/// Answers whether a key is the network key of a node.
 pub fn is_network(entries: &[Entry], key: &Key) -> bool
-    ensures { result ≡ list_any (λ entry. is_key key.now.0 (network_of (seat_of entry).member)) entries.now }
+    ensures { result ≡ list_any (λ entry. is_key key.now.0 (network_of (seat_of entry).node)) entries.now }
 {
     entries.iter().any(|entry| entry.has_network(key))
 }
@@ -119,7 +125,8 @@ pub fn is_network(entries: &[Entry], key: &Key) -> bool
 /// Sets the install code of the node of a name, and its link key.
 pub fn set_code(entries: &mut Vec<Entry>, name: &Name, code: InstallCode, link: Key)
     requires { link.0 ≡ code_key code }
-    ensures seats { map seat_of entries.new.items ≡ changed name.now.bytes (λ seat. coded code seat) (map seat_of entries.old.items) }
+    ensures seats { map seat_of entries.new.items
+        ≡ changed name.now.bytes (λ seat. coded code seat) (map seat_of entries.old.items) }
     ensures linked { AllByRecursion IsLinked entries.old.items → AllByRecursion IsLinked entries.new.items }
 {
     match place(entries.as_slice(), name) {
@@ -130,7 +137,8 @@ pub fn set_code(entries: &mut Vec<Entry>, name: &Name, code: InstallCode, link: 
 
 /// Sets the network key of the node of a name.
 pub fn set_network(entries: &mut Vec<Entry>, name: &Name, key: Key, sequence: u8)
-    ensures seats { map seat_of entries.new.items ≡ changed name.now.bytes (λ seat. holding key.0 sequence seat) (map seat_of entries.old.items) }
+    ensures seats { map seat_of entries.new.items
+        ≡ changed name.now.bytes (λ seat. holding key.0 sequence seat) (map seat_of entries.old.items) }
     ensures linked { AllByRecursion IsLinked entries.old.items → AllByRecursion IsLinked entries.new.items }
 {
     match place(entries.as_slice(), name) {
@@ -141,7 +149,8 @@ pub fn set_network(entries: &mut Vec<Entry>, name: &Name, key: Key, sequence: u8
 
 /// Sets a stored outgoing limit of the node of a name.
 pub fn set_counter(entries: &mut Vec<Entry>, name: &Name, layer: Layer, limit: u32)
-    ensures seats { map seat_of entries.new.items ≡ changed name.now.bytes (λ seat. starting layer limit seat) (map seat_of entries.old.items) }
+    ensures seats { map seat_of entries.new.items
+        ≡ changed name.now.bytes (λ seat. starting layer limit seat) (map seat_of entries.old.items) }
     ensures linked { AllByRecursion IsLinked entries.old.items → AllByRecursion IsLinked entries.new.items }
 {
     match place(entries.as_slice(), name) {
@@ -150,7 +159,7 @@ pub fn set_counter(entries: &mut Vec<Entry>, name: &Name, layer: Layer, limit: u
     }
 }
 
-/// The nodes alone.
+/// Takes the nodes alone.
 pub fn nodes_of(alloc: Global, entries: Vec<Entry>) -> Result<Vec<Node>, AllocError>
     ensures { IfOk result (λ nodes. nodes.items ≡ map (λ entry. entry.node) entries.items) }
 {
@@ -161,9 +170,9 @@ pub fn nodes_of(alloc: Global, entries: Vec<Entry>) -> Result<Vec<Node>, AllocEr
     Ok(nodes)
 }
 
-/// Whether a node is the centre.
+/// Answers whether a node is the centre.
 pub fn has_centre(entries: &[Entry]) -> bool
-    ensures { result ≡ list_any (λ entry. is_centre (seat_of entry).member.role) entries.now }
+    ensures { result ≡ list_any (λ entry. is_centre (seat_of entry).node.role) entries.now }
 {
     entries.iter().any(|entry| match entry.node.peer.role {
         Role::Centre => true,
@@ -178,7 +187,7 @@ impl Entry {
     ghost use Rattle.zb_sched.specs.Judge.{is_declared, is_key, network_of, coded, holding, new_seat, starting};
     ghost use Rattle.zb_install.specs.Code.{code_key};
 
-    /// A node of which only its own line was read.
+    /// Makes a node of which only its own line was read.
     pub fn new(peer: Peer, out_block: u32, in_block: u32) -> Entry
         ensures seat { seat_of result ≡ new_seat peer.name.bytes peer.role peer.eui.0 peer.short.0 out_block in_block }
         ensures linked { IsLinked result }
@@ -261,7 +270,7 @@ impl Entry {
     }
 
     fn has_network(&self, key: &Key) -> bool
-        ensures { result ≡ is_key key.now.0 (network_of (seat_of self.now).member) }
+        ensures { result ≡ is_key key.now.0 (network_of (seat_of self.now).node) }
     {
         match &self.node.network {
             Some((held, _)) => held.0 == key.0,

@@ -1,6 +1,6 @@
 //! Why a text is no schedule.
 
-/// Why a line may not stand where it does, or that there is no centre.
+/// Says why a line may not stand where it does, or that there is no centre.
 #[derive(Clone, Copy, Debug, PartialEq, Eq)]
 pub enum SchedCause {
     /// The line is of no form, or a declaration behind an event.
@@ -23,7 +23,7 @@ pub enum SchedCause {
     TooMany,
 }
 
-/// The first bad line, from 1, and its first cause. That there is no centre is a fault behind the last line.
+/// Names the first bad line, from 1, and its first cause. That there is no centre is a fault behind the last line.
 #[derive(Clone, Copy, Debug, PartialEq, Eq)]
 pub struct SchedError {
     /// The number of the line.

@@ -5,23 +5,24 @@ ghost use Rattle.std.specs.Prelude.{◌≡◌, Ok, true};
 ghost use Rattle.zb_sched_line.specs.Fits.{FitsSentence};
 ghost use Rattle.zb_sched_line.specs.Said.{Sentence};
 ghost use Rattle.zb_sched.specs.Judge.{after_sentence, Seen};
-ghost use Rattle.zb_sched.specs.Plan.{Member, Plan};
+ghost use Rattle.zb_sched.specs.Schedules.{Node, Schedule};
 ghost use Rattle.zb_sched.specs.Printed.{printed};
-ghost use Rattle.zb_sched.specs.Reading.{finished, is_centre, schedule_of};
+ghost use Rattle.zb_sched.specs.Reading.{finished, is_centre, schedule_in};
 ghost use Rattle.zb_sched.specs.Valid.{IsSchedule, IsSoFar, Pairwise};
 
-/// A line that may stand behind others keeps what they keep.
+/// Says that a line that may stand behind others keeps what they keep.
 pub fn lines_keep_schedules()
     ensures { (seen next : Seen) (sentence : Sentence) → FitsSentence sentence → after_sentence seen sentence ≡ Ok next
         → IsSoFar (finished seen) → IsSoFar (finished next) }
 {}
 
-/// The printed text of a schedule reads as that schedule.
+/// Says that the printed text of a schedule reads as that schedule.
 pub fn printed_schedule_reads()
-    ensures { (plan : Plan) → IsSchedule plan → schedule_of (printed plan) ≡ Ok plan }
+    ensures { (schedule : Schedule) → IsSchedule schedule → schedule_in (printed schedule) ≡ Ok schedule }
 {}
 
-/// No two nodes of a schedule are centres.
+/// Says that no two nodes of a schedule are centres.
 pub fn schedules_have_one_centre()
-    ensures { (plan : Plan) → IsSchedule plan → Pairwise (λ (m n : Member). is_centre m.role ≡ true → is_centre n.role ≡ true → ⊥) plan.members }
+    ensures { (schedule : Schedule) → IsSchedule schedule
+        → Pairwise (λ (m n : Node). is_centre m.role ≡ true → is_centre n.role ≡ true → ⊥) schedule.nodes }
 {}

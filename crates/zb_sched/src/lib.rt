@@ -2,18 +2,17 @@
 //! schedules, and tells of others the first bad line and why; `write` prints the one text of a schedule.
 #![tactic(auto)]
 
-pub mod draft;
-pub mod entry;
-pub mod error;
-pub mod laws;
+mod draft;
+mod entry;
+mod error;
+mod laws;
 mod reader;
-pub mod schedule;
-pub mod supply;
-#[cfg(test)]
-mod tests;
+mod schedule;
+mod supply;
 mod writer;
 
 pub use error::{SchedCause, SchedError};
+pub use laws::{lines_keep_schedules, printed_schedule_reads, schedules_have_one_centre};
 pub use reader::read;
 pub use schedule::{Node, Schedule};
 pub use writer::write;

@@ -1,9 +1,9 @@
 //! The reader.
 
 ghost use Rattle.std.specs.Prelude.{◌≡◌, ◌-◌, ◌^◌, ◌<◌, length, IfOk, Ok};
-ghost use Rattle.zb_sched.specs.Plan.{plan_of};
+ghost use Rattle.zb_sched.specs.Schedules.{schedule_of};
 ghost use Rattle.zb_sched.specs.Printed.{printed};
-ghost use Rattle.zb_sched.specs.Reading.{Reads, schedule_of};
+ghost use Rattle.zb_sched.specs.Reading.{Reads, schedule_in};
 ghost use Rattle.zb_sched.specs.Valid.{IsSchedule};
 
 use crate::draft::Draft;
@@ -13,13 +13,15 @@ use std::alloc::Global;
 use zb_base::OrMemory;
 use zb_text::lines::next_line;
 
-/// Reads a schedule. The error is the first bad line, with the first of its causes. What is read and then printed reads
-/// as itself.
+/// Reads a schedule. What is read and then printed reads as itself. Requires a text shorter than 4 GiB - 1.
+///
+/// # Errors
+/// The first bad line, with the first of its causes; or want of memory.
 pub fn read(alloc: Global, text: &[u8]) -> Result<Schedule, OrMemory<SchedError>>
     requires { length text.now < 2 ^ 32 - 1 }
-    ensures exact { Reads result (schedule_of text.now) }
-    ensures valid { IfOk result (λ schedule. IsSchedule (plan_of schedule)) }
-    ensures again { IfOk result (λ schedule. schedule_of (printed (plan_of schedule)) ≡ Ok (plan_of schedule)) }
+    ensures exact { Reads result (schedule_in text.now) }
+    ensures valid { IfOk result (λ schedule. IsSchedule (schedule_of schedule)) }
+    ensures again { IfOk result (λ schedule. schedule_in (printed (schedule_of schedule)) ≡ Ok (schedule_of schedule)) }
 {
     let mut draft = Draft::new(alloc);
     let mut rest = text;

@@ -9,7 +9,7 @@ use std::collections::BTreeSet;
 use std::marker::Model;
 use zb_base::Key;
 
-/// Distinct keys in their order.
+/// Holds distinct keys in their order.
 #[derive(Drop)]
 pub struct Supply {
     keys: Vec<Key>,
@@ -28,7 +28,7 @@ impl Model for Supply {
 }
 
 impl Supply {
-    /// No keys.
+    /// Makes a supply of no keys.
     pub fn new(alloc: Global) -> Supply
         ensures { result ≡ [] }
     {
@@ -38,7 +38,7 @@ impl Supply {
         }
     }
 
-    /// Whether a key is among them.
+    /// Answers whether a key is among them.
     pub fn has(&self, key: &Key) -> bool
         ensures { result ≡ is_drawn key.now.0 self.now }
     {
@@ -59,7 +59,7 @@ impl Supply {
         }
     }
 
-    /// The keys in their order.
+    /// Takes the keys out, in their order.
     pub fn into_keys(self) -> Vec<Key>
         ensures { map (λ key. key.0) result.items ≡ self }
     {

@@ -7,19 +7,17 @@ ghost use Rattle.zb_base.specs.declared.fault.OrMemory.TheVariants.{NoMemory};
 ghost use Rattle.zb_sched.specs.Faults.{write_fault};
 ghost use Rattle.std.specs.List.{flat_map};
 ghost use Rattle.zb_text.specs.Pages.{page};
-ghost use Rattle.zb_sched_line.specs.Views.{act_of};
-ghost use Rattle.zb_sched.specs.Plan.{member_of, plan_of};
-ghost use Rattle.zb_sched.specs.Printed.{act_line, code_lines, counter_line, counter_lines, draw_line, netkey_lines, node_line, printed};
+ghost use Rattle.zb_sched_line.specs.Views.{event_of};
+ghost use Rattle.zb_sched.specs.Schedules.{node_of, schedule_of};
+ghost use Rattle.zb_sched.specs.Printed.{event_line, code_lines, counter_line, counter_lines, draw_line, netkey_lines, node_line, printed};
 
 use crate::schedule::{Node, Schedule};
 use std::alloc::{AllocError, Global};
 use zb_base::{Failed, Key, Layer, OrMemory, Sink};
-use zb_sched_line::Event;
-use zb_sched_line::print::{put_code, put_counter, put_draw, put_netkey, put_node};
-use zb_sched_line::print_event::put_event;
+use zb_sched_line::{Event, put_code, put_counter, put_draw, put_event, put_netkey, put_node};
 
 fn put_nodes(out: &mut Vec<u8>, nodes: &[Node]) -> Result<(), AllocError>
-    ensures { OnOk result (out.new.items ≡ out.old.items ++ page (map (λ node. node_line (member_of node)) nodes.now)) }
+    ensures { OnOk result (out.new.items ≡ out.old.items ++ page (map (λ node. node_line (node_of node)) nodes.now)) }
 {
     for node in nodes {
         put_node(out, &node.peer, node.out_block, node.in_block)?;
@@ -28,7 +26,8 @@ fn put_nodes(out: &mut Vec<u8>, nodes: &[Node]) -> Result<(), AllocError>
 }
 
 fn put_codes(out: &mut Vec<u8>, nodes: &[Node]) -> Result<(), AllocError>
-    ensures { OnOk result (out.new.items ≡ out.old.items ++ page (flat_map (λ node. code_lines (member_of node)) nodes.now)) }
+    ensures { OnOk result
+        (out.new.items ≡ out.old.items ++ page (flat_map (λ node. code_lines (node_of node)) nodes.now)) }
 {
     for node in nodes {
         put_own_code(out, node)?;
@@ -37,7 +36,7 @@ fn put_codes(out: &mut Vec<u8>, nodes: &[Node]) -> Result<(), AllocError>
 }
 
 fn put_own_code(out: &mut Vec<u8>, node: &Node) -> Result<(), AllocError>
-    ensures { OnOk result (out.new.items ≡ out.old.items ++ page (code_lines (member_of node.now))) }
+    ensures { OnOk result (out.new.items ≡ out.old.items ++ page (code_lines (node_of node.now))) }
 {
     match &node.code {
         Some(code) => put_code(out, &node.peer.name, code.bytes())?,
@@ -47,7 +46,8 @@ fn put_own_code(out: &mut Vec<u8>, node: &Node) -> Result<(), AllocError>
 }
 
 fn put_netkeys(out: &mut Vec<u8>, nodes: &[Node]) -> Result<(), AllocError>
-    ensures { OnOk result (out.new.items ≡ out.old.items ++ page (flat_map (λ node. netkey_lines (member_of node)) nodes.now)) }
+    ensures { OnOk result
+        (out.new.items ≡ out.old.items ++ page (flat_map (λ node. netkey_lines (node_of node)) nodes.now)) }
 {
     for node in nodes {
         put_own_netkey(out, node)?;
@@ -56,7 +56,7 @@ fn put_netkeys(out: &mut Vec<u8>, nodes: &[Node]) -> Result<(), AllocError>
 }
 
 fn put_own_netkey(out: &mut Vec<u8>, node: &Node) -> Result<(), AllocError>
-    ensures { OnOk result (out.new.items ≡ out.old.items ++ page (netkey_lines (member_of node.now))) }
+    ensures { OnOk result (out.new.items ≡ out.old.items ++ page (netkey_lines (node_of node.now))) }
 {
     match &node.network {
         Some((key, sequence)) => put_netkey(out, &node.peer.name, key, *sequence)?,
@@ -66,7 +66,8 @@ fn put_own_netkey(out: &mut Vec<u8>, node: &Node) -> Result<(), AllocError>
 }
 
 fn put_counters(out: &mut Vec<u8>, nodes: &[Node]) -> Result<(), AllocError>
-    ensures { OnOk result (out.new.items ≡ out.old.items ++ page (flat_map (λ node. counter_lines (member_of node)) nodes.now)) }
+    ensures { OnOk result
+        (out.new.items ≡ out.old.items ++ page (flat_map (λ node. counter_lines (node_of node)) nodes.now)) }
 {
     for node in nodes {
         put_own_counters(out, node)?;
@@ -75,7 +76,7 @@ fn put_counters(out: &mut Vec<u8>, nodes: &[Node]) -> Result<(), AllocError>
 }
 
 fn put_own_counters(out: &mut Vec<u8>, node: &Node) -> Result<(), AllocError>
-    ensures { OnOk result (out.new.items ≡ out.old.items ++ page (counter_lines (member_of node.now))) }
+    ensures { OnOk result (out.new.items ≡ out.old.items ++ page (counter_lines (node_of node.now))) }
 {
     put_own_counter(out, node, Layer::Nwk, node.start_nwk)?;
     put_own_counter(out, node, Layer::Aps, node.start_aps)?;
@@ -106,7 +107,8 @@ fn put_draws(out: &mut Vec<u8>, draws: &[Key]) -> Result<(), AllocError>
 }
 
 fn put_events(out: &mut Vec<u8>, events: &[Event]) -> Result<(), AllocError>
-    ensures { OnOk result (out.new.items ≡ out.old.items ++ page (map (λ event. act_line (act_of event)) events.now)) }
+    ensures { OnOk result
+        (out.new.items ≡ out.old.items ++ page (map (λ event. event_line (event_of event)) events.now)) }
 {
     for event in events {
         put_event(out, event)?;
@@ -115,13 +117,17 @@ fn put_events(out: &mut Vec<u8>, events: &[Event]) -> Result<(), AllocError>
 }
 
 /// Prints the one text of a schedule into a sink.
+///
+/// # Errors
+/// A sink that failed has a front of the text; where memory lacks, it has nothing.
 pub fn write<W: Sink>(
     alloc: Global,
     schedule: &Schedule,
     out: &mut W,
 ) -> Result<(), OrMemory<Failed>>
-    ensures whole { OnOk result (Appends (W.taken out.old) (W.taken out.new) (printed (plan_of schedule.now))) }
-    ensures front { IfErr result (λ fault. AppendsFront (W.taken out.old) (W.taken out.new) (printed (plan_of schedule.now))) }
+    ensures whole { OnOk result (Appends (W.taken out.old) (W.taken out.new) (printed (schedule_of schedule.now))) }
+    ensures front { IfErr result
+        (λ fault. AppendsFront (W.taken out.old) (W.taken out.new) (printed (schedule_of schedule.now))) }
     ensures unwritten { result ≡ Err NoMemory → Keeps (W.taken out.old) (W.taken out.new) }
     ensures cause { HasCause (W.faults out.old) (W.faults out.new) (write_fault result) }
 {
@@ -137,7 +143,7 @@ pub fn write<W: Sink>(
 }
 
 fn put_schedule(out: &mut Vec<u8>, schedule: &Schedule) -> Result<(), AllocError>
-    ensures { OnOk result (out.new.items ≡ out.old.items ++ printed (plan_of schedule.now)) }
+    ensures { OnOk result (out.new.items ≡ out.old.items ++ printed (schedule_of schedule.now)) }
 {
     put_nodes(out, schedule.nodes.as_slice())?;
     put_codes(out, schedule.nodes.as_slice())?;

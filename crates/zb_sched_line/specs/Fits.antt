@@ -3,10 +3,9 @@ use Rattle.std.specs.Prelude.{◌≡◌, ℕ, ◌^◌, ◌<◌, ◌≤◌, List,
 use Rattle.hex.specs.Hex.{IsBytes}
 use Rattle.zb_text.specs.Fields.{is_name}
 use Rattle.zb_sched_line.specs.Codes.{is_code}
-use Rattle.zb_sched_line.specs.Grammar.{greatest, is_real_eui, is_short_of, Sealed}
-use Rattle.zb_sched_line.specs.Said.{Bytes, Act, Says, Delivers, Ticks, Knocks, Rejoins, Adopts, Provisions, Repeats, Rolls, Switches, Removes, Resets, Boots, Dumps, Stops, Fails, Injects, ForgesNet, ForgesBoth, ForgesOpen, Asks, Shares, Tells, Sentence, Quiet, Introduces, Codes, Holds, Starts, Draws, Misprovisions, Happens}
+use Rattle.zb_sched_line.specs.Grammar.{greatest, is_aps_label, is_real_eui, is_short_of, Sealed}
+use Rattle.zb_sched_line.specs.Said.{Bytes, Event, Says, Delivers, Ticks, Knocks, Rejoins, Adopts, Provisions, Repeats, Rolls, Switches, Removes, Resets, Boots, Dumps, Stops, Fails, Injects, ForgesNet, ForgesBoth, ForgesOpen, Asks, Shares, Tells, Sentence, Quiet, Introduces, Codes, Holds, Starts, Draws, Misprovisions, Happens}
 use Rattle.zb_base.specs.declared.label.Label.{Label}
-use Rattle.zb_base.specs.declared.label.Label.TheVariants.{Data, Network, Transport, Load}
 
 abbrev pub IsName : Bytes → Type 0
 IsName name = is_name name ≡ true
@@ -26,44 +25,40 @@ SomeUpTo limit bytes = (0 < length bytes) × (length bytes ≤ limit) × IsBytes
 abbrev pub IsCode : Bytes → Type 0
 IsCode code = (is_code code ≡ true) × IsBytes code
 
--- The key identifiers of an APS command: not that of the network layer.
 abbrev pub IsApsLabel : Label → Type 0
-IsApsLabel Data = ⊤
-IsApsLabel Network = ⊥
-IsApsLabel Transport = ⊤
-IsApsLabel Load = ⊤
+IsApsLabel label = is_aps_label label ≡ true
 
 abbrev pub FitsSealed : Sealed → Type 0
 FitsSealed part = IsApsLabel part.label × IsKey part.base × (part.counter ≤ greatest) × SomeUpTo 64 part.command
 
-abbrev pub FitsAct : Act → Type 0
-FitsAct (Says name to bytes) = IsName name × (to < 2 ^ 16) × AtMost 64 bytes
-FitsAct (Delivers frame name) = (1 ≤ frame) × (frame ≤ greatest) × IsName name
-FitsAct (Ticks name) = IsName name
-FitsAct (Knocks name) = IsName name
-FitsAct (Rejoins name) = IsName name
-FitsAct (Adopts parent name rejoin) = IsName parent × IsName name
-FitsAct (Provisions name code) = IsName name × IsCode code
-FitsAct (Repeats name) = IsName name
-FitsAct Rolls = ⊤
-FitsAct Switches = ⊤
-FitsAct (Removes name parent) = IsName name × IsName parent
-FitsAct (Resets name) = IsName name
-FitsAct (Boots name) = IsName name
-FitsAct (Dumps name) = IsName name
-FitsAct (Stops name calls torn) = IsName name × (calls ≤ 5) × AtMost 32 torn
-FitsAct (Fails name call) = IsName name × (1 ≤ call) × (call ≤ 6)
-FitsAct (Injects bytes) = SomeUpTo 127 bytes
-FitsAct (ForgesNet to from source key sequence counter content) =
+abbrev pub FitsEvent : Event → Type 0
+FitsEvent (Says name to bytes) = IsName name × (to < 2 ^ 16) × AtMost 64 bytes
+FitsEvent (Delivers frame name) = (1 ≤ frame) × (frame ≤ greatest) × IsName name
+FitsEvent (Ticks name) = IsName name
+FitsEvent (Knocks name) = IsName name
+FitsEvent (Rejoins name) = IsName name
+FitsEvent (Adopts parent name rejoin) = IsName parent × IsName name
+FitsEvent (Provisions name code) = IsName name × IsCode code
+FitsEvent (Repeats name) = IsName name
+FitsEvent Rolls = ⊤
+FitsEvent Switches = ⊤
+FitsEvent (Removes name parent) = IsName name × IsName parent
+FitsEvent (Resets name) = IsName name
+FitsEvent (Boots name) = IsName name
+FitsEvent (Dumps name) = IsName name
+FitsEvent (Stops name calls torn) = IsName name × (calls ≤ 5) × AtMost 32 torn
+FitsEvent (Fails name call) = IsName name × (1 ≤ call) × (call ≤ 6)
+FitsEvent (Injects bytes) = SomeUpTo 127 bytes
+FitsEvent (ForgesNet to from source key sequence counter content) =
     (to < 2 ^ 16) × (from < 2 ^ 16) × IsEui source × IsKey key × (sequence ≤ 255) × (counter ≤ greatest) × SomeUpTo 64 content
-FitsAct (ForgesBoth to from source key sequence counter label base aps_counter command) =
+FitsEvent (ForgesBoth to from source key sequence counter label base aps_counter command) =
     (to < 2 ^ 16) × (from < 2 ^ 16) × IsEui source × IsKey key × (sequence ≤ 255) × (counter ≤ greatest)
     × FitsSealed (record { label = label; base = base; counter = aps_counter; command = command })
-FitsAct (ForgesOpen to from source label base aps_counter command) =
+FitsEvent (ForgesOpen to from source label base aps_counter command) =
     (to < 2 ^ 16) × (from < 2 ^ 16) × IsEui source × FitsSealed (record { label = label; base = base; counter = aps_counter; command = command })
-FitsAct (Asks name partner) = IsName name × IsName partner
-FitsAct (Shares name partner) = IsName name × IsName partner
-FitsAct (Tells name partner bytes) = IsName name × IsName partner × AtMost 64 bytes
+FitsEvent (Asks name partner) = IsName name × IsName partner
+FitsEvent (Shares name partner) = IsName name × IsName partner
+FitsEvent (Tells name partner bytes) = IsName name × IsName partner × AtMost 64 bytes
 
 abbrev pub FitsCode : Option Bytes → Type 0
 FitsCode None = ⊤
@@ -78,4 +73,4 @@ FitsSentence (Holds name key sequence) = IsName name × IsKey key × (sequence �
 FitsSentence (Starts name layer limit) = IsName name × (limit ≤ greatest)
 FitsSentence (Draws key) = IsKey key
 FitsSentence (Misprovisions name) = IsName name
-FitsSentence (Happens act) = FitsAct act
+FitsSentence (Happens event) = FitsEvent event

@@ -2,17 +2,16 @@
 use Rattle.std.specs.Prelude.{ℕ, ◌-◌, ◌^◌, ◌==◌, ◌&&◌, ◌||◌, not, nat_lt, nat_le, List, [], ◌∷◌, length, slice_index, codes, bytes_eq, Bool, true, false, if◌then◌else◌, Option, Some, None}
 use Rattle.std.specs.Option.{option_map}
 use Rattle.zb_base.specs.declared.label.Label.{Label}
-use Rattle.zb_base.specs.declared.label.Label.TheVariants.{Data, Transport, Load}
-use Rattle.zb_base.specs.declared.label.Layer.{Layer}
-use Rattle.zb_base.specs.declared.label.Layer.TheVariants.{Nwk, Aps}
+use Rattle.zb_base.specs.declared.label.Label.TheVariants.{Data, Network, Transport, Load}
 use Rattle.zb_base.specs.declared.node.Role.{Role}
 use Rattle.zb_base.specs.declared.node.Role.TheVariants.{Centre, Router, Device}
+use Rattle.zb_text.specs.Choices.{role_of, layer_of, label_of}
 use Rattle.zb_text.specs.Fields.{name_of, eui_of, short_of, key_of}
 use Rattle.zb_text.specs.Hexadecimal.{bytes_of}
 use Rattle.zb_text.specs.Numbers.{number_of}
 use Rattle.zb_text.specs.Words.{words, first_of, field, nothing}
 use Rattle.zb_sched_line.specs.Codes.{is_code}
-use Rattle.zb_sched_line.specs.Said.{Bytes, Act, Says, Delivers, Ticks, Knocks, Rejoins, Adopts, Provisions, Repeats, Rolls, Switches, Removes, Resets, Boots, Dumps, Stops, Fails, Injects, ForgesNet, ForgesBoth, ForgesOpen, Asks, Shares, Tells, Sentence, Quiet, Introduces, Codes, Holds, Starts, Draws, Misprovisions, Happens}
+use Rattle.zb_sched_line.specs.Said.{Bytes, Event, Says, Delivers, Ticks, Knocks, Rejoins, Adopts, Provisions, Repeats, Rolls, Switches, Removes, Resets, Boots, Dumps, Stops, Fails, Injects, ForgesNet, ForgesBoth, ForgesOpen, Asks, Shares, Tells, Sentence, Quiet, Introduces, Codes, Holds, Starts, Draws, Misprovisions, Happens}
 
 -- The next step of a grammar, where the one before it found what it wants.
 infixl 10 ◌>>=◌
@@ -50,32 +49,21 @@ some_bytes_of limit word = kept (λ bytes. nat_lt 0 (length bytes)) (bytes_of li
 abbrev pub literal : List ℕ → List ℕ → Option Unit
 literal expected word = if bytes_eq word expected then Some tt else None
 
-abbrev pub role_of : List ℕ → Option Role
-role_of word =
-    if bytes_eq word (codes "centre") then Some Centre
-    else if bytes_eq word (codes "router") then Some Router
-    else if bytes_eq word (codes "device") then Some Device
-    else None
-
 -- The short address of the centre is 0, and that of others 0001 to FFF7 (05-3474-21, 3.6.1).
 abbrev pub is_short_of : Role → ℕ → Bool
 is_short_of Centre short = short == 0
 is_short_of Router short = nat_le 1 short && nat_le short 65527
 is_short_of Device short = nat_le 1 short && nat_le short 65527
 
-abbrev pub layer_of : List ℕ → Option Layer
-layer_of word =
-    if bytes_eq word (codes "nwk") then Some Nwk
-    else if bytes_eq word (codes "aps") then Some Aps
-    else None
+-- The key identifiers of an APS command: not that of the network layer.
+abbrev pub is_aps_label : Label → Bool
+is_aps_label Data = true
+is_aps_label Network = false
+is_aps_label Transport = true
+is_aps_label Load = true
 
--- The key identifiers of an APS command.
-abbrev pub label_of : List ℕ → Option Label
-label_of word =
-    if bytes_eq word (codes "data") then Some Data
-    else if bytes_eq word (codes "transport") then Some Transport
-    else if bytes_eq word (codes "load") then Some Load
-    else None
+abbrev pub aps_label_of : List ℕ → Option Label
+aps_label_of word = kept is_aps_label (label_of word)
 
 -- `join` is no rejoin.
 abbrev pub rejoin_of : List ℕ → Option Bool
@@ -145,7 +133,7 @@ two_names ws = do
   end ← nothing second.1
   Some (first.0, second.0)
 
-abbrev pub say_of : List (List ℕ) → Option Act
+abbrev pub say_of : List (List ℕ) → Option Event
 say_of ws = do
   name ← field name_of ws
   to ← field short_of name.1
@@ -153,14 +141,14 @@ say_of ws = do
   end ← nothing bytes.1
   Some (Says name.0 to.0 bytes.0)
 
-abbrev pub deliver_of : List (List ℕ) → Option Act
+abbrev pub deliver_of : List (List ℕ) → Option Event
 deliver_of ws = do
   frame ← field (number_from 1 greatest) ws
   name ← field name_of frame.1
   end ← nothing name.1
   Some (Delivers frame.0 name.0)
 
-abbrev pub child_of : List (List ℕ) → Option Act
+abbrev pub child_of : List (List ℕ) → Option Event
 child_of ws = do
   parent ← field name_of ws
   name ← field name_of parent.1
@@ -168,7 +156,7 @@ child_of ws = do
   end ← nothing rejoin.1
   Some (Adopts parent.0 name.0 rejoin.0)
 
-abbrev pub remove_of : List (List ℕ) → Option Act
+abbrev pub remove_of : List (List ℕ) → Option Event
 remove_of ws = do
   name ← field name_of ws
   via ← field (literal (codes "via")) name.1
@@ -176,7 +164,7 @@ remove_of ws = do
   end ← nothing parent.1
   Some (Removes name.0 parent.0)
 
-abbrev pub stop_of : List (List ℕ) → Option Act
+abbrev pub stop_of : List (List ℕ) → Option Event
 stop_of ws = do
   name ← field name_of ws
   calls ← field (number_of 5) name.1
@@ -184,20 +172,20 @@ stop_of ws = do
   end ← nothing torn.1
   Some (Stops name.0 calls.0 torn.0)
 
-abbrev pub fail_of : List (List ℕ) → Option Act
+abbrev pub fail_of : List (List ℕ) → Option Event
 fail_of ws = do
   name ← field name_of ws
   call ← field (number_from 1 6) name.1
   end ← nothing call.1
   Some (Fails name.0 call.0)
 
-abbrev pub inject_of : List (List ℕ) → Option Act
+abbrev pub inject_of : List (List ℕ) → Option Event
 inject_of ws = do
   bytes ← field (some_bytes_of 127) ws
   end ← nothing bytes.1
   Some (Injects bytes.0)
 
-abbrev pub tell_of : List (List ℕ) → Option Act
+abbrev pub tell_of : List (List ℕ) → Option Event
 tell_of ws = do
   name ← field name_of ws
   partner ← field name_of name.1
@@ -228,7 +216,7 @@ pub record Sealed : Type 0 where
 
 abbrev pub sealed_of : List (List ℕ) → Option Sealed
 sealed_of ws = do
-  label ← field label_of ws
+  label ← field aps_label_of ws
   base ← field key_of label.1
   counter ← field (number_of greatest) base.1
   command ← field (some_bytes_of 64) counter.1
@@ -242,12 +230,12 @@ last_content word ws = do
   end ← nothing ws
   Some content
 
-abbrev pub forge_content : ℕ → ℕ → ℕ → Bytes → ℕ → ℕ → List ℕ → List (List ℕ) → Option Act
+abbrev pub forge_content : ℕ → ℕ → ℕ → Bytes → ℕ → ℕ → List ℕ → List (List ℕ) → Option Event
 forge_content to from source key sequence counter word ws =
     if bytes_eq word (codes "aps") then option_map (λ part. ForgesBoth to from source key sequence counter part.label part.base part.counter part.command) (sealed_of ws)
     else option_map (λ content. ForgesNet to from source key sequence counter content) (last_content word ws)
 
-abbrev pub forge_net_of : ℕ → ℕ → ℕ → List (List ℕ) → Option Act
+abbrev pub forge_net_of : ℕ → ℕ → ℕ → List (List ℕ) → Option Event
 forge_net_of to from source ws = do
   key ← field key_of ws
   sequence ← field (number_of 255) key.1
@@ -255,13 +243,13 @@ forge_net_of to from source ws = do
   next ← first_of counter.1
   forge_content to from source key.0 sequence.0 counter.0 next.0 next.1
 
-abbrev pub forge_open_of : ℕ → ℕ → ℕ → List (List ℕ) → Option Act
+abbrev pub forge_open_of : ℕ → ℕ → ℕ → List (List ℕ) → Option Event
 forge_open_of to from source ws = do
   aps ← field (literal (codes "aps")) ws
   part ← sealed_of aps.1
   Some (ForgesOpen to from source part.label part.base part.counter part.command)
 
-abbrev pub forge_of : List (List ℕ) → Option Act
+abbrev pub forge_of : List (List ℕ) → Option Event
 forge_of ws = do
   to ← field short_of ws
   from ← field short_of to.1
@@ -272,8 +260,8 @@ forge_of ws = do
 -- ---- lines
 
 -- Events of one node.
-abbrev pub own_act : List ℕ → List (List ℕ) → Option Act
-own_act word ws =
+abbrev pub own_event : List ℕ → List (List ℕ) → Option Event
+own_event word ws =
     if bytes_eq word (codes "say") then say_of ws
     else if bytes_eq word (codes "deliver") then deliver_of ws
     else if bytes_eq word (codes "timer") then option_map Ticks (name_alone ws)
@@ -287,8 +275,8 @@ own_act word ws =
     else None
 
 -- Events of the centre, of two nodes, and of the air.
-abbrev pub other_act : List ℕ → List (List ℕ) → Option Act
-other_act word ws =
+abbrev pub other_event : List ℕ → List (List ℕ) → Option Event
+other_event word ws =
     if bytes_eq word (codes "inject") then inject_of ws
     else if bytes_eq word (codes "forge") then forge_of ws
     else if bytes_eq word (codes "child") then child_of ws
@@ -326,4 +314,4 @@ meaning_of line =
     if is_quiet line then Some Quiet
     else do
       first ← first_of (words (Some line))
-      or_else (option_map Happens (own_act first.0 first.1)) (or_else (declaration first.0 first.1) (option_map Happens (other_act first.0 first.1)))
+      or_else (option_map Happens (own_event first.0 first.1)) (or_else (declaration first.0 first.1) (option_map Happens (other_event first.0 first.1)))

@@ -9,40 +9,40 @@ abbrev pub Bytes : Type 0
 Bytes = List ℕ
 
 -- An event.
-pub data Act : Type 0 where
+pub data Event : Type 0 where
   -- a node sends application bytes
-  Says : (name : Bytes) (to : ℕ) (bytes : Bytes) → Act
+  Says : (name : Bytes) (to : ℕ) (bytes : Bytes) → Event
   -- a frame that went on the air arrives at a node
-  Delivers : (frame : ℕ) (name : Bytes) → Act
+  Delivers : (frame : ℕ) (name : Bytes) → Event
   -- a node's timer
-  Ticks : (name : Bytes) → Act
+  Ticks : (name : Bytes) → Event
   -- a router or device starts to join, or to rejoin
-  Knocks : (name : Bytes) → Act
-  Rejoins : (name : Bytes) → Act
+  Knocks : (name : Bytes) → Event
+  Rejoins : (name : Bytes) → Event
   -- a parent hears a child that joins or rejoins
-  Adopts : (parent : Bytes) (name : Bytes) (rejoin : Bool) → Act
+  Adopts : (parent : Bytes) (name : Bytes) (rejoin : Bool) → Event
   -- the centre: a device's install code is entered, it is sent the network key again, a new network key, the switch
   -- to it, and a device is removed by way of a parent
-  Provisions : (name : Bytes) (code : Bytes) → Act
-  Repeats : (name : Bytes) → Act
-  Rolls : Act
-  Switches : Act
-  Removes : (name : Bytes) (parent : Bytes) → Act
+  Provisions : (name : Bytes) (code : Bytes) → Event
+  Repeats : (name : Bytes) → Event
+  Rolls : Event
+  Switches : Event
+  Removes : (name : Bytes) (parent : Bytes) → Event
   -- power and disk
-  Resets : (name : Bytes) → Act
-  Boots : (name : Bytes) → Act
-  Dumps : (name : Bytes) → Act
-  Stops : (name : Bytes) (calls : ℕ) (torn : Bytes) → Act
-  Fails : (name : Bytes) (call : ℕ) → Act
+  Resets : (name : Bytes) → Event
+  Boots : (name : Bytes) → Event
+  Dumps : (name : Bytes) → Event
+  Stops : (name : Bytes) (calls : ℕ) (torn : Bytes) → Event
+  Fails : (name : Bytes) (call : ℕ) → Event
   -- the hostile air: bytes, and frames sealed by an outsider
-  Injects : (bytes : Bytes) → Act
-  ForgesNet : (to from source : ℕ) (key : Bytes) (sequence counter : ℕ) (content : Bytes) → Act
-  ForgesBoth : (to from source : ℕ) (key : Bytes) (sequence counter : ℕ) (label : Label) (base : Bytes) (aps_counter : ℕ) (command : Bytes) → Act
-  ForgesOpen : (to from source : ℕ) (label : Label) (base : Bytes) (aps_counter : ℕ) (command : Bytes) → Act
+  Injects : (bytes : Bytes) → Event
+  ForgesNet : (to from source : ℕ) (key : Bytes) (sequence counter : ℕ) (content : Bytes) → Event
+  ForgesBoth : (to from source : ℕ) (key : Bytes) (sequence counter : ℕ) (label : Label) (base : Bytes) (aps_counter : ℕ) (command : Bytes) → Event
+  ForgesOpen : (to from source : ℕ) (label : Label) (base : Bytes) (aps_counter : ℕ) (command : Bytes) → Event
   -- application link keys: a device asks for one, the centre shares it with the partner, a device uses it
-  Asks : (name : Bytes) (partner : Bytes) → Act
-  Shares : (name : Bytes) (partner : Bytes) → Act
-  Tells : (name : Bytes) (partner : Bytes) (bytes : Bytes) → Act
+  Asks : (name : Bytes) (partner : Bytes) → Event
+  Shares : (name : Bytes) (partner : Bytes) → Event
+  Tells : (name : Bytes) (partner : Bytes) (bytes : Bytes) → Event
 
 -- A line.
 pub data Sentence : Type 0 where
@@ -57,4 +57,4 @@ pub data Sentence : Type 0 where
   Draws : (key : Bytes) → Sentence
   -- an event whose bytes are no install code, and any other event
   Misprovisions : (name : Bytes) → Sentence
-  Happens : (act : Act) → Sentence
+  Happens : (event : Event) → Sentence

@@ -2,34 +2,21 @@
 use Rattle.std.specs.Prelude.{ℕ, List, [], ◌∷◌, codes, decimal, Bool, true, false}
 use Rattle.hex.specs.Hex.{encode_upper}
 use Rattle.zb_base.specs.declared.label.Label.{Label}
-use Rattle.zb_base.specs.declared.label.Label.TheVariants.{Data, Network, Transport, Load}
 use Rattle.zb_base.specs.declared.label.Layer.{Layer}
-use Rattle.zb_base.specs.declared.label.Layer.TheVariants.{Nwk, Aps}
 use Rattle.zb_base.specs.declared.node.Role.{Role}
-use Rattle.zb_base.specs.declared.node.Role.TheVariants.{Centre, Router, Device}
+use Rattle.zb_text.specs.Choices.{role_text, layer_text, label_text}
 use Rattle.zb_text.specs.Fields.{eui_text, short_text}
 use Rattle.zb_text.specs.Hexadecimal.{bytes_text}
 use Rattle.zb_text.specs.Pages.{line_of_words, ended}
-use Rattle.zb_sched_line.specs.Said.{Bytes, Act, Says, Delivers, Ticks, Knocks, Rejoins, Adopts, Provisions, Repeats, Rolls, Switches, Removes, Resets, Boots, Dumps, Stops, Fails, Injects, ForgesNet, ForgesBoth, ForgesOpen, Asks, Shares, Tells}
-
-abbrev pub role_text : Role → List ℕ
-role_text Centre = codes "centre"
-role_text Router = codes "router"
-role_text Device = codes "device"
-
-abbrev pub layer_text : Layer → List ℕ
-layer_text Nwk = codes "nwk"
-layer_text Aps = codes "aps"
-
-abbrev pub label_text : Label → List ℕ
-label_text Data = codes "data"
-label_text Network = codes "network"
-label_text Transport = codes "transport"
-label_text Load = codes "load"
+use Rattle.zb_sched_line.specs.Said.{Bytes, Event, Says, Delivers, Ticks, Knocks, Rejoins, Adopts, Provisions, Repeats, Rolls, Switches, Removes, Resets, Boots, Dumps, Stops, Fails, Injects, ForgesNet, ForgesBoth, ForgesOpen, Asks, Shares, Tells}
 
 abbrev pub rejoin_text : Bool → List ℕ
 rejoin_text false = codes "join"
 rejoin_text true = codes "rejoin"
+
+-- The text of a line of some words, with its end.
+abbrev pub text_of_words : List (List ℕ) → List ℕ
+text_of_words words = ended (line_of_words words)
 
 -- ---- declarations
 
@@ -54,35 +41,35 @@ draw_words key = codes "draw" ∷ encode_upper key ∷ []
 abbrev pub sealed_words : Label → Bytes → ℕ → Bytes → List (List ℕ)
 sealed_words label base counter command = codes "aps" ∷ label_text label ∷ encode_upper base ∷ decimal counter ∷ bytes_text command ∷ []
 
-abbrev pub act_words : Act → List (List ℕ)
-act_words (Says name to bytes) = codes "say" ∷ name ∷ short_text to ∷ bytes_text bytes ∷ []
-act_words (Delivers frame name) = codes "deliver" ∷ decimal frame ∷ name ∷ []
-act_words (Ticks name) = codes "timer" ∷ name ∷ []
-act_words (Knocks name) = codes "knock" ∷ name ∷ []
-act_words (Rejoins name) = codes "rejoin" ∷ name ∷ []
-act_words (Adopts parent name rejoin) = codes "child" ∷ parent ∷ name ∷ rejoin_text rejoin ∷ []
-act_words (Provisions name code) = codes "provision" ∷ name ∷ bytes_text code ∷ []
-act_words (Repeats name) = codes "again" ∷ name ∷ []
-act_words Rolls = codes "roll" ∷ []
-act_words Switches = codes "switch" ∷ []
-act_words (Removes name parent) = codes "remove" ∷ name ∷ codes "via" ∷ parent ∷ []
-act_words (Resets name) = codes "reset" ∷ name ∷ []
-act_words (Boots name) = codes "boot" ∷ name ∷ []
-act_words (Dumps name) = codes "dump" ∷ name ∷ []
-act_words (Stops name calls torn) = codes "stop" ∷ name ∷ decimal calls ∷ bytes_text torn ∷ []
-act_words (Fails name call) = codes "fail" ∷ name ∷ decimal call ∷ []
-act_words (Injects bytes) = codes "inject" ∷ bytes_text bytes ∷ []
-act_words (ForgesNet to from source key sequence counter content) =
+abbrev pub event_words : Event → List (List ℕ)
+event_words (Says name to bytes) = codes "say" ∷ name ∷ short_text to ∷ bytes_text bytes ∷ []
+event_words (Delivers frame name) = codes "deliver" ∷ decimal frame ∷ name ∷ []
+event_words (Ticks name) = codes "timer" ∷ name ∷ []
+event_words (Knocks name) = codes "knock" ∷ name ∷ []
+event_words (Rejoins name) = codes "rejoin" ∷ name ∷ []
+event_words (Adopts parent name rejoin) = codes "child" ∷ parent ∷ name ∷ rejoin_text rejoin ∷ []
+event_words (Provisions name code) = codes "provision" ∷ name ∷ bytes_text code ∷ []
+event_words (Repeats name) = codes "again" ∷ name ∷ []
+event_words Rolls = codes "roll" ∷ []
+event_words Switches = codes "switch" ∷ []
+event_words (Removes name parent) = codes "remove" ∷ name ∷ codes "via" ∷ parent ∷ []
+event_words (Resets name) = codes "reset" ∷ name ∷ []
+event_words (Boots name) = codes "boot" ∷ name ∷ []
+event_words (Dumps name) = codes "dump" ∷ name ∷ []
+event_words (Stops name calls torn) = codes "stop" ∷ name ∷ decimal calls ∷ bytes_text torn ∷ []
+event_words (Fails name call) = codes "fail" ∷ name ∷ decimal call ∷ []
+event_words (Injects bytes) = codes "inject" ∷ bytes_text bytes ∷ []
+event_words (ForgesNet to from source key sequence counter content) =
     codes "forge" ∷ short_text to ∷ short_text from ∷ eui_text source ∷ codes "net" ∷ encode_upper key ∷ decimal sequence ∷ decimal counter ∷ bytes_text content ∷ []
-act_words (ForgesBoth to from source key sequence counter label base aps_counter command) =
+event_words (ForgesBoth to from source key sequence counter label base aps_counter command) =
     codes "forge" ∷ short_text to ∷ short_text from ∷ eui_text source ∷ codes "net" ∷ encode_upper key ∷ decimal sequence ∷ decimal counter
     ∷ sealed_words label base aps_counter command
-act_words (ForgesOpen to from source label base aps_counter command) =
+event_words (ForgesOpen to from source label base aps_counter command) =
     codes "forge" ∷ short_text to ∷ short_text from ∷ eui_text source ∷ codes "open" ∷ sealed_words label base aps_counter command
-act_words (Asks name partner) = codes "ask" ∷ name ∷ partner ∷ []
-act_words (Shares name partner) = codes "share" ∷ name ∷ partner ∷ []
-act_words (Tells name partner bytes) = codes "tell" ∷ name ∷ partner ∷ bytes_text bytes ∷ []
+event_words (Asks name partner) = codes "ask" ∷ name ∷ partner ∷ []
+event_words (Shares name partner) = codes "share" ∷ name ∷ partner ∷ []
+event_words (Tells name partner bytes) = codes "tell" ∷ name ∷ partner ∷ bytes_text bytes ∷ []
 
 -- The text of an event's line.
-abbrev pub act_text : Act → List ℕ
-act_text act = ended (line_of_words (act_words act))
+abbrev pub event_text : Event → List ℕ
+event_text event = text_of_words (event_words event)

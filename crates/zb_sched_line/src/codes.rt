@@ -12,7 +12,7 @@ use zb_install::InstallCode;
 use zb_text::hexadecimal;
 use zb_text::words::Words;
 
-/// Takes bytes of any number. They are an install code, or None.
+/// Takes bytes of any number: an install code, or None where they are none.
 pub fn install_code(words: &mut Words) -> Option<Option<InstallCode>>
     ensures value { Takes (λ code. code) result (left words.new) (field code_of (left words.old)) }
     ensures fits { IfSome result FitsCode }

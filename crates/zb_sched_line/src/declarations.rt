@@ -9,12 +9,12 @@ ghost use Rattle.zb_sched_line.specs.Views.{sentence_of};
 
 use crate::codes::install_code;
 use crate::event::Event;
-use crate::fields::{byte, layer, real_eui, role};
+use crate::fields::{byte, real_eui};
 use crate::line::Line;
 use zb_base::{Peer, Role, Short};
 use zb_text::words::Words;
 
-/// A declaration or a provision, if the keyword begins one.
+/// Reads a declaration or a provision, if the keyword begins one.
 pub fn declaration(keyword: &[u8], words: Words) -> Option<Line>
     ensures value { Shows sentence_of result (declared keyword.now (left words.entry)) }
     ensures fits { IfSome result (λ line. FitsSentence (sentence_of line)) }
@@ -41,7 +41,7 @@ fn node(mut words: Words) -> Option<Line>
     ensures fits { IfSome result (λ line. FitsSentence (sentence_of line)) }
 {
     let name = words.name()?;
-    let role = role(&mut words)?;
+    let role = words.role()?;
     let eui = real_eui(&mut words)?;
     let short = words.short()?;
     let out_block = words.number(u32::MAX)?;
@@ -116,7 +116,7 @@ fn counter(mut words: Words) -> Option<Line>
     ensures fits { IfSome result (λ line. FitsSentence (sentence_of line)) }
 {
     let name = words.name()?;
-    let layer = layer(&mut words)?;
+    let layer = words.layer()?;
     let limit = words.number(u32::MAX)?;
     words.end()?;
     Some(Line::Counter { name, layer, limit })

@@ -4,7 +4,7 @@ use arrayvec::ArrayVec;
 use zb_base::{Eui, Frame, Key, Label, Name, Short};
 use zb_install::InstallCode;
 
-/// An event: one step of one node, or something on the air. Its fields are the words of its line.
+/// Is one step of one node, or something on the air. Its fields are the words of its line.
 #[derive(Drop)]
 pub enum Event {
     /// `say NAME SHORT HEX`: the node sends application bytes.

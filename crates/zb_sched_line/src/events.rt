@@ -2,9 +2,9 @@
 
 ghost use Rattle.std.specs.Prelude.{◌≡◌, codes, IfSome};
 ghost use Rattle.zb_text.specs.Words.{left, Shows};
-ghost use Rattle.zb_sched_line.specs.Fits.{FitsAct, IsName};
-ghost use Rattle.zb_sched_line.specs.Grammar.{child_of, deliver_of, fail_of, inject_of, name_alone, other_act, own_act, remove_of, say_of, stop_of, tell_of, two_names};
-ghost use Rattle.zb_sched_line.specs.Views.{act_of};
+ghost use Rattle.zb_sched_line.specs.Fits.{FitsEvent, IsName};
+ghost use Rattle.zb_sched_line.specs.Grammar.{child_of, deliver_of, fail_of, inject_of, name_alone, other_event, own_event, remove_of, say_of, stop_of, tell_of, two_names};
+ghost use Rattle.zb_sched_line.specs.Views.{event_of};
 
 use crate::event::Event;
 use crate::fields::{byte, keyword, number_between, rejoin, some_bytes};
@@ -12,10 +12,10 @@ use crate::forge::forge;
 use zb_base::Name;
 use zb_text::words::Words;
 
-/// An event of one node, if the keyword begins one.
+/// Reads an event of one node, if the keyword begins one.
 pub fn own_event(keyword: &[u8], words: Words) -> Option<Event>
-    ensures value { Shows act_of result (own_act keyword.now (left words.entry)) }
-    ensures fits { IfSome result (λ event. FitsAct (act_of event)) }
+    ensures value { Shows event_of result (own_event keyword.now (left words.entry)) }
+    ensures fits { IfSome result (λ event. FitsEvent (event_of event)) }
 {
     if keyword == b"say".as_slice() {
         say(words)
@@ -54,10 +54,10 @@ pub fn own_event(keyword: &[u8], words: Words) -> Option<Event>
     }
 }
 
-/// An event of the centre, of two nodes, or of the air, if the keyword begins one.
+/// Reads an event of the centre, of two nodes, or of the air, if the keyword begins one.
 pub fn other_event(keyword: &[u8], words: Words) -> Option<Event>
-    ensures value { Shows act_of result (other_act keyword.now (left words.entry)) }
-    ensures fits { IfSome result (λ event. FitsAct (act_of event)) }
+    ensures value { Shows event_of result (other_event keyword.now (left words.entry)) }
+    ensures fits { IfSome result (λ event. FitsEvent (event_of event)) }
 {
     if keyword == b"inject".as_slice() {
         inject(words)
@@ -110,8 +110,8 @@ fn both_names(mut words: Words) -> Option<(Name, Name)>
 }
 
 fn say(mut words: Words) -> Option<Event>
-    ensures value { Shows act_of result (say_of (left words.entry)) }
-    ensures fits { IfSome result (λ event. FitsAct (act_of event)) }
+    ensures value { Shows event_of result (say_of (left words.entry)) }
+    ensures fits { IfSome result (λ event. FitsEvent (event_of event)) }
 {
     let name = words.name()?;
     let to = words.short()?;
@@ -121,8 +121,8 @@ fn say(mut words: Words) -> Option<Event>
 }
 
 fn deliver(mut words: Words) -> Option<Event>
-    ensures value { Shows act_of result (deliver_of (left words.entry)) }
-    ensures fits { IfSome result (λ event. FitsAct (act_of event)) }
+    ensures value { Shows event_of result (deliver_of (left words.entry)) }
+    ensures fits { IfSome result (λ event. FitsEvent (event_of event)) }
 {
     let frame = number_between(&mut words, 1, u32::MAX)?;
     let name = words.name()?;
@@ -131,8 +131,8 @@ fn deliver(mut words: Words) -> Option<Event>
 }
 
 fn child(mut words: Words) -> Option<Event>
-    ensures value { Shows act_of result (child_of (left words.entry)) }
-    ensures fits { IfSome result (λ event. FitsAct (act_of event)) }
+    ensures value { Shows event_of result (child_of (left words.entry)) }
+    ensures fits { IfSome result (λ event. FitsEvent (event_of event)) }
 {
     let parent = words.name()?;
     let name = words.name()?;
@@ -146,8 +146,8 @@ fn child(mut words: Words) -> Option<Event>
 }
 
 fn remove(mut words: Words) -> Option<Event>
-    ensures value { Shows act_of result (remove_of (left words.entry)) }
-    ensures fits { IfSome result (λ event. FitsAct (act_of event)) }
+    ensures value { Shows event_of result (remove_of (left words.entry)) }
+    ensures fits { IfSome result (λ event. FitsEvent (event_of event)) }
 {
     let name = words.name()?;
     keyword(&mut words, b"via")?;
@@ -157,8 +157,8 @@ fn remove(mut words: Words) -> Option<Event>
 }
 
 fn stop(mut words: Words) -> Option<Event>
-    ensures value { Shows act_of result (stop_of (left words.entry)) }
-    ensures fits { IfSome result (λ event. FitsAct (act_of event)) }
+    ensures value { Shows event_of result (stop_of (left words.entry)) }
+    ensures fits { IfSome result (λ event. FitsEvent (event_of event)) }
 {
     let name = words.name()?;
     let calls = byte(&mut words, 5)?;
@@ -168,8 +168,8 @@ fn stop(mut words: Words) -> Option<Event>
 }
 
 fn fail(mut words: Words) -> Option<Event>
-    ensures value { Shows act_of result (fail_of (left words.entry)) }
-    ensures fits { IfSome result (λ event. FitsAct (act_of event)) }
+    ensures value { Shows event_of result (fail_of (left words.entry)) }
+    ensures fits { IfSome result (λ event. FitsEvent (event_of event)) }
 {
     let name = words.name()?;
     let call = number_between(&mut words, 1, 6)?;
@@ -181,8 +181,8 @@ fn fail(mut words: Words) -> Option<Event>
 }
 
 fn inject(mut words: Words) -> Option<Event>
-    ensures value { Shows act_of result (inject_of (left words.entry)) }
-    ensures fits { IfSome result (λ event. FitsAct (act_of event)) }
+    ensures value { Shows event_of result (inject_of (left words.entry)) }
+    ensures fits { IfSome result (λ event. FitsEvent (event_of event)) }
 {
     let bytes = some_bytes::<127>(&mut words)?;
     words.end()?;
@@ -190,8 +190,8 @@ fn inject(mut words: Words) -> Option<Event>
 }
 
 fn tell(mut words: Words) -> Option<Event>
-    ensures value { Shows act_of result (tell_of (left words.entry)) }
-    ensures fits { IfSome result (λ event. FitsAct (act_of event)) }
+    ensures value { Shows event_of result (tell_of (left words.entry)) }
+    ensures fits { IfSome result (λ event. FitsEvent (event_of event)) }
 {
     let name = words.name()?;
     let partner = words.name()?;

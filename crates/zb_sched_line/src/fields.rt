@@ -6,10 +6,10 @@ ghost use Rattle.zb_text.specs.Words.{field, left, nothing, Takes};
 ghost use Rattle.zb_text.specs.Hexadecimal.{bytes_of};
 ghost use Rattle.zb_text.specs.Numbers.{number_of};
 ghost use Rattle.zb_sched_line.specs.Fits.{IsApsLabel};
-ghost use Rattle.zb_sched_line.specs.Grammar.{is_real_eui, label_of, layer_of, literal, number_from, real_eui_of, rejoin_of, role_of, some_bytes_of};
+ghost use Rattle.zb_sched_line.specs.Grammar.{is_real_eui, aps_label_of, is_aps_label, literal, number_from, real_eui_of, rejoin_of, some_bytes_of};
 
 use arrayvec::ArrayVec;
-use zb_base::{Eui, Label, Layer, Role};
+use zb_base::{Eui, Label};
 use zb_text::words::Words;
 
 /// Takes a number from `low` to `high`.
@@ -60,50 +60,25 @@ pub fn keyword(words: &mut Words, expected: &[u8]) -> Option<()>
     if word == expected { Some(()) } else { None }
 }
 
-/// Takes `centre`, `router` or `device`.
-pub fn role(words: &mut Words) -> Option<Role>
-    ensures { Takes (λ role. role) result (left words.new) (field role_of (left words.old)) }
-{
-    let word = words.word()?;
-    if word == b"centre".as_slice() {
-        Some(Role::Centre)
-    } else if word == b"router".as_slice() {
-        Some(Role::Router)
-    } else if word == b"device".as_slice() {
-        Some(Role::Device)
-    } else {
-        None
-    }
-}
-
-/// Takes `nwk` or `aps`.
-pub fn layer(words: &mut Words) -> Option<Layer>
-    ensures { Takes (λ layer. layer) result (left words.new) (field layer_of (left words.old)) }
-{
-    let word = words.word()?;
-    if word == b"nwk".as_slice() {
-        Some(Layer::Nwk)
-    } else if word == b"aps".as_slice() {
-        Some(Layer::Aps)
-    } else {
-        None
-    }
-}
-
 /// Takes `data`, `transport` or `load`, the key identifiers of an APS command.
-pub fn label(words: &mut Words) -> Option<Label>
-    ensures value { Takes (λ label. label) result (left words.new) (field label_of (left words.old)) }
+pub fn aps_label(words: &mut Words) -> Option<Label>
+    ensures value { Takes (λ label. label) result (left words.new) (field aps_label_of (left words.old)) }
     ensures fits { IfSome result IsApsLabel }
 {
-    let word = words.word()?;
-    if word == b"data".as_slice() {
-        Some(Label::Data)
-    } else if word == b"transport".as_slice() {
-        Some(Label::Transport)
-    } else if word == b"load".as_slice() {
-        Some(Label::Load)
+    let label = words.label()?;
+    if is_aps_label(label) {
+        Some(label)
     } else {
         None
+    }
+}
+
+fn is_aps_label(label: Label) -> bool
+    ensures { result ≡ is_aps_label label }
+{
+    match label {
+        Label::Network => false,
+        Label::Data | Label::Transport | Label::Load => true,
     }
 }
 

@@ -2,18 +2,18 @@
 
 ghost use Rattle.std.specs.Prelude.{◌≡◌, codes, IfSome};
 ghost use Rattle.zb_text.specs.Words.{left, Shows};
-ghost use Rattle.zb_sched_line.specs.Fits.{FitsAct, FitsSealed, IsEui, SomeUpTo};
+ghost use Rattle.zb_sched_line.specs.Fits.{FitsEvent, FitsSealed, IsEui, SomeUpTo};
 ghost use Rattle.zb_sched_line.specs.Grammar.{forge_content, forge_net_of, forge_of, forge_open_of, last_content, sealed_of};
-ghost use Rattle.zb_sched_line.specs.Views.{act_of, sealed};
+ghost use Rattle.zb_sched_line.specs.Views.{event_of, sealed};
 
 use crate::event::Event;
-use crate::fields::{byte, keyword, label, real_eui, some_bytes};
+use crate::fields::{aps_label, byte, keyword, real_eui, some_bytes};
 use arrayvec::ArrayVec;
 use zb_base::{Eui, Key, Label, Short};
 use zb_text::hexadecimal;
 use zb_text::words::Words;
 
-/// The APS part of a forged frame.
+/// Holds the APS part of a forged frame.
 #[derive(Drop)]
 pub struct Command {
     /// Which key is derived from the base key.
@@ -26,7 +26,7 @@ pub struct Command {
     pub bytes: ArrayVec<u8, 64>,
 }
 
-/// To whom a forged frame goes, from whom it says to come, and its source.
+/// Says to whom a forged frame goes, and from whom it claims to come.
 #[derive(Clone, Copy, Debug)]
 pub struct Route {
     /// The destination.
@@ -37,10 +37,10 @@ pub struct Route {
     pub source: Eui,
 }
 
-/// A forged frame.
+/// Reads a forged frame.
 pub fn forge(mut words: Words) -> Option<Event>
-    ensures value { Shows act_of result (forge_of (left words.entry)) }
-    ensures fits { IfSome result (λ event. FitsAct (act_of event)) }
+    ensures value { Shows event_of result (forge_of (left words.entry)) }
+    ensures fits { IfSome result (λ event. FitsEvent (event_of event)) }
 {
     let to = words.short()?;
     let from = words.short()?;
@@ -56,7 +56,7 @@ pub fn forge(mut words: Words) -> Option<Event>
     }
 }
 
-/// How a forged frame is sealed at the network layer.
+/// Says how a forged frame is sealed at the network layer.
 #[derive(Clone, Copy, Debug)]
 pub struct Net {
     /// The network key.
@@ -69,8 +69,8 @@ pub struct Net {
 
 fn forge_net(route: Route, mut words: Words) -> Option<Event>
     requires { IsEui route.source.0 }
-    ensures value { Shows act_of result (forge_net_of route.to.0 route.from.0 route.source.0 (left words.entry)) }
-    ensures fits { IfSome result (λ event. FitsAct (act_of event)) }
+    ensures value { Shows event_of result (forge_net_of route.to.0 route.from.0 route.source.0 (left words.entry)) }
+    ensures fits { IfSome result (λ event. FitsEvent (event_of event)) }
 {
     let key = words.key()?;
     let sequence = byte(&mut words, 255)?;
@@ -124,8 +124,8 @@ fn only_content(word: &[u8], words: Words) -> Option<ArrayVec<u8, 64>>
 
 fn forge_open(route: Route, mut words: Words) -> Option<Event>
     requires { IsEui route.source.0 }
-    ensures value { Shows act_of result (forge_open_of route.to.0 route.from.0 route.source.0 (left words.entry)) }
-    ensures fits { IfSome result (λ event. FitsAct (act_of event)) }
+    ensures value { Shows event_of result (forge_open_of route.to.0 route.from.0 route.source.0 (left words.entry)) }
+    ensures fits { IfSome result (λ event. FitsEvent (event_of event)) }
 {
     keyword(&mut words, b"aps")?;
     let Route { to, from, source } = route;
@@ -150,7 +150,7 @@ fn aps_command(mut words: Words) -> Option<Command>
     ensures value { Shows sealed result (sealed_of (left words.entry)) }
     ensures fits { IfSome result (λ command. FitsSealed (sealed command)) }
 {
-    let label = label(&mut words)?;
+    let label = aps_label(&mut words)?;
     let base = words.key()?;
     let counter = words.number(u32::MAX)?;
     let bytes = some_bytes::<64>(&mut words)?;

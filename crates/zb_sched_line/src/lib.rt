@@ -2,17 +2,20 @@
 //! together is judged in `zb_sched`.
 #![tactic(auto)]
 
-pub mod codes;
-pub mod declarations;
-pub mod event;
-pub mod events;
-pub mod fields;
-pub mod forge;
-pub mod laws;
-pub mod line;
-pub mod print;
-pub mod print_event;
-pub mod print_forged;
+mod codes;
+mod declarations;
+mod event;
+mod events;
+mod fields;
+mod forge;
+mod laws;
+mod line;
+mod print;
+mod print_event;
+mod print_forged;
 
 pub use event::Event;
+pub use laws::printed_line_reads;
 pub use line::{Line, read_line};
+pub use print::{put_code, put_counter, put_draw, put_netkey, put_node};
+pub use print_event::put_event;

@@ -13,7 +13,7 @@ use zb_base::{Key, Layer, Name, Peer};
 use zb_install::InstallCode;
 use zb_text::words::Words;
 
-/// What a line says. Where an install code stands in it, None is bytes that are no install code.
+/// Is what a line says. Where an install code stands in it, None is bytes that are no install code.
 #[derive(Drop)]
 pub enum Line {
     /// An empty line, or a comment.
@@ -53,7 +53,7 @@ pub enum Line {
     Event(Event),
 }
 
-/// What a line says, or None where it is no line of a schedule.
+/// Reads a line, or answers None where it is no line of a schedule.
 pub fn read_line(line: &[u8]) -> Option<Line>
     ensures value { Shows sentence_of result (meaning_of line.now) }
     ensures fits { IfSome result (λ line. FitsSentence (sentence_of line)) }

@@ -4,12 +4,12 @@ ghost use Rattle.std.specs.Prelude.{◌≡◌, [], ◌∷◌, ◌++◌, codes, d
 ghost use Rattle.hex.specs.Hex.{encode_upper};
 ghost use Rattle.zb_text.specs.Fields.{eui_text, short_text};
 ghost use Rattle.zb_text.specs.Hexadecimal.{bytes_text};
-ghost use Rattle.zb_text.specs.Pages.{ended, line_of_words};
 ghost use Rattle.zb_text.specs.Words.{then};
-ghost use Rattle.zb_sched_line.specs.Texts.{code_words, counter_words, draw_words, label_text, layer_text, netkey_words, node_words, rejoin_text, role_text};
+ghost use Rattle.zb_sched_line.specs.Texts.{code_words, counter_words, draw_words, netkey_words, node_words, rejoin_text, text_of_words};
 
 use std::alloc::AllocError;
-use zb_base::{Key, Label, Layer, Name, Peer, Role, Short};
+use zb_base::{Key, Layer, Name, Peer, Short};
+use zb_text::choices::{layer_text, role_text};
 use zb_text::page::{add_bytes, add_eui, add_key, add_number, add_short, add_word, end_line, put};
 
 /// Prints the line of a node.
@@ -21,10 +21,11 @@ pub fn put_node(
     in_block: u32,
 ) -> Result<(), AllocError>
     ensures { OnOk result (out.new.items ≡ out.old.items
-        ++ ended (line_of_words (node_words peer.now.name.bytes peer.now.role peer.now.eui.0 peer.now.short.0 out_block in_block))) }
+        ++ text_of_words (node_words peer.now.name.bytes peer.now.role peer.now.eui.0 peer.now.short.0
+        out_block in_block)) }
 {
     put_named(out, b"node", &peer.name)?;
-    add_word(out, role_word(peer.role))?;
+    add_word(out, role_text(peer.role))?;
     add_eui(out, peer.eui)?;
     add_short(out, peer.short)?;
     add_number(out, out_block)?;
@@ -36,7 +37,8 @@ pub fn put_node(
 /// Prints the line of a network key that a node holds.
 #[tactic(auto, using(std::proofs::Common::append_assoc))]
 pub fn put_netkey(out: &mut Vec<u8>, name: &Name, key: &Key, sequence: u8) -> Result<(), AllocError>
-    ensures { OnOk result (out.new.items ≡ out.old.items ++ ended (line_of_words (netkey_words name.now.bytes key.now.0 sequence))) }
+    ensures { OnOk result (out.new.items ≡ out.old.items
+        ++ text_of_words (netkey_words name.now.bytes key.now.0 sequence)) }
 {
     put_named(out, b"netkey", name)?;
     add_key(out, key)?;
@@ -53,10 +55,11 @@ pub fn put_counter(
     layer: Layer,
     limit: u32,
 ) -> Result<(), AllocError>
-    ensures { OnOk result (out.new.items ≡ out.old.items ++ ended (line_of_words (counter_words name.now.bytes layer limit))) }
+    ensures { OnOk result (out.new.items ≡ out.old.items
+        ++ text_of_words (counter_words name.now.bytes layer limit)) }
 {
     put_named(out, b"counter", name)?;
-    add_word(out, layer_word(layer))?;
+    add_word(out, layer_text(layer))?;
     add_number(out, limit)?;
     end_line(out)?;
     Ok(())
@@ -65,7 +68,7 @@ pub fn put_counter(
 /// Prints the line of a key of the supply.
 #[tactic(auto, using(std::proofs::Common::append_assoc))]
 pub fn put_draw(out: &mut Vec<u8>, key: &Key) -> Result<(), AllocError>
-    ensures { OnOk result (out.new.items ≡ out.old.items ++ ended (line_of_words (draw_words key.now.0))) }
+    ensures { OnOk result (out.new.items ≡ out.old.items ++ text_of_words (draw_words key.now.0)) }
 {
     put(out, b"draw")?;
     add_key(out, key)?;
@@ -82,36 +85,6 @@ fn put_named(out: &mut Vec<u8>, keyword: &[u8], name: &Name) -> Result<(), Alloc
     Ok(())
 }
 
-fn role_word(role: Role) -> &'static [u8]
-    ensures { result.now ≡ role_text role }
-{
-    match role {
-        Role::Centre => b"centre",
-        Role::Router => b"router",
-        Role::Device => b"device",
-    }
-}
-
-fn layer_word(layer: Layer) -> &'static [u8]
-    ensures { result.now ≡ layer_text layer }
-{
-    match layer {
-        Layer::Nwk => b"nwk",
-        Layer::Aps => b"aps",
-    }
-}
-
-pub(crate) fn label_word(label: Label) -> &'static [u8]
-    ensures { result.now ≡ label_text label }
-{
-    match label {
-        Label::Data => b"data",
-        Label::Network => b"network",
-        Label::Transport => b"transport",
-        Label::Load => b"load",
-    }
-}
-
 fn rejoin_word(rejoin: bool) -> &'static [u8]
     ensures { result.now ≡ rejoin_text rejoin }
 {
@@ -120,7 +93,7 @@ fn rejoin_word(rejoin: bool) -> &'static [u8]
 
 #[tactic(auto, using(std::proofs::Common::append_assoc))]
 pub(crate) fn put_own(out: &mut Vec<u8>, keyword: &[u8], name: &Name) -> Result<(), AllocError>
-    ensures { OnOk result (out.new.items ≡ out.old.items ++ ended (line_of_words (keyword.now ∷ name.now.bytes ∷ []))) }
+    ensures { OnOk result (out.new.items ≡ out.old.items ++ text_of_words (keyword.now ∷ name.now.bytes ∷ [])) }
 {
     put_named(out, keyword, name)?;
     end_line(out)?;
@@ -134,7 +107,8 @@ pub(crate) fn put_pair(
     name: &Name,
     partner: &Name,
 ) -> Result<(), AllocError>
-    ensures { OnOk result (out.new.items ≡ out.old.items ++ ended (line_of_words (keyword.now ∷ name.now.bytes ∷ partner.now.bytes ∷ []))) }
+    ensures { OnOk result (out.new.items ≡ out.old.items
+        ++ text_of_words (keyword.now ∷ name.now.bytes ∷ partner.now.bytes ∷ [])) }
 {
     put_named(out, keyword, name)?;
     add_word(out, partner.as_bytes())?;
@@ -149,7 +123,8 @@ pub(crate) fn put_say(
     to: Short,
     bytes: &[u8],
 ) -> Result<(), AllocError>
-    ensures { OnOk result (out.new.items ≡ out.old.items ++ ended (line_of_words (codes "say" ∷ name.now.bytes ∷ short_text to.0 ∷ bytes_text bytes.now ∷ []))) }
+    ensures { OnOk result (out.new.items ≡ out.old.items
+        ++ text_of_words (codes "say" ∷ name.now.bytes ∷ short_text to.0 ∷ bytes_text bytes.now ∷ [])) }
 {
     put_named(out, b"say", name)?;
     add_short(out, to)?;
@@ -160,7 +135,8 @@ pub(crate) fn put_say(
 
 #[tactic(auto, using(std::proofs::Common::append_assoc))]
 pub(crate) fn put_deliver(out: &mut Vec<u8>, frame: u32, name: &Name) -> Result<(), AllocError>
-    ensures { OnOk result (out.new.items ≡ out.old.items ++ ended (line_of_words (codes "deliver" ∷ decimal frame ∷ name.now.bytes ∷ []))) }
+    ensures { OnOk result (out.new.items ≡ out.old.items
+        ++ text_of_words (codes "deliver" ∷ decimal frame ∷ name.now.bytes ∷ [])) }
 {
     put(out, b"deliver")?;
     add_number(out, frame)?;
@@ -176,7 +152,8 @@ pub(crate) fn put_child(
     name: &Name,
     rejoin: bool,
 ) -> Result<(), AllocError>
-    ensures { OnOk result (out.new.items ≡ out.old.items ++ ended (line_of_words (codes "child" ∷ parent.now.bytes ∷ name.now.bytes ∷ rejoin_text rejoin ∷ []))) }
+    ensures { OnOk result (out.new.items ≡ out.old.items
+        ++ text_of_words (codes "child" ∷ parent.now.bytes ∷ name.now.bytes ∷ rejoin_text rejoin ∷ [])) }
 {
     put_named(out, b"child", parent)?;
     add_word(out, name.as_bytes())?;
@@ -187,7 +164,8 @@ pub(crate) fn put_child(
 
 #[tactic(auto, using(std::proofs::Common::append_assoc))]
 pub(crate) fn put_remove(out: &mut Vec<u8>, name: &Name, parent: &Name) -> Result<(), AllocError>
-    ensures { OnOk result (out.new.items ≡ out.old.items ++ ended (line_of_words (codes "remove" ∷ name.now.bytes ∷ codes "via" ∷ parent.now.bytes ∷ []))) }
+    ensures { OnOk result (out.new.items ≡ out.old.items
+        ++ text_of_words (codes "remove" ∷ name.now.bytes ∷ codes "via" ∷ parent.now.bytes ∷ [])) }
 {
     put_named(out, b"remove", name)?;
     add_word(out, b"via")?;
@@ -203,7 +181,8 @@ pub(crate) fn put_stop(
     calls: u8,
     torn: &[u8],
 ) -> Result<(), AllocError>
-    ensures { OnOk result (out.new.items ≡ out.old.items ++ ended (line_of_words (codes "stop" ∷ name.now.bytes ∷ decimal calls ∷ bytes_text torn.now ∷ []))) }
+    ensures { OnOk result (out.new.items ≡ out.old.items
+        ++ text_of_words (codes "stop" ∷ name.now.bytes ∷ decimal calls ∷ bytes_text torn.now ∷ [])) }
 {
     put_named(out, b"stop", name)?;
     add_number(out, calls as u32)?;
@@ -214,7 +193,8 @@ pub(crate) fn put_stop(
 
 #[tactic(auto, using(std::proofs::Common::append_assoc))]
 pub(crate) fn put_fail(out: &mut Vec<u8>, name: &Name, call: u8) -> Result<(), AllocError>
-    ensures { OnOk result (out.new.items ≡ out.old.items ++ ended (line_of_words (codes "fail" ∷ name.now.bytes ∷ decimal call ∷ []))) }
+    ensures { OnOk result (out.new.items ≡ out.old.items
+        ++ text_of_words (codes "fail" ∷ name.now.bytes ∷ decimal call ∷ [])) }
 {
     put_named(out, b"fail", name)?;
     add_number(out, call as u32)?;
@@ -224,7 +204,8 @@ pub(crate) fn put_fail(out: &mut Vec<u8>, name: &Name, call: u8) -> Result<(), A
 
 #[tactic(auto, using(std::proofs::Common::append_assoc))]
 pub(crate) fn put_inject(out: &mut Vec<u8>, bytes: &[u8]) -> Result<(), AllocError>
-    ensures { OnOk result (out.new.items ≡ out.old.items ++ ended (line_of_words (codes "inject" ∷ bytes_text bytes.now ∷ []))) }
+    ensures { OnOk result (out.new.items ≡ out.old.items
+        ++ text_of_words (codes "inject" ∷ bytes_text bytes.now ∷ [])) }
 {
     put(out, b"inject")?;
     add_bytes(out, bytes)?;
@@ -239,7 +220,8 @@ pub(crate) fn put_tell(
     partner: &Name,
     bytes: &[u8],
 ) -> Result<(), AllocError>
-    ensures { OnOk result (out.new.items ≡ out.old.items ++ ended (line_of_words (codes "tell" ∷ name.now.bytes ∷ partner.now.bytes ∷ bytes_text bytes.now ∷ []))) }
+    ensures { OnOk result (out.new.items ≡ out.old.items
+        ++ text_of_words (codes "tell" ∷ name.now.bytes ∷ partner.now.bytes ∷ bytes_text bytes.now ∷ [])) }
 {
     put_named(out, b"tell", name)?;
     add_word(out, partner.as_bytes())?;
@@ -250,7 +232,7 @@ pub(crate) fn put_tell(
 
 #[tactic(auto, using(std::proofs::Common::append_assoc))]
 pub(crate) fn put_word_line(out: &mut Vec<u8>, word: &[u8]) -> Result<(), AllocError>
-    ensures { OnOk result (out.new.items ≡ out.old.items ++ ended (line_of_words (word.now ∷ []))) }
+    ensures { OnOk result (out.new.items ≡ out.old.items ++ text_of_words (word.now ∷ [])) }
 {
     put(out, word)?;
     end_line(out)?;
@@ -260,7 +242,8 @@ pub(crate) fn put_word_line(out: &mut Vec<u8>, word: &[u8]) -> Result<(), AllocE
 /// Prints a line of a name and an install code.
 #[tactic(auto, using(std::proofs::Common::append_assoc))]
 fn put_coded(out: &mut Vec<u8>, keyword: &[u8], name: &Name, code: &[u8]) -> Result<(), AllocError>
-    ensures { OnOk result (out.new.items ≡ out.old.items ++ ended (line_of_words (keyword.now ∷ name.now.bytes ∷ bytes_text code.now ∷ []))) }
+    ensures { OnOk result (out.new.items ≡ out.old.items
+        ++ text_of_words (keyword.now ∷ name.now.bytes ∷ bytes_text code.now ∷ [])) }
 {
     put_named(out, keyword, name)?;
     add_bytes(out, code)?;
@@ -270,14 +253,15 @@ fn put_coded(out: &mut Vec<u8>, keyword: &[u8], name: &Name, code: &[u8]) -> Res
 
 /// Prints the line of the install code that is printed on a node.
 pub fn put_code(out: &mut Vec<u8>, name: &Name, code: &[u8]) -> Result<(), AllocError>
-    ensures { OnOk result (out.new.items ≡ out.old.items ++ ended (line_of_words (code_words name.now.bytes code.now))) }
+    ensures { OnOk result (out.new.items ≡ out.old.items ++ text_of_words (code_words name.now.bytes code.now)) }
 {
     put_coded(out, b"code", name, code)?;
     Ok(())
 }
 
 pub(crate) fn put_provision(out: &mut Vec<u8>, name: &Name, code: &[u8]) -> Result<(), AllocError>
-    ensures { OnOk result (out.new.items ≡ out.old.items ++ ended (line_of_words (codes "provision" ∷ name.now.bytes ∷ bytes_text code.now ∷ []))) }
+    ensures { OnOk result (out.new.items ≡ out.old.items
+        ++ text_of_words (codes "provision" ∷ name.now.bytes ∷ bytes_text code.now ∷ [])) }
 {
     put_coded(out, b"provision", name, code)?;
     Ok(())

@@ -1,8 +1,8 @@
 //! The printed line of an event.
 
 ghost use Rattle.std.specs.Prelude.{◌≡◌, ◌++◌, OnOk};
-ghost use Rattle.zb_sched_line.specs.Texts.{act_text};
-ghost use Rattle.zb_sched_line.specs.Views.{act_of};
+ghost use Rattle.zb_sched_line.specs.Texts.{event_text};
+ghost use Rattle.zb_sched_line.specs.Views.{event_of};
 
 use crate::event::Event;
 use crate::forge::{Net, Route};
@@ -15,7 +15,7 @@ use std::alloc::AllocError;
 
 /// Prints the line of an event.
 pub fn put_event(out: &mut Vec<u8>, event: &Event) -> Result<(), AllocError>
-    ensures { OnOk result (out.new.items ≡ out.old.items ++ act_text (act_of event.now)) }
+    ensures { OnOk result (out.new.items ≡ out.old.items ++ event_text (event_of event.now)) }
 {
     match event {
         Event::Say { name, to, bytes } => put_say(out, name, *to, bytes.as_slice())?,

@@ -4,21 +4,21 @@ ghost use Rattle.std.specs.Prelude.{◌≡◌, [], ◌∷◌, ◌++◌, codes, d
 ghost use Rattle.hex.specs.Hex.{encode_upper};
 ghost use Rattle.zb_text.specs.Fields.{eui_text, short_text};
 ghost use Rattle.zb_text.specs.Hexadecimal.{bytes_text};
-ghost use Rattle.zb_text.specs.Pages.{ended, line_of_words};
 ghost use Rattle.zb_text.specs.Words.{then};
-ghost use Rattle.zb_sched_line.specs.Texts.{label_text, sealed_words};
+ghost use Rattle.zb_sched_line.specs.Texts.{sealed_words, text_of_words};
 
 use crate::forge::{Net, Route};
-use crate::print::label_word;
 use std::alloc::AllocError;
 use zb_base::{Key, Label};
+use zb_text::choices::label_text;
 use zb_text::page::{add_bytes, add_eui, add_key, add_number, add_short, add_word, end_line, put};
 
-/// Prints what a forged frame's line begins with.
+/// Prints what the line of a forged frame begins with.
 #[tactic(auto, using(std::proofs::Common::append_assoc))]
 fn put_route(out: &mut Vec<u8>, route: Route, kind: &[u8]) -> Result<(), AllocError>
     ensures { OnOk result (out.new.items ≡ out.old.items
-        ++ (codes "forge" ++ (then (short_text route.to.0) ++ (then (short_text route.from.0) ++ (then (eui_text route.source.0) ++ then kind.now))))) }
+        ++ (codes "forge" ++ (then (short_text route.to.0) ++ (then (short_text route.from.0)
+        ++ (then (eui_text route.source.0) ++ then kind.now))))) }
 {
     put(out, b"forge")?;
     add_short(out, route.to)?;
@@ -37,10 +37,11 @@ fn put_sealed(
     counter: u32,
     command: &[u8],
 ) -> Result<(), AllocError>
-    ensures { OnOk result (out.new.items ≡ out.old.items ++ then (ended (line_of_words (sealed_words label base.now.0 counter command.now)))) }
+    ensures { OnOk result (out.new.items ≡ out.old.items
+        ++ then (text_of_words (sealed_words label base.now.0 counter command.now))) }
 {
     add_word(out, b"aps")?;
-    add_word(out, label_word(label))?;
+    add_word(out, label_text(label))?;
     add_key(out, base)?;
     add_number(out, counter)?;
     add_bytes(out, command)?;
@@ -50,7 +51,8 @@ fn put_sealed(
 
 #[tactic(auto, using(std::proofs::Common::append_assoc))]
 fn put_net(out: &mut Vec<u8>, net: &Net) -> Result<(), AllocError>
-    ensures { OnOk result (out.new.items ≡ out.old.items ++ (then (encode_upper net.now.key.0) ++ (then (decimal net.now.sequence) ++ then (decimal net.now.counter)))) }
+    ensures { OnOk result (out.new.items ≡ out.old.items
+        ++ (then (encode_upper net.now.key.0) ++ (then (decimal net.now.sequence) ++ then (decimal net.now.counter)))) }
 {
     add_key(out, &net.key)?;
     add_number(out, net.sequence as u32)?;
@@ -66,9 +68,10 @@ pub fn put_forge_net(
     net: &Net,
     content: &[u8],
 ) -> Result<(), AllocError>
-    ensures { OnOk result (out.new.items ≡ out.old.items ++ ended (line_of_words (
-        codes "forge" ∷ short_text route.to.0 ∷ short_text route.from.0 ∷ eui_text route.source.0 ∷ codes "net" ∷ encode_upper net.now.key.0
-        ∷ decimal net.now.sequence ∷ decimal net.now.counter ∷ bytes_text content.now ∷ []))) }
+    ensures { OnOk result (out.new.items ≡ out.old.items ++ text_of_words (
+        codes "forge" ∷ short_text route.to.0 ∷ short_text route.from.0 ∷ eui_text route.source.0 ∷ codes "net"
+        ∷ encode_upper net.now.key.0 ∷ decimal net.now.sequence ∷ decimal net.now.counter
+        ∷ bytes_text content.now ∷ [])) }
 {
     put_route(out, route, b"net")?;
     put_net(out, net)?;
@@ -77,7 +80,7 @@ pub fn put_forge_net(
     Ok(())
 }
 
-/// Prints the line of a frame that is sealed at both layers, up to its APS part.
+/// Prints the line of a frame that is sealed at both layers.
 #[tactic(auto, using(std::proofs::Common::append_assoc))]
 pub fn put_forge_both(
     out: &mut Vec<u8>,
@@ -88,9 +91,10 @@ pub fn put_forge_both(
     aps_counter: u32,
     command: &[u8],
 ) -> Result<(), AllocError>
-    ensures { OnOk result (out.new.items ≡ out.old.items ++ ended (line_of_words (
-        codes "forge" ∷ short_text route.to.0 ∷ short_text route.from.0 ∷ eui_text route.source.0 ∷ codes "net" ∷ encode_upper net.now.key.0
-        ∷ decimal net.now.sequence ∷ decimal net.now.counter ∷ sealed_words label base.now.0 aps_counter command.now))) }
+    ensures { OnOk result (out.new.items ≡ out.old.items ++ text_of_words (
+        codes "forge" ∷ short_text route.to.0 ∷ short_text route.from.0 ∷ eui_text route.source.0 ∷ codes "net"
+        ∷ encode_upper net.now.key.0 ∷ decimal net.now.sequence ∷ decimal net.now.counter
+        ∷ sealed_words label base.now.0 aps_counter command.now)) }
 {
     put_route(out, route, b"net")?;
     put_net(out, net)?;
@@ -108,9 +112,9 @@ pub fn put_forge_open(
     aps_counter: u32,
     command: &[u8],
 ) -> Result<(), AllocError>
-    ensures { OnOk result (out.new.items ≡ out.old.items ++ ended (line_of_words (
+    ensures { OnOk result (out.new.items ≡ out.old.items ++ text_of_words (
         codes "forge" ∷ short_text route.to.0 ∷ short_text route.from.0 ∷ eui_text route.source.0 ∷ codes "open"
-        ∷ sealed_words label base.now.0 aps_counter command.now))) }
+        ∷ sealed_words label base.now.0 aps_counter command.now)) }
 {
     put_route(out, route, b"open")?;
     put_sealed(out, label, base, aps_counter, command)?;

@@ -1,18 +1,13 @@
 -- The text of a line: words, separated by one space each and ended by a line feed.
-use Rattle.std.specs.Prelude.{◌≡◌, ◌<◌, ◌≤◌, ◌⊎◌, ℕ, List, [], ◌∷◌, ◌++◌, length, codes, decimal, Bool, true, false}
+use Rattle.std.specs.Prelude.{◌≡◌, ◌<◌, ◌≤◌, ◌⊎◌, ℕ, List, [], ◌∷◌, ◌++◌, length, map, codes, decimal, true}
 use Rattle.std.specs.List.{AllByRecursion, flat_map}
 use Rattle.hex.specs.Hex.{encode_upper, IsBytes}
-use Rattle.zb_base.specs.declared.node.Role.{Role}
-use Rattle.zb_base.specs.declared.node.Role.TheVariants as role
-use Rattle.zb_base.specs.declared.label.Layer.{Layer}
-use Rattle.zb_base.specs.declared.label.Layer.TheVariants as layer
-use Rattle.zb_base.specs.declared.label.Label.{Label}
-use Rattle.zb_base.specs.declared.label.Label.TheVariants as label
 use Rattle.zb_base.specs.declared.place.Place.{Place}
-pub use Rattle.zb_base.specs.Texts.{attribute_text, place_text, rollover_text, state_text}
 use Rattle.zb_node_types.specs.declared.refusal.Refusal.{Refusal}
 use Rattle.zb_node_types.specs.declared.refusal.Refusal.TheVariants as refusal
 use Rattle.zb_seal.specs.declared.term.Term.{Term}
+pub use Rattle.zb_text.specs.Choices.{role_text, layer_text, label_text, attribute_text, state_text, rollover_text, place_text, answer_text}
+use Rattle.zb_text.specs.Choices as choices
 use Rattle.zb_text.specs.Fields.{is_name, eui_text, short_text}
 use Rattle.zb_text.specs.Hexadecimal.{bytes_text}
 use Rattle.zb_text.specs.Words.{then}
@@ -84,48 +79,29 @@ opening_of event kind node = opening event kind ++ then node
 
 -- What is chosen from lists of words
 
-abbrev pub role_text : Role → List ℕ
-role_text role.Centre = codes "centre"
-role_text role.Router = codes "router"
-role_text role.Device = codes "device"
-
-abbrev pub layer_text : Layer → List ℕ
-layer_text layer.Nwk = codes "nwk"
-layer_text layer.Aps = codes "aps"
-
-abbrev pub label_text : Label → List ℕ
-label_text label.Data = codes "data"
-label_text label.Network = codes "network"
-label_text label.Transport = codes "transport"
-label_text label.Load = codes "load"
-
-abbrev pub answer_text : Bool → List ℕ
-answer_text true = codes "yes"
-answer_text false = codes "no"
-
 abbrev pub roles : List (List ℕ)
-roles = codes "centre" ∷ codes "router" ∷ codes "device" ∷ []
+roles = map role_text choices.roles
 
 abbrev pub layers : List (List ℕ)
-layers = codes "nwk" ∷ codes "aps" ∷ []
+layers = map layer_text choices.layers
 
 abbrev pub labels : List (List ℕ)
-labels = codes "data" ∷ codes "network" ∷ codes "transport" ∷ codes "load" ∷ []
+labels = map label_text choices.labels
 
 abbrev pub attributes : List (List ℕ)
-attributes = codes "provisional" ∷ codes "unverified" ∷ codes "verified" ∷ []
+attributes = map attribute_text choices.attributes
 
 abbrev pub states : List (List ℕ)
-states = codes "fresh" ∷ codes "knocked" ∷ codes "joined" ∷ codes "offered" ∷ codes "confirmed" ∷ codes "rejoining" ∷ codes "gone" ∷ []
+states = map state_text choices.states
 
 abbrev pub rollovers : List (List ℕ)
-rollovers = codes "sending" ∷ codes "idle" ∷ []
+rollovers = map rollover_text choices.rollovers
 
 abbrev pub places : List (List ℕ)
-places = codes "nwk" ∷ codes "aps" ∷ codes "event" ∷ []
+places = map place_text choices.places
 
 abbrev pub answers : List (List ℕ)
-answers = codes "yes" ∷ codes "no" ∷ []
+answers = map answer_text choices.answers
 
 -- The words of a line's parts
 

@@ -2,9 +2,7 @@
 -- that of the first node of that name that the lines before it declare, and `nobody` where there is none. The lines
 -- that only the centre gives, and that don't show it, are the centre's: the first declared node of that role.
 use Rattle.std.specs.Prelude.{ℕ, List, [], ◌∷◌, ◌++◌, fold, find, bytes_eq, codes, Option, Some, None, if◌then◌else◌}
-use Rattle.zb_base.specs.declared.node.Role.{Role}
-use Rattle.zb_base.specs.declared.node.Role.TheVariants as role
-use Rattle.zb_node_types.specs.Changes.{model_layer, model_state, model_attribute, is_sending, model_place, reason}
+use Rattle.zb_node_types.specs.Changes.{model_layer, model_role, model_state, model_attribute, is_sending, model_place, reason}
 use Rattle.zb_node_types.specs.Changes as changes
 use Rattle.zb_model.specs.Data as model
 use Rattle.zb_model.specs.Data.{Station, nobody}
@@ -14,11 +12,6 @@ use Rattle.zb_model.specs.State.{is_centre}
 use Rattle.zb_seal.specs.Terms.{model_term}
 use Rattle.zb_trace.specs.declared.line.Line.{Line}
 use Rattle.zb_trace.specs.declared.line.Line.TheVariants as line
-
-abbrev pub model_role : Role → model.Role
-model_role role.Centre = model.Centre
-model_role role.Router = model.Router
-model_role role.Device = model.Device
 
 abbrev pub eui_or_nobody : Option Station → ℕ
 eui_or_nobody None = nobody

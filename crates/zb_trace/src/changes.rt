@@ -4,9 +4,9 @@ ghost use Rattle.zb_trace.specs.Text as spec;
 ghost use Rattle.zb_trace.specs.declared.line.Line.TheVariants as line;
 
 use crate::parts::{begin, begin_of};
-use crate::spelling::{attribute_text, layer_text, rollover_text, state_text};
 use std::alloc::AllocError;
 use zb_base::{Attribute, Eui, Key, Layer, Name, Rollover, State};
+use zb_text::choices::{attribute_text, layer_text, rollover_text, state_text};
 use zb_text::page::{add_eui, add_key, add_number, add_word, end_line};
 
 /// A reserved outgoing counter.
@@ -38,7 +38,8 @@ pub(crate) fn put_floor(
     sender: Eui,
     value: u32,
 ) -> Result<(), AllocError>
-    ensures { OnOk result (out.new.items ≡ out.old.items ++ spec.text (line.Floor event node.now layer key.now sender value)) }
+    ensures { OnOk result
+        (out.new.items ≡ out.old.items ++ spec.text (line.Floor event node.now layer key.now sender value)) }
 {
     begin_of(out, event, b"floor", node)?;
     add_word(out, layer_text(layer))?;
@@ -158,7 +159,8 @@ pub(crate) fn put_row(
     key: &Key,
     attribute: Attribute,
 ) -> Result<(), AllocError>
-    ensures { OnOk result (out.new.items ≡ out.old.items ++ spec.text (line.Row event node.now partner key.now attribute)) }
+    ensures { OnOk result
+        (out.new.items ≡ out.old.items ++ spec.text (line.Row event node.now partner key.now attribute)) }
 {
     begin_of(out, event, b"row", node)?;
     add_eui(out, partner)?;

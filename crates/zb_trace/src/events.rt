@@ -5,11 +5,11 @@ ghost use Rattle.zb_trace.specs.Text as spec;
 ghost use Rattle.zb_trace.specs.declared.line.Line.TheVariants as line;
 
 use crate::parts::{add_refusal, add_term, begin, begin_of};
-use crate::spelling::answer_text;
 use std::alloc::AllocError;
 use zb_base::{Frame, List, Name};
 use zb_node_types::Refusal;
 use zb_seal::Term;
+use zb_text::choices::answer_text;
 use zb_text::page::{add_bytes, add_number, add_word, end_line, put};
 
 /// Changes that are stored.
@@ -185,7 +185,8 @@ pub(crate) fn put_end(
     ideal: bool,
     private: bool,
 ) -> Result<(), AllocError>
-    ensures { OnOk result (out.new.items ≡ out.old.items ++ spec.text (line.End events seals accepts refusals ideal private)) }
+    ensures { OnOk result
+        (out.new.items ≡ out.old.items ++ spec.text (line.End events seals accepts refusals ideal private)) }
 {
     put(out, b"end")?;
     add_counts(out, events, seals, accepts, refusals)?;
@@ -203,7 +204,10 @@ fn add_counts(
     accepts: u32,
     refusals: u32,
 ) -> Result<(), AllocError>
-    ensures { OnOk result (out.new.items ≡ out.old.items ++ (then (decimal events) ++ (then (decimal seals) ++ (then (decimal accepts) ++ then (decimal refusals))))) }
+    ensures { OnOk result
+        (out.new.items ≡ out.old.items
+        ++ (then (decimal events)
+        ++ (then (decimal seals) ++ (then (decimal accepts) ++ then (decimal refusals))))) }
 {
     add_number(out, events)?;
     add_number(out, seals)?;

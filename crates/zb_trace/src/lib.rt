@@ -7,13 +7,10 @@
 
 mod changes;
 mod events;
-pub mod line;
+mod line;
 mod parts;
-pub mod printing;
-mod spelling;
+mod printing;
 mod start;
-#[cfg(test)]
-mod tests;
 
 pub use line::Line;
 pub use printing::{put_line, text, write_line};

@@ -4,11 +4,11 @@ ghost use Rattle.zb_text.specs.Fields.{eui_text};
 ghost use Rattle.zb_text.specs.Words.{then};
 ghost use Rattle.zb_trace.specs.Text.{opening, opening_of, trailing, term_words, refusal_words, place_text as place_word};
 
-use crate::spelling::{label_text, layer_text, place_text};
 use std::alloc::AllocError;
 use zb_base::{Eui, Name, Place};
 use zb_node_types::Refusal;
 use zb_seal::Term;
+use zb_text::choices::{label_text, layer_text, place_text};
 use zb_text::numbers::put_number;
 use zb_text::page::{add_bytes, add_eui, add_key, add_number, add_word};
 
@@ -97,7 +97,8 @@ fn add_counted(
     reason: &[u8],
     number: u32,
 ) -> Result<(), AllocError>
-    ensures { OnOk result (out.new.items ≡ out.old.items ++ (then (place_word place) ++ (then reason.now ++ then (decimal number)))) }
+    ensures { OnOk result
+        (out.new.items ≡ out.old.items ++ (then (place_word place) ++ (then reason.now ++ then (decimal number)))) }
 {
     add_reason(out, place, reason)?;
     add_number(out, number)?;
@@ -106,7 +107,9 @@ fn add_counted(
 
 #[tactic(auto, using(std::proofs::Common::append_assoc))]
 fn add_user(out: &mut Vec<u8>, place: Place, partner: Eui) -> Result<(), AllocError>
-    ensures { OnOk result (out.new.items ≡ out.old.items ++ (then (place_word place) ++ (then (codes "key-in-use") ++ then (eui_text partner.0)))) }
+    ensures { OnOk result
+        (out.new.items ≡ out.old.items
+        ++ (then (place_word place) ++ (then (codes "key-in-use") ++ then (eui_text partner.0)))) }
 {
     add_reason(out, place, b"key-in-use")?;
     add_eui(out, partner)?;

@@ -149,7 +149,8 @@ fn put_frame_line(out: &mut Vec<u8>, line: &Line) -> Result<(), AllocError>
 
 /// Prints a line on power and disks, or the end.
 fn put_last_line(out: &mut Vec<u8>, line: &Line) -> Result<(), AllocError>
-    requires { (is_of_counters line.now || (is_of_keys line.now || (is_of_devices line.now || is_of_frames line.now))) ≡ false }
+    requires { (is_of_counters line.now || (is_of_keys line.now || (is_of_devices line.now || is_of_frames line.now)))
+        ≡ false }
     ensures { OnOk result (out.new.items ≡ out.old.items ++ spec.text line.now) }
 {
     match line {
@@ -170,7 +171,7 @@ fn put_last_line(out: &mut Vec<u8>, line: &Line) -> Result<(), AllocError>
     }
 }
 
-/// The text of a line, with its line feed.
+/// Makes the text of a line, with its line feed.
 pub fn text(alloc: Global, line: &Line) -> Result<Vec<u8>, NoMemory>
     ensures { IfOk result (λ bytes. bytes.items ≡ spec.text line.now) }
 {
@@ -179,8 +180,11 @@ pub fn text(alloc: Global, line: &Line) -> Result<Vec<u8>, NoMemory>
     Ok(bytes)
 }
 
-/// Hands the text of a line to a sink, in one write. The page is empty at the call and after `Ok`, and keeps its room from
-/// line to line. Where the sink fails, a prefix of the text was taken; where memory lacks, nothing was.
+/// Hands the text of a line to a sink, in one write. Requires an empty page. The page is empty again after `Ok`, and
+/// keeps its room from line to line.
+///
+/// # Errors
+/// Where the sink fails, a front of the text was taken; where memory lacks, nothing was.
 pub fn write_line<W: Sink>(
     page: &mut Vec<u8>,
     out: &mut W,

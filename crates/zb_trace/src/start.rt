@@ -6,9 +6,9 @@ ghost use Rattle.zb_text.specs.Fields.{eui_text, short_text};
 ghost use Rattle.zb_text.specs.Words.{then};
 
 use crate::parts::begin_of;
-use crate::spelling::{layer_text, role_text};
 use std::alloc::AllocError;
 use zb_base::{Eui, Key, Layer, Name, Role, Short};
+use zb_text::choices::{layer_text, role_text};
 use zb_text::page::{add_eui, add_key, add_number, add_short, add_word, end_line};
 
 /// A node, as it is declared.
@@ -22,7 +22,8 @@ pub(crate) fn put_node(
     out_block: u32,
     in_block: u32,
 ) -> Result<(), AllocError>
-    ensures { OnOk result (out.new.items ≡ out.old.items ++ spec.text (line.Node name.now role eui short out_block in_block)) }
+    ensures { OnOk result
+        (out.new.items ≡ out.old.items ++ spec.text (line.Node name.now role eui short out_block in_block)) }
 {
     begin_of(out, 0, b"node", name)?;
     add_peer(out, role, eui, short)?;
@@ -34,7 +35,9 @@ pub(crate) fn put_node(
 
 #[tactic(auto, using(std::proofs::Common::append_assoc))]
 fn add_peer(out: &mut Vec<u8>, role: Role, eui: Eui, short: Short) -> Result<(), AllocError>
-    ensures { OnOk result (out.new.items ≡ out.old.items ++ (then (spec.role_text role) ++ (then (eui_text eui.0) ++ then (short_text short.0)))) }
+    ensures { OnOk result
+        (out.new.items ≡ out.old.items
+        ++ (then (spec.role_text role) ++ (then (eui_text eui.0) ++ then (short_text short.0)))) }
 {
     add_word(out, role_text(role))?;
     add_eui(out, eui)?;

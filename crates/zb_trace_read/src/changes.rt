@@ -14,7 +14,7 @@ use zb_base::Name;
 use zb_text::words::Words;
 use zb_trace::Line;
 
-/// What stands behind the name of a node whose stable state changes, or that is declared.
+/// Reads what stands behind the name of a node whose stable state changes, or that is declared.
 #[tactic(auto, unfolding(crate::specs::Reading::of_change))]
 pub(crate) fn read_change(
     event: u32,
@@ -53,10 +53,12 @@ pub(crate) fn read_change(
     }
 }
 
-/// A reserved outgoing counter.
+/// Reads a reserved outgoing counter.
 fn read_reserve(event: u32, node: Name, reader: &mut Words<'_>) -> Option<Line>
     requires { is_name node.bytes ≡ true }
-    ensures value { Shows words result (option_map (begun_of event (codes "reserve") node.bytes) (shaped (a_layer ∷ a_count ∷ []) (left reader.old))) }
+    ensures value { Shows words result
+        (option_map (begun_of event (codes "reserve") node.bytes)
+        (shaped (a_layer ∷ a_count ∷ []) (left reader.old))) }
     ensures fits { IfSome result (λ l. AllByRecursion MayStand (words l)) }
 {
     let layer = layer(reader)?;
@@ -70,10 +72,12 @@ fn read_reserve(event: u32, node: Name, reader: &mut Words<'_>) -> Option<Line>
     })
 }
 
-/// A stored floor.
+/// Reads a stored floor.
 fn read_floor(event: u32, node: Name, reader: &mut Words<'_>) -> Option<Line>
     requires { is_name node.bytes ≡ true }
-    ensures value { Shows words result (option_map (begun_of event (codes "floor") node.bytes) (shaped (a_layer ∷ AKey ∷ AnAddress ∷ a_count ∷ []) (left reader.old))) }
+    ensures value { Shows words result
+        (option_map (begun_of event (codes "floor") node.bytes)
+        (shaped (a_layer ∷ AKey ∷ AnAddress ∷ a_count ∷ []) (left reader.old))) }
     ensures fits { IfSome result (λ l. AllByRecursion MayStand (words l)) }
 {
     let layer = layer(reader)?;
@@ -91,10 +95,12 @@ fn read_floor(event: u32, node: Name, reader: &mut Words<'_>) -> Option<Line>
     })
 }
 
-/// A key that is dropped: a network key or a link key.
+/// Reads a key that is dropped: a network key or a link key.
 fn read_drop(event: u32, node: Name, reader: &mut Words<'_>) -> Option<Line>
     requires { is_name node.bytes ≡ true }
-    ensures value { Shows words result (option_map (begun_of event (codes "drop") node.bytes) (two_forms (codes "net") (AKey ∷ []) (codes "link") (AnAddress ∷ AKey ∷ []) (left reader.old))) }
+    ensures value { Shows words result
+        (option_map (begun_of event (codes "drop") node.bytes)
+        (two_forms (codes "net") (AKey ∷ []) (codes "link") (AnAddress ∷ AKey ∷ []) (left reader.old))) }
     ensures fits { IfSome result (λ l. AllByRecursion MayStand (words l)) }
 {
     let form = reader.word()?;
@@ -107,10 +113,12 @@ fn read_drop(event: u32, node: Name, reader: &mut Words<'_>) -> Option<Line>
     }
 }
 
-/// A network key that is dropped.
+/// Reads a network key that is dropped.
 fn read_drop_net(event: u32, node: Name, reader: &mut Words<'_>) -> Option<Line>
     requires { is_name node.bytes ≡ true }
-    ensures value { Shows words result (option_map (λ behind. begun_of event (codes "drop") node.bytes (Fixed (codes "net") ∷ behind)) (shaped (AKey ∷ []) (left reader.old))) }
+    ensures value { Shows words result
+        (option_map (λ behind. begun_of event (codes "drop") node.bytes (Fixed (codes "net") ∷ behind))
+        (shaped (AKey ∷ []) (left reader.old))) }
     ensures fits { IfSome result (λ l. AllByRecursion MayStand (words l)) }
 {
     let key = key(reader)?;
@@ -118,10 +126,12 @@ fn read_drop_net(event: u32, node: Name, reader: &mut Words<'_>) -> Option<Line>
     Some(Line::DropNet { event, node, key })
 }
 
-/// A link key that is dropped.
+/// Reads a link key that is dropped.
 fn read_drop_link(event: u32, node: Name, reader: &mut Words<'_>) -> Option<Line>
     requires { is_name node.bytes ≡ true }
-    ensures value { Shows words result (option_map (λ behind. begun_of event (codes "drop") node.bytes (Fixed (codes "link") ∷ behind)) (shaped (AnAddress ∷ AKey ∷ []) (left reader.old))) }
+    ensures value { Shows words result
+        (option_map (λ behind. begun_of event (codes "drop") node.bytes (Fixed (codes "link") ∷ behind))
+        (shaped (AnAddress ∷ AKey ∷ []) (left reader.old))) }
     ensures fits { IfSome result (λ l. AllByRecursion MayStand (words l)) }
 {
     let partner = eui(reader)?;
@@ -135,10 +145,12 @@ fn read_drop_link(event: u32, node: Name, reader: &mut Words<'_>) -> Option<Line
     })
 }
 
-/// A new network key.
+/// Reads a new network key.
 fn read_install(event: u32, node: Name, reader: &mut Words<'_>) -> Option<Line>
     requires { is_name node.bytes ≡ true }
-    ensures value { Shows words result (option_map (begun_of event (codes "install") node.bytes) (shaped (AKey ∷ a_sequence ∷ []) (left reader.old))) }
+    ensures value { Shows words result
+        (option_map (begun_of event (codes "install") node.bytes)
+        (shaped (AKey ∷ a_sequence ∷ []) (left reader.old))) }
     ensures fits { IfSome result (λ l. AllByRecursion MayStand (words l)) }
 {
     let key = key(reader)?;
@@ -152,10 +164,11 @@ fn read_install(event: u32, node: Name, reader: &mut Words<'_>) -> Option<Line>
     })
 }
 
-/// The active network key.
+/// Reads the active network key.
 fn read_active(event: u32, node: Name, reader: &mut Words<'_>) -> Option<Line>
     requires { is_name node.bytes ≡ true }
-    ensures value { Shows words result (option_map (begun_of event (codes "active") node.bytes) (shaped (AKey ∷ []) (left reader.old))) }
+    ensures value { Shows words result
+        (option_map (begun_of event (codes "active") node.bytes) (shaped (AKey ∷ []) (left reader.old))) }
     ensures fits { IfSome result (λ l. AllByRecursion MayStand (words l)) }
 {
     let key = key(reader)?;
@@ -163,10 +176,11 @@ fn read_active(event: u32, node: Name, reader: &mut Words<'_>) -> Option<Line>
     Some(Line::Active { event, node, key })
 }
 
-/// The first counter of a network key.
+/// Reads the first counter of a network key.
 fn read_first_counter(event: u32, node: Name, reader: &mut Words<'_>) -> Option<Line>
     requires { is_name node.bytes ≡ true }
-    ensures value { Shows words result (option_map (begun_of event (codes "start") node.bytes) (shaped (AKey ∷ a_count ∷ []) (left reader.old))) }
+    ensures value { Shows words result
+        (option_map (begun_of event (codes "start") node.bytes) (shaped (AKey ∷ a_count ∷ []) (left reader.old))) }
     ensures fits { IfSome result (λ l. AllByRecursion MayStand (words l)) }
 {
     let key = key(reader)?;
@@ -180,10 +194,12 @@ fn read_first_counter(event: u32, node: Name, reader: &mut Words<'_>) -> Option<
     })
 }
 
-/// A link key and its attribute.
+/// Reads a link key and its attribute.
 fn read_row(event: u32, node: Name, reader: &mut Words<'_>) -> Option<Line>
     requires { is_name node.bytes ≡ true }
-    ensures value { Shows words result (option_map (begun_of event (codes "row") node.bytes) (shaped (AnAddress ∷ AKey ∷ OneOf attributes ∷ []) (left reader.old))) }
+    ensures value { Shows words result
+        (option_map (begun_of event (codes "row") node.bytes)
+        (shaped (AnAddress ∷ AKey ∷ OneOf attributes ∷ []) (left reader.old))) }
     ensures fits { IfSome result (λ l. AllByRecursion MayStand (words l)) }
 {
     let partner = eui(reader)?;
@@ -199,10 +215,12 @@ fn read_row(event: u32, node: Name, reader: &mut Words<'_>) -> Option<Line>
     })
 }
 
-/// A key for two devices.
+/// Reads a key for two devices.
 fn read_pair(event: u32, node: Name, reader: &mut Words<'_>) -> Option<Line>
     requires { is_name node.bytes ≡ true }
-    ensures value { Shows words result (option_map (begun_of event (codes "pair") node.bytes) (shaped (AnAddress ∷ AnAddress ∷ AKey ∷ []) (left reader.old))) }
+    ensures value { Shows words result
+        (option_map (begun_of event (codes "pair") node.bytes)
+        (shaped (AnAddress ∷ AnAddress ∷ AKey ∷ []) (left reader.old))) }
     ensures fits { IfSome result (λ l. AllByRecursion MayStand (words l)) }
 {
     let first = eui(reader)?;
@@ -218,10 +236,11 @@ fn read_pair(event: u32, node: Name, reader: &mut Words<'_>) -> Option<Line>
     })
 }
 
-/// The state of a node.
+/// Reads the state of a node.
 fn read_state(event: u32, node: Name, reader: &mut Words<'_>) -> Option<Line>
     requires { is_name node.bytes ≡ true }
-    ensures value { Shows words result (option_map (begun_of event (codes "state") node.bytes) (shaped (OneOf states ∷ []) (left reader.old))) }
+    ensures value { Shows words result
+        (option_map (begun_of event (codes "state") node.bytes) (shaped (OneOf states ∷ []) (left reader.old))) }
     ensures fits { IfSome result (λ l. AllByRecursion MayStand (words l)) }
 {
     let state = state(reader)?;
@@ -229,10 +248,11 @@ fn read_state(event: u32, node: Name, reader: &mut Words<'_>) -> Option<Line>
     Some(Line::State { event, node, state })
 }
 
-/// A rollover.
+/// Reads a rollover.
 fn read_roll(event: u32, node: Name, reader: &mut Words<'_>) -> Option<Line>
     requires { is_name node.bytes ≡ true }
-    ensures value { Shows words result (option_map (begun_of event (codes "roll") node.bytes) (shaped (OneOf rollovers ∷ []) (left reader.old))) }
+    ensures value { Shows words result
+        (option_map (begun_of event (codes "roll") node.bytes) (shaped (OneOf rollovers ∷ []) (left reader.old))) }
     ensures fits { IfSome result (λ l. AllByRecursion MayStand (words l)) }
 {
     let rollover = rollover(reader)?;

@@ -2,9 +2,10 @@
 use std::error::Error;
 use std::fmt;
 
-/// The first line, from 1, that is no text of a line of a transcript.
+/// Names the first line, from 1, that is no text of a line of a transcript.
 #[derive(Clone, Copy, Debug, PartialEq, Eq)]
 pub struct TraceError {
+    /// The number of the line.
     pub line: u32,
 }
 

@@ -7,140 +7,90 @@ ghost use Rattle.zb_trace.specs.Text as spec;
 ghost use Rattle.zb_trace.specs.Text.{Chosen, CalledOrNobody, Address, ShortAddress, Secret, Octet, Octets, AllOctets, counted, sequenced};
 ghost use Rattle.zb_trace_read.specs.Grammar.{OneOf, ANameOrDash, AnAddress, AShort, AKey, AByte, SomeBytes, AllBytes, a_count, a_sequence, value_of};
 
-use zb_base::{Attribute, Eui, Frame, Key, Label, Layer, Name, Place, Role, Rollover, Short, State};
+use zb_base::{
+    Attribute, Eui, Frame, Key, Label, Layer, Name, Place, Role, Rollover, Short, State,
+};
 use zb_text::hexadecimal;
 use zb_text::words::Words;
 
-/// Takes one of the words for a layer.
-pub(crate) fn layer(reader: &mut Words<'_>) -> Option<Layer>
-    ensures { Takes (λ l. Chosen spec.layers (spec.layer_text l)) result (left reader.new) (field (value_of (OneOf spec.layers)) (left reader.old)) }
+/// Takes one of the words for a role.
+#[tactic(auto, using(crate::proofs::Choosing::role_field))]
+pub(crate) fn role(reader: &mut Words<'_>) -> Option<Role>
+    ensures { Takes (λ r. Chosen spec.roles (spec.role_text r)) result (left reader.new)
+        (field (value_of (OneOf spec.roles)) (left reader.old)) }
 {
-    let word = reader.word()?;
-    if word == b"nwk".as_slice() {
-        Some(Layer::Nwk)
-    } else if word == b"aps".as_slice() {
-        Some(Layer::Aps)
-    } else {
-        None
-    }
+    let role = reader.role()?;
+    Some(role)
+}
+
+/// Takes one of the words for a layer.
+#[tactic(auto, using(crate::proofs::Choosing::layer_field))]
+pub(crate) fn layer(reader: &mut Words<'_>) -> Option<Layer>
+    ensures { Takes (λ l. Chosen spec.layers (spec.layer_text l)) result (left reader.new)
+        (field (value_of (OneOf spec.layers)) (left reader.old)) }
+{
+    let layer = reader.layer()?;
+    Some(layer)
 }
 
 /// Takes one of the words for a label.
+#[tactic(auto, using(crate::proofs::Choosing::label_field))]
 pub(crate) fn label(reader: &mut Words<'_>) -> Option<Label>
-    ensures { Takes (λ l. Chosen spec.labels (spec.label_text l)) result (left reader.new) (field (value_of (OneOf spec.labels)) (left reader.old)) }
+    ensures { Takes (λ l. Chosen spec.labels (spec.label_text l)) result (left reader.new)
+        (field (value_of (OneOf spec.labels)) (left reader.old)) }
 {
-    let word = reader.word()?;
-    if word == b"data".as_slice() {
-        Some(Label::Data)
-    } else if word == b"network".as_slice() {
-        Some(Label::Network)
-    } else if word == b"transport".as_slice() {
-        Some(Label::Transport)
-    } else if word == b"load".as_slice() {
-        Some(Label::Load)
-    } else {
-        None
-    }
+    let label = reader.label()?;
+    Some(label)
 }
 
-/// Takes one of the words for a role.
-pub(crate) fn role(reader: &mut Words<'_>) -> Option<Role>
-    ensures { Takes (λ r. Chosen spec.roles (spec.role_text r)) result (left reader.new) (field (value_of (OneOf spec.roles)) (left reader.old)) }
-{
-    let word = reader.word()?;
-    if word == b"centre".as_slice() {
-        Some(Role::Centre)
-    } else if word == b"router".as_slice() {
-        Some(Role::Router)
-    } else if word == b"device".as_slice() {
-        Some(Role::Device)
-    } else {
-        None
-    }
-}
-
-/// Takes one of the words for a attribute.
+/// Takes one of the words for an attribute.
+#[tactic(auto, using(crate::proofs::Choosing::attribute_field))]
 pub(crate) fn attribute(reader: &mut Words<'_>) -> Option<Attribute>
-    ensures { Takes (λ a. Chosen spec.attributes (spec.attribute_text a)) result (left reader.new) (field (value_of (OneOf spec.attributes)) (left reader.old)) }
+    ensures { Takes (λ a. Chosen spec.attributes (spec.attribute_text a)) result (left reader.new)
+        (field (value_of (OneOf spec.attributes)) (left reader.old)) }
 {
-    let word = reader.word()?;
-    if word == b"provisional".as_slice() {
-        Some(Attribute::Provisional)
-    } else if word == b"unverified".as_slice() {
-        Some(Attribute::Unverified)
-    } else if word == b"verified".as_slice() {
-        Some(Attribute::Verified)
-    } else {
-        None
-    }
+    let attribute = reader.attribute()?;
+    Some(attribute)
 }
 
 /// Takes one of the words for a state.
+#[tactic(auto, using(crate::proofs::Choosing::state_field))]
 pub(crate) fn state(reader: &mut Words<'_>) -> Option<State>
-    ensures { Takes (λ s. Chosen spec.states (spec.state_text s)) result (left reader.new) (field (value_of (OneOf spec.states)) (left reader.old)) }
+    ensures { Takes (λ s. Chosen spec.states (spec.state_text s)) result (left reader.new)
+        (field (value_of (OneOf spec.states)) (left reader.old)) }
 {
-    let word = reader.word()?;
-    if word == b"fresh".as_slice() {
-        Some(State::Fresh)
-    } else if word == b"knocked".as_slice() {
-        Some(State::Knocked)
-    } else if word == b"joined".as_slice() {
-        Some(State::Joined)
-    } else if word == b"offered".as_slice() {
-        Some(State::Offered)
-    } else if word == b"confirmed".as_slice() {
-        Some(State::Confirmed)
-    } else if word == b"rejoining".as_slice() {
-        Some(State::Rejoining)
-    } else if word == b"gone".as_slice() {
-        Some(State::Gone)
-    } else {
-        None
-    }
+    let state = reader.state()?;
+    Some(state)
 }
 
 /// Takes one of the words for a rollover.
+#[tactic(auto, using(crate::proofs::Choosing::rollover_field))]
 pub(crate) fn rollover(reader: &mut Words<'_>) -> Option<Rollover>
-    ensures { Takes (λ r. Chosen spec.rollovers (spec.rollover_text r)) result (left reader.new) (field (value_of (OneOf spec.rollovers)) (left reader.old)) }
+    ensures { Takes (λ r. Chosen spec.rollovers (spec.rollover_text r)) result (left reader.new)
+        (field (value_of (OneOf spec.rollovers)) (left reader.old)) }
 {
-    let word = reader.word()?;
-    if word == b"sending".as_slice() {
-        Some(Rollover::Sending)
-    } else if word == b"idle".as_slice() {
-        Some(Rollover::Idle)
-    } else {
-        None
-    }
+    let rollover = reader.rollover()?;
+    Some(rollover)
 }
 
 /// Takes one of the words for a place.
+#[tactic(auto, using(crate::proofs::Choosing::place_field))]
 pub(crate) fn place(reader: &mut Words<'_>) -> Option<Place>
-    ensures { Takes (λ p. Chosen spec.places (spec.place_text p)) result (left reader.new) (field (value_of (OneOf spec.places)) (left reader.old)) }
+    ensures { Takes (λ p. Chosen spec.places (spec.place_text p)) result (left reader.new)
+        (field (value_of (OneOf spec.places)) (left reader.old)) }
 {
-    let word = reader.word()?;
-    if word == b"nwk".as_slice() {
-        Some(Place::Nwk)
-    } else if word == b"aps".as_slice() {
-        Some(Place::Aps)
-    } else if word == b"event".as_slice() {
-        Some(Place::Event)
-    } else {
-        None
-    }
+    let place = reader.place()?;
+    Some(place)
 }
 
-/// Takes `yes` or `no`.
+/// Takes one of the words for an answer.
+#[tactic(auto, using(crate::proofs::Choosing::answer_field))]
 pub(crate) fn answer(reader: &mut Words<'_>) -> Option<bool>
-    ensures { Takes (λ a. Chosen spec.answers (spec.answer_text a)) result (left reader.new) (field (value_of (OneOf spec.answers)) (left reader.old)) }
+    ensures { Takes (λ a. Chosen spec.answers (spec.answer_text a)) result (left reader.new)
+        (field (value_of (OneOf spec.answers)) (left reader.old)) }
 {
-    let word = reader.word()?;
-    if word == b"yes".as_slice() {
-        Some(true)
-    } else if word == b"no".as_slice() {
-        Some(false)
-    } else {
-        None
-    }
+    let answer = reader.answer()?;
+    Some(answer)
 }
 
 /// Takes a counter, a limit, or the number of a frame.
@@ -186,7 +136,8 @@ pub(crate) fn key(reader: &mut Words<'_>) -> Option<Key>
 
 /// Takes the bytes of a frame, of a header or of a content.
 pub(crate) fn some_bytes(reader: &mut Words<'_>) -> Option<Frame>
-    ensures value { Takes (λ f. Octets 127 f.items) result (left reader.new) (field (value_of (SomeBytes 127)) (left reader.old)) }
+    ensures value { Takes
+        (λ f. Octets 127 f.items) result (left reader.new) (field (value_of (SomeBytes 127)) (left reader.old)) }
     ensures fits { IfSome result (λ f. IsBytes f.items × (length f.items ≤ 127)) }
 {
     reader.bytes::<127>()
@@ -204,7 +155,8 @@ pub(crate) fn octet(reader: &mut Words<'_>) -> Option<u8>
 
 /// Takes the name of a frame's sender, or `-` for an outsider.
 pub(crate) fn sender(reader: &mut Words<'_>) -> Option<Name>
-    ensures value { Takes (λ n. CalledOrNobody n.bytes) result (left reader.new) (field (value_of ANameOrDash) (left reader.old)) }
+    ensures value { Takes
+        (λ n. CalledOrNobody n.bytes) result (left reader.new) (field (value_of ANameOrDash) (left reader.old)) }
     ensures fits { IfSome result (λ n. (is_name n.bytes ≡ true) ⊎ (n.bytes ≡ codes "-")) }
 {
     let word = reader.word()?;

@@ -14,7 +14,7 @@ use zb_base::Name;
 use zb_text::words::Words;
 use zb_trace::Line;
 
-/// What stands behind the name of a node to which something happens, or whose stable state changes.
+/// Reads what stands behind the name of a node to which something happens, or whose stable state changes.
 #[tactic(auto, unfolding(crate::specs::Reading::of_node))]
 pub(crate) fn read_of_node(
     event: u32,
@@ -45,40 +45,44 @@ pub(crate) fn read_of_node(
     }
 }
 
-/// A sealed layer of a frame.
+/// Reads a sealed layer of a frame.
 fn read_seal(event: u32, node: Name, reader: &mut Words<'_>) -> Option<Line>
     requires { is_name node.bytes ≡ true }
-    ensures value { Shows words result (option_map (begun_of event (codes "seal") node.bytes) (shaped a_term (left reader.old))) }
+    ensures value { Shows words result
+        (option_map (begun_of event (codes "seal") node.bytes) (shaped a_term (left reader.old))) }
     ensures fits { IfSome result (λ l. AllByRecursion MayStand (words l)) }
 {
     let term = read_term(reader)?;
     Some(Line::Seal { event, node, term })
 }
 
-/// An accepted layer of a frame.
+/// Reads an accepted layer of a frame.
 fn read_accept(event: u32, node: Name, reader: &mut Words<'_>) -> Option<Line>
     requires { is_name node.bytes ≡ true }
-    ensures value { Shows words result (option_map (begun_of event (codes "accept") node.bytes) (shaped a_term (left reader.old))) }
+    ensures value { Shows words result
+        (option_map (begun_of event (codes "accept") node.bytes) (shaped a_term (left reader.old))) }
     ensures fits { IfSome result (λ l. AllByRecursion MayStand (words l)) }
 {
     let term = read_term(reader)?;
     Some(Line::Accept { event, node, term })
 }
 
-/// Changes that are stored.
+/// Reads changes that are stored.
 fn read_commit(event: u32, node: Name, reader: &mut Words<'_>) -> Option<Line>
     requires { is_name node.bytes ≡ true }
-    ensures value { Shows words result (option_map (begun_of event (codes "commit") node.bytes) (shaped [] (left reader.old))) }
+    ensures value { Shows words result
+        (option_map (begun_of event (codes "commit") node.bytes) (shaped [] (left reader.old))) }
     ensures fits { IfSome result (λ l. AllByRecursion MayStand (words l)) }
 {
     reader.end()?;
     Some(Line::Commit { event, node })
 }
 
-/// A refused event.
+/// Reads a refused event.
 fn read_refuse(event: u32, node: Name, reader: &mut Words<'_>) -> Option<Line>
     requires { is_name node.bytes ≡ true }
-    ensures value { Shows words result (option_map (begun_of event (codes "refuse") node.bytes) (a_refusal (left reader.old))) }
+    ensures value { Shows words result
+        (option_map (begun_of event (codes "refuse") node.bytes) (a_refusal (left reader.old))) }
     ensures fits { IfSome result (λ l. AllByRecursion MayStand (words l)) }
 {
     let refusal = read_refusal(reader)?;
@@ -89,20 +93,23 @@ fn read_refuse(event: u32, node: Name, reader: &mut Words<'_>) -> Option<Line>
     })
 }
 
-/// A node that booted.
+/// Reads a node that booted.
 fn read_boot(event: u32, node: Name, reader: &mut Words<'_>) -> Option<Line>
     requires { is_name node.bytes ≡ true }
-    ensures value { Shows words result (option_map (begun_of event (codes "boot") node.bytes) (shaped [] (left reader.old))) }
+    ensures value { Shows words result
+        (option_map (begun_of event (codes "boot") node.bytes) (shaped [] (left reader.old))) }
     ensures fits { IfSome result (λ l. AllByRecursion MayStand (words l)) }
 {
     reader.end()?;
     Some(Line::Boot { event, node })
 }
 
-/// A node that lost its power, by a reset or because its disk failed.
+/// Reads a node that lost its power, by a reset or because its disk failed.
 fn read_down(event: u32, node: Name, reader: &mut Words<'_>) -> Option<Line>
     requires { is_name node.bytes ≡ true }
-    ensures value { Shows words result (option_map (begun_of event (codes "down") node.bytes) (two_forms (codes "reset") [] (codes "disk") [] (left reader.old))) }
+    ensures value { Shows words result
+        (option_map (begun_of event (codes "down") node.bytes)
+        (two_forms (codes "reset") [] (codes "disk") [] (left reader.old))) }
     ensures fits { IfSome result (λ l. AllByRecursion MayStand (words l)) }
 {
     let form = reader.word()?;
@@ -116,10 +123,11 @@ fn read_down(event: u32, node: Name, reader: &mut Words<'_>) -> Option<Line>
     }
 }
 
-/// A disk that stopped.
+/// Reads a disk that stopped.
 fn read_stopped(event: u32, node: Name, reader: &mut Words<'_>) -> Option<Line>
     requires { is_name node.bytes ≡ true }
-    ensures value { Shows words result (option_map (begun_of event (codes "stopped") node.bytes) (shaped [] (left reader.old))) }
+    ensures value { Shows words result
+        (option_map (begun_of event (codes "stopped") node.bytes) (shaped [] (left reader.old))) }
     ensures fits { IfSome result (λ l. AllByRecursion MayStand (words l)) }
 {
     reader.end()?;

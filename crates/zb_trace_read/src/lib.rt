@@ -2,15 +2,13 @@
 #![tactic(auto)]
 
 mod changes;
-pub mod fault;
+mod fault;
 mod fields;
 mod happenings;
 mod nobodys;
 mod parts;
-pub mod reading;
+mod reading;
 mod start;
-#[cfg(test)]
-mod tests;
 
 pub use fault::TraceError;
 pub use reading::read_lines;

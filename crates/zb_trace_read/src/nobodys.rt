@@ -13,7 +13,7 @@ use crate::parts::read_term;
 use zb_text::words::Words;
 use zb_trace::Line;
 
-/// What stands behind the number of an event and a kind.
+/// Reads what stands behind the number of an event and a kind.
 #[tactic(auto, unfolding(crate::specs::Reading::of_nobody))]
 pub(crate) fn read_of_nobody(event: u32, kind: &[u8], reader: &mut Words<'_>) -> Option<Line>
     ensures value { Shows words result (spec.of_nobody event kind.now (left reader.old)) }
@@ -41,9 +41,11 @@ pub(crate) fn read_of_nobody(event: u32, kind: &[u8], reader: &mut Words<'_>) ->
     }
 }
 
-/// A frame on the air.
+/// Reads a frame on the air.
 fn read_send(event: u32, reader: &mut Words<'_>) -> Option<Line>
-    ensures value { Shows words result (option_map (begun event (codes "send")) (shaped (ANameOrDash ∷ a_count ∷ SomeBytes 127 ∷ []) (left reader.old))) }
+    ensures value { Shows words result
+        (option_map (begun event (codes "send"))
+        (shaped (ANameOrDash ∷ a_count ∷ SomeBytes 127 ∷ []) (left reader.old))) }
     ensures fits { IfSome result (λ l. AllByRecursion MayStand (words l)) }
 {
     let node = sender(reader)?;
@@ -58,7 +60,7 @@ fn read_send(event: u32, reader: &mut Words<'_>) -> Option<Line>
     })
 }
 
-/// A forged layer of a frame.
+/// Reads a forged layer of a frame.
 fn read_forge(event: u32, reader: &mut Words<'_>) -> Option<Line>
     ensures value { Shows words result (option_map (begun event (codes "forge")) (shaped a_term (left reader.old))) }
     ensures fits { IfSome result (λ l. AllByRecursion MayStand (words l)) }
@@ -67,9 +69,10 @@ fn read_forge(event: u32, reader: &mut Words<'_>) -> Option<Line>
     Some(Line::Forge { event, term })
 }
 
-/// Injected bytes.
+/// Reads injected bytes.
 fn read_inject(event: u32, reader: &mut Words<'_>) -> Option<Line>
-    ensures value { Shows words result (option_map (begun event (codes "inject")) (shaped (a_count ∷ SomeBytes 127 ∷ []) (left reader.old))) }
+    ensures value { Shows words result
+        (option_map (begun event (codes "inject")) (shaped (a_count ∷ SomeBytes 127 ∷ []) (left reader.old))) }
     ensures fits { IfSome result (λ l. AllByRecursion MayStand (words l)) }
 {
     let frame = count(reader)?;
@@ -82,9 +85,10 @@ fn read_inject(event: u32, reader: &mut Words<'_>) -> Option<Line>
     })
 }
 
-/// A key of the supply.
+/// Reads a key of the supply.
 fn read_draw(event: u32, reader: &mut Words<'_>) -> Option<Line>
-    ensures value { Shows words result (option_map (begun event (codes "draw")) (shaped (AKey ∷ []) (left reader.old))) }
+    ensures value { Shows words result
+        (option_map (begun event (codes "draw")) (shaped (AKey ∷ []) (left reader.old))) }
     ensures fits { IfSome result (λ l. AllByRecursion MayStand (words l)) }
 {
     let key = key(reader)?;
@@ -92,9 +96,10 @@ fn read_draw(event: u32, reader: &mut Words<'_>) -> Option<Line>
     Some(Line::Draw { event, key })
 }
 
-/// An admitted device.
+/// Reads an admitted device.
 fn read_live(event: u32, reader: &mut Words<'_>) -> Option<Line>
-    ensures value { Shows words result (option_map (begun event (codes "live")) (shaped (AnAddress ∷ []) (left reader.old))) }
+    ensures value { Shows words result
+        (option_map (begun event (codes "live")) (shaped (AnAddress ∷ []) (left reader.old))) }
     ensures fits { IfSome result (λ l. AllByRecursion MayStand (words l)) }
 {
     let device = eui(reader)?;
@@ -102,9 +107,10 @@ fn read_live(event: u32, reader: &mut Words<'_>) -> Option<Line>
     Some(Line::Live { event, device })
 }
 
-/// A removed device.
+/// Reads a removed device.
 fn read_removed(event: u32, reader: &mut Words<'_>) -> Option<Line>
-    ensures value { Shows words result (option_map (begun event (codes "removed")) (shaped (AnAddress ∷ []) (left reader.old))) }
+    ensures value { Shows words result
+        (option_map (begun event (codes "removed")) (shaped (AnAddress ∷ []) (left reader.old))) }
     ensures fits { IfSome result (λ l. AllByRecursion MayStand (words l)) }
 {
     let device = eui(reader)?;
@@ -112,9 +118,10 @@ fn read_removed(event: u32, reader: &mut Words<'_>) -> Option<Line>
     Some(Line::Removed { event, device })
 }
 
-/// A device that was sent the newest network key.
+/// Reads a device that was sent the newest network key.
 fn read_told(event: u32, reader: &mut Words<'_>) -> Option<Line>
-    ensures value { Shows words result (option_map (begun event (codes "told")) (shaped (AnAddress ∷ []) (left reader.old))) }
+    ensures value { Shows words result
+        (option_map (begun event (codes "told")) (shaped (AnAddress ∷ []) (left reader.old))) }
     ensures fits { IfSome result (λ l. AllByRecursion MayStand (words l)) }
 {
     let device = eui(reader)?;
@@ -122,9 +129,10 @@ fn read_told(event: u32, reader: &mut Words<'_>) -> Option<Line>
     Some(Line::Told { event, device })
 }
 
-/// A device that is to be sent it again.
+/// Reads a device that is to be sent it again.
 fn read_untold(event: u32, reader: &mut Words<'_>) -> Option<Line>
-    ensures value { Shows words result (option_map (begun event (codes "untold")) (shaped (AnAddress ∷ []) (left reader.old))) }
+    ensures value { Shows words result
+        (option_map (begun event (codes "untold")) (shaped (AnAddress ∷ []) (left reader.old))) }
     ensures fits { IfSome result (λ l. AllByRecursion MayStand (words l)) }
 {
     let device = eui(reader)?;

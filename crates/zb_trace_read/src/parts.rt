@@ -12,7 +12,7 @@ use zb_node_types::Refusal;
 use zb_seal::Term;
 use zb_text::words::Words;
 
-/// The words of a term, with nothing behind them.
+/// Reads the words of a term, with nothing behind them.
 #[tactic(auto, unfolding(zb_trace::specs::Text::term_words))]
 pub(crate) fn read_term(reader: &mut Words<'_>) -> Option<Term>
     ensures value { Shows term_words result (shaped a_term (left reader.old)) }
@@ -39,7 +39,7 @@ pub(crate) fn read_term(reader: &mut Words<'_>) -> Option<Term>
     })
 }
 
-/// The words of a refusal, with nothing behind them.
+/// Reads the words of a refusal, with nothing behind them.
 #[tactic(auto, unfolding(crate::specs::Grammar::a_refusal))]
 pub(crate) fn read_refusal(reader: &mut Words<'_>) -> Option<Refusal>
     ensures value { Shows refusal_words result (a_refusal (left reader.old)) }
@@ -58,10 +58,12 @@ pub(crate) fn read_refusal(reader: &mut Words<'_>) -> Option<Refusal>
     }
 }
 
-/// The floor that a counter was below.
+/// Reads the floor that a counter was below.
 #[tactic(auto, unfolding(zb_trace::specs::Text::refusal_words))]
 fn read_stale(place: Place, reader: &mut Words<'_>) -> Option<Refusal>
-    ensures value { Shows refusal_words result (option_map (λ behind. Chosen places (place_text place) ∷ Fixed (codes "stale") ∷ behind) (shaped (a_count ∷ []) (left reader.old))) }
+    ensures value { Shows refusal_words result
+        (option_map (λ behind. Chosen places (place_text place) ∷ Fixed (codes "stale") ∷ behind)
+        (shaped (a_count ∷ []) (left reader.old))) }
     ensures fits { IfSome result (λ r. AllByRecursion MayStand (refusal_words r)) }
 {
     let floor = count(reader)?;
@@ -69,10 +71,12 @@ fn read_stale(place: Place, reader: &mut Words<'_>) -> Option<Refusal>
     Some(Refusal::Stale { place, floor })
 }
 
-/// The place of a dropped network key.
+/// Reads the place of a dropped network key.
 #[tactic(auto, unfolding(zb_trace::specs::Text::refusal_words))]
 fn read_key_old(place: Place, reader: &mut Words<'_>) -> Option<Refusal>
-    ensures value { Shows refusal_words result (option_map (λ behind. Chosen places (place_text place) ∷ Fixed (codes "key-old") ∷ behind) (shaped (a_count ∷ []) (left reader.old))) }
+    ensures value { Shows refusal_words result
+        (option_map (λ behind. Chosen places (place_text place) ∷ Fixed (codes "key-old") ∷ behind)
+        (shaped (a_count ∷ []) (left reader.old))) }
     ensures fits { IfSome result (λ r. AllByRecursion MayStand (refusal_words r)) }
 {
     let at = count(reader)?;
@@ -80,10 +84,12 @@ fn read_key_old(place: Place, reader: &mut Words<'_>) -> Option<Refusal>
     Some(Refusal::KeyOld { place, at })
 }
 
-/// Whose link key it is.
+/// Reads whose link key it is.
 #[tactic(auto, unfolding(zb_trace::specs::Text::refusal_words))]
 fn read_key_in_use(place: Place, reader: &mut Words<'_>) -> Option<Refusal>
-    ensures value { Shows refusal_words result (option_map (λ behind. Chosen places (place_text place) ∷ Fixed (codes "key-in-use") ∷ behind) (shaped (AnAddress ∷ []) (left reader.old))) }
+    ensures value { Shows refusal_words result
+        (option_map (λ behind. Chosen places (place_text place) ∷ Fixed (codes "key-in-use") ∷ behind)
+        (shaped (AnAddress ∷ []) (left reader.old))) }
     ensures fits { IfSome result (λ r. AllByRecursion MayStand (refusal_words r)) }
 {
     let partner = eui(reader)?;
@@ -91,9 +97,11 @@ fn read_key_in_use(place: Place, reader: &mut Words<'_>) -> Option<Refusal>
     Some(Refusal::KeyInUse { place, partner })
 }
 
-/// A reason without a detail.
+/// Reads a reason without a detail.
 fn read_plain(place: Place, reason: &[u8], reader: &mut Words<'_>) -> Option<Refusal>
-    ensures value { Shows refusal_words result (option_and_then (λ word. option_map (λ behind. Chosen places (place_text place) ∷ word ∷ behind) (shaped [] (left reader.old))) (plain_reason reason.now)) }
+    ensures value { Shows refusal_words result
+        (option_and_then (λ word. option_map (λ behind. Chosen places (place_text place) ∷ word ∷ behind)
+        (shaped [] (left reader.old))) (plain_reason reason.now)) }
     ensures fits { IfSome result (λ r. AllByRecursion MayStand (refusal_words r)) }
 {
     let refusal = plain_refusal(place, reason)?;
@@ -101,10 +109,11 @@ fn read_plain(place: Place, reason: &[u8], reader: &mut Words<'_>) -> Option<Ref
     Some(refusal)
 }
 
-/// The refusal of a reason without a detail.
+/// Reads the refusal of a reason without a detail.
 #[tactic(auto, unfolding(zb_trace::specs::Text::refusal_words, crate::specs::Grammar::plain_reason))]
 fn plain_refusal(place: Place, reason: &[u8]) -> Option<Refusal>
-    ensures value { Shows refusal_words result (option_map (λ word. Chosen places (place_text place) ∷ word ∷ []) (plain_reason reason.now)) }
+    ensures value { Shows refusal_words result
+        (option_map (λ word. Chosen places (place_text place) ∷ word ∷ []) (plain_reason reason.now)) }
     ensures fits { IfSome result (λ r. AllByRecursion MayStand (refusal_words r)) }
 {
     if reason == b"down".as_slice() {
@@ -130,7 +139,8 @@ fn plain_refusal(place: Place, reason: &[u8]) -> Option<Refusal>
 
 #[tactic(auto, unfolding(zb_trace::specs::Text::refusal_words, crate::specs::Grammar::policy_reason))]
 fn policy_refusal(place: Place, reason: &[u8]) -> Option<Refusal>
-    ensures value { Shows refusal_words result (option_map (λ word. Chosen places (place_text place) ∷ word ∷ []) (policy_reason reason.now)) }
+    ensures value { Shows refusal_words result
+        (option_map (λ word. Chosen places (place_text place) ∷ word ∷ []) (policy_reason reason.now)) }
     ensures fits { IfSome result (λ r. AllByRecursion MayStand (refusal_words r)) }
 {
     if reason == b"not-member".as_slice() {

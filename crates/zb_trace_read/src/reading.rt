@@ -20,8 +20,11 @@ use zb_text::numbers::number;
 use zb_text::words::Words;
 use zb_trace::{Line, put_line};
 
-/// The lines of a transcript: those that the whole text is the text of, hexadecimal digits in upper case and a line feed behind
-/// the last line included. Else the fault is at the first line that is no text of a line.
+/// Reads the lines of a transcript: those that the whole text is the text of, hexadecimal digits in upper case and a
+/// line feed behind the last line included. Requires a text shorter than 4 GiB.
+///
+/// # Errors
+/// The first line that is no text of a line; or want of memory.
 pub fn read_lines(alloc: Global, bytes: &[u8]) -> Result<Vec<Line>, OrMemory<TraceError>>
     requires { length bytes.now < 2 ^ 32 }
     ensures found { IfOk result (λ lines. AllProper lines.items × (bytes.now ≡ texts lines.items)) }
@@ -46,7 +49,7 @@ pub fn read_lines(alloc: Global, bytes: &[u8]) -> Result<Vec<Line>, OrMemory<Tra
     Ok(lines)
 }
 
-/// The fault behind so many lines.
+/// Makes the fault behind so many lines.
 fn first_bad(before: usize) -> OrMemory<TraceError>
     requires { before + 1 < 2 ^ 32 }
     ensures { result ≡ OrMemory.Fault (record { line = before + 1 }) }
@@ -56,14 +59,17 @@ fn first_bad(before: usize) -> OrMemory<TraceError>
     })
 }
 
-/// The line whose text the text begins with, and what is behind it. The line is printed again, into the page, and compared.
+/// Takes the line whose text the text begins with, and what is behind it. The line is printed again, into the page,
+/// and compared.
 fn take_line<'a>(
     alloc: Global,
     page: &mut Vec<u8>,
     text: &'a [u8],
 ) -> Result<Option<(Line, &'a [u8])>, AllocError>
     ensures found { IfOk result (λ o. IfSome o (λ t. IsProper t.0 × (text.now ≡ text_of t.0 ++ t.1.now))) }
-    ensures none { IfOk result (λ o. MatchOption o ((l : ALine) (more : List ℕ) → IsProper l → text.now ≡ text_of l ++ more → ⊥) (λ t. length t.1.now < length text.now)) }
+    ensures none { IfOk result
+        (λ o. MatchOption o ((l : ALine) (more : List ℕ) → IsProper l → text.now ≡ text_of l ++ more → ⊥)
+        (λ t. length t.1.now < length text.now)) }
 {
     let Some((front, _)) = next_line(text) else {
         return Ok(None);
@@ -79,10 +85,11 @@ fn take_line<'a>(
     }
 }
 
-/// What is behind a front, where the text begins with it.
+/// Answers what is behind a front, where the text begins with it.
 #[tactic(auto, using(crate::proofs::Taking::with_front, crate::proofs::Taking::no_front))]
 fn without_front<'a>(text: &'a [u8], front: &[u8]) -> Option<&'a [u8]>
-    ensures { MatchOption result ((more : List ℕ) → text.now ≡ front.now ++ more → ⊥) (λ rest. text.now ≡ front.now ++ rest.now) }
+    ensures { MatchOption result ((more : List ℕ) → text.now ≡ front.now ++ more → ⊥)
+        (λ rest. text.now ≡ front.now ++ rest.now) }
 {
     match text.strip_prefix(front) {
         Some(rest) => Some(rest),
@@ -90,7 +97,7 @@ fn without_front<'a>(text: &'a [u8], front: &[u8]) -> Option<&'a [u8]>
     }
 }
 
-/// What a line is, without its line feed; its hexadecimal digits may still be in either case.
+/// Reads a line without its line feed; its hexadecimal digits may still be in either case.
 #[tactic(auto, unfolding(crate::specs::Reading::read_words))]
 pub(crate) fn read_line(alloc: Global, line: &[u8]) -> Result<Option<Line>, AllocError>
     ensures value { IfOk result (λ o. Shows words o (spec.read_words (words_of (Some line.now)))) }
@@ -123,7 +130,7 @@ fn read_event(alloc: Global, event: u32, reader: &mut Words<'_>) -> Result<Optio
     }
 }
 
-/// The end of a transcript.
+/// Reads the end of a transcript.
 fn read_end(reader: &mut Words<'_>) -> Option<Line>
     ensures value { Shows words result (spec.of_end (left reader.old)) }
     ensures fits { IfSome result (λ l. AllByRecursion MayStand (words l)) }
@@ -145,7 +152,7 @@ fn read_end(reader: &mut Words<'_>) -> Option<Line>
     })
 }
 
-/// The record of a node's disk, which may be of any length.
+/// Reads the record of a node's disk, which may be of any length.
 fn read_dump(alloc: Global, event: u32, reader: &mut Words<'_>) -> Result<Option<Line>, AllocError>
     ensures value { IfOk result (λ o. Shows words o (spec.of_dump event (left reader.old))) }
     ensures fits { IfOk result (λ o. IfSome o (λ l. AllByRecursion MayStand (words l))) }
@@ -165,7 +172,7 @@ fn read_dump(alloc: Global, event: u32, reader: &mut Words<'_>) -> Result<Option
     Ok(Some(Line::Dump { event, node, bytes }))
 }
 
-/// The bytes that a word spells, as many as there are.
+/// Reads the bytes that a word spells, as many as there are.
 fn all_bytes(alloc: Global, word: &[u8]) -> Result<Option<zb_base::List<u8>>, AllocError>
     ensures value { IfOk result (λ o. o ≡ all_bytes_of word.now) }
     ensures fits { IfOk result (λ o. IfSome o (λ bytes. IsBytes bytes)) }
@@ -186,7 +193,7 @@ fn all_bytes(alloc: Global, word: &[u8]) -> Result<Option<zb_base::List<u8>>, Al
     }
 }
 
-/// Each byte is below 256.
+/// Says that each byte is below 256.
 fn known_bytes(bytes: &[u8])
     ensures { IsBytes bytes.now }
 {}

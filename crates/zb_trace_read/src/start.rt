@@ -13,7 +13,7 @@ use zb_base::Name;
 use zb_text::words::Words;
 use zb_trace::Line;
 
-/// What stands behind the name of a node at the start.
+/// Reads what stands behind the name of a node at the start.
 #[tactic(auto, unfolding(crate::specs::Reading::of_start))]
 pub(crate) fn read_start(kind: &[u8], node: Name, reader: &mut Words<'_>) -> Option<Line>
     requires { is_name node.bytes ≡ true }
@@ -31,10 +31,12 @@ pub(crate) fn read_start(kind: &[u8], node: Name, reader: &mut Words<'_>) -> Opt
     }
 }
 
-/// A node as it is declared.
+/// Reads a node as it is declared.
 fn read_node(name: Name, reader: &mut Words<'_>) -> Option<Line>
     requires { is_name name.bytes ≡ true }
-    ensures value { Shows words result (option_map (begun_of 0 (codes "node") name.bytes) (shaped (OneOf roles ∷ AnAddress ∷ AShort ∷ a_count ∷ a_count ∷ []) (left reader.old))) }
+    ensures value { Shows words result
+        (option_map (begun_of 0 (codes "node") name.bytes)
+        (shaped (OneOf roles ∷ AnAddress ∷ AShort ∷ a_count ∷ a_count ∷ []) (left reader.old))) }
     ensures fits { IfSome result (λ l. AllByRecursion MayStand (words l)) }
 {
     let role = role(reader)?;
@@ -53,10 +55,13 @@ fn read_node(name: Name, reader: &mut Words<'_>) -> Option<Line>
     })
 }
 
-/// A key that a node holds: a network key or a link key.
+/// Reads a key that a node holds: a network key or a link key.
 fn read_given(node: Name, reader: &mut Words<'_>) -> Option<Line>
     requires { is_name node.bytes ≡ true }
-    ensures value { Shows words result (option_map (begun_of 0 (codes "given") node.bytes) (two_forms (codes "net") (AKey ∷ a_sequence ∷ []) (codes "link") (AnAddress ∷ AKey ∷ []) (left reader.old))) }
+    ensures value { Shows words result
+        (option_map (begun_of 0 (codes "given") node.bytes)
+        (two_forms (codes "net") (AKey ∷ a_sequence ∷ []) (codes "link") (AnAddress ∷ AKey ∷ [])
+        (left reader.old))) }
     ensures fits { IfSome result (λ l. AllByRecursion MayStand (words l)) }
 {
     let form = reader.word()?;
@@ -69,10 +74,12 @@ fn read_given(node: Name, reader: &mut Words<'_>) -> Option<Line>
     }
 }
 
-/// A network key.
+/// Reads a network key.
 fn read_given_net(node: Name, reader: &mut Words<'_>) -> Option<Line>
     requires { is_name node.bytes ≡ true }
-    ensures value { Shows words result (option_map (λ behind. begun_of 0 (codes "given") node.bytes (Fixed (codes "net") ∷ behind)) (shaped (AKey ∷ a_sequence ∷ []) (left reader.old))) }
+    ensures value { Shows words result
+        (option_map (λ behind. begun_of 0 (codes "given") node.bytes (Fixed (codes "net") ∷ behind))
+        (shaped (AKey ∷ a_sequence ∷ []) (left reader.old))) }
     ensures fits { IfSome result (λ l. AllByRecursion MayStand (words l)) }
 {
     let key = key(reader)?;
@@ -85,10 +92,12 @@ fn read_given_net(node: Name, reader: &mut Words<'_>) -> Option<Line>
     })
 }
 
-/// A link key.
+/// Reads a link key.
 fn read_given_link(node: Name, reader: &mut Words<'_>) -> Option<Line>
     requires { is_name node.bytes ≡ true }
-    ensures value { Shows words result (option_map (λ behind. begun_of 0 (codes "given") node.bytes (Fixed (codes "link") ∷ behind)) (shaped (AnAddress ∷ AKey ∷ []) (left reader.old))) }
+    ensures value { Shows words result
+        (option_map (λ behind. begun_of 0 (codes "given") node.bytes (Fixed (codes "link") ∷ behind))
+        (shaped (AnAddress ∷ AKey ∷ []) (left reader.old))) }
     ensures fits { IfSome result (λ l. AllByRecursion MayStand (words l)) }
 {
     let partner = eui(reader)?;
@@ -97,10 +106,11 @@ fn read_given_link(node: Name, reader: &mut Words<'_>) -> Option<Line>
     Some(Line::GivenLink { node, partner, key })
 }
 
-/// A stored limit.
+/// Reads a stored limit.
 fn read_counter(node: Name, reader: &mut Words<'_>) -> Option<Line>
     requires { is_name node.bytes ≡ true }
-    ensures value { Shows words result (option_map (begun_of 0 (codes "counter") node.bytes) (shaped (a_layer ∷ a_count ∷ []) (left reader.old))) }
+    ensures value { Shows words result
+        (option_map (begun_of 0 (codes "counter") node.bytes) (shaped (a_layer ∷ a_count ∷ []) (left reader.old))) }
     ensures fits { IfSome result (λ l. AllByRecursion MayStand (words l)) }
 {
     let layer = layer(reader)?;

@@ -14,7 +14,7 @@ use Rattle.zb_base.specs.declared.node.Role.{Role}
 use Rattle.zb_model.specs.Data.{Station, nobody}
 use Rattle.zb_model.specs.Rules.{station_of}
 use Rattle.zb_model.specs.State.{is_centre}
-use Rattle.zb_trace.specs.Views.{role}
+use Rattle.zb_node_types.specs.Changes.{model_role}
 use Rattle.zb_trace_watch.specs.Nodes.{address_in, name_cmp, role_in, Declares, IsOf}
 use Rattle.zb_trace_watch.specs.Sets.{eui_cmp}
 use Rattle.zb_trace_watch.specs.declared.nodes.Nodes.{Nodes}
@@ -85,7 +85,7 @@ all_more (k ∷ known) s all one = (all.0, all_more known s all.1 one)
 pub declares_more : (n : Nodes) (addresses : BTreeMap ArrayString Eui) (roles : BTreeMap Eui Role) (centre : Option Eui) (name : ArrayString) (eui : Eui) (r : Role)
     → ((q : ArrayString) → address_in addresses q ≡ option_or (address_in n.addresses q) (if bytes_eq name.bytes q.bytes then Some eui else None))
     → ((q : ℕ) → role_in roles q ≡ option_or (role_in n.roles q) (if nat_eq q eui.0 then Some r else None))
-    → centre ≡ option_or n.centre (if is_centre (role r) then Some eui else None)
+    → centre ≡ option_or n.centre (if is_centre (model_role r) then Some eui else None)
     → nat_eq eui.0 nobody ≡ false
     → (known : List Station) (s : Station) → IsOf s name.bytes eui.0 r → Declares n known
     → Declares (record { addresses = addresses; roles = roles; centre = centre }) (known ++ s ∷ [])
@@ -95,11 +95,11 @@ declares_more n addresses roles centre name eui r named given first somebody kno
       found_first (λ (e : Eui). e.0) (λ (s : Station). s.eui) (address_in n.addresses q) (address_in addresses q) (λ (s : Station). bytes_eq s.name q.bytes) known s eui
       (bytes_eq name.bytes q.bytes) (named q) (before.addresses q) (ap (λ (b : List ℕ). bytes_eq b q.bytes) is.name_is) (sym is.eui_is);
   roles = λ q.
-      found_first role (λ (s : Station). s.role) (role_in n.roles q) (role_in roles q) (λ (s : Station). nat_eq s.eui q) known s r
+      found_first model_role (λ (s : Station). s.role) (role_in n.roles q) (role_in roles q) (λ (s : Station). nat_eq s.eui q) known s r
       (nat_eq q eui.0) (given q) (before.roles q) (turned_number s.eui q ∙ ap (nat_eq q) is.eui_is) (sym is.role_is);
   centre =
       found_first (λ (e : Eui). e.0) (λ (s : Station). s.eui) n.centre centre (λ (s : Station). is_centre s.role) known s eui
-      (is_centre (role r)) first before.centre (ap is_centre is.role_is) (sym is.eui_is);
+      (is_centre (model_role r)) first before.centre (ap is_centre is.role_is) (sym is.eui_is);
   somebody = all_more known s before.somebody (ap (λ (x : ℕ). nat_eq x nobody) is.eui_is ∙ somebody);
 }
 

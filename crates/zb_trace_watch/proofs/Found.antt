@@ -17,7 +17,8 @@ use Rattle.zb_model.specs.Rules.{station_of}
 use Rattle.zb_model.specs.State.{is_centre}
 use Rattle.zb_model.specs.Secrets.{bases, brings, came_by, carried, holds, is_the_centre, joins, terms_of}
 use Rattle.zb_model.specs.Tools.{Tools}
-use Rattle.zb_trace.specs.Views.{model_role, eui_or_nobody, named}
+use Rattle.zb_node_types.specs.Changes.{model_role}
+use Rattle.zb_trace.specs.Views.{eui_or_nobody, named}
 use Rattle.zb_trace_watch.specs.Nodes.{address_of, is_first_centre, is_joiner, is_member, role_in}
 use Rattle.zb_trace_watch.specs.Origins.{IsTraced, came}
 use Rattle.zb_trace_watch.specs.Sets.{eui_cmp, is_carried, is_node, key_cmp, keys_at, meet}

@@ -77,9 +77,9 @@ same_again a b h = sym (term_alike b a) ∙ ap is_eq (tied_back term_laws.total-
 pub term_turned : (a b : Term) → same_term (model_term a) (model_term b) ≡ same_term (model_term b) (model_term a)
 term_turned a b = same_truth _ _ (same_again a b) (same_again b a)
 
-pub same_term : (a b : Term) → a.layer ≡ b.layer → a.base ≡ b.base → a.label ≡ b.label → a.source ≡ b.source → a.counter ≡ b.counter → a.control ≡ b.control
+pub same_model_term : (a b : Term) → a.layer ≡ b.layer → a.base ≡ b.base → a.label ≡ b.label → a.source ≡ b.source → a.counter ≡ b.counter → a.control ≡ b.control
     → a.header.items ≡ b.header.items → a.content.items ≡ b.content.items → model_term a ≡ model_term b
-same_term a b layers bases labels sources counters controls headers contents =
+same_model_term a b layers bases labels sources counters controls headers contents =
     λ i. record {
       layer = model_layer (layers i);
       base = (bases i).0;

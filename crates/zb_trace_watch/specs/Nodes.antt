@@ -13,7 +13,7 @@ use Rattle.zb_base.specs.declared.node.Role.TheVariants as role
 use Rattle.zb_model.specs.Data.{Bytes, Station, nobody}
 use Rattle.zb_model.specs.Rules.{station_of}
 use Rattle.zb_model.specs.State.{is_centre}
-use Rattle.zb_trace.specs.Views.{model_role}
+use Rattle.zb_node_types.specs.Changes.{model_role}
 use Rattle.zb_trace_watch.specs.Sets.{eui_cmp}
 use Rattle.zb_trace_watch.specs.declared.nodes.Nodes.{Nodes}
 

@@ -4,7 +4,7 @@ ghost use Rattle.std.specs.Option.{option_or};
 ghost use Rattle.arrayvec.specs.ArrayString.{ArrayString};
 ghost use Rattle.zb_model.specs.Data.{Station};
 ghost use Rattle.zb_model.specs.State.{is_centre};
-ghost use Rattle.zb_trace.specs.Views.{model_role};
+ghost use Rattle.zb_node_types.specs.Changes.{model_role};
 ghost use Rattle.zb_trace_watch.specs.Nodes.{address_in, address_of, is_first_centre, is_joiner, role_in, IsOf, Declares};
 
 use std::alloc::{AllocError, Global};

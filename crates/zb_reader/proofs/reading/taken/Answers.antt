@@ -1,6 +1,6 @@
 use Rattle.std.proofs.Common.{Ok, ap, sym, subst}
 use Rattle.zb_player.specs.Views.{IsPlayable}
-use Rattle.zb_sched.specs.Plan.{plan_of as whole}
+use Rattle.zb_sched.specs.Schedules.{schedule_of as whole}
 use Rattle.zb_reader.proofs.Playable.{playable}
 use Rattle.zb_reader.proofs.reading.taken.Goals as goal
 

@@ -1,7 +1,7 @@
 use Rattle.std.proofs.Common.{rules, arith, ap, sym, ◌∙◌}
 use Rattle.std.specs.Str.Lines.{lines}
 use Rattle.zb_sched.specs.Judge.{Seen}
-use Rattle.zb_sched.specs.Plan.{plan_of}
+use Rattle.zb_sched.specs.Schedules.{schedule_of}
 use Rattle.zb_sched.specs.Reading.{reads}
 use Rattle.zb_sched.proofs.Finished.{start_keeps}
 use Rattle.zb_sched.specs.Valid.{IsSchedule}
@@ -27,4 +27,4 @@ loop-line-preserved c = record {
 
 pub returns-in-Ok-finish-clause-again : goal.returns-in-Ok-finish-clause-again
 returns-in-Ok-finish-clause-again c =
-    let valid : IsSchedule (plan_of c.in-Ok-finish.schedule) = search rules in printed_again (plan_of c.in-Ok-finish.schedule) valid
+    let valid : IsSchedule (schedule_of c.in-Ok-finish.schedule) = search rules in printed_again (schedule_of c.in-Ok-finish.schedule) valid

@@ -1,12 +1,12 @@
 use Rattle.std.proofs.Common.{◌≡◌, ◌+◌, ◌≤◌, length}
 use Rattle.std.specs.Str.Lines.{lines}
-use Rattle.zb_sched.specs.Reading.{finished, reads, schedule_of}
+use Rattle.zb_sched.specs.Reading.{finished, reads, schedule_in}
 use Rattle.zb_sched.specs.Valid.{IsSoFar}
 use Rattle.zb_sched.proofs.reader.read.Given as goal
 
 abbrev pub invariant-loop-line : goal.invariant-loop-line
 invariant-loop-line l = record {
-  reads : reads l.number l.draft (lines l.rest) ≡ schedule_of l.text;
+  reads : reads l.number l.draft (lines l.rest) ≡ schedule_in l.text;
   short : l.number + length l.rest ≤ length l.text + 1;
   valid : IsSoFar (finished l.draft);
 }

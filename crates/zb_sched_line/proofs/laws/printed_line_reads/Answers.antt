@@ -1,4 +1,4 @@
-use Rattle.zb_sched_line.proofs.LineAgain.{act_again, code_again, counter_again, draw_again, netkey_again, node_again}
+use Rattle.zb_sched_line.proofs.LineAgain.{event_again, code_again, counter_again, draw_again, netkey_again, node_again}
 use Rattle.zb_sched_line.proofs.laws.printed_line_reads.Goals as goal
 
 pub returns-clause-node : goal.returns-clause-node
@@ -17,4 +17,4 @@ pub returns-clause-draw : goal.returns-clause-draw
 returns-clause-draw c = draw_again
 
 pub returns-clause-event : goal.returns-clause-event
-returns-clause-event c = act_again
+returns-clause-event c = event_again

@@ -2,14 +2,14 @@
 use Rattle.std.specs.Prelude.{ℕ, List, map, Option}
 use Rattle.std.specs.Option.{option_map}
 use Rattle.zb_base.specs.declared.node.Role.{Role}
-use Rattle.zb_sched_line.specs.Said.{Bytes, Act}
-use Rattle.zb_sched_line.specs.Views.{act_of}
-use Rattle.zb_sched.specs.declared.schedule.Node.{Node}
-use Rattle.zb_sched.specs.declared.schedule.Schedule.{Schedule}
+use Rattle.zb_sched_line.specs.Said.{Bytes, Event}
+use Rattle.zb_sched_line.specs.Views.{event_of}
+use Rattle.zb_sched.specs.declared.schedule.Node.{Node as CodeNode}
+use Rattle.zb_sched.specs.declared.schedule.Schedule.{Schedule as CodeSchedule}
 
 -- A node: its name, part and addresses; its blocks of outgoing and incoming counters; the install code printed on
 -- it; the network key that it holds from the start, with its sequence number; its stored outgoing limits at the start.
-pub record Member : Type 0 where
+pub record Node : Type 0 where
   pub name : Bytes
   pub role : Role
   pub eui : ℕ
@@ -21,14 +21,15 @@ pub record Member : Type 0 where
   pub start_nwk : ℕ
   pub start_aps : ℕ
 
-pub record Plan : Type 0 where
-  pub members : List Member
+-- The nodes in the order of their lines, the keys of the supply, and the events.
+pub record Schedule : Type 0 where
+  pub nodes : List Node
   pub draws : List Bytes
-  pub acts : List Act
+  pub events : List Event
 
 -- The node and the schedule that the program's values stand for.
-abbrev pub member_of : Node → Member
-member_of node = record {
+abbrev pub node_of : CodeNode → Node
+node_of node = record {
   name = node.peer.name.bytes;
   role = node.peer.role;
   eui = node.peer.eui.0;
@@ -41,9 +42,9 @@ member_of node = record {
   start_aps = node.start_aps;
 }
 
-abbrev pub plan_of : Schedule → Plan
-plan_of schedule = record {
-  members = map member_of schedule.nodes;
+abbrev pub schedule_of : CodeSchedule → Schedule
+schedule_of schedule = record {
+  nodes = map node_of schedule.nodes;
   draws = map (λ key. key.0) schedule.draws;
-  acts = map act_of schedule.events;
+  events = map event_of schedule.events;
 }

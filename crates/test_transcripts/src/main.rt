@@ -1,9 +1,9 @@
 //! Reads transcripts of worked runs back, prints their lines again and compares; then tries each line with a fault in
-//! it, and runs a watch over the lines. For each file it writes how many lines there are, whether the printed text is the
-//! same, of how many changed lines each was refused (with a carriage return, without its line feed, with two spaces, with
-//! a word dropped, with its last word doubled, and, where it has such digits, with hexadecimal digits in lower case), how
-//! often a line was refused with one of its words dropped, doubled, with a zero before it, and with another first byte,
-//! and the two words of the watch.
+//! it, and runs a watch over the lines. For each file it writes how many lines there are and whether the printed text
+//! is the same. Then it writes of how many changed lines each was refused: with a carriage return, without its line
+//! feed, with two spaces, with a word dropped, with its last word doubled, and, where it has such digits, with
+//! hexadecimal digits in lower case. Behind these it writes how often a line was refused with one of its words
+//! dropped, doubled, with a zero before it, and with another first byte; and the two words of the watch.
 #![tactic(auto)]
 
 ghost use Rattle.std.specs.Prelude.{◌<◌, length};
@@ -36,9 +36,9 @@ fn report(rt: &(impl Print + AllocGlobal), name: &str, bytes: &[u8]) -> io::Resu
             )?;
             let [gone, twice, zero, other] = words_refused(rt.alloc(), bytes)?;
             let (ideal, private) = watched(rt.alloc(), lines.as_slice())?;
-            println!(rt;
-                "{name}: {count} lines, {word}; refused {returns} {unended} {spaces} {dropped} {doubled} {lower}, words {gone} {twice} {zero} {other}; {ideal} {private}"
-            )
+            print!(rt; "{name}: {count} lines, {word}; refused {returns} {unended} {spaces} ")?;
+            print!(rt; "{dropped} {doubled} {lower}, words {gone} {twice} {zero} {other}; ")?;
+            println!(rt; "{ideal} {private}")
         }
         Err(OrMemory::Fault(TraceError { line })) => println!(rt; "{name}: bad line {line}"),
         Err(OrMemory::NoMemory) => println!(rt; "{name}: no memory"),

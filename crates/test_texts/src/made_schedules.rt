@@ -1,6 +1,7 @@
 //! The made schedule for one node against a published one.
-use crate::make;
+
 use std::test::Fail;
+use zb_gen::make;
 
 #[test]
 fn the_schedule_for_one_node(rt: HostRuntime) -> Result<(), Fail> {

@@ -1,9 +1,10 @@
 //! Texts that are no schedules, each cause on each kind of line where it can come, and the limits. What is wanted
 //! follows from the rules for schedules, read by hand; the install code and its link key are published.
-use crate::{SchedCause, SchedError, read, write};
+
 use std::process::Abort;
 use std::test::Fail;
 use zb_base::{MemSink, OrMemory};
+use zb_sched::{SchedCause, SchedError, read, write};
 
 /// The first three lines of each text.
 const NODES: &[u8] = b"node c centre 00124B0000000001 0000 8 4
@@ -42,12 +43,207 @@ stop d 5 -
 fail d 6
 inject 00
 forge 0000 1A2B 00124B0000000002 net 000102030405060708090A0B0C0D0E0F 0 50 00
-forge 0000 1A2B 00124B0000000002 net 000102030405060708090A0B0C0D0E0F 255 4294967295 aps data A0A1A2A3A4A5A6A7A8A9AAABACADAEAF 50 0804
+forge 0000 1A2B 00124B0000000002 net 000102030405060708090A0B0C0D0E0F 255 4294967295 aps data \
+A0A1A2A3A4A5A6A7A8A9AAABACADAEAF 50 0804
 forge FFFF FFFF 00124B00000000FF open aps load A0A1A2A3A4A5A6A7A8A9AAABACADAEAF 0 0804
 ask d r
 share d r
 tell r d 0102
 ";
+
+/// Texts that are refused behind three nodes at their last line, which has no line feed, by their cause.
+const REFUSED: [(SchedCause, &[&str]); 7] = [
+    (
+        SchedCause::Syntax,
+        &[
+            "boom c",
+            " timer c",
+            "timer  c",
+            "timer c ",
+            "timer c\r",
+            "timer c\x7F",
+            "Timer c",
+            "node e",
+            "node abcdefghijklmnopq device 00124B0000000004 0001 8 4",
+            "node E device 00124B0000000004 0001 8 4",
+            "node e boss 00124B0000000004 0001 8 4",
+            "node e device 0000000000000000 0001 8 4",
+            "node e device FFFFFFFFFFFFFFFF 0001 8 4",
+            "node e device 00124B0000000004 0000 8 4",
+            "node e router 00124B0000000004 FFF8 8 4",
+            "node e centre 00124B0000000004 0001 8 4",
+            "node e device 00124B0000000004 0001 08 4",
+            "node e device 00124B0000000004 0001 8 4294967296",
+            "code d 8",
+            "code d 8G",
+            "code d",
+            "netkey d 000102030405060708090A0B0C0D0E 0",
+            "netkey d 000102030405060708090A0B0C0D0E0F 256",
+            "netkey d 000102030405060708090A0B0C0D0E0F",
+            "counter d mac 0",
+            "counter d nwk 4294967296",
+            "draw 0",
+            "draw 000102030405060708090A0B0C0D0E0F 0",
+            "timer c\nnode e device 00124B0000000004 0001 8 4",
+            "timer c\ncode d 00",
+            "timer c\nnetkey nope 000102030405060708090A0B0C0D0E0F 0",
+            "timer c\ncounter d aps 0",
+            "timer c\n\n#\ndraw A0A1A2A3A4A5A6A7A8A9AAABACADAEAF",
+            "say c FFF -",
+            "say c FFFF 000102030405060708090A0B0C0D0E0F000102030405060708090A0B0C0D0E0F000102030405060708090A\
+            0B0C0D0E0F000102030405060708090A0B0C0D0E0F10",
+            "deliver 0 d",
+            "deliver 4294967296 d",
+            "timer",
+            "knock d now",
+            "rejoin",
+            "child c d",
+            "child c d joins",
+            "provision d 0",
+            "again",
+            "roll c",
+            "switch c",
+            "remove d by c",
+            "remove d via",
+            "reset",
+            "boot",
+            "dump",
+            "stop d 6 -",
+            "stop d 0 000102030405060708090A0B0C0D0E0F000102030405060708090A0B0C0D0E0F10",
+            "fail d 0",
+            "fail d 7",
+            "inject -",
+            "inject",
+            "forge 0000 1A2B 00124B0000000002 net 000102030405060708090A0B0C0D0E0F 0 50 -",
+            "forge 0000 1A2B 00124B0000000002 net 000102030405060708090A0B0C0D0E0F 256 50 00",
+            "forge 0000 1A2B 0000000000000000 net 000102030405060708090A0B0C0D0E0F 0 50 00",
+            "forge 0000 1A2B 00124B0000000002 net 000102030405060708090A0B0C0D0E0F 0 50 aps network \
+            A0A1A2A3A4A5A6A7A8A9AAABACADAEAF 50 0804",
+            "forge 0000 1A2B 00124B0000000002 net 000102030405060708090A0B0C0D0E0F 0 50 aps data \
+            A0A1A2A3A4A5A6A7A8A9AAABACADAEAF 50 -",
+            "forge 0000 1A2B 00124B0000000002 open aps data A0A1A2A3A4A5A6A7A8A9AAABACADAEAF 50",
+            "forge 0000 1A2B 00124B0000000002 open data A0A1A2A3A4A5A6A7A8A9AAABACADAEAF 50 00",
+            "ask d",
+            "share d r r",
+            "tell d r",
+            "tell d r 0",
+        ],
+    ),
+    (
+        SchedCause::DuplicateNode,
+        &[
+            "node d router 00124B0000000004 0001 8 4",
+            "node e router 00124B0000000002 0001 8 4",
+            "node e router 00124B0000000004 1A2B 8 4",
+            "node e centre 00124B0000000004 0000 8 4",
+            "node d router 00124B0000000004 0001 0 4",
+            "code d 83FED3407A939723A5C639B26916D505C3B5\ncode d 83FED3407A939723A5C639B26916D505C3B5",
+            "code d 83FED3407A939723A5C639B26916D505C3B5\ncode d 00",
+            "netkey d 000102030405060708090A0B0C0D0E0F 0\nnetkey d 000102030405060708090A0B0C0D0E0F 0",
+            "netkey d 000102030405060708090A0B0C0D0E0F 0\nnetkey d 5A6967426565416C6C69616E63653039 0",
+            "counter d nwk 0\ncounter d nwk 0",
+            "counter d aps 1\ncounter d nwk 1\ncounter d aps 2",
+        ],
+    ),
+    (
+        SchedCause::BadCode,
+        &[
+            "code d -",
+            "code d 83FED3407A939723A5C639B26916D505C3B4",
+            "code d 83FED3407A939723A5C639B26916D505C3",
+            "code d 0000000000000000000000000000000000000000",
+            "code nope 00",
+            "code c 00",
+            "provision d -",
+            "provision d 83FED3407A939723A5C639B26916D505C3B4",
+            "provision nope 00",
+        ],
+    ),
+    (
+        SchedCause::DuplicateCode,
+        &[
+            "code d 83FED3407A939723A5C639B26916D505C3B5\ncode r 83FED3407A939723A5C639B26916D505C3B5",
+            "code d 83FED3407A939723A5C639B26916D505C3B5\ncode nope 83FED3407A939723A5C639B26916D505C3B5",
+            "netkey c 66B6900981E1EE3CA4206B6B861C02BB 0\ncode d 83FED3407A939723A5C639B26916D505C3B5",
+            "draw 66B6900981E1EE3CA4206B6B861C02BB\ncode d 83FED3407A939723A5C639B26916D505C3B5",
+            "code d 83FED3407A939723A5C639B26916D505C3B5\nprovision r 83FED3407A939723A5C639B26916D505C3B5",
+            "netkey c 66B6900981E1EE3CA4206B6B861C02BB 0\nprovision d 83FED3407A939723A5C639B26916D505C3B5",
+            "draw 66B6900981E1EE3CA4206B6B861C02BB\nprovision nope 83FED3407A939723A5C639B26916D505C3B5",
+        ],
+    ),
+    (
+        SchedCause::DrawRepeated,
+        &[
+            "draw A0A1A2A3A4A5A6A7A8A9AAABACADAEAF\ndraw a0a1a2a3a4a5a6a7a8a9aaabacadaeaf",
+            "netkey c A0A1A2A3A4A5A6A7A8A9AAABACADAEAF 0\ndraw A0A1A2A3A4A5A6A7A8A9AAABACADAEAF",
+            "code d 83FED3407A939723A5C639B26916D505C3B5\ndraw 66B6900981E1EE3CA4206B6B861C02BB",
+            "draw 5A6967426565416C6C69616E63653039",
+            "draw A0A1A2A3A4A5A6A7A8A9AAABACADAEAF\nnetkey c A0A1A2A3A4A5A6A7A8A9AAABACADAEAF 0",
+            "code d 83FED3407A939723A5C639B26916D505C3B5\nnetkey d 66B6900981E1EE3CA4206B6B861C02BB 0",
+            "netkey nope 5A6967426565416C6C69616E63653039 0",
+        ],
+    ),
+    (
+        SchedCause::UnknownNode,
+        &[
+            "code c 83FED3407A939723A5C639B26916D505C3B5",
+            "code nope 83FED3407A939723A5C639B26916D505C3B5",
+            "netkey nope 000102030405060708090A0B0C0D0E0F 0",
+            "counter nope nwk 0",
+            "say nope FFFF -",
+            "deliver 1 nope",
+            "timer nope",
+            "knock nope",
+            "knock c",
+            "rejoin c",
+            "child c nope join",
+            "child c c join",
+            "child nope d join",
+            "child d r join",
+            "child r r join",
+            "provision c 83FED3407A939723A5C639B26916D505C3B5",
+            "again c",
+            "remove c via r",
+            "remove d via d",
+            "remove r via d",
+            "remove d via nope",
+            "reset nope",
+            "boot nope",
+            "dump nope",
+            "stop nope 0 -",
+            "fail nope 1",
+            "ask c d",
+            "ask d d",
+            "share d c",
+            "share nope d",
+            "tell d nope 00",
+            "tell r r -",
+        ],
+    ),
+    (
+        SchedCause::Block,
+        &[
+            "node e device 00124B0000000004 0001 0 4",
+            "node e device 00124B0000000004 0001 65537 4",
+            "node e device 00124B0000000004 0001 8 0",
+            "node e device 00124B0000000004 0001 8 1025",
+        ],
+    ),
+];
+
+/// Texts, the number of their first bad line, and its cause.
+const FIRST_BAD: [(&[u8], u32, SchedCause); 6] = [
+    (
+        b"node c centre 00124B0000000001 0000 8 4\n\n#\nboom\ntimer nope\nboom\n",
+        4,
+        SchedCause::Syntax,
+    ),
+    (b"", 1, SchedCause::NoCentre),
+    (b"#\n\n#", 4, SchedCause::NoCentre),
+    (b"\r\r\n", 1, SchedCause::Syntax),
+    (b"\r", 1, SchedCause::Syntax),
+    (b"timer \xFF\n", 1, SchedCause::Syntax),
+];
 
 /// The fault of a text, or None.
 fn fault(rt: &(impl AllocGlobal + Abort), text: &[u8]) -> Option<SchedError> {
@@ -66,23 +262,36 @@ fn behind(rt: &(impl AllocGlobal + Abort), text: &[u8]) -> Result<Option<SchedEr
     Ok(fault(rt, whole.as_slice()))
 }
 
-/// Each text behind three nodes is refused at its last line, for that cause. Its last line has no line feed.
-fn are_refused(
-    rt: &(impl AllocGlobal + Abort),
-    texts: &[&str],
-    cause: SchedCause,
-) -> Result<(), Fail> {
-    for text in texts {
-        let bytes = text.as_bytes();
-        let mut line: u32 = 4;
-        for byte in bytes {
-            if *byte == b'\n' {
-                line = line.saturating_add(1);
-            }
+/// The number of the last line of a text behind three nodes.
+fn last_line(text: &str) -> u32 {
+    let mut line: u32 = 4;
+    for byte in text.as_bytes() {
+        if *byte == b'\n' {
+            line = line.saturating_add(1);
         }
-        assert_eq!(rt; behind(rt, bytes)?, Some(SchedError { line, cause }));
+    }
+    line
+}
+
+#[test]
+fn texts_are_refused_at_their_last_line(rt: HostRuntime) -> Result<(), Fail> {
+    for (cause, texts) in REFUSED {
+        for text in texts {
+            let line = last_line(text);
+            assert_eq!(rt;
+                behind(&rt, text.as_bytes())?,
+                Some(SchedError { line, cause })
+            );
+        }
     }
     Ok(())
+}
+
+#[test]
+fn the_first_bad_line_is_told(rt: HostRuntime) {
+    for (text, line, cause) in FIRST_BAD {
+        assert_eq!(rt; fault(&rt, text), Some(SchedError { line, cause }));
+    }
 }
 
 #[test]
@@ -131,254 +340,6 @@ draw A0A1A2A3A4A5A6A7A8A9AAABACADAEAF
 }
 
 #[test]
-fn declarations_of_no_form(rt: HostRuntime) -> Result<(), Fail> {
-    are_refused(
-        &rt,
-        &[
-            "boom c",
-            " timer c",
-            "timer  c",
-            "timer c ",
-            "timer c\r",
-            "timer c\x7F",
-            "Timer c",
-            "node e",
-            "node abcdefghijklmnopq device 00124B0000000004 0001 8 4",
-            "node E device 00124B0000000004 0001 8 4",
-            "node e boss 00124B0000000004 0001 8 4",
-            "node e device 0000000000000000 0001 8 4",
-            "node e device FFFFFFFFFFFFFFFF 0001 8 4",
-            "node e device 00124B0000000004 0000 8 4",
-            "node e router 00124B0000000004 FFF8 8 4",
-            "node e centre 00124B0000000004 0001 8 4",
-            "node e device 00124B0000000004 0001 08 4",
-            "node e device 00124B0000000004 0001 8 4294967296",
-            "code d 8",
-            "code d 8G",
-            "code d",
-            "netkey d 000102030405060708090A0B0C0D0E 0",
-            "netkey d 000102030405060708090A0B0C0D0E0F 256",
-            "netkey d 000102030405060708090A0B0C0D0E0F",
-            "counter d mac 0",
-            "counter d nwk 4294967296",
-            "draw 0",
-            "draw 000102030405060708090A0B0C0D0E0F 0",
-        ],
-        SchedCause::Syntax,
-    )
-}
-
-#[test]
-fn declarations_behind_an_event(rt: HostRuntime) -> Result<(), Fail> {
-    are_refused(
-        &rt,
-        &[
-            "timer c\nnode e device 00124B0000000004 0001 8 4",
-            "timer c\ncode d 00",
-            "timer c\nnetkey nope 000102030405060708090A0B0C0D0E0F 0",
-            "timer c\ncounter d aps 0",
-            "timer c\n\n#\ndraw A0A1A2A3A4A5A6A7A8A9AAABACADAEAF",
-        ],
-        SchedCause::Syntax,
-    )
-}
-
-#[test]
-fn events_of_no_form(rt: HostRuntime) -> Result<(), Fail> {
-    are_refused(
-        &rt,
-        &[
-            "say c FFF -",
-            "say c FFFF 000102030405060708090A0B0C0D0E0F000102030405060708090A0B0C0D0E0F000102030405060708090A0B0C0D0E0F000102030405060708090A0B0C0D0E0F10",
-            "deliver 0 d",
-            "deliver 4294967296 d",
-            "timer",
-            "knock d now",
-            "rejoin",
-            "child c d",
-            "child c d joins",
-            "provision d 0",
-            "again",
-            "roll c",
-            "switch c",
-            "remove d by c",
-            "remove d via",
-            "reset",
-            "boot",
-            "dump",
-            "stop d 6 -",
-            "stop d 0 000102030405060708090A0B0C0D0E0F000102030405060708090A0B0C0D0E0F10",
-            "fail d 0",
-            "fail d 7",
-        ],
-        SchedCause::Syntax,
-    )
-}
-
-#[test]
-fn events_on_the_air_and_of_two_nodes_of_no_form(rt: HostRuntime) -> Result<(), Fail> {
-    are_refused(
-        &rt,
-        &[
-            "inject -",
-            "inject",
-            "forge 0000 1A2B 00124B0000000002 net 000102030405060708090A0B0C0D0E0F 0 50 -",
-            "forge 0000 1A2B 00124B0000000002 net 000102030405060708090A0B0C0D0E0F 256 50 00",
-            "forge 0000 1A2B 0000000000000000 net 000102030405060708090A0B0C0D0E0F 0 50 00",
-            "forge 0000 1A2B 00124B0000000002 net 000102030405060708090A0B0C0D0E0F 0 50 aps network A0A1A2A3A4A5A6A7A8A9AAABACADAEAF 50 0804",
-            "forge 0000 1A2B 00124B0000000002 net 000102030405060708090A0B0C0D0E0F 0 50 aps data A0A1A2A3A4A5A6A7A8A9AAABACADAEAF 50 -",
-            "forge 0000 1A2B 00124B0000000002 open aps data A0A1A2A3A4A5A6A7A8A9AAABACADAEAF 50",
-            "forge 0000 1A2B 00124B0000000002 open data A0A1A2A3A4A5A6A7A8A9AAABACADAEAF 50 00",
-            "ask d",
-            "share d r r",
-            "tell d r",
-            "tell d r 0",
-        ],
-        SchedCause::Syntax,
-    )
-}
-
-#[test]
-fn names_addresses_and_declarations_that_are_taken(rt: HostRuntime) -> Result<(), Fail> {
-    are_refused(
-        &rt,
-        &[
-            "node d router 00124B0000000004 0001 8 4",
-            "node e router 00124B0000000002 0001 8 4",
-            "node e router 00124B0000000004 1A2B 8 4",
-            "node e centre 00124B0000000004 0000 8 4",
-            "node d router 00124B0000000004 0001 0 4",
-            "code d 83FED3407A939723A5C639B26916D505C3B5\ncode d 83FED3407A939723A5C639B26916D505C3B5",
-            "code d 83FED3407A939723A5C639B26916D505C3B5\ncode d 00",
-            "netkey d 000102030405060708090A0B0C0D0E0F 0\nnetkey d 000102030405060708090A0B0C0D0E0F 0",
-            "netkey d 000102030405060708090A0B0C0D0E0F 0\nnetkey d 5A6967426565416C6C69616E63653039 0",
-            "counter d nwk 0\ncounter d nwk 0",
-            "counter d aps 1\ncounter d nwk 1\ncounter d aps 2",
-        ],
-        SchedCause::DuplicateNode,
-    )
-}
-
-#[test]
-fn bytes_that_are_no_install_code(rt: HostRuntime) -> Result<(), Fail> {
-    are_refused(
-        &rt,
-        &[
-            "code d -",
-            "code d 83FED3407A939723A5C639B26916D505C3B4",
-            "code d 83FED3407A939723A5C639B26916D505C3",
-            "code d 0000000000000000000000000000000000000000",
-            "code nope 00",
-            "code c 00",
-            "provision d -",
-            "provision d 83FED3407A939723A5C639B26916D505C3B4",
-            "provision nope 00",
-        ],
-        SchedCause::BadCode,
-    )
-}
-
-#[test]
-fn link_keys_that_are_known(rt: HostRuntime) -> Result<(), Fail> {
-    are_refused(
-        &rt,
-        &[
-            "code d 83FED3407A939723A5C639B26916D505C3B5\ncode r 83FED3407A939723A5C639B26916D505C3B5",
-            "code d 83FED3407A939723A5C639B26916D505C3B5\ncode nope 83FED3407A939723A5C639B26916D505C3B5",
-            "netkey c 66B6900981E1EE3CA4206B6B861C02BB 0\ncode d 83FED3407A939723A5C639B26916D505C3B5",
-            "draw 66B6900981E1EE3CA4206B6B861C02BB\ncode d 83FED3407A939723A5C639B26916D505C3B5",
-            "code d 83FED3407A939723A5C639B26916D505C3B5\nprovision r 83FED3407A939723A5C639B26916D505C3B5",
-            "netkey c 66B6900981E1EE3CA4206B6B861C02BB 0\nprovision d 83FED3407A939723A5C639B26916D505C3B5",
-            "draw 66B6900981E1EE3CA4206B6B861C02BB\nprovision nope 83FED3407A939723A5C639B26916D505C3B5",
-        ],
-        SchedCause::DuplicateCode,
-    )
-}
-
-#[test]
-fn keys_that_come_again(rt: HostRuntime) -> Result<(), Fail> {
-    are_refused(
-        &rt,
-        &[
-            "draw A0A1A2A3A4A5A6A7A8A9AAABACADAEAF\ndraw a0a1a2a3a4a5a6a7a8a9aaabacadaeaf",
-            "netkey c A0A1A2A3A4A5A6A7A8A9AAABACADAEAF 0\ndraw A0A1A2A3A4A5A6A7A8A9AAABACADAEAF",
-            "code d 83FED3407A939723A5C639B26916D505C3B5\ndraw 66B6900981E1EE3CA4206B6B861C02BB",
-            "draw 5A6967426565416C6C69616E63653039",
-            "draw A0A1A2A3A4A5A6A7A8A9AAABACADAEAF\nnetkey c A0A1A2A3A4A5A6A7A8A9AAABACADAEAF 0",
-            "code d 83FED3407A939723A5C639B26916D505C3B5\nnetkey d 66B6900981E1EE3CA4206B6B861C02BB 0",
-            "netkey nope 5A6967426565416C6C69616E63653039 0",
-        ],
-        SchedCause::DrawRepeated,
-    )
-}
-
-#[test]
-fn nodes_that_are_unknown_or_have_another_part(rt: HostRuntime) -> Result<(), Fail> {
-    are_refused(
-        &rt,
-        &[
-            "code c 83FED3407A939723A5C639B26916D505C3B5",
-            "code nope 83FED3407A939723A5C639B26916D505C3B5",
-            "netkey nope 000102030405060708090A0B0C0D0E0F 0",
-            "counter nope nwk 0",
-            "say nope FFFF -",
-            "deliver 1 nope",
-            "timer nope",
-            "knock nope",
-            "knock c",
-            "rejoin c",
-            "child c nope join",
-            "child c c join",
-            "child nope d join",
-            "child d r join",
-            "child r r join",
-            "provision c 83FED3407A939723A5C639B26916D505C3B5",
-            "again c",
-        ],
-        SchedCause::UnknownNode,
-    )
-}
-
-#[test]
-fn further_nodes_that_are_unknown_or_have_another_part(rt: HostRuntime) -> Result<(), Fail> {
-    are_refused(
-        &rt,
-        &[
-            "remove c via r",
-            "remove d via d",
-            "remove r via d",
-            "remove d via nope",
-            "reset nope",
-            "boot nope",
-            "dump nope",
-            "stop nope 0 -",
-            "fail nope 1",
-            "ask c d",
-            "ask d d",
-            "share d c",
-            "share nope d",
-            "tell d nope 00",
-            "tell r r -",
-        ],
-        SchedCause::UnknownNode,
-    )
-}
-
-#[test]
-fn blocks_out_of_range(rt: HostRuntime) -> Result<(), Fail> {
-    are_refused(
-        &rt,
-        &[
-            "node e device 00124B0000000004 0001 0 4",
-            "node e device 00124B0000000004 0001 65537 4",
-            "node e device 00124B0000000004 0001 8 0",
-            "node e device 00124B0000000004 0001 8 1025",
-        ],
-        SchedCause::Block,
-    )
-}
-
-#[test]
 fn what_is_no_fault(rt: HostRuntime) -> Result<(), Fail> {
     let texts = [
         "provision d 83FED3407A939723A5C639B26916D505C3B5\nprovision r 83FED3407A939723A5C639B26916D505C3B5",
@@ -390,54 +351,6 @@ fn what_is_no_fault(rt: HostRuntime) -> Result<(), Fail> {
     for text in texts {
         assert_eq!(rt; behind(&rt, text.as_bytes())?, None);
     }
-    Ok(())
-}
-
-#[test]
-fn the_first_bad_line_is_told(rt: HostRuntime) -> Result<(), Fail> {
-    let syntax = SchedCause::Syntax;
-    assert_eq!(rt;
-        behind(&rt, b"\n#\nboom\ntimer nope\nboom\n")?,
-        Some(SchedError {
-            line: 6,
-            cause: syntax
-        })
-    );
-    assert_eq!(rt;
-        fault(&rt, b""),
-        Some(SchedError {
-            line: 1,
-            cause: SchedCause::NoCentre
-        })
-    );
-    assert_eq!(rt;
-        fault(&rt, b"#\n\n#"),
-        Some(SchedError {
-            line: 4,
-            cause: SchedCause::NoCentre
-        })
-    );
-    assert_eq!(rt;
-        fault(&rt, b"\r\r\n"),
-        Some(SchedError {
-            line: 1,
-            cause: syntax
-        })
-    );
-    assert_eq!(rt;
-        fault(&rt, b"\r"),
-        Some(SchedError {
-            line: 1,
-            cause: syntax
-        })
-    );
-    assert_eq!(rt;
-        fault(&rt, b"timer \xFF\n"),
-        Some(SchedError {
-            line: 1,
-            cause: syntax
-        })
-    );
     Ok(())
 }
 
