@@ -8,7 +8,7 @@ use std::test::Fail;
 use zb_base::Layer;
 use zb_keys::Tables;
 use zb_node_types::{Change, Changes, KeyError};
-use zb_record::Version;
+use zb_record::{Version, change_bytes};
 use zb_store::RECORD_ROOM;
 
 #[test]
@@ -19,7 +19,7 @@ fn payload_of_a_reserve(rt: HostRuntime) {
         limit: 4,
     });
     let mut room = [0; 16];
-    let len = Tables::change_bytes(&changes, &mut room) as usize;
+    let len = change_bytes(&changes, &mut room) as usize;
     assert!(rt; room.get(..len) == Some(&[1, 1, 0, 4, 0, 0, 0][..]));
 }
 

@@ -90,7 +90,7 @@ impl Core for Sealer {
         payloads: &[u8],
         room: &mut [u8],
     ) -> Result<Sealer, OrMemory<KeyError>> {
-        let tables = StoredTables::restore(alloc, Role::Centre, content, payloads, room)?;
+        let tables = StoredTables::restore(alloc, Role::Centre, content, payloads)?;
         Ok(Sealer {
             tables,
             block: config.out_block,

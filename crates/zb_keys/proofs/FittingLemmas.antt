@@ -3,8 +3,8 @@ use Rattle.std.proofs.Common.{◌≡◌, List, map, length, ap, ◌∙◌}
 use Rattle.std.specs.Prelude.{filter}
 use Rattle.std.proofs.lemmas.List.{length-map}
 use Rattle.zb_model.specs.State.{NetKey}
-use Rattle.zb_keys.specs.declared.net.NetRow.{NetRow}
-use Rattle.zb_keys.specs.Rows.{net_key}
+use Rattle.zb_record.specs.declared.net_row.NetRow.{NetRow}
+use Rattle.zb_record.specs.RowViews.{net_key}
 use Rattle.zb_keys.proofs.ShownLemmas.{filter-map}
 
 pub live_count : (rows : List NetRow) → length (filter (λ (r : NetKey). r.live) (map net_key rows)) ≡ length (filter (λ (r : NetRow). (net_key r).live) rows)

@@ -8,10 +8,10 @@ use Rattle.zb_model.specs.Data.{Bytes, Nwk}
 use Rattle.zb_model.specs.State.{NodeState, NetKey, LinkKey, same_key, at_net, at_link, is_link, shown_net, next_at, net_kept, link_kept, counted, of_active, next_counter, stored_limit, active_row}
 use Rattle.zb_model.specs.Fits.{keeps_rules, keys_differ, all_apart}
 use Rattle.zb_keys.specs.declared.contents.Contents.{Contents}
-use Rattle.zb_keys.specs.declared.net.NetRow.{NetRow}
-use Rattle.zb_keys.specs.declared.link.LinkRow.{LinkRow}
-use Rattle.zb_keys.specs.Rows.{net_key, link_key}
-use Rattle.zb_keys.specs.Senders.{counted_row}
+use Rattle.zb_record.specs.declared.net_row.NetRow.{NetRow}
+use Rattle.zb_record.specs.declared.link_row.LinkRow.{LinkRow}
+use Rattle.zb_record.specs.RowViews.{net_key, link_key}
+use Rattle.zb_record.specs.Senders.{counted_row}
 use Rattle.zb_keys.specs.Tables.{state_of, IsSound, Forgets}
 use Rattle.zb_keys.proofs.ShownLemmas.{shown_at}
 use Rattle.zb_keys.proofs.StateLemmas.{both, rules_of}

@@ -1,5 +1,4 @@
 pub mod Mapping
-pub mod SenderLemmas
 pub mod ShownLemmas
 pub mod StateLemmas
 pub mod RuleLemmas
@@ -8,8 +7,8 @@ pub mod FindLemmas
 pub mod HeardLemmas
 pub mod ReadLemmas
 pub mod PlanLemmas
-pub mod WritingLemmas
 pub mod RecordLemmas
 pub mod FittingLemmas
 pub mod RestoreLemmas
+pub mod BootLemmas
 mod FirstLemmas

@@ -18,11 +18,12 @@ use Rattle.zb_model.specs.Rules.{drop_old, first_drop, links_full, drop_link, dr
 use Rattle.zb_model.specs.Commands.{dropped_at, activates, has_key}
 use Rattle.zb_model.specs.Answer.{start_edit, start_for, is_started_key, row_is_started}
 use Rattle.zb_keys.specs.declared.contents.Contents.{Contents}
-use Rattle.zb_keys.specs.declared.net.NetRow.{NetRow}
-use Rattle.zb_keys.specs.declared.link.LinkRow.{LinkRow}
-use Rattle.zb_keys.specs.Rows.{net_key, link_key}
+use Rattle.zb_record.specs.declared.net_row.NetRow.{NetRow}
+use Rattle.zb_record.specs.declared.link_row.LinkRow.{LinkRow}
+use Rattle.zb_record.specs.RowViews.{net_key, link_key}
 use Rattle.zb_keys.specs.Planning.{Adds, moves, activation, taken, installing, installing_after, switching, switching_to, taking, unless_other, providing, offering, partnering, dropping, pairing}
-use Rattle.zb_keys.specs.Tables.{state_of, active_bytes, IsSound}
+use Rattle.zb_keys.specs.Tables.{state_of, IsSound}
+use Rattle.zb_record.specs.Headings.{active_bytes}
 use Rattle.zb_keys.proofs.Mapping.{list_any-map}
 use Rattle.zb_keys.proofs.FindLemmas.{find_map}
 use Rattle.zb_keys.proofs.ShownLemmas.{filter-map}

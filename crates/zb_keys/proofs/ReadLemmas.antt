@@ -8,11 +8,12 @@ use Rattle.zb_model.specs.State as model
 use Rattle.zb_model.specs.State.{NodeState, NetKey, same_key, counted, active_row, net_of_active, next_counter, stored_limit, with_declared, declared_at, sender_floor, floor_of_sender}
 use Rattle.zb_model.specs.Fits.{keeps_rules, rows_have_room, keys_differ, at_most_two_live, active_is_live, partners_agree, links_are_marked, floors_are_kept, limits_are_started, role_is_kept, pairs_are_kept}
 use Rattle.zb_keys.specs.declared.contents.Contents.{Contents}
-use Rattle.zb_keys.specs.declared.net.NetRow.{NetRow}
-use Rattle.zb_keys.specs.declared.net.SenderFloor.{SenderFloor}
-use Rattle.zb_keys.specs.Rows.{net_key, heard_floor}
+use Rattle.zb_record.specs.declared.net_row.NetRow.{NetRow}
+use Rattle.zb_record.specs.declared.net_row.SenderFloor.{SenderFloor}
+use Rattle.zb_record.specs.RowViews.{net_key, heard_floor}
 use Rattle.zb_keys.specs.Reading.{outgoing_of, place_of_key}
-use Rattle.zb_keys.specs.Tables.{state_of, active_bytes, IsSound}
+use Rattle.zb_keys.specs.Tables.{state_of, IsSound}
+use Rattle.zb_record.specs.Headings.{active_bytes}
 use Rattle.std.proofs.lemmas.List.{length-map}
 use borrow.Author.Tests.{leb-true}
 use Rattle.zb_keys.proofs.FindLemmas.{find_map, position_map, position_below}

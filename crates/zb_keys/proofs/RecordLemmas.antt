@@ -1,45 +1,28 @@
--- The parts of a record make the record.
-use Rattle.std.proofs.Common.{◌≡◌, ℕ, ◌≤◌, List, [], ◌∷◌, ◌++◌, length, map, refl, ap, arith, append_assoc, Bool, true, false, if◌then◌else◌}
+-- What tables keep is what a record is written of.
+use Rattle.std.proofs.Common.{◌≡◌, ℕ, ◌≤◌, List, length, map, refl, ap, arith, sym, subst}
 use Rattle.std.specs.Prelude.{filter}
-use Rattle.std.specs.List.{flat_map}
 use Rattle.std.proofs.lemmas.List.{length-map}
 use borrow.Author.Tests.{leb-true}
-use Rattle.zb_node_types.specs.Changes.{model_role, model_state, is_sending}
+use Rattle.zb_node_types.specs.Changes.{model_role}
 use Rattle.zb_model.specs.Data.{Role, Centre, Router, Device}
 use Rattle.zb_model.specs.State.{NetKey, live_nets}
 use Rattle.zb_model.specs.Fits.{at_most_two_live, most_links}
-use Rattle.zb_model.specs.Record.{record_of, active_place, role_byte, state_byte, two_bytes, four_bytes, net_bytes, floors_bytes, link_bytes, pair_bytes, worth}
+use Rattle.zb_model.specs.Record.{record_of}
 use Rattle.zb_keys.specs.declared.contents.Contents.{Contents}
-use Rattle.zb_keys.specs.declared.net.NetRow.{NetRow}
-use Rattle.zb_keys.specs.Rows.{net_key, link_key, pair_key}
-use Rattle.zb_keys.specs.Tables.{state_of, IsSound}
+use Rattle.zb_record.specs.declared.write.Heading.{Heading}
+use Rattle.zb_record.specs.declared.net_row.NetRow.{NetRow}
+use Rattle.zb_record.specs.declared.link_row.LinkRow.{LinkRow}
+use Rattle.zb_record.specs.declared.pair_row.Pair.{Pair}
+use Rattle.zb_record.specs.RowViews.{net_key, link_key, pair_key}
+use Rattle.zb_record.specs.Headings.{state_written}
+use Rattle.zb_keys.specs.Tables.{heading_of, state_of, IsSound}
 use Rattle.zb_keys.proofs.ShownLemmas.{filter-map}
 use Rattle.zb_keys.proofs.StateLemmas.{rooms_of, rules_of}
 
--- the bytes of the rows that pass, one after the other
-flat_map_if : (spell : NetKey → List ℕ) (rows : List NetRow) → flat_map (λ (r : NetRow). if (net_key r).live then spell (net_key r) else []) rows ≡ flat_map spell (filter (λ (r : NetKey). r.live) (map net_key rows))
-flat_map_if spell [] = refl
-flat_map_if spell (r ∷ rs) = at_test (net_key r).live (flat_map_if spell rs)
-  where
-    at_test : (b : Bool) → flat_map (λ (x : NetRow). if (net_key x).live then spell (net_key x) else []) rs ≡ flat_map spell (filter (λ (x : NetKey). x.live) (map net_key rs))
-        → (if b then spell (net_key r) else []) ++ flat_map (λ (x : NetRow). if (net_key x).live then spell (net_key x) else []) rs ≡ flat_map spell (if b then net_key r ∷ filter (λ (x : NetKey). x.live) (map net_key rs) else filter (λ (x : NetKey). x.live) (map net_key rs))
-    at_test true e = ap (λ l. spell (net_key r) ++ l) e
-    at_test false e = e
-
-regroup : (f g h i j k : List ℕ) → ((f ++ g) ++ (h ++ i)) ++ (j ++ k) ≡ f ++ (g ++ (h ++ (i ++ (j ++ k))))
-regroup f g h i j k = simp append_assoc
-
-pub parts_are : (a : Contents)
-    → (((((3 ∷ role_byte (model_role a.role) ∷ state_byte (model_state a.state) ∷ four_bytes a.declared) ++ (four_bytes a.aps_limit ++ worth 1 (is_sending a.rolling) ∷ []))
-    ++ ((two_bytes (length a.nets.items) ++ two_bytes (active_place (state_of a))) ++ (flat_map net_bytes (map net_key a.nets.items) ++ flat_map (λ (r : NetRow). if (net_key r).live then floors_bytes (net_key r) else []) a.nets.items)))
-    ++ (two_bytes (length a.links.items) ++ flat_map link_bytes (map link_key a.links.items)))
-    ++ (two_bytes (length a.pairs.items) ++ flat_map pair_bytes (map pair_key a.pairs.items))) ≡ record_of (state_of a)
-unfolding record_of
-parts_are a =
-    rw (flat_map_if floors_bytes a.nets.items, length-map a.nets.items net_key, length-map a.links.items link_key, length-map a.pairs.items pair_key)
-    (ap (λ l. (3 ∷ role_byte (model_role a.role) ∷ state_byte (model_state a.state) ∷ four_bytes a.declared) ++ ((four_bytes a.aps_limit ++ worth 1 (is_sending a.rolling) ∷ []) ++ ((two_bytes (length a.nets.items) ++ two_bytes (active_place (state_of a))) ++ l)))
-    (regroup (flat_map net_bytes (map net_key a.nets.items)) (flat_map floors_bytes (filter (λ (r : NetKey). r.live) (map net_key a.nets.items)))
-    (two_bytes (length a.links.items)) (flat_map link_bytes (map link_key a.links.items)) (two_bytes (length a.pairs.items)) (flat_map pair_bytes (map pair_key a.pairs.items))))
+-- the record of the heading and the rows of tables is theirs
+pub same_record : (a : Contents) (h : Heading) (nets : List NetRow) (links : List LinkRow) (pairs : List Pair) → h ≡ heading_of a → nets ≡ a.nets.items → links ≡ a.links.items → pairs ≡ a.pairs.items
+    → record_of (state_written a.aps_next h nets links pairs) ≡ record_of (state_of a)
+same_record a h nets links pairs same_heading same_nets same_links same_pairs = rw (same_heading, same_nets, same_links, same_pairs) refl
 
 most_1024 : (d : Role) → most_links d ≤ 1024
 most_1024 Centre = omega arith

@@ -2,8 +2,8 @@
 use Rattle.std.proofs.Common.{◌≡◌, ℕ, zero, suc, ◌<◌, ◌≤◌, List, [], ◌∷◌, length, map, get_or, refl, sym, ap, Some, None, subst, true, Ok, arith}
 use Rattle.zb_model.specs.Fits.{keeps_rules}
 use Rattle.zb_keys.specs.declared.contents.Contents.{Contents}
-use Rattle.zb_keys.specs.declared.net.NetRow.{NetRow}
-use Rattle.zb_keys.specs.Rows.{net_key}
+use Rattle.zb_record.specs.declared.net_row.NetRow.{NetRow}
+use Rattle.zb_record.specs.RowViews.{net_key}
 use Rattle.zb_keys.specs.Tables.{IsSound, IsRestored, Forgets}
 use Rattle.zb_record.specs.declared.record.Record.{Record}
 use Rattle.zb_record.specs.Records.{key_of, record_read, record_seen}

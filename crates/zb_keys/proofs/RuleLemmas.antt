@@ -4,14 +4,14 @@ use Rattle.std.specs.Prelude.{find, nat_le, nat_lt, nat_eq}
 use Rattle.std.specs.List.{list_any, list_all}
 use Rattle.std.proofs.lemmas.List.{length-map}
 use Rattle.zb_model.specs.Data.{Bytes, Role, Move, Draw, DropNet, DropLink, Install, Active, Row, Pair, Became, Live, Removed, Roll, Told, Untold, Edit, Reserve, Floor, Start, Moved}
-use Rattle.zb_model.specs.State.{NodeState, SenderFloor, NetKey, LinkKey, same_key, live_nets, shown, applied, at_net, next_at, net_kept, floor_kept, is_centre, is_provisional, is_unverified}
+use Rattle.zb_model.specs.State.{NodeState, SenderFloor, NetKey, LinkKey, booted_floor, booted_net, same_key, live_nets, shown, applied, at_net, next_at, net_kept, floor_kept, is_centre, is_provisional, is_unverified}
 use Rattle.zb_model.specs.Fits.{keeps_rules, rows_have_room, keys_differ, at_most_two_live, active_is_live, partners_agree, links_are_marked, floors_are_kept, limits_are_started, role_is_kept, pairs_are_kept, senders_ascend, most_senders, row_is_live, all_apart, like_rows, same_bool, most_links, fits, may_change}
 use Rattle.std.proofs.lemmas.Bool.{not-true}
 use Rattle.std.proofs.lemmas.List.Folds.{list_all-map}
 use Rattle.zb_model_fits.proofs.Tests.{neither, any_same}
 use Rattle.zb_model_fits.proofs.Parts.{same_key_is, same_key_sym}
 use Rattle.zb_model_fits.proofs.Shown.{rules_shown}
-use Rattle.zb_keys.specs.Senders.{counted_row}
+use Rattle.zb_record.specs.Senders.{counted_row}
 use Rattle.zb_keys.proofs.Mapping.{list_any-map}
 use Rattle.zb_keys.proofs.ShownLemmas.{filter-map}
 use Rattle.zb_keys.proofs.StateLemmas.{both, rules_of, rules_back}
@@ -200,6 +200,28 @@ heard_is_mild sender kept = record {
       ap (λ b. b && (list_all (λ (f : SenderFloor). nat_lt 0 f.stored) (floor_kept sender kept r.floors) && senders_ascend (floor_kept sender kept r.floors))) long
       ∙ ap (λ b. nat_le (length r.floors) most_senders && (b && senders_ascend (floor_kept sender kept r.floors))) stored
       ∙ ap (λ b. nat_le (length r.floors) most_senders && (list_all (λ (f : SenderFloor). nat_lt 0 f.stored) r.floors && b)) (ascend_kept sender kept r.floors)
+      ∙ e;
+}
+
+-- floors that are set back
+ascend_booted : (fs : List SenderFloor) → senders_ascend (map booted_floor fs) ≡ senders_ascend fs
+ascend_booted [] = refl
+ascend_booted (f ∷ fs) =
+    ap (λ b. b && senders_ascend (map booted_floor fs)) (list_all-map (λ (g : SenderFloor). nat_lt f.sender g.sender) booted_floor fs)
+    ∙ ap (λ b. list_all (λ (g : SenderFloor). nat_lt f.sender g.sender) fs && b) (ascend_booted fs)
+
+pub boot_is_mild : Mild booted_net
+boot_is_mild = record {
+  key = λ r. refl;
+  live = λ r. refl;
+  limit = λ r e. e;
+  floors = λ r e.
+      let long : nat_le (length (map booted_floor r.floors)) most_senders ≡ nat_le (length r.floors) most_senders = ap (λ n. nat_le n most_senders) (length-map r.floors booted_floor) in
+      let stored : list_all (λ (f : SenderFloor). nat_lt 0 f.stored) (map booted_floor r.floors) ≡ list_all (λ (f : SenderFloor). nat_lt 0 f.stored) r.floors =
+      list_all-map (λ (f : SenderFloor). nat_lt 0 f.stored) booted_floor r.floors in
+      ap (λ b. b && (list_all (λ (f : SenderFloor). nat_lt 0 f.stored) (map booted_floor r.floors) && senders_ascend (map booted_floor r.floors))) long
+      ∙ ap (λ b. nat_le (length r.floors) most_senders && (b && senders_ascend (map booted_floor r.floors))) stored
+      ∙ ap (λ b. nat_le (length r.floors) most_senders && (list_all (λ (f : SenderFloor). nat_lt 0 f.stored) r.floors && b)) (ascend_booted r.floors)
       ∙ e;
 }
 

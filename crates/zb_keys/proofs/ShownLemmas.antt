@@ -4,9 +4,9 @@ use Rattle.std.specs.List.{list_any}
 use Rattle.std.proofs.lemmas.List.{map-append, length-map}
 use Rattle.zb_model.specs.Data.{Bytes}
 use Rattle.zb_model.specs.State.{NetKey, at_net, has_net, same_key, shown_net, reserved, started_at, dropped_net, net_floor}
-use Rattle.zb_keys.specs.declared.net.NetRow.{NetRow}
-use Rattle.zb_keys.specs.Rows.{net_key}
-use Rattle.zb_keys.specs.Senders.{live_floor}
+use Rattle.zb_record.specs.declared.net_row.NetRow.{NetRow}
+use Rattle.zb_record.specs.RowViews.{net_key}
+use Rattle.zb_record.specs.Senders.{live_floor}
 use Rattle.zb_record.specs.Redoing.{limited}
 use Rattle.zb_keys.proofs.Mapping.{list_any-map}
 

@@ -11,11 +11,11 @@ use Rattle.zb_model.specs.Data.{Bytes, Attribute, Nwk, Reserve, Floor, Start, Mo
 use Rattle.zb_model.specs.State.{NodeState, SenderFloor, NetKey, LinkKey, PairKey, at_net, has_net, shown_net, reserved, started_at, dropped_net, applied, shown, is_told, is_live_of, with_link, with_pair, names_two, names, is_link, has_link, new_link, revived, at_link}
 use Rattle.zb_model.specs.Fits.{keeps_rules, rows_have_room, keys_differ, at_most_two_live, active_is_live, partners_agree, links_are_marked, floors_are_kept, limits_are_started, role_is_kept, pairs_are_kept, senders_ascend, most_nets, most_links, most_pairs, most_senders}
 use Rattle.zb_keys.specs.declared.contents.Contents.{Contents}
-use Rattle.zb_keys.specs.declared.net.NetRow.{NetRow}
-use Rattle.zb_keys.specs.declared.link.LinkRow.{LinkRow}
-use Rattle.zb_keys.specs.declared.pair.Pair as program
-use Rattle.zb_keys.specs.Rows.{net_key, link_key, pair_key}
-use Rattle.zb_keys.specs.Senders.{live_floor, HasRoom}
+use Rattle.zb_record.specs.declared.net_row.NetRow.{NetRow}
+use Rattle.zb_record.specs.declared.link_row.LinkRow.{LinkRow}
+use Rattle.zb_record.specs.declared.pair_row.Pair as program
+use Rattle.zb_record.specs.RowViews.{net_key, link_key, pair_key}
+use Rattle.zb_record.specs.Senders.{live_floor, HasRoom}
 use Rattle.zb_keys.specs.Tables.{state_of, with_row, Becomes, IsSound, Forgets}
 use Rattle.zb_record.specs.Redoing.{limited, with_limit}
 use Rattle.zb_keys.proofs.Mapping.{list_any-map}

@@ -1,18 +1,14 @@
 -- What the tables of a node hold, as the model's state of a node, and what they keep of themselves.
-use Rattle.std.specs.Prelude.{◌≡◌, ◌≤◌, true, if◌then◌else◌, [], ◌∷◌, ◌++◌, map, Option, Some, None, vec_capacity}
-use Rattle.zb_base.specs.declared.key.Key.{Key}
+use Rattle.std.specs.Prelude.{◌≡◌, ◌≤◌, true, if◌then◌else◌, [], ◌∷◌, ◌++◌, map, vec_capacity}
 use Rattle.zb_node_types.specs.Changes.{model_role, model_state, is_sending}
 use Rattle.zb_keys.specs.declared.contents.Contents.{Contents}
-use Rattle.zb_keys.specs.Rows.{net_key, link_key, pair_key}
+use Rattle.zb_record.specs.RowViews.{net_key, link_key, pair_key}
 use Rattle.zb_record.specs.declared.record.Record.{Record}
+use Rattle.zb_record.specs.declared.write.Heading.{Heading}
+use Rattle.zb_record.specs.Headings.{active_bytes}
 use Rattle.zb_record.specs.Records.{record_seen}
-use Rattle.zb_model.specs.Data.{Bytes}
-use Rattle.zb_model.specs.State.{NodeState, NetKey, has_net, shown_net}
+use Rattle.zb_model.specs.State.{NodeState, NetKey, has_net, shown_net, booted_net, booted_link}
 use Rattle.zb_model.specs.Fits.{keeps_rules, most_nets, most_links, most_pairs}
-
-abbrev pub active_bytes : Option Key → Option Bytes
-active_bytes None = None
-active_bytes (Some key) = Some key.0
 
 abbrev pub state_of : Contents → NodeState
 state_of a = record {
@@ -28,9 +24,20 @@ state_of a = record {
   pairs = map pair_key a.pairs.items;
 }
 
+-- what stands before the rows in the record
+abbrev pub heading_of : Contents → Heading
+heading_of a = record { role = a.role; state = a.state; declared = a.declared; aps_limit = a.aps_limit; rolling = a.rolling; active = a.active }
+
 -- a row is added where its key has none
 abbrev pub with_row : NetKey → NodeState → NodeState
 with_row row s = record s { nets = if has_net row.key s.nets then s.nets else s.nets ++ row ∷ [] }
+
+-- the network keys, and the link keys, as a boot sets them back
+abbrev pub nets_booted : NodeState → NodeState
+nets_booted s = record s { nets = map booted_net s.nets }
+
+abbrev pub links_booted : NodeState → NodeState
+links_booted s = record s { links = map booted_link s.links }
 
 -- a dropped network key keeps no floors
 abbrev pub Forgets : NodeState → Type 0

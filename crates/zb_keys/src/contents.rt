@@ -2,28 +2,28 @@
 ghost use Rattle.std.specs.Option.{option_copied};
 ghost use Rattle.std.specs.Prelude.{◌≡◌, ◌<◌, ◌≤◌, ◌-◌, ◌^◌, option_map, [], ◌∷◌, ◌++◌, true, false, length, vec_capacity, vec_len, All, map};
 ghost use Rattle.zb_node_types.specs.Changes.{model_layer, model_attribute, model_state, edit, is_sending};
-ghost use Rattle.zb_keys.specs.Rows.{net_key, link_key};
-ghost use Rattle.zb_keys.specs.Senders.{HasRoom, live_floor};
+ghost use Rattle.zb_record.specs.RowViews.{net_key, link_key};
+ghost use Rattle.zb_record.specs.Senders.{HasRoom, live_floor};
 ghost use Rattle.zb_keys.specs.Reading.{outgoing_of, place_of_key};
 ghost use Rattle.zb_keys.specs.Tables.{state_of, with_row, Becomes, IsSound, Forgets};
 ghost use Rattle.zb_model.specs.Data.{Nwk, Aps, Reserve, Floor, Start, Moved, DropNet, DropLink, Install, Active, Row, Pair as Paired, Became, Live, Removed, Roll, Told, Untold};
 ghost use Rattle.zb_model.specs.State.{applied, shown, at_net, next_counter, stored_limit, active_row, counted, heard, with_declared, current, offered};
 ghost use Rattle.zb_model.specs.Fits.{keeps_rules};
 
-use crate::link::{
-    current_row, drop_link, has_row, has_told, hear_link, offered_row, revive_link, store_link,
-    tell_links, untell_links,
-};
-use crate::net::{
-    count_net, drop_net, has_key, hear_net, key_place, key_row, reserve_net, start_net, store_net,
-};
-use crate::pair::{drop_pairs, has_pair};
-use crate::{LinkRow, NetRow, Pair};
 use zb_base::{Attribute, Eui, Key, Layer, Role, Rollover, State};
 use zb_counter::Outgoing;
 use zb_node_types::Change;
+use zb_record::link_row::{
+    current_row, drop_link, has_row, has_told, hear_link, offered_row, revive_link, store_link,
+    tell_links, untell_links,
+};
+use zb_record::net_row::{
+    count_net, drop_net, has_key, hear_net, key_place, key_row, reserve_net, start_net, store_net,
+};
+use zb_record::pair_row::{drop_pairs, has_pair};
+use zb_record::{LinkRow, NetRow, Pair};
 
-/// The stable state of a node, with the next counters and the floors in memory.
+/// Holds the stable state of a node, with the next counters and the floors in memory.
 #[derive(Debug, Drop)]
 pub(crate) struct Contents {
     pub(crate) role: Role,
@@ -42,7 +42,7 @@ pub(crate) struct Contents {
 
 #[tactic(auto, unfolding(zb_model::specs::State::applied, zb_model::specs::State::shown))]
 impl Contents {
-    /// The row of the active network key.
+    /// Answers the row of the active network key.
     pub(crate) fn active_row(&self) -> Option<&NetRow>
         ensures { option_map net_key (option_copied result) ≡ active_row (state_of self.now) }
     {
@@ -52,7 +52,7 @@ impl Contents {
         }
     }
 
-    /// The current row of a partner.
+    /// Answers the current row of a partner.
     #[tactic(auto, unfolding(zb_model::specs::State::current), using(crate::proofs::FindLemmas::find_map))]
     pub(crate) fn current(&self, partner: Eui) -> Option<&LinkRow>
         ensures { option_map link_key (option_copied result) ≡ current (state_of self.now) partner.0 }
@@ -60,7 +60,7 @@ impl Contents {
         current_row(self.links.as_slice(), partner)
     }
 
-    /// The offered row of a partner.
+    /// Answers the offered row of a partner.
     #[tactic(auto, unfolding(zb_model::specs::State::offered), using(crate::proofs::FindLemmas::find_map))]
     pub(crate) fn offered(&self, partner: Eui) -> Option<&LinkRow>
         ensures { option_map link_key (option_copied result) ≡ offered (state_of self.now) partner.0 }
@@ -68,7 +68,7 @@ impl Contents {
         offered_row(self.links.as_slice(), partner)
     }
 
-    /// The outgoing counter of a layer.
+    /// Answers the outgoing counter of a layer.
     pub(crate) fn outgoing(&self, layer: Layer, block: u32) -> Outgoing
         ensures { result ≡ outgoing_of (model_layer layer) block (state_of self.now) }
     {
@@ -78,7 +78,7 @@ impl Contents {
         }
     }
 
-    /// The outgoing NWK counter: that of the active key, or the declared one while none is active.
+    /// Answers the outgoing NWK counter: that of the active key, or the declared one while none is active.
     pub(crate) fn outgoing_nwk(&self, block: u32) -> Outgoing
         ensures { result ≡ outgoing_of Nwk block (state_of self.now) }
     {
@@ -118,7 +118,7 @@ impl Contents {
         self.declared = start;
     }
 
-    /// The place of the active network key among the rows.
+    /// Answers the place of the active network key among the rows.
     pub(crate) fn active_place(&self) -> Option<u32>
         requires { IsSound self.now }
         ensures { result ≡ place_of_key (state_of self.now).active (state_of self.now).nets }
@@ -135,7 +135,8 @@ impl Contents {
     /// Uses the next outgoing counter of a layer, which is reserved.
     pub(crate) fn count(&mut self, layer: Layer)
         requires sound { IsSound self.old }
-        requires reserved { next_counter (model_layer layer) (state_of self.old) < stored_limit (model_layer layer) (state_of self.old) }
+        requires reserved { next_counter (model_layer layer) (state_of self.old) < stored_limit (model_layer layer)
+            (state_of self.old) }
         ensures state { state_of self.new ≡ counted (model_layer layer) (state_of self.old) }
         ensures sound { IsSound self.new }
     {
@@ -240,8 +241,10 @@ impl Contents {
     /// Stores a floor of a layer.
     fn store(&mut self, layer: Layer, key: &Key, sender: Eui, value: u32)
         requires forgets { Forgets (state_of self.old) }
-        requires room { layer ≡ Layer.Nwk → All HasRoom (at_net key.now.0 (live_floor sender.0 value) (state_of self.old).nets) }
-        ensures { Becomes (shown (applied (Floor (model_layer layer) key.now.0 sender.0 value) (state_of self.old))) self.old self.new }
+        requires room { layer ≡ Layer.Nwk
+            → All HasRoom (at_net key.now.0 (live_floor sender.0 value) (state_of self.old).nets) }
+        ensures { Becomes (shown (applied (Floor (model_layer layer) key.now.0 sender.0 value)
+            (state_of self.old))) self.old self.new }
     {
         match layer {
             Layer::Nwk => self.store_nwk(key, sender, value),
@@ -295,7 +298,8 @@ impl Contents {
     /// Drops a link key.
     fn drop_link(&mut self, partner: Eui, key: &Key)
         requires { Forgets (state_of self.old) }
-        ensures { Becomes (shown (applied (Moved (DropLink partner.0 key.now.0)) (state_of self.old))) self.old self.new }
+        ensures { Becomes (shown (applied (Moved (DropLink partner.0 key.now.0))
+            (state_of self.old))) self.old self.new }
     {
         drop_link(&mut self.links, partner, key);
     }
@@ -303,7 +307,8 @@ impl Contents {
     /// Adds a network key, for which there is room.
     fn install(&mut self, key: Key, sequence: u8)
         requires forgets { Forgets (state_of self.old) }
-        requires fits { length (applied (Moved (Install key.0 sequence)) (state_of self.old)).nets ≤ vec_capacity self.old.nets }
+        requires fits { length (applied (Moved (Install key.0 sequence))
+            (state_of self.old)).nets ≤ vec_capacity self.old.nets }
         ensures { Becomes (shown (applied (Moved (Install key.0 sequence)) (state_of self.old))) self.old self.new }
     {
         self.add_net(NetRow::installed(key, sequence));
@@ -340,8 +345,10 @@ impl Contents {
     /// Brings a link key into use, for which there is room.
     fn set_link(&mut self, partner: Eui, key: Key, attribute: Attribute)
         requires forgets { Forgets (state_of self.old) }
-        requires fits { length (applied (Moved (Row partner.0 key.0 (model_attribute attribute))) (state_of self.old)).links ≤ vec_capacity self.old.links }
-        ensures { Becomes (shown (applied (Moved (Row partner.0 key.0 (model_attribute attribute))) (state_of self.old))) self.old self.new }
+        requires fits { length (applied (Moved (Row partner.0 key.0 (model_attribute attribute)))
+            (state_of self.old)).links ≤ vec_capacity self.old.links }
+        ensures { Becomes (shown (applied (Moved (Row partner.0 key.0 (model_attribute attribute)))
+            (state_of self.old))) self.old self.new }
     {
         let told = has_told(self.links.as_slice(), partner);
         if has_row(self.links.as_slice(), partner, &key) {
@@ -355,8 +362,10 @@ impl Contents {
     /// Adds a key of two devices, for which there is room.
     fn add_pair(&mut self, first: Eui, second: Eui, key: Key)
         requires forgets { Forgets (state_of self.old) }
-        requires fits { length (applied (Moved (Paired first.0 second.0 key.0)) (state_of self.old)).pairs ≤ vec_capacity self.old.pairs }
-        ensures { Becomes (shown (applied (Moved (Paired first.0 second.0 key.0)) (state_of self.old))) self.old self.new }
+        requires fits { length (applied (Moved (Paired first.0 second.0 key.0))
+            (state_of self.old)).pairs ≤ vec_capacity self.old.pairs }
+        ensures { Becomes (shown (applied (Moved (Paired first.0 second.0 key.0))
+            (state_of self.old))) self.old self.new }
     {
         if !has_pair(self.pairs.as_slice(), first, second) {
             let pair = Pair { first, second, key };
@@ -375,9 +384,12 @@ impl Contents {
     /// Marks a device as told or not.
     fn tell(&mut self, device: Eui, told: bool)
         requires { Forgets (state_of self.old) }
-        ensures told { told ≡ true → Becomes (shown (applied (Moved (Told device.0)) (state_of self.old))) self.old self.new }
-        ensures live { told ≡ false → Becomes (shown (applied (Moved (Live device.0)) (state_of self.old))) self.old self.new }
-        ensures untold { told ≡ false → Becomes (shown (applied (Moved (Untold device.0)) (state_of self.old))) self.old self.new }
+        ensures told { told ≡ true
+            → Becomes (shown (applied (Moved (Told device.0)) (state_of self.old))) self.old self.new }
+        ensures live { told ≡ false
+            → Becomes (shown (applied (Moved (Live device.0)) (state_of self.old))) self.old self.new }
+        ensures untold { told ≡ false
+            → Becomes (shown (applied (Moved (Untold device.0)) (state_of self.old))) self.old self.new }
     {
         tell_links(&mut self.links, device, told);
     }

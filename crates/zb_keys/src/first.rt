@@ -6,15 +6,14 @@ ghost use Rattle.zb_model.specs.Data.{Reserve};
 ghost use Rattle.zb_model.specs.State.{shown};
 ghost use Rattle.zb_record.specs.Redoing.{applied_behind, first_applied, first_fits, fits_behind, with_limit, with_net};
 
-use crate::NetRow;
 use crate::contents::Contents;
-use crate::net::limit_nets;
 use zb_base::{Key, Layer};
 use zb_node_types::Change;
-use zb_record::Version;
+use zb_record::net_row::limit_nets;
+use zb_record::{NetRow, Version};
 
 impl Contents {
-    /// Whether a change fits behind a record of a version.
+    /// Answers whether a change fits behind a record of a version.
     #[tactic(auto, unfolding(zb_record::specs::Redoing::fits_behind))]
     pub(crate) fn fits_behind(&self, version: Version, change: &Change) -> bool
         requires { IsSound self.now }
@@ -27,8 +26,8 @@ impl Contents {
         }
     }
 
-    /// Whether a change fits behind a record of version 1: a NWK limit isn't below the one that all keys have, and there is
-    /// no start and no pair.
+    /// Whether a change fits behind a record of version 1: a NWK limit isn't below the one that all keys have, and
+    /// there is no start and no pair.
     fn fits_first(&self, change: &Change) -> bool
         requires { IsSound self.now }
         ensures { result ≡ first_fits (edit change.now) (state_of self.now) }
@@ -89,7 +88,8 @@ impl Contents {
     #[tactic(auto, unfolding(zb_record::specs::Redoing::first_applied))]
     fn set_limit(&mut self, layer: Layer, limit: u32)
         requires { Forgets (state_of self.old) }
-        ensures { Becomes (shown (first_applied (Reserve (model_layer layer) limit) (state_of self.old))) self.old self.new }
+        ensures { Becomes (shown (first_applied (Reserve (model_layer layer) limit)
+            (state_of self.old))) self.old self.new }
     {
         match layer {
             Layer::Nwk => self.limit_all(limit),

@@ -4,23 +4,24 @@ ghost use Rattle.std.specs.List.{list_any};
 ghost use Rattle.std.specs.Option.{option_copied};
 ghost use Rattle.zb_node_types.specs.Changes.{edit, is_sending, model_state, model_layer, model_attribute};
 ghost use Rattle.zb_model_fits.specs.Fitting.{leaves_rules, move_leaves, floor_has_room, is_rival, key_is_used};
-ghost use Rattle.zb_keys.specs.Rows.{net_key, link_key, heard_floor};
+ghost use Rattle.zb_record.specs.RowViews.{net_key, link_key, heard_floor};
 ghost use Rattle.zb_keys.specs.Tables.{state_of, IsSound};
 ghost use Rattle.zb_model.specs.Data.{Reserve, Floor, Row};
 ghost use Rattle.zb_model.specs.Fits.{fits, may_change, live_net, live_link, row_is_live, net_stored, net_limit, link_stored, is_fresh, most_nets, most_links, most_pairs, most_senders};
 ghost use Rattle.zb_model.specs.State.{active_row, has_link, is_centre, is_link, is_live, live_nets, net_of, pair_of, same_key};
 
 use crate::contents::Contents;
-use crate::link::{has_live, has_row, link_room};
-use crate::net::{has_key, key_row};
-use crate::pair::pair_row;
 use crate::planning::{count_live, is_key};
-use crate::{LinkRow, NetRow, SenderFloor};
+use crate::reading::floor_of;
 use zb_base::{Attribute, Eui, Key, Layer, Role, Rollover, State};
 use zb_node_types::Change;
+use zb_record::link_row::{has_live, has_row, link_room};
+use zb_record::net_row::{has_key, key_row};
+use zb_record::pair_row::pair_row;
+use zb_record::{LinkRow, NetRow, SenderFloor};
 
 impl Contents {
-    /// Whether a change fits.
+    /// Answers whether a change fits.
     pub(crate) fn fits(&self, change: &Change) -> bool
         requires { IsSound self.now }
         ensures { result ≡ fits (edit change.now) (state_of self.now) }
@@ -178,7 +179,8 @@ impl Contents {
 
     /// Whether a first counter isn't below the limit of its network key.
     fn may_start(&self, key: &Key, value: u32) -> bool
-        ensures { result ≡ (list_any (λ r. same_key r.key key.now.0) (state_of self.now).nets && nat_le (net_limit (net_of key.now.0 (state_of self.now))) value) }
+        ensures { result ≡ (list_any (λ r. same_key r.key key.now.0) (state_of self.now).nets
+            && nat_le (net_limit (net_of key.now.0 (state_of self.now))) value) }
     {
         self.has_net(key) && limit_in(self.net_row(key)) <= value
     }
@@ -223,7 +225,8 @@ impl Contents {
 
     /// Whether there is room for another network key, and less than two are in use.
     fn has_net_room(&self) -> bool
-        ensures { result ≡ (nat_lt (length (state_of self.now).nets) most_nets && nat_lt (length (live_nets (state_of self.now))) 2) }
+        ensures { result ≡ (nat_lt (length (state_of self.now).nets) most_nets
+            && nat_lt (length (live_nets (state_of self.now))) 2) }
     {
         self.has_net_slot() && self.has_few_live()
     }
@@ -251,14 +254,17 @@ impl Contents {
 
     /// Whether a link key has a row or room for one.
     fn may_hold(&self, partner: Eui, key: &Key) -> bool
-        ensures { result ≡ (has_link partner.0 key.now.0 (state_of self.now).links || (nat_lt (length (state_of self.now).links) (most_links (state_of self.now).role) && not (key_is_used key.now.0 (state_of self.now).links))) }
+        ensures { result ≡ (has_link partner.0 key.now.0 (state_of self.now).links
+            || (nat_lt (length (state_of self.now).links) (most_links (state_of self.now).role)
+            && not (key_is_used key.now.0 (state_of self.now).links))) }
     {
         self.has_link(partner, key) || self.may_add_link(key)
     }
 
     /// Whether there is room for another link key, which isn't used.
     fn may_add_link(&self, key: &Key) -> bool
-        ensures { result ≡ (nat_lt (length (state_of self.now).links) (most_links (state_of self.now).role) && not (key_is_used key.now.0 (state_of self.now).links)) }
+        ensures { result ≡ (nat_lt (length (state_of self.now).links) (most_links (state_of self.now).role)
+            && not (key_is_used key.now.0 (state_of self.now).links)) }
     {
         self.has_link_slot() && !self.uses_key(key)
     }
@@ -281,14 +287,16 @@ impl Contents {
     /// Whether a partner has another row in use that is offered where this one is to be, or else isn't.
     #[tactic(auto, using(crate::proofs::Mapping::any_map))]
     fn has_rival(&self, partner: Eui, key: &Key, attribute: Attribute) -> bool
-        ensures { result ≡ list_any (is_rival partner.0 key.now.0 (model_attribute attribute)) (state_of self.now).links }
+        ensures { result ≡ list_any (is_rival partner.0 key.now.0 (model_attribute attribute))
+            (state_of self.now).links }
     {
         has_rival(self.links.as_slice(), partner, key, attribute)
     }
 
     /// Whether there is room for another pair, whose first address is the smaller one.
     fn has_pair_room(&self, first: Eui, second: Eui) -> bool
-        ensures { result ≡ (is_centre (state_of self.now).role && (nat_lt (length (state_of self.now).pairs) most_pairs && nat_lt first.0 second.0)) }
+        ensures { result ≡ (is_centre (state_of self.now).role
+            && (nat_lt (length (state_of self.now).pairs) most_pairs && nat_lt first.0 second.0)) }
     {
         self.is_centre() && self.pairs.as_slice().len() < 256 && first.0 < second.0
     }
@@ -323,7 +331,7 @@ fn stored_in(row: Option<&NetRow>, sender: Eui) -> u32
     ensures { result ≡ net_stored sender.0 (option_map net_key (option_copied row.entry)) }
 {
     match row {
-        Some(row) => row.floor_of(sender).stored,
+        Some(row) => floor_of(row, sender).stored,
         None => 0,
     }
 }
@@ -407,16 +415,14 @@ fn has_rival(rows: &[LinkRow], partner: Eui, key: &Key, attribute: Attribute) ->
     ensures { result ≡ list_any (λ r. is_rival partner.0 key.now.0 (model_attribute attribute) (link_key r)) rows.now }
 {
     rows.iter()
-        .any(|row| row.is_rival_of(partner, key, attribute))
+        .any(|row| is_rival_of(row, partner, key, attribute))
 }
 
-impl LinkRow {
-    /// Whether it is another row of the partner in use, which is offered where this one is to be, or else isn't.
-    fn is_rival_of(&self, partner: Eui, key: &Key, attribute: Attribute) -> bool
-        ensures { result ≡ is_rival partner.0 key.now.0 (model_attribute attribute) (link_key self.now) }
-    {
-        self.is_live_of(partner)
-            && !self.is_of(partner, key)
-            && self.is_unverified() == matches!(attribute, Attribute::Unverified)
-    }
+/// Whether it is another row of the partner in use, which is offered where this one is to be, or else isn't.
+fn is_rival_of(row: &LinkRow, partner: Eui, key: &Key, attribute: Attribute) -> bool
+    ensures { result ≡ is_rival partner.0 key.now.0 (model_attribute attribute) (link_key row.now) }
+{
+    row.is_live_of(partner)
+        && !row.is_of(partner, key)
+        && row.is_unverified() == matches!(attribute, Attribute::Unverified)
 }

@@ -2,25 +2,19 @@
 //! of pairs of devices.
 #![tactic(auto)]
 
+mod boot;
 mod calls;
 mod contents;
 mod first;
 mod fitting;
-mod link;
 mod link_planning;
-mod net;
-mod pair;
-mod payload;
 mod planning;
 mod reading;
 mod record;
 mod redo;
 mod restore;
 mod tables;
-mod writing;
 
-pub use link::LinkRow;
-pub use net::{NetRow, SenderFloor};
-pub use pair::Pair;
 pub use planning::add;
 pub use tables::Tables;
+pub use zb_record::{LinkRow, NetRow, Pair, SenderFloor};

@@ -3,21 +3,21 @@ ghost use Rattle.std.specs.Prelude.{◌≡◌, ◌<◌, ◌≤◌, ◌++◌, ◌
 ghost use Rattle.std.specs.Option.{option_copied};
 ghost use Rattle.zb_node_types.specs.Changes.{edit, edits};
 ghost use Rattle.zb_keys.specs.Planning.{Adds, Tells, moves, taking, refused_or, providing, offering, partnering, is_proof, verified_row, verifying, dropping, pairing};
-ghost use Rattle.zb_keys.specs.Rows.{link_key};
+ghost use Rattle.zb_record.specs.RowViews.{link_key};
 ghost use Rattle.zb_keys.specs.Tables.{state_of, IsSound};
 ghost use Rattle.zb_model.specs.Data.{Row, Live, Pair as Paired, Provisional, Unverified, Verified, Moved, Edit};
 ghost use Rattle.zb_model.specs.Rules.{drop_partner, drop_row, links_full};
 ghost use Rattle.zb_model.specs.Commands.{has_key, verified_current};
 ghost use Rattle.zb_model.specs.State.{current, offered, is_live_of, has_link, other_user};
 
-use crate::LinkRow;
 use crate::contents::Contents;
-use crate::link::{has_row, link_room, live_row, other_row};
 use crate::planning::add;
 use arrayvec::ArrayVec;
 use zb_base::{Attribute, Eui, Key, Role};
 use zb_mmo::verify_hash;
 use zb_node_types::{Change, Changes, KeyError};
+use zb_record::LinkRow;
+use zb_record::link_row::{has_row, link_room, live_row, other_row};
 
 /// Whether that row has the key.
 fn has_the_key(row: Option<&LinkRow>, key: &Key) -> bool
@@ -52,7 +52,8 @@ fn is_proved(row: Option<&LinkRow>, hash: &[u8; 16]) -> bool
 /// Adds the drop of a row, if there is one.
 fn add_drop(changes: &mut Changes, row: Option<&LinkRow>)
     requires { length changes.old.items < 16 }
-    ensures { Adds (moves (drop_row (option_map link_key (option_copied row.entry)))) 1 changes.old.items changes.new.items }
+    ensures { Adds (moves (drop_row (option_map link_key
+        (option_copied row.entry)))) 1 changes.old.items changes.new.items }
 {
     match row {
         Some(row) => add(
@@ -101,12 +102,13 @@ impl Contents {
 
     /// Whether a link key has no row and there is no room for one.
     fn lacks_room(&self, partner: Eui, key: &Key) -> bool
-        ensures { result ≡ (not (has_link partner.0 key.now.0 (state_of self.now).links) && links_full (state_of self.now)) }
+        ensures { result ≡ (not (has_link partner.0 key.now.0 (state_of self.now).links)
+            && links_full (state_of self.now)) }
     {
         !self.has_link(partner, key) && self.is_full()
     }
 
-    /// Whether a link key has a row, in use or dropped.
+    /// Answers whether a link key has a row, in use or dropped.
     #[tactic(auto, using(crate::proofs::Mapping::any_map))]
     pub(crate) fn has_link(&self, partner: Eui, key: &Key) -> bool
         ensures { result ≡ has_link partner.0 key.now.0 (state_of self.now).links }
@@ -131,19 +133,21 @@ impl Contents {
 
     /// Whether a key is the current or the offered one of a partner.
     fn holds(&self, partner: Eui, key: &Key) -> bool
-        ensures { result ≡ (has_key key.now.0 (current (state_of self.now) partner.0) || has_key key.now.0 (offered (state_of self.now) partner.0)) }
+        ensures { result ≡ (has_key key.now.0 (current (state_of self.now) partner.0)
+            || has_key key.now.0 (offered (state_of self.now) partner.0)) }
     {
         has_the_key(self.current(partner), key) || has_the_key(self.offered(partner), key)
     }
 
     /// Whether a partner has neither an offered row nor a verified current one.
     fn has_no_proof(&self, partner: Eui) -> bool
-        ensures { result ≡ (is_none (offered (state_of self.now) partner.0) && is_none (verified_current (state_of self.now) partner.0)) }
+        ensures { result ≡ (is_none (offered (state_of self.now) partner.0)
+            && is_none (verified_current (state_of self.now) partner.0)) }
     {
         has_none(self.offered(partner)) && has_none(self.verified_current(partner))
     }
 
-    /// What it takes that a device is let in by the key of its install code.
+    /// Plans the changes by which a device is let in by the key of its install code.
     pub(crate) fn provision(&self, partner: Eui, key: &Key) -> Result<Changes, KeyError>
         ensures { Tells (λ changes. changes.items) result (providing (state_of self.now) partner.0 key.now.0) }
     {
@@ -153,7 +157,7 @@ impl Contents {
         }
     }
 
-    /// What it takes that a key is offered.
+    /// Plans the changes by which a key is offered.
     pub(crate) fn offer(&self, partner: Eui, key: &Key) -> Result<Changes, KeyError>
         ensures { Tells (λ changes. changes.items) result (offering (state_of self.now) partner.0 key.now.0) }
     {
@@ -168,7 +172,8 @@ impl Contents {
 
     /// What a key changes that is offered anew.
     fn offer_new(&self, partner: Eui, key: &Key) -> Changes
-        ensures { edits result.items ≡ moves (drop_row (offered (state_of self.now) partner.0)) ++ Moved (Row partner.0 key.now.0 Unverified) ∷ [] }
+        ensures { edits result.items ≡ moves (drop_row (offered (state_of self.now) partner.0))
+            ++ Moved (Row partner.0 key.now.0 Unverified) ∷ [] }
     {
         let mut changes = ArrayVec::new();
         add_drop(&mut changes, self.offered(partner));
@@ -183,7 +188,7 @@ impl Contents {
         changes
     }
 
-    /// What it takes that a key with a partner comes.
+    /// Plans the changes by which a key with a partner comes.
     pub(crate) fn partner(&self, partner: Eui, key: &Key) -> Result<Changes, KeyError>
         requires { IsSound self.now }
         ensures { Tells (λ changes. changes.items) result (partnering (state_of self.now) partner.0 key.now.0) }
@@ -208,7 +213,8 @@ impl Contents {
     /// What a key changes that comes in the place of all others with its partner.
     fn partner_new(&self, partner: Eui, key: &Key) -> Changes
         requires { IsSound self.now }
-        ensures { edits result.items ≡ moves (drop_partner (state_of self.now) partner.0) ++ Moved (Row partner.0 key.now.0 Verified) ∷ [] }
+        ensures { edits result.items ≡ moves (drop_partner (state_of self.now) partner.0)
+            ++ Moved (Row partner.0 key.now.0 Verified) ∷ [] }
     {
         let mut changes = ArrayVec::new();
         self.add_drops(&mut changes, partner);
@@ -242,7 +248,7 @@ impl Contents {
         }
     }
 
-    /// What it takes that a hash proves a key.
+    /// Plans the changes that a hash of a key calls for.
     #[tactic(auto, unfolding(crate::specs::Planning::verifying))]
     pub(crate) fn verify(&self, partner: Eui, hash: &[u8; 16]) -> Result<Changes, KeyError>
         ensures { Tells (λ changes. changes.items) result (verifying (state_of self.now) partner.0 hash.now) }
@@ -284,7 +290,8 @@ impl Contents {
 
     /// What the proof of the offered key changes.
     fn verified(&self, partner: Eui) -> Changes
-        ensures { edits result.items ≡ moves (drop_row (current (state_of self.now) partner.0)) ++ verified_row partner.0 (offered (state_of self.now) partner.0) }
+        ensures { edits result.items ≡ moves (drop_row (current (state_of self.now) partner.0))
+            ++ verified_row partner.0 (offered (state_of self.now) partner.0) }
     {
         let mut changes = ArrayVec::new();
         add_drop(&mut changes, self.current(partner));
@@ -302,7 +309,7 @@ impl Contents {
         changes
     }
 
-    /// What it takes to drop a partner, and at the centre to remove it.
+    /// Plans the changes by which a partner goes, and at the centre is removed.
     pub(crate) fn drop_partner(&self, partner: Eui) -> Changes
         requires { IsSound self.now }
         ensures { edits result.items ≡ dropping (state_of self.now) partner.0 }
@@ -317,7 +324,7 @@ impl Contents {
         changes
     }
 
-    /// What it takes that two devices get a key for one another.
+    /// Plans the changes by which two devices get a key for one another.
     pub(crate) fn pair(&self, a: Eui, b: Eui, key: &Key) -> Result<Changes, KeyError>
         ensures { Tells (λ changes. changes.items) result (pairing (state_of self.now) a.0 b.0 key.now.0) }
     {

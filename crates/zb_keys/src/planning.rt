@@ -3,22 +3,25 @@ ghost use Rattle.std.specs.Prelude.{◌≡◌, ◌<◌, ◌≤◌, ◌++◌, ◌
 ghost use Rattle.std.specs.Option.{option_copied};
 ghost use Rattle.zb_node_types.specs.Changes.{edit, edits};
 ghost use Rattle.zb_keys.specs.Planning.{Adds, Tells, moves, activation, taken, installing, installing_after, switching};
-ghost use Rattle.zb_keys.specs.Rows.{net_key};
-ghost use Rattle.zb_keys.specs.Tables.{state_of, IsSound, active_bytes};
+ghost use Rattle.zb_record.specs.RowViews.{net_key};
+ghost use Rattle.zb_keys.specs.Tables.{state_of, IsSound};
+ghost use Rattle.zb_record.specs.Headings.{active_bytes};
 ghost use Rattle.zb_model.specs.Data.{Install, Moved};
 ghost use Rattle.zb_model.specs.Answer.{start_for, first_counter, row_is_started};
 ghost use Rattle.zb_model.specs.Rules.{drop_old};
 ghost use Rattle.zb_model.specs.Commands.{activates, dropped_at};
 ghost use Rattle.zb_model.specs.State.{same_key, last_where, newest, is_active_key};
 
-use crate::NetRow;
 use crate::contents::Contents;
-use crate::net::{has_key, key_row};
 use arrayvec::ArrayVec;
 use zb_base::{Key, State};
 use zb_node_types::{Change, Changes, KeyError};
+use zb_record::NetRow;
+use zb_record::net_row::{has_key, key_row};
 
-/// Adds a change, for which there is room.
+/// Adds a change.
+///
+/// Requires room for one more.
 pub fn add(changes: &mut Changes, change: Change)
     requires { length changes.old.items < 16 }
     ensures { Adds (edit change ∷ []) 1 changes.old.items changes.new.items }
@@ -26,7 +29,7 @@ pub fn add(changes: &mut Changes, change: Change)
     changes.push(change);
 }
 
-/// How many network keys are in use.
+/// Counts the network keys in use.
 pub(crate) fn count_live(rows: &[NetRow]) -> usize
     ensures { result ≡ length (filter (λ r. (net_key r).live) rows.now) }
 {
@@ -41,13 +44,14 @@ pub(crate) fn count_live(rows: &[NetRow]) -> usize
 
 /// The first network key in use that isn't the active one.
 fn idle_row<'a>(rows: &'a [NetRow], active: &Option<Key>) -> Option<&'a NetRow>
-    ensures { option_copied result ≡ find (λ r. (net_key r).live && not (is_active_key (active_bytes active.now) (net_key r).key)) rows.now }
+    ensures { option_copied result ≡ find (λ r. (net_key r).live
+        && not (is_active_key (active_bytes active.now) (net_key r).key)) rows.now }
 {
     rows.iter()
         .find(|row| row.live && !is_key(active, &row.key))
 }
 
-/// Whether that key is the active one.
+/// Answers whether that key is the active one.
 pub(crate) fn is_key(active: &Option<Key>, key: &Key) -> bool
     ensures { result ≡ is_active_key (active_bytes active.now) key.now.0 }
 {
@@ -101,7 +105,7 @@ impl Contents {
         if next >= 2147483648 { 0 } else { next }
     }
 
-    /// Adds what makes a network key the active one.
+    /// Adds the changes by which a network key becomes the active one.
     pub(crate) fn add_activation(&self, changes: &mut Changes, key: &Key)
         requires { length changes.old.items ≤ 14 }
         ensures { Adds (activation (state_of self.now) key.now.0) 2 changes.old.items changes.new.items }
@@ -147,7 +151,7 @@ impl Contents {
         }
     }
 
-    /// What it takes that a network key comes.
+    /// Plans the changes by which a network key comes.
     pub(crate) fn install_net(&self, key: &Key, sequence: u8) -> Result<Changes, KeyError>
         requires { IsSound self.now }
         ensures { Tells (λ changes. changes.items) result (installing (state_of self.now) key.now.0 sequence) }
@@ -162,7 +166,8 @@ impl Contents {
 
     /// What it takes that a network key comes that isn't dropped.
     fn install_undropped(&self, key: &Key, sequence: u8) -> Result<Changes, KeyError>
-        ensures { Tells (λ changes. changes.items) result (installing_after (state_of self.now) key.now.0 sequence None) }
+        ensures { Tells (λ changes. changes.items) result
+            (installing_after (state_of self.now) key.now.0 sequence None) }
     {
         if has_key(self.nets.as_slice(), key) {
             Ok(self.again_net(key))
@@ -184,7 +189,8 @@ impl Contents {
 
     /// What a new network key changes.
     fn new_net(&self, key: &Key, sequence: u8) -> Changes
-        ensures { edits result.items ≡ (moves (drop_old (state_of self.now)) ++ Moved (Install key.now.0 sequence) ∷ []) ++ taken (state_of self.now) key.now.0 }
+        ensures { edits result.items ≡ (moves (drop_old (state_of self.now))
+            ++ Moved (Install key.now.0 sequence) ∷ []) ++ taken (state_of self.now) key.now.0 }
     {
         let mut changes = ArrayVec::new();
         self.add_drop_old(&mut changes);
@@ -199,7 +205,7 @@ impl Contents {
         changes
     }
 
-    /// What it takes that the newest live network key of a sequence becomes active.
+    /// Plans the changes by which the newest live network key of a sequence becomes active.
     pub(crate) fn switch(&self, sequence: u8) -> Result<Changes, KeyError>
         ensures { Tells (λ changes. changes.items) result (switching (state_of self.now) sequence) }
     {
@@ -209,7 +215,7 @@ impl Contents {
         }
     }
 
-    /// The newest network key in use.
+    /// Answers the newest network key in use.
     pub(crate) fn newest(&self) -> Option<&NetRow>
         ensures { option_map net_key (option_copied result) ≡ newest (state_of self.now) }
     {
@@ -228,7 +234,8 @@ impl Contents {
 
 /// The newest network key in use with that sequence.
 fn newest_row(rows: &[NetRow], sequence: u8) -> Option<&NetRow>
-    ensures { option_copied result ≡ last_where (λ r. (net_key r).live && nat_eq (net_key r).sequence sequence) rows.now }
+    ensures { option_copied result ≡ last_where (λ r. (net_key r).live
+        && nat_eq (net_key r).sequence sequence) rows.now }
 {
     rows.iter()
         .rev()

@@ -1,107 +1,130 @@
 //! The readers of tables, and what seals and accepted frames do to them.
-ghost use Rattle.std.specs.Prelude.{◌≡◌, ◌<◌, ◌-◌, ◌^◌, [], map, option_map, slice_get};
+ghost use Rattle.std.specs.Prelude.{◌≡◌, ◌<◌, ◌-◌, ◌^◌, [], Some, find, map, nat_eq, option_map, slice_get};
 ghost use Rattle.std.specs.Option.{option_copied};
 ghost use Rattle.zb_node_types.specs.Changes.{model_role, model_layer, model_state, is_sending};
-ghost use Rattle.zb_keys.specs.Rows.{net_key, link_key, pair_key};
-ghost use Rattle.zb_keys.specs.Reading.{place_of_key, outgoing_of, floor_at, sender_at, heard_under, heard_from};
+ghost use Rattle.zb_record.specs.RowViews.{heard_floor, net_key, link_key, pair_key};
+ghost use Rattle.zb_keys.specs.Reading.{place_of_key, outgoing_of, floor_at, floor_of_row, sender_at, heard_under, heard_from};
 ghost use Rattle.zb_model.specs.Data.{Nwk};
 ghost use Rattle.zb_model.specs.State.{next_counter, stored_limit, counted, with_declared, current, offered, pair_of, active_row, newest};
 
-use crate::pair::pair_row;
-use crate::{LinkRow, NetRow, Pair, Tables};
+use crate::Tables;
 use zb_base::{Eui, Key, Layer, Role, Rollover, State};
 use zb_counter::{Floor, Outgoing};
+use zb_record::pair_row::pair_row;
+use zb_record::{LinkRow, NetRow, Pair, SenderFloor};
+
+/// Answers the floor of a sender under a network key: 0 and 0 where none was stored.
+#[tactic(auto, unfolding(zb_model::specs::State::sender_floor), using(crate::proofs::FindLemmas::find_map))]
+pub(crate) fn floor_of(row: &NetRow, sender: Eui) -> Floor
+    ensures { result ≡ floor_of_row sender.0 (Some (net_key row.now)) }
+{
+    match stored_floor(row.floors.as_slice(), sender) {
+        Some(floor) => Floor {
+            kept: floor.kept,
+            stored: floor.stored,
+        },
+        None => Floor { kept: 0, stored: 0 },
+    }
+}
+
+/// Answers the floor that was stored of a sender.
+fn stored_floor<'a>(floors: &'a [SenderFloor], sender: Eui) -> Option<&'a SenderFloor>
+    ensures { option_copied result ≡ find (λ f. nat_eq (heard_floor f).sender sender.0) floors.now }
+{
+    floors.iter().find(|floor| floor.sender.0 == sender.0)
+}
 
 impl Tables {
-    /// The part that the node plays.
+    /// Answers the part that the node plays.
     pub fn role(&self) -> Role
         ensures { model_role result ≡ self.now.role }
     {
         self.contents.role
     }
 
-    /// The network keys, in the order in which they came.
+    /// Answers the network keys, in the order in which they came.
     pub fn nets(&self) -> &[NetRow]
         ensures { map net_key result.now ≡ self.now.nets }
     {
         self.contents.nets.as_slice()
     }
 
-    /// The link keys, in the order in which they came.
+    /// Answers the link keys, in the order in which they came.
     pub fn links(&self) -> &[LinkRow]
         ensures { map link_key result.now ≡ self.now.links }
     {
         self.contents.links.as_slice()
     }
 
-    /// At the centre, the keys of pairs of devices, in the order in which they came.
+    /// Answers, at the centre, the keys of pairs of devices, in the order in which they came.
     pub fn pairs(&self) -> &[Pair]
         ensures { map pair_key result.now ≡ self.now.pairs }
     {
         self.contents.pairs.as_slice()
     }
 
-    /// The state of a router or device.
+    /// Answers the state of a router or device.
     pub fn state(&self) -> State
         ensures { model_state result ≡ self.now.state }
     {
         self.contents.state
     }
 
-    /// Whether the centre is giving a new network key to its devices.
+    /// Answers whether the centre is giving a new network key to its devices.
     pub fn rolling(&self) -> Rollover
         ensures { is_sending result ≡ self.now.sending }
     {
         self.contents.rolling
     }
 
-    /// The outgoing NWK counter that was declared for the start.
+    /// Answers the outgoing NWK counter that was declared for the start.
     pub fn declared(&self) -> u32
         ensures { result ≡ self.now.declared }
     {
         self.contents.declared
     }
 
-    /// The active network key.
+    /// Answers the active network key.
     pub fn active_key(&self) -> Option<Key>
         ensures { option_map (λ k. k.0) result ≡ self.now.active }
     {
         self.contents.active
     }
 
-    /// The place of the active network key among the rows.
+    /// Answers the place of the active network key among the rows.
     pub fn active(&self) -> Option<u32>
         ensures { result ≡ place_of_key self.now.active self.now.nets }
     {
         self.contents.active_place()
     }
 
-    /// The row of the active network key.
+    /// Answers the row of the active network key.
     pub fn active_row(&self) -> Option<&NetRow>
         ensures { option_map net_key (option_copied result) ≡ active_row self.now }
     {
         self.contents.active_row()
     }
 
-    /// The newest network key in use.
+    /// Answers the newest network key in use.
     pub fn newest(&self) -> Option<&NetRow>
         ensures { option_map net_key (option_copied result) ≡ newest self.now }
     {
         self.contents.newest()
     }
 
-    /// The floor of a sender under the network key at a place: 0 and 0 where none was stored.
+    /// Answers the floor of a sender under the network key at a place: 0 and 0 where none was stored.
     pub fn floor(&self, place: u32, sender: Eui) -> Floor
         ensures { result ≡ floor_at self.now place sender.0 }
     {
         match self.contents.nets.get(place as usize) {
-            Some(row) => row.floor_of(sender),
+            Some(row) => floor_of(row, sender),
             None => Floor { kept: 0, stored: 0 },
         }
     }
 
-    /// The sender number `at`, from 0 and by ascending address, among those with a stored floor under the network key
-    /// at a place.
+    /// Answers the sender of a number among those with a stored floor under a network key.
+    ///
+    /// The key is the one at a place; the numbers go from 0, by ascending address.
     pub fn sender(&self, place: u32, at: u32) -> Option<Eui>
         ensures { option_map (λ e. e.0) result ≡ sender_at self.now place at }
     {
@@ -114,28 +137,32 @@ impl Tables {
         }
     }
 
-    /// The current row of a partner: its link key in use that isn't only offered.
+    /// Answers the current row of a partner: its link key in use that isn't only offered.
     pub fn current(&self, partner: Eui) -> Option<&LinkRow>
         ensures { option_map link_key (option_copied result) ≡ current self.now partner.0 }
     {
         self.contents.current(partner)
     }
 
-    /// The offered row of a partner: its unverified link key in use.
+    /// Answers the offered row of a partner: its unverified link key in use.
     pub fn offered(&self, partner: Eui) -> Option<&LinkRow>
         ensures { option_map link_key (option_copied result) ≡ offered self.now partner.0 }
     {
         self.contents.offered(partner)
     }
 
-    /// The outgoing counter of a layer, which is reserved in blocks of that size. At NWK it is that of the active key.
+    /// Answers the outgoing counter of a layer, which is reserved in blocks of that size.
+    ///
+    /// At NWK it is that of the active key.
     pub fn outgoing(&self, layer: Layer, block: u32) -> Outgoing
         ensures { result ≡ outgoing_of (model_layer layer) block self.now }
     {
         self.contents.outgoing(layer, block)
     }
 
-    /// Uses the next outgoing counter of a layer, which is reserved.
+    /// Uses the next outgoing counter of a layer.
+    ///
+    /// Requires one that is reserved.
     pub fn sealed(&mut self, layer: Layer)
         requires { next_counter (model_layer layer) self.old < stored_limit (model_layer layer) self.old }
         ensures { self.new ≡ counted (model_layer layer) self.old }
@@ -166,7 +193,9 @@ impl Tables {
         }
     }
 
-    /// Sets the outgoing NWK counter of the start, before there is a network key.
+    /// Sets the outgoing NWK counter of the start.
+    ///
+    /// Requires tables without a network key.
     pub fn declare(&mut self, start: u32)
         requires { self.old.nets ≡ [] }
         ensures { self.new ≡ with_declared Nwk start self.old }
@@ -174,7 +203,7 @@ impl Tables {
         self.contents.declare(start);
     }
 
-    /// The row of two devices.
+    /// Answers the row of two devices.
     #[tactic(auto, unfolding(zb_model::specs::State::pair_of), using(crate::proofs::FindLemmas::find_map))]
     pub fn pair_between(&self, a: Eui, b: Eui) -> Option<&Pair>
         ensures { option_map pair_key (option_copied result) ≡ pair_of self.now a.0 b.0 }
@@ -182,7 +211,7 @@ impl Tables {
         pair_row(self.contents.pairs.as_slice(), a, b)
     }
 
-    /// The key of two devices.
+    /// Answers the key of two devices.
     pub fn pair_key(&self, a: Eui, b: Eui) -> Option<Key>
         ensures { option_map (λ k. k.0) result ≡ option_map (λ p. p.key) (pair_of self.now a.0 b.0) }
     {

@@ -11,11 +11,12 @@ use zb_node_types::KeyError;
 use zb_record::{Version, read_change};
 
 impl Contents {
-    /// Makes the change at the front again, behind a record of a version. A fault is told by the number of bytes from the
-    /// change's first one on.
+    /// Makes the change at the front again, behind a record of a version. A fault is told by the number of bytes from
+    /// the change's first one on.
     fn redo_change(&mut self, version: Version, reader: &mut Reader<usize>) -> Result<(), usize>
         requires { IsSound self.old }
-        ensures redone { Redoes result reader.new.rest.now (state_of self.new) (change_redone version reader.old.rest.now (state_of self.old)) }
+        ensures redone { Redoes result reader.new.rest.now (state_of self.new)
+            (change_redone version reader.old.rest.now (state_of self.old)) }
         ensures sound { IsSound self.new }
         ensures shorter { OnOk result (length reader.new.rest.now ≤ length reader.old.rest.now) }
     {
@@ -37,7 +38,8 @@ impl Contents {
         count: u8,
     ) -> Result<(), usize>
         requires { IsSound self.old }
-        ensures redone { Redoes result reader.new.rest.now (state_of self.new) (changes_redone version count reader.old.rest.now (state_of self.old)) }
+        ensures redone { Redoes result reader.new.rest.now (state_of self.new)
+            (changes_redone version count reader.old.rest.now (state_of self.old)) }
         ensures sound { IsSound self.new }
         ensures shorter { OnOk result (length reader.new.rest.now ≤ length reader.old.rest.now) }
     {
@@ -72,11 +74,13 @@ fn next_count(reader: &mut Reader<usize>) -> Option<u8>
 }
 
 impl Tables {
-    /// Makes the changes of journal entries again: `entries` is their payloads, one behind the other, as `change_bytes`
-    /// wrote them, behind a record of a version. Behind one of version 1 all network keys have one NWK limit, which is the
-    /// declared start: a NWK reserve sets it, whether a key is active or not, and a new key goes on from it, started.
+    /// Makes the changes of journal entries again, behind a record of a version.
     ///
-    /// Refused as `BadRecord` where a change isn't whole, is none or doesn't fit: at the place of its first byte, which is
+    /// `entries` is their payloads, one behind the other, as `change_bytes` wrote them. Behind a record of version 1
+    /// all network keys have one NWK limit, which is the declared start: a NWK reserve sets it, whether a key is active
+    /// or not, and a new key goes on from it, started.
+    ///
+    /// Errors: `BadRecord` where a change isn't whole, is none or doesn't fit, at the place of its first byte, which is
     /// its kind. Behind a record of version 1 a start and a pair are none. Then the changes before it are made.
     pub fn redo(&mut self, version: Version, entries: &[u8]) -> Result<(), KeyError>
         ensures answer { result ≡ redo_answer (length entries.now) (redone version entries.now self.old).1 }
@@ -93,7 +97,7 @@ impl Tables {
     }
 }
 
-/// The fault that stands so many bytes before the end of so many.
+/// Makes the fault that stands so many bytes before the end of so many.
 pub(crate) fn bad_record(total: usize, left: usize) -> KeyError
     ensures { result ≡ BadRecord (place_of total left) }
 {

@@ -3,23 +3,27 @@ ghost use Rattle.std.specs.Prelude.{◌≡◌, ◌≢◌, ◌≤◌, ◌⊎◌, 
 ghost use Rattle.zb_base.specs.declared.fault.OrMemory.TheVariants.{Fault, NoMemory as lacks};
 ghost use Rattle.zb_node_types.specs.Changes.{model_role};
 ghost use Rattle.zb_node_types.specs.declared.fault.KeyError.TheVariants.{BadRecord};
-ghost use Rattle.zb_keys.specs.Rows.{heard_floor, net_key, link_key, pair_key};
-ghost use Rattle.zb_keys.specs.Tables.{active_bytes, state_of, IsRestored};
+ghost use Rattle.zb_record.specs.RowViews.{heard_floor, net_key, link_key, pair_key};
+ghost use Rattle.zb_keys.specs.Tables.{state_of, IsRestored};
+ghost use Rattle.zb_record.specs.Headings.{active_bytes};
 ghost use Rattle.zb_model.specs.Fits.{most_links};
 ghost use Rattle.zb_record.specs.Records.{key_of, record_read, record_seen, BadPlace};
 ghost use Rattle.zb_record.specs.Rows.{sender_seen, net_seen, link_seen, pair_seen};
 
+use crate::Tables;
 use crate::contents::Contents;
-use crate::link::link_room;
-use crate::net::Senders;
 use crate::redo::bad_record;
-use crate::{LinkRow, NetRow, Pair, SenderFloor, Tables};
 use arrayvec::ArrayVec;
 use std::alloc::Global;
 use zb_base::{Key, NoMemory, OrMemory, Role};
 use zb_counter::Floor;
 use zb_node_types::KeyError;
-use zb_record::{LinkRecord, NetRecord, PairRecord, Record, SenderRecord, read_record};
+use zb_record::link_row::link_room;
+use zb_record::net_row::Senders;
+use zb_record::{
+    LinkRecord, LinkRow, NetRecord, NetRow, Pair, PairRecord, Record, SenderFloor, SenderRecord,
+    read_record,
+};
 
 /// The floors of a record, as they are after a boot.
 fn senders(records: &[SenderRecord]) -> Senders
@@ -163,13 +167,15 @@ fn record_of(alloc: Global, bytes: &[u8]) -> Result<Record, OrMemory<KeyError>>
 }
 
 impl Tables {
-    /// Reads the tables of a record of version 1, 2 or 3, as they are after a boot: counters go on from their limits, and the
-    /// floors are the stored ones. They have the room of `new`. The one NWK limit of a record of version 1 becomes that of
-    /// each network key, which counts as started, and the declared start.
+    /// Reads the tables of a record of version 1, 2 or 3, as they are after a boot.
     ///
-    /// Refused as `BadRecord` where the bytes are no record: at the place of the first byte of the first field that isn't
-    /// whole or breaks a rule, where a rule over several fields is broken by the last of them, or at the record's end where
-    /// bytes follow it.
+    /// Counters go on from their limits, and the floors are the stored ones. The tables have the room of `new`. The one
+    /// NWK limit of a record of version 1 becomes that of each network key, which counts as started, and the declared
+    /// start.
+    ///
+    /// Errors: `BadRecord` where the bytes are no record, at the place of the first byte of the first field that isn't
+    /// whole or breaks a rule, where a rule over several fields is broken by the last of them, or at the record's end
+    /// where bytes follow it. `NoMemory` where memory is short.
     pub fn from_record(alloc: Global, bytes: &[u8]) -> Result<Tables, OrMemory<KeyError>>
         ensures found { IfOk result (λ t. record_read bytes.now ≡ Ok t) }
         ensures fault { IfErr result (λ e. BadPlace e (length bytes.now) (record_read bytes.now)) }

@@ -1,14 +1,15 @@
 //! The tables of a node.
 use crate::contents::Contents;
-use crate::link::link_room;
-use crate::{LinkRow, NetRow, Pair};
 use std::alloc::Global;
 use std::marker::Model;
 use zb_base::{NoMemory, Role, Rollover, State};
 use zb_node_types::Changes;
+use zb_record::link_row::link_room;
+use zb_record::{LinkRow, NetRow, Pair};
 
-/// What a node keeps: its network keys with their floors, its link keys, its counters and, at the centre, the keys of
-/// pairs of devices. All room is taken when the tables are made.
+/// Holds what a node keeps: its network keys with their floors, its link keys and its counters.
+///
+/// At the centre it holds the keys of pairs of devices too. All room is taken when the tables are made.
 #[derive(Debug, Drop)]
 pub struct Tables {
     pub(crate) contents: Contents,
@@ -33,8 +34,12 @@ impl Tables {
     ghost use Rattle.zb_model.specs.Fits.{AllFit, keeps_rules};
     ghost use Rattle.zb_keys.specs.Tables.{Forgets};
 
-    /// The tables of a new node, which hold nothing. They have room for 256 network keys with 64 floors each, 256 pairs,
-    /// and 1,024 link keys in the centre or 64 in another node.
+    /// Makes the tables of a new node, which hold nothing.
+    ///
+    /// They have room for 256 network keys with 64 floors each, 256 pairs, and 1,024 link keys in the centre or 64 in
+    /// another node.
+    ///
+    /// Errors: `NoMemory` where memory is short.
     pub fn new(alloc: Global, role: Role) -> Result<Tables, NoMemory>
         ensures { IfOk result (λ t. t ≡ new_node (model_role role)) }
     {
@@ -56,8 +61,9 @@ impl Tables {
         Ok(Tables { contents })
     }
 
-    /// What holds of all tables: the rules for records, and that a dropped network key keeps no floors. This call does
-    /// nothing.
+    /// Says what holds of all tables; does nothing.
+    ///
+    /// They keep the rules for records, and a dropped network key keeps no floors.
     pub fn keep_rules(&self)
         ensures rules { keeps_rules self.now ≡ true }
         ensures forgets { shown self.now ≡ self.now }
@@ -65,7 +71,9 @@ impl Tables {
         let _contents = &self.contents;
     }
 
-    /// Makes changes, which fit, in their order. The floors of a dropped network key are forgotten.
+    /// Makes changes in their order.
+    ///
+    /// Requires changes that fit. The floors of a dropped network key are forgotten.
     pub fn apply(&mut self, changes: &Changes)
         requires { AllFit (edits changes.now.items) self.old }
         ensures { self.new ≡ shown (applied_all (edits changes.now.items) self.old) }

@@ -9,3 +9,8 @@ pub mod RecordAgain
 pub mod WholeAgain
 pub mod First
 pub mod OneLimit
+pub mod Mapping
+pub mod SenderLemmas
+pub mod WritingLemmas
+pub mod RecordLemmas
+pub mod Tested

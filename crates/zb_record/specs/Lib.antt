@@ -5,3 +5,8 @@ pub mod Ranges
 pub mod Placed
 pub mod Rows
 pub mod Records
+pub mod RowViews
+pub mod Senders
+pub mod Written
+pub mod Sizes
+pub mod Headings

@@ -1,6 +1,6 @@
 -- The values of changes that can be spelled: keys of 16 bytes, numbers within their widths.
-use Rattle.std.specs.Prelude.{◌≡◌, ◌^◌, ◌<◌, length}
-use Rattle.std.specs.List.{AllByRecursion}
+use Rattle.std.specs.Prelude.{◌≡◌, ◌^◌, ◌<◌, Bool, ◌&&◌, length, nat_eq, nat_lt}
+use Rattle.std.specs.List.{AllByRecursion, list_all}
 use Rattle.zb_model.specs.State.{SenderFloor, NetKey, LinkKey, PairKey, NodeState}
 use Rattle.zb_base.specs.declared.key.Key.{Key}
 use Rattle.zb_node_types.specs.declared.change.Change.{Change}
@@ -50,3 +50,21 @@ pub record FitsBytes (s : NodeState) : Type 0 where
   pub nets : AllByRecursion NetFits s.nets
   pub links : AllByRecursion LinkFits s.links
   pub pairs : AllByRecursion PairFits s.pairs
+
+-- the same as a test
+
+abbrev pub floor_fits : SenderFloor → Bool
+floor_fits f = nat_lt f.sender (2 ^ 64) && nat_lt f.stored (2 ^ 32)
+
+abbrev pub net_fits : NetKey → Bool
+net_fits r = nat_eq (length r.key) 16 && (nat_lt r.limit (2 ^ 32) && list_all floor_fits r.floors)
+
+abbrev pub link_fits : LinkKey → Bool
+link_fits r = nat_lt r.partner (2 ^ 64) && (nat_eq (length r.key) 16 && nat_lt r.stored (2 ^ 32))
+
+abbrev pub pair_fits : PairKey → Bool
+pair_fits p = nat_lt p.first (2 ^ 64) && (nat_lt p.second (2 ^ 64) && nat_eq (length p.key) 16)
+
+unfoldable pub fits_widths : NodeState → Bool
+fits_widths s =
+    nat_lt s.declared (2 ^ 32) && (nat_lt s.aps_limit (2 ^ 32) && (list_all net_fits s.nets && (list_all link_fits s.links && list_all pair_fits s.pairs)))

@@ -1,5 +1,5 @@
-//! The changes of a journal entry: a kind byte and the fields of that kind. Numbers and addresses are least significant byte
-//! first.
+//! The changes of a journal entry: a kind byte and the fields of that kind. Numbers and addresses are least significant
+//! byte first.
 ghost use Rattle.std.specs.Prelude.{◌≡◌, ◌∷◌, ◌++◌, ◌<◌, length, IfOk, OnOk};
 ghost use Rattle.zb_node_types.specs.Changes.{edit};
 ghost use Rattle.zb_cursor.specs.Reading.{Gives};
@@ -234,8 +234,9 @@ fn read_fields_of(reader: &mut Reader<usize>, kind: u8) -> Result<Change, usize>
     }
 }
 
-/// A change other than a draw, which is spelled nowhere. Bytes that are no change, whole or not, are refused as the reader
-/// refuses a field that isn't whole.
+/// Reads a change other than a draw, which is spelled nowhere.
+///
+/// Errors: the reader's fault, as at a field that isn't whole, where the bytes are no change, whole or not.
 #[tactic(auto, unfolding(crate::specs::Changes::change_at))]
 pub fn read_change(reader: &mut Reader<usize>) -> Result<Change, usize>
     ensures exact { Gives result reader.new.rest.now (change_at reader.old.cut reader.old.rest.now) }

@@ -1,5 +1,5 @@
-//! Fields of one byte that stand for a layer, an attribute, a state or a rollover. A byte that stands for none is refused
-//! by the reader's fault.
+//! Fields of one byte that stand for a layer, an attribute, a state or a rollover. A byte that stands for none is
+//! refused by the reader's fault.
 ghost use Rattle.std.specs.Prelude.{◌≡◌, ◌∷◌, IfOk};
 ghost use Rattle.zb_node_types.specs.Changes.{model_role, model_layer, model_attribute, model_state, is_sending};
 ghost use Rattle.zb_cursor.specs.Reading.{Gives};
@@ -9,7 +9,7 @@ ghost use Rattle.zb_record.specs.Fields.{role_at, layer_at, attribute_at, state_
 use zb_base::{Attribute, Layer, Role, Rollover, State};
 use zb_cursor::Reader;
 
-/// A layer: 00 network, 01 application support.
+/// Reads a layer: 00 network, 01 application support.
 #[tactic(auto, unfolding(crate::specs::Fields::layer_at))]
 pub(crate) fn read_layer(reader: &mut Reader<usize>) -> Result<Layer, usize>
     ensures exact { Gives result reader.new.rest.now (layer_at reader.old.cut reader.old.rest.now) }
@@ -23,11 +23,12 @@ pub(crate) fn read_layer(reader: &mut Reader<usize>) -> Result<Layer, usize>
     }
 }
 
-/// An attribute: 00 provisional, 01 unverified, 02 verified.
+/// Reads an attribute: 00 provisional, 01 unverified, 02 verified.
 #[tactic(auto, unfolding(crate::specs::Fields::attribute_at))]
 pub(crate) fn read_attribute(reader: &mut Reader<usize>) -> Result<Attribute, usize>
     ensures exact { Gives result reader.new.rest.now (attribute_at reader.old.cut reader.old.rest.now) }
-    ensures spelled { IfOk result (λ x. reader.old.rest.now ≡ attribute_byte (model_attribute x) ∷ reader.new.rest.now) }
+    ensures spelled { IfOk result (λ x. reader.old.rest.now
+        ≡ attribute_byte (model_attribute x) ∷ reader.new.rest.now) }
     ensures cut { reader.new.cut ≡ reader.old.cut }
 {
     match reader.byte()? {
@@ -38,7 +39,7 @@ pub(crate) fn read_attribute(reader: &mut Reader<usize>) -> Result<Attribute, us
     }
 }
 
-/// A state: 00 to 06, in the order of `State`.
+/// Reads a state: 00 to 06, in the order of `State`.
 #[tactic(auto, unfolding(crate::specs::Fields::state_at))]
 pub(crate) fn read_state(reader: &mut Reader<usize>) -> Result<State, usize>
     ensures exact { Gives result reader.new.rest.now (state_at reader.old.cut reader.old.rest.now) }
@@ -57,7 +58,7 @@ pub(crate) fn read_state(reader: &mut Reader<usize>) -> Result<State, usize>
     }
 }
 
-/// A rollover: 00 idle, 01 sending.
+/// Reads a rollover: 00 idle, 01 sending.
 #[tactic(auto, unfolding(crate::specs::Fields::rollover_at))]
 pub(crate) fn read_rollover(reader: &mut Reader<usize>) -> Result<Rollover, usize>
     ensures exact { Gives result reader.new.rest.now (rollover_at reader.old.cut reader.old.rest.now) }
@@ -71,7 +72,7 @@ pub(crate) fn read_rollover(reader: &mut Reader<usize>) -> Result<Rollover, usiz
     }
 }
 
-/// A role: 00 centre, 01 router, 02 device.
+/// Reads a role: 00 centre, 01 router, 02 device.
 #[tactic(auto, unfolding(crate::specs::Fields::role_at))]
 pub(crate) fn read_role(reader: &mut Reader<usize>) -> Result<Role, usize>
     ensures exact { Gives result reader.new.rest.now (role_at reader.old.cut reader.old.rest.now) }

@@ -1,21 +1,38 @@
-//! What a disk keeps of a node, read from bytes: the record, and the changes of journal entries.
+//! What a disk keeps of a node, both ways: the rows of its tables, the record, and the changes of journal entries.
 #![tactic(auto)]
 
-pub mod change;
-pub mod field;
-pub mod laws;
-pub mod link;
-pub mod net;
-pub mod pair;
-pub mod place;
-pub mod record;
-pub mod sender;
-pub mod version;
+mod change;
+mod field;
+mod laws;
+mod link;
+pub mod link_row;
+mod net;
+pub mod net_row;
+mod pair;
+pub mod pair_row;
+mod payload;
+mod place;
+mod record;
+mod sender;
+mod sizes;
+mod version;
+mod write;
+mod writing;
 
 pub use change::read_change;
+pub use laws::{
+    a_first_version_has_one_limit, a_written_record_is_read, what_is_read_keeps_the_rules,
+    written_changes_are_made_again,
+};
 pub use link::LinkRecord;
+pub use link_row::LinkRow;
 pub use net::NetRecord;
+pub use net_row::{NetRow, SenderFloor};
 pub use pair::PairRecord;
+pub use pair_row::Pair;
+pub use payload::change_bytes;
 pub use record::{Head, Node, Record, read_record};
 pub use sender::SenderRecord;
+pub use sizes::{ENTRIES_ROOM, GREATEST_RECORD, PAYLOAD_ROOM, RECORD_ROOM};
 pub use version::{Version, version_of};
+pub use write::{Heading, role_byte, write_record};

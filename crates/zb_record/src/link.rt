@@ -16,7 +16,9 @@ use std::alloc::Global;
 use zb_base::{Attribute, Eui, Key, OrMemory, Role};
 use zb_cursor::{Reader, has_bit};
 
-/// A link key in a record: partner 8, key 16, attribute 1, flags 1 (bit 0 live, bit 1 from a code, bit 2 told), floor 4.
+/// Holds a link key of a record.
+///
+/// Partner 8, key 16, attribute 1, flags 1 (bit 0 live, bit 1 from a code, bit 2 told), floor 4.
 #[derive(Clone, Copy, Debug, PartialEq, Eq)]
 pub struct LinkRecord {
     /// With whom the key is shared.
@@ -88,7 +90,8 @@ impl LinkRecord {
 
     /// Whether it isn't told, or is a live row of the centre.
     fn may_be_told(&self, role: Role) -> bool
-        ensures { result ≡ (not (link_seen self.now).told || ((link_seen self.now).live && is_centre (model_role role))) }
+        ensures { result ≡ (not (link_seen self.now).told
+            || ((link_seen self.now).live && is_centre (model_role role))) }
     {
         !self.told || (self.live && matches!(role, Role::Centre))
     }
@@ -118,7 +121,8 @@ fn is_new(rows: &[LinkRecord], key: &Key) -> bool
 
 /// A key that no row has.
 fn read_new_key(reader: &mut Reader<usize>, rows: &[LinkRecord]) -> Result<Key, usize>
-    ensures { Gives (λ k. k) result reader.new.rest.now (field key_at (is_new_link (map link_seen rows.now)) reader.old.rest.now) }
+    ensures { Gives (λ k. k) result reader.new.rest.now
+        (field key_at (is_new_link (map link_seen rows.now)) reader.old.rest.now) }
 {
     let left = begin(reader);
     let key = reader.key()?;
@@ -154,7 +158,8 @@ fn row_fits(role: Role, rows: &[LinkRecord], row: &LinkRecord) -> bool
 /// Whether a row has no like among these, and agrees with them.
 #[tactic(auto, using(crate::proofs::Lists::any_map))]
 fn is_alone(rows: &[LinkRecord], row: &LinkRecord) -> bool
-    ensures { result ≡ (not (list_any (λ y. kinds_alike y (link_seen row.now)) (map link_seen rows.now)) && not (list_any (λ y. told_apart y (link_seen row.now)) (map link_seen rows.now))) }
+    ensures { result ≡ (not (list_any (λ y. kinds_alike y (link_seen row.now)) (map link_seen rows.now))
+        && not (list_any (λ y. told_apart y (link_seen row.now)) (map link_seen rows.now))) }
 {
     !has_like(rows, row) && !has_told_apart(rows, row)
 }
@@ -168,7 +173,9 @@ fn read_flags(
     key: Key,
     attribute: Attribute,
 ) -> Result<u8, usize>
-    ensures { Gives (λ b. b) result reader.new.rest.now (field byte_at (link_flags_fit (model_role role) (map link_seen rows.now) partner.0 key.0 (model_attribute attribute)) reader.old.rest.now) }
+    ensures { Gives (λ b. b) result reader.new.rest.now
+        (field byte_at (link_flags_fit (model_role role) (map link_seen rows.now) partner.0 key.0
+        (model_attribute attribute)) reader.old.rest.now) }
 {
     let left = begin(reader);
     let flags = reader.byte()?;
@@ -198,7 +205,8 @@ fn read_link(
     role: Role,
     rows: &[LinkRecord],
 ) -> Result<LinkRecord, usize>
-    ensures { Gives link_seen result reader.new.rest.now (link_at (model_role role) (map link_seen rows.now) reader.old.rest.now) }
+    ensures { Gives link_seen result reader.new.rest.now
+        (link_at (model_role role) (map link_seen rows.now) reader.old.rest.now) }
 {
     let _left = begin(reader);
     let partner = reader.eui()?;
@@ -232,7 +240,8 @@ fn link_room(role: Role) -> u16
 
 /// The number of link keys.
 fn read_count(reader: &mut Reader<usize>, role: Role) -> Result<u16, usize>
-    ensures { Gives (λ n. n) result reader.new.rest.now (field (number_at w16) (has_link_room (model_role role)) reader.old.rest.now) }
+    ensures { Gives (λ n. n) result reader.new.rest.now
+        (field (number_at w16) (has_link_room (model_role role)) reader.old.rest.now) }
 {
     let left = begin(reader);
     let count = reader.number16()?;
@@ -250,7 +259,8 @@ fn read_rows(
     role: Role,
     count: u16,
 ) -> Result<Vec<LinkRecord>, OrMemory<usize>>
-    ensures { Answers (λ v. map link_seen v.items) result reader.new.rest.now (rows_at (link_at (model_role role)) count [] reader.old.rest.now) }
+    ensures { Answers (λ v. map link_seen v.items) result reader.new.rest.now
+        (rows_at (link_at (model_role role)) count [] reader.old.rest.now) }
 {
     let mut rows = Vec::with_capacity(alloc, usize::from(count))?;
     for _ in 0..count {
@@ -262,14 +272,15 @@ fn read_rows(
     Ok(rows)
 }
 
-/// The link keys, with their number.
+/// Reads the link keys, with their number.
 #[tactic(auto, unfolding(crate::specs::Rows::links_at))]
 pub(crate) fn read_links(
     alloc: Global,
     reader: &mut Reader<usize>,
     role: Role,
 ) -> Result<Vec<LinkRecord>, OrMemory<usize>>
-    ensures { Answers (λ v. map link_seen v.items) result reader.new.rest.now (links_at (model_role role) reader.old.rest.now) }
+    ensures { Answers (λ v. map link_seen v.items) result reader.new.rest.now
+        (links_at (model_role role) reader.old.rest.now) }
 {
     match read_count(reader, role) {
         Ok(count) => read_rows(alloc, reader, role, count),

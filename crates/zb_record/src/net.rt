@@ -16,8 +16,10 @@ use std::alloc::Global;
 use zb_base::{Key, OrMemory};
 use zb_cursor::{Reader, has_bit};
 
-/// A network key in a record: key 16, sequence 1, flags 1 (bit 0 live, bit 1 started), limit 4. In the first version the
-/// flags are live alone, and there is no limit.
+/// Holds a network key of a record.
+///
+/// Key 16, sequence 1, flags 1 (bit 0 live, bit 1 started), limit 4. In the first version the flags are live alone, and
+/// there is no limit.
 #[derive(Debug, Drop)]
 pub struct NetRecord {
     /// The key.
@@ -71,7 +73,8 @@ fn has_live_room(rows: &[NetRecord]) -> bool
 
 /// A key that no row has.
 fn read_new_key(reader: &mut Reader<usize>, rows: &[NetRecord]) -> Result<Key, usize>
-    ensures { Gives (λ k. k) result reader.new.rest.now (field key_at (is_new_net (map net_seen rows.now)) reader.old.rest.now) }
+    ensures { Gives (λ k. k) result reader.new.rest.now
+        (field key_at (is_new_net (map net_seen rows.now)) reader.old.rest.now) }
 {
     let left = begin(reader);
     let key = reader.key()?;
@@ -95,7 +98,8 @@ fn flag_values(version: Version) -> u8
 
 /// Whether a row may be live or dropped as its flags say, which come behind those of these rows.
 fn may_live(rows: &[NetRecord], active: u16, flags: u8) -> bool
-    ensures { result ≡ (if bit flags 0 then nat_lt (lives (map net_seen rows.now)) 2 else not (nat_eq active (length (map net_seen rows.now)))) }
+    ensures { result ≡ (if bit flags 0 then nat_lt (lives (map net_seen rows.now)) 2
+        else not (nat_eq active (length (map net_seen rows.now)))) }
 {
     if has_bit(u16::from(flags), 0) {
         has_live_room(rows)
@@ -111,7 +115,8 @@ fn read_flags(
     active: u16,
     rows: &[NetRecord],
 ) -> Result<u8, usize>
-    ensures { Gives (λ b. b) result reader.new.rest.now (field byte_at (net_flags_fit version active (map net_seen rows.now)) reader.old.rest.now) }
+    ensures { Gives (λ b. b) result reader.new.rest.now
+        (field byte_at (net_flags_fit version active (map net_seen rows.now)) reader.old.rest.now) }
 {
     let left = begin(reader);
     let flags = reader.byte()?;
@@ -142,7 +147,8 @@ fn is_started(version: Version, flags: u8) -> bool
 
 /// The limit of a row that stands there: 0 where the row isn't started.
 fn read_own_limit(reader: &mut Reader<usize>, started: bool) -> Result<u32, usize>
-    ensures { Gives (λ n. n) result reader.new.rest.now (field (number_at w32) (allows_limit started) reader.old.rest.now) }
+    ensures { Gives (λ n. n) result reader.new.rest.now
+        (field (number_at w32) (allows_limit started) reader.old.rest.now) }
 {
     let left = begin(reader);
     let limit = reader.number32()?;
@@ -178,7 +184,8 @@ fn read_net(
     active: u16,
     rows: &[NetRecord],
 ) -> Result<NetRecord, usize>
-    ensures { Gives net_seen result reader.new.rest.now (net_at version declared active (map net_seen rows.now) reader.old.rest.now) }
+    ensures { Gives net_seen result reader.new.rest.now
+        (net_at version declared active (map net_seen rows.now) reader.old.rest.now) }
 {
     let key = read_new_key(reader, rows)?;
     let _left = begin(reader);
@@ -196,7 +203,7 @@ fn read_net(
     })
 }
 
-/// So many network keys.
+/// Reads so many network keys.
 pub(crate) fn read_nets(
     alloc: Global,
     reader: &mut Reader<usize>,
@@ -205,7 +212,8 @@ pub(crate) fn read_nets(
     count: u16,
     active: u16,
 ) -> Result<Vec<NetRecord>, OrMemory<usize>>
-    ensures { Answers (λ v. map net_seen v.items) result reader.new.rest.now (rows_at (net_at version declared active) count [] reader.old.rest.now) }
+    ensures { Answers (λ v. map net_seen v.items) result reader.new.rest.now
+        (rows_at (net_at version declared active) count [] reader.old.rest.now) }
 {
     let mut rows = Vec::with_capacity(alloc, usize::from(count))?;
     for _ in 0..count {

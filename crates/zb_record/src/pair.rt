@@ -13,7 +13,9 @@ use std::alloc::Global;
 use zb_base::{Eui, Key, OrMemory, Role};
 use zb_cursor::Reader;
 
-/// A key of two devices in a record: first 8, second 8, key 16, live 1, which is 01.
+/// Holds a key of two devices of a record.
+///
+/// First 8, second 8, key 16, live 1, which is 01.
 #[derive(Clone, Copy, Debug, PartialEq, Eq)]
 pub struct PairRecord {
     /// The device with the smaller address.
@@ -42,7 +44,8 @@ fn is_new(rows: &[PairRecord], first: Eui, second: Eui) -> bool
 
 /// The second device of a pair.
 fn read_second(reader: &mut Reader<usize>, rows: &[PairRecord], first: Eui) -> Result<Eui, usize>
-    ensures { Gives (λ e. e) result reader.new.rest.now (field eui_at (is_new_pair (map pair_seen rows.now) first) reader.old.rest.now) }
+    ensures { Gives (λ e. e) result reader.new.rest.now
+        (field eui_at (is_new_pair (map pair_seen rows.now) first) reader.old.rest.now) }
 {
     let left = begin(reader);
     let second = reader.eui()?;
@@ -89,7 +92,8 @@ fn pair_room(role: Role) -> u16
 
 /// The number of pairs.
 fn read_count(reader: &mut Reader<usize>, role: Role) -> Result<u16, usize>
-    ensures { Gives (λ n. n) result reader.new.rest.now (field (number_at w16) (has_pair_room (model_role role)) reader.old.rest.now) }
+    ensures { Gives (λ n. n) result reader.new.rest.now
+        (field (number_at w16) (has_pair_room (model_role role)) reader.old.rest.now) }
 {
     let left = begin(reader);
     let count = reader.number16()?;
@@ -106,7 +110,8 @@ fn read_rows(
     reader: &mut Reader<usize>,
     count: u16,
 ) -> Result<Vec<PairRecord>, OrMemory<usize>>
-    ensures { Answers (λ v. map pair_seen v.items) result reader.new.rest.now (rows_at pair_at count [] reader.old.rest.now) }
+    ensures { Answers (λ v. map pair_seen v.items) result reader.new.rest.now
+        (rows_at pair_at count [] reader.old.rest.now) }
 {
     let mut rows = Vec::with_capacity(alloc, usize::from(count))?;
     for _ in 0..count {
@@ -118,14 +123,15 @@ fn read_rows(
     Ok(rows)
 }
 
-/// The pairs with their number, which stand there in the third version alone.
+/// Reads the pairs with their number, which stand there in the third version alone.
 pub(crate) fn read_pairs(
     alloc: Global,
     reader: &mut Reader<usize>,
     version: Version,
     role: Role,
 ) -> Result<Vec<PairRecord>, OrMemory<usize>>
-    ensures { Answers (λ v. map pair_seen v.items) result reader.new.rest.now (pairs_at version (model_role role) reader.old.rest.now) }
+    ensures { Answers (λ v. map pair_seen v.items) result reader.new.rest.now
+        (pairs_at version (model_role role) reader.old.rest.now) }
 {
     match version {
         Version::First => Ok(Vec::new(alloc)),
@@ -141,7 +147,8 @@ fn read_all(
     reader: &mut Reader<usize>,
     role: Role,
 ) -> Result<Vec<PairRecord>, OrMemory<usize>>
-    ensures { Answers (λ v. map pair_seen v.items) result reader.new.rest.now (all_pairs_at (model_role role) reader.old.rest.now) }
+    ensures { Answers (λ v. map pair_seen v.items) result reader.new.rest.now
+        (all_pairs_at (model_role role) reader.old.rest.now) }
 {
     match read_count(reader, role) {
         Ok(count) => read_rows(alloc, reader, count),

@@ -20,7 +20,7 @@ use std::alloc::Global;
 use zb_base::{OrMemory, Role, Rollover, State};
 use zb_cursor::Reader;
 
-/// What a record says of its node first.
+/// Holds what a record says of its node first.
 #[derive(Clone, Copy, Debug, PartialEq, Eq)]
 pub struct Node {
     /// The version of the record.
@@ -31,7 +31,7 @@ pub struct Node {
     pub state: State,
 }
 
-/// What stands in a record before its rows.
+/// Holds what stands in a record before its rows.
 #[derive(Clone, Copy, Debug, PartialEq, Eq)]
 pub struct Head {
     /// The node.
@@ -48,7 +48,7 @@ pub struct Head {
     pub active: u16,
 }
 
-/// A record.
+/// Holds what is read of a record.
 #[derive(Debug, Drop)]
 pub struct Record {
     /// What stands before the rows.
@@ -213,8 +213,10 @@ fn read_front(alloc: Global, reader: &mut Reader<usize>) -> Result<Record, OrMem
     })
 }
 
-/// Reads a record of version 1, 2 or 3, which is all of the bytes. A fault is told by the number of bytes from the first one of
-/// the first field that isn't whole or breaks a rule to the end; a rule over several fields is broken by the last of them.
+/// Reads a record of version 1, 2 or 3, which is all of the bytes.
+///
+/// Errors: the number of bytes from the first one of the first field that isn't whole or breaks a rule to the end,
+/// where a rule over several fields is broken by the last of them. `NoMemory` where memory is short.
 #[tactic(auto, unfolding(crate::specs::Records::record_read))]
 pub fn read_record(alloc: Global, bytes: &[u8]) -> Result<Record, OrMemory<usize>>
     ensures { IsRecord record_seen result (record_read bytes.now) }

@@ -12,7 +12,7 @@ use arrayvec::ArrayVec;
 use zb_base::Eui;
 use zb_cursor::Reader;
 
-/// The floor of a sender in a record: its address 8, its stored floor 4.
+/// Holds the floor of a sender of a record: its address 8, its stored floor 4.
 #[derive(Clone, Copy, Debug, Default, PartialEq, Eq)]
 pub struct SenderRecord {
     /// Whose frames.
@@ -38,7 +38,8 @@ fn is_last(floors: &[SenderRecord], sender: Eui) -> bool
 
 /// A sender behind these.
 fn read_address(reader: &mut Reader<usize>, floors: &[SenderRecord]) -> Result<Eui, usize>
-    ensures { Gives (λ e. e) result reader.new.rest.now (field eui_at (is_last (map sender_seen floors.now)) reader.old.rest.now) }
+    ensures { Gives (λ e. e) result reader.new.rest.now
+        (field eui_at (is_last (map sender_seen floors.now)) reader.old.rest.now) }
 {
     let left = begin(reader);
     let sender = reader.eui()?;
@@ -61,7 +62,8 @@ fn read_stored(reader: &mut Reader<usize>) -> Result<u32, usize>
 /// The floor of a sender behind these.
 #[tactic(auto, unfolding(crate::specs::Rows::sender_at))]
 fn read_sender(reader: &mut Reader<usize>, floors: &[SenderRecord]) -> Result<SenderRecord, usize>
-    ensures { Gives sender_seen result reader.new.rest.now (sender_at (map sender_seen floors.now) reader.old.rest.now) }
+    ensures { Gives sender_seen result reader.new.rest.now
+        (sender_at (map sender_seen floors.now) reader.old.rest.now) }
 {
     let sender = read_address(reader, floors)?;
     let stored = read_stored(reader)?;
@@ -71,7 +73,8 @@ fn read_sender(reader: &mut Reader<usize>, floors: &[SenderRecord]) -> Result<Se
 /// So many floors of senders, of which there are 64 at most.
 fn read_senders(reader: &mut Reader<usize>, count: u8) -> Result<ArrayVec<SenderRecord, 64>, usize>
     requires { count ≤ 64 }
-    ensures { Gives (λ v. map sender_seen v.items) result reader.new.rest.now (rows_at sender_at count [] reader.old.rest.now) }
+    ensures { Gives (λ v. map sender_seen v.items) result reader.new.rest.now
+        (rows_at sender_at count [] reader.old.rest.now) }
 {
     let mut floors = ArrayVec::new();
     for _ in 0..count {
@@ -103,7 +106,8 @@ fn read_floors(reader: &mut Reader<usize>) -> Result<ArrayVec<SenderRecord, 64>,
 
 /// The floors under a network key, if it is live.
 fn read_live_floors(reader: &mut Reader<usize>, row: &mut NetRecord) -> Result<(), usize>
-    ensures { Gives (λ done. net_seen row.new) result reader.new.rest.now (live_floors_at (net_seen row.old) reader.old.rest.now) }
+    ensures { Gives (λ done. net_seen row.new) result reader.new.rest.now
+        (live_floors_at (net_seen row.old) reader.old.rest.now) }
 {
     if row.live {
         row.floors = read_floors(reader)?;
@@ -111,12 +115,13 @@ fn read_live_floors(reader: &mut Reader<usize>, row: &mut NetRecord) -> Result<(
     Ok(())
 }
 
-/// The floors under the live ones of network keys.
+/// Reads the floors under the live ones of network keys.
 pub(crate) fn read_all_floors(
     reader: &mut Reader<usize>,
     rows: &mut [NetRecord],
 ) -> Result<(), usize>
-    ensures { Gives (λ done. map net_seen rows.new) result reader.new.rest.now (all_floors_at [] (map net_seen rows.old) reader.old.rest.now) }
+    ensures { Gives (λ done. map net_seen rows.new) result reader.new.rest.now
+        (all_floors_at [] (map net_seen rows.old) reader.old.rest.now) }
 {
     for row in rows.iter_mut() {
         read_live_floors(reader, row)?;

@@ -5,7 +5,9 @@ ghost use Rattle.zb_record.specs.Fields.{record_version, version_at};
 
 use zb_cursor::Reader;
 
-/// A version of records. From the second on each network key has its own limit, and from the third on there are pairs.
+/// Names a version of records.
+///
+/// From the second on each network key has its own limit, and from the third on there are pairs.
 #[derive(Clone, Copy, Debug, PartialEq, Eq)]
 pub enum Version {
     /// One outgoing NWK limit for all network keys.
@@ -16,7 +18,7 @@ pub enum Version {
     Third,
 }
 
-/// A version: 01, 02 or 03.
+/// Reads a version: 01, 02 or 03.
 #[tactic(auto, unfolding(crate::specs::Fields::version_at))]
 pub(crate) fn read_version(reader: &mut Reader<usize>) -> Result<Version, usize>
     ensures { Gives result reader.new.rest.now (version_at reader.old.cut reader.old.rest.now) }
@@ -29,7 +31,7 @@ pub(crate) fn read_version(reader: &mut Reader<usize>) -> Result<Version, usize>
     }
 }
 
-/// The version that the first byte of a record says, if it is one.
+/// Answers the version that the first byte of a record says, if it is one.
 pub fn version_of(bytes: &[u8]) -> Option<Version>
     ensures { result ≡ record_version bytes.now }
 {

@@ -6,8 +6,8 @@ use Rattle.std.proofs.lemmas.List.Elements.{filter-append}
 use Rattle.std.proofs.lemmas.List.Sums.{fold-append}
 use Rattle.zb_model.specs.State.{LinkKey, NodeState}
 use Rattle.zb_model.specs.OwnEvents.{is_waiting, least, next_member}
-use Rattle.zb_keys.specs.declared.link.LinkRow.{LinkRow}
-use Rattle.zb_keys.specs.Rows.{link_key}
+use Rattle.zb_record.specs.declared.link_row.LinkRow.{LinkRow}
+use Rattle.zb_record.specs.RowViews.{link_key}
 
 abbrev pub least_of : List LinkKey → Option ℕ
 least_of links = fold (λ (best : Option ℕ) (r : LinkKey). least best r.partner) None (filter is_waiting links)

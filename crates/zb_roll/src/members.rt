@@ -1,12 +1,14 @@
 //! The devices that the new network key is sent to.
 ghost use Rattle.std.specs.Prelude.{◌≡◌, not, fold, filter, map, option_map, if◌then◌else◌};
-ghost use Rattle.zb_keys.specs.Rows.{link_key};
+ghost use Rattle.zb_record.specs.RowViews.{link_key};
 ghost use Rattle.zb_model.specs.OwnEvents.{is_unfinished, is_waiting, least, next_member};
 
 use zb_base::{Eui, Rollover};
 use zb_keys::{LinkRow, Tables};
 
-/// The device that is sent the new network key next: that of the smallest address among the live ones that weren't.
+/// Answers the device that is sent the new network key next.
+///
+/// It is that of the smallest address among the live ones that weren't sent it.
 pub fn next_member(tables: &Tables) -> Option<Eui>
     ensures { option_map (λ e. e.0) result ≡ next_member tables.now }
 {
@@ -15,7 +17,8 @@ pub fn next_member(tables: &Tables) -> Option<Eui>
 
 /// The smallest address of a device with a row that waits.
 fn least_waiting(rows: &[LinkRow]) -> Option<Eui>
-    ensures { option_map (λ e. e.0) result ≡ fold (λ best r. least best r.partner) None (filter is_waiting (map link_key rows.now)) }
+    ensures { option_map (λ e. e.0) result
+        ≡ fold (λ best r. least best r.partner) None (filter is_waiting (map link_key rows.now)) }
 {
     let mut best = None;
     for row in rows {
@@ -26,7 +29,9 @@ fn least_waiting(rows: &[LinkRow]) -> Option<Eui>
 
 /// The smallest address so far and that of a row, if it waits.
 fn with_row(best: Option<Eui>, row: &LinkRow) -> Option<Eui>
-    ensures { option_map (λ e. e.0) result ≡ (if is_waiting (link_key row.now) then least (option_map (λ e. e.0) best) (link_key row.now).partner else option_map (λ e. e.0) best) }
+    ensures { option_map (λ e. e.0) result
+        ≡ (if is_waiting (link_key row.now)
+        then least (option_map (λ e. e.0) best) (link_key row.now).partner else option_map (λ e. e.0) best) }
 {
     if row.live && !row.told {
         Some(lesser(best, row.partner))
@@ -45,7 +50,7 @@ fn lesser(best: Option<Eui>, other: Eui) -> Eui
     }
 }
 
-/// Whether the network may switch: outside a rollover, and in one that reached every live device.
+/// Answers whether the network may switch: outside a rollover, and in one that reached every live device.
 #[tactic(auto, unfolding(zb_model::specs::OwnEvents::is_unfinished))]
 pub fn may_switch(tables: &Tables) -> bool
     ensures { result ≡ not (is_unfinished tables.now) }

@@ -11,11 +11,13 @@ use zb_base::{Eui, Key, Rollover};
 use zb_keys::{Tables, add};
 use zb_node_types::{Change, Changes, KeyError};
 
-/// What it changes that a rollover begins with a new key: where two network keys are in use, the one that isn't active is
-/// dropped; the new one is installed with the sequence number after the active one's, and no device was told. There is an
-/// active network key, no row has the new one, and no rollover goes on.
+/// Plans the changes by which a rollover begins with a new key; changes nothing.
 ///
-/// Refused as `KeysFull` exactly where there are 256 network keys.
+/// Where two network keys are in use, the one that isn't active is dropped. The new one is installed with the sequence
+/// number after the active one's, and no device was told. Requires an active network key, a new key without a row, and
+/// no rollover that goes on.
+///
+/// Errors: `KeysFull` exactly where there are 256 network keys.
 pub fn start(tables: &Tables, key: &Key) -> Result<Changes, KeyError>
     requires idle { tables.now.sending ≡ false }
     requires active { is_some (active_row tables.now) ≡ true }
@@ -62,8 +64,9 @@ fn next_sequence(tables: &Tables) -> u8
     }
 }
 
-/// What it changes that a rollover ends: the newest network key becomes the active one. The rollover goes on, and reached
-/// every live device.
+/// Plans the changes by which a rollover ends; changes nothing.
+///
+/// The newest network key becomes the active one. Requires a rollover that goes on and reached every live device.
 pub fn finish(tables: &Tables) -> Changes
     requires sending { tables.now.sending ≡ true }
     requires reached { is_unfinished tables.now ≡ false }
@@ -91,7 +94,9 @@ fn add_finish(tables: &Tables, changes: &mut Changes)
     }
 }
 
-/// What it changes that a device is to be sent the new network key once more. It is live and was told.
+/// Plans the changes by which a device is sent the new network key once more; changes nothing.
+///
+/// Requires a live device that was told.
 pub fn again(tables: &Tables, device: Eui) -> Changes
     requires live { is_live tables.now device.0 ≡ true }
     requires told { is_told tables.now device.0 ≡ true }

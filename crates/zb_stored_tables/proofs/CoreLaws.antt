@@ -13,18 +13,18 @@ use Rattle.zb_model.specs.State.{NodeState, shown, after_boot, applied, applied_
 use Rattle.zb_model.specs.Fits.{keeps_rules, fits, all_fit}
 use Rattle.zb_model.specs.Record.{payload, record_of}
 use Rattle.zb_record.specs.declared.version.Version.TheVariants.{First, Second, Third}
-use Rattle.zb_record.specs.Ranges.{FitsBytes}
+use Rattle.zb_record.specs.Ranges.{FitsBytes, fits_widths}
 use Rattle.zb_record.specs.Records.{record_read}
 use Rattle.zb_record.specs.Redoing.{redone}
 use Rattle.zb_record.proofs.Entries.{entries_again}
 use Rattle.zb_record.proofs.Sound.{read_kept}
 use Rattle.zb_record.proofs.WholeAgain.{record_again}
-use Rattle.zb_stored_tables.specs.Stored.{version_or, version_in, is_of_other, behind, state_behind, state_given, fits_widths, recorded, restored, IsKept, IsStorable, IsStoredAfter}
+use Rattle.zb_stored_tables.specs.Stored.{version_or, version_in, is_of_other, behind, state_behind, state_given, recorded, restored, IsKept, IsStorable, IsStoredAfter}
 use Rattle.zb_stored_tables.proofs.Roles.{read_of_role, of_this_role}
 use Rattle.zb_stored_tables.proofs.Widths.{AreBytes, read_fits}
 use Rattle.zb_stored_tables.proofs.InMemory.{recorded_booted, boot_of_shown, shown_again}
 use Rattle.zb_stored_tables.proofs.Made.{all_made_fits, shown_fits, booted_fits, fits_back, fits_as_stored}
-use Rattle.zb_stored_tables.proofs.Tested.{fits_true, fits_from}
+use Rattle.zb_record.proofs.Tested.{fits_true, fits_from}
 use Rattle.zb_stored_tables.proofs.Entries.{at_end, none_left, all_fit_rules, all_applied_role, shown_role, IsRuled, entries_ruled, entries_fit, no_entries}
 
 abbrev gave : NodeState → Result NodeState ℕ

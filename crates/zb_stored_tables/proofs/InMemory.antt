@@ -8,6 +8,7 @@ use Rattle.zb_model.specs.State.{SenderFloor, NetKey, LinkKey, NodeState, same_k
 use Rattle.zb_model.specs.Record.{place_from, active_place, net_bytes, sender_bytes, floors_bytes, link_bytes, record_of}
 use Rattle.zb_model_fits.proofs.ShownApplied.{shown_twice}
 use Rattle.zb_keys.specs.Reading.{heard_under, heard_from}
+use Rattle.zb_keys.proofs.BootLemmas.{booted_shown}
 
 -- ---- the bytes of rows that are changed
 
@@ -92,14 +93,6 @@ unfolding shown
 recorded_shown s = nets_unseen shown_net dropped_unseen s
 
 -- ---- what a boot leaves
-
-booted_shown : (rs : List NetKey) → map booted_net (map shown_net rs) ≡ map shown_net (map booted_net rs)
-booted_shown [] = refl
-booted_shown (r ∷ rs) = ap (λ x. x ∷ map booted_net (map shown_net rs)) (by_live r.live) ∙ ap (λ l. shown_net (booted_net r) ∷ l) (booted_shown rs)
-  where
-    by_live : (b : Bool) → record r { next = r.limit; live = b; floors = map booted_floor (if b then r.floors else []) } ≡ record r { next = r.limit; live = b; floors = if b then map booted_floor r.floors else [] }
-    by_live true = refl
-    by_live false = refl
 
 pub boot_of_shown : (s : NodeState) → after_boot (shown s) ≡ shown (after_boot s)
 unfolding after_boot shown

@@ -2,7 +2,6 @@ pub mod Widths
 pub mod ReadChanges
 pub mod InMemory
 pub mod Made
-pub mod Tested
 pub mod Entries
 pub mod Roles
 pub mod CoreLaws

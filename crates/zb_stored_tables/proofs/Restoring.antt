@@ -7,16 +7,13 @@ use Rattle.zb_node_types.specs.declared.fault.KeyError.TheVariants.{KeyOld, Keys
 use Rattle.zb_host.specs.Plans.{gives, IsRestoreFault}
 use Rattle.zb_model.specs.Data.{Role}
 use Rattle.zb_model.specs.State.{NodeState, shown, after_boot}
-use Rattle.zb_model.specs.Fits.{keeps_rules}
 use Rattle.zb_model.specs.Record.{record_of}
 use Rattle.zb_record.specs.Ranges.{FitsBytes}
 use Rattle.zb_record.specs.declared.version.Version.{Version}
 use Rattle.zb_record.specs.Records.{record_read, BadPlace}
 use Rattle.zb_record.specs.Redoing.{redone}
-use Rattle.zb_record.proofs.WholeAgain.{record_again}
 use Rattle.zb_stored_tables.specs.Stored.{version_in, is_of_other, behind, state_behind, state_given, restored, IsGivenFault}
 use Rattle.zb_stored_tables.proofs.Widths.{AreBytes}
-use Rattle.zb_stored_tables.proofs.InMemory.{boot_of_shown}
 use Rattle.zb_stored_tables.proofs.Made.{fits_back}
 use Rattle.zb_stored_tables.proofs.CoreLaws.{bytes_give_kept, restored_back}
 
@@ -78,10 +75,3 @@ module _ (role : Role) (content entries : List ℕ) where
 pub boot_role : (s t : NodeState) → t ≡ after_boot s → t.role ≡ s.role
 unfolding after_boot
 boot_role s t is = ap (λ (u : NodeState). u.role) is
-
--- the tables of their own record
-pub booted : (s t : NodeState) (bytes : List ℕ) → keeps_rules s ≡ true → shown s ≡ s → FitsBytes s → bytes ≡ record_of s → record_read bytes ≡ gave t → t ≡ after_boot s
-booted s t bytes rules forgets widths is read = same t (shown (after_boot s)) (sym read ∙ ap record_read is ∙ record_again s rules widths) ∙ sym (boot_of_shown s) ∙ ap after_boot forgets
-  where
-    same : (x y : NodeState) → gave x ≡ gave y → x ≡ y
-    same x y e = cc

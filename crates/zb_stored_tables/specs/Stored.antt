@@ -1,6 +1,6 @@
 -- Tables as the core of a host has them: what a record and the entries behind it give, and what stands on a disk of them.
-use Rattle.std.specs.Prelude.{◌≡◌, ℕ, ◌+◌, ◌^◌, ◌≤◌, Bool, true, not, ◌&&◌, ◌==◌, if◌then◌else◌, List, length, get_or, Option, Some, None, Result, Ok, Err, is_some, nat_eq, nat_lt}
-use Rattle.std.specs.List.{AllByRecursion, list_all}
+use Rattle.std.specs.Prelude.{◌≡◌, ℕ, ◌+◌, ◌≤◌, Bool, true, not, ◌&&◌, ◌==◌, if◌then◌else◌, List, length, get_or, Option, Some, None, Result, Ok, Err, is_some}
+use Rattle.std.specs.List.{AllByRecursion}
 use Rattle.zb_base.specs.declared.fault.OrMemory.{OrMemory}
 use Rattle.zb_base.specs.declared.fault.OrMemory.TheVariants.{Fault, NoMemory}
 use Rattle.zb_node_types.specs.declared.change.Change.{Change}
@@ -9,15 +9,16 @@ use Rattle.zb_node_types.specs.declared.fault.KeyError.TheVariants.{KeyOld, Keys
 use Rattle.zb_node_types.specs.Changes.{edits}
 use Rattle.zb_host.specs.Plans.{Restored, gives, bad}
 use Rattle.zb_model.specs.Data.{Role, Layer, Nwk, Aps}
-use Rattle.zb_model.specs.State.{SenderFloor, NetKey, LinkKey, PairKey, NodeState, active_row, after_boot, applied_all, shown}
+use Rattle.zb_model.specs.State.{NodeState, active_row, after_boot, applied_all, shown}
 use Rattle.zb_model.specs.Fits.{AllFit, keeps_rules}
 use Rattle.zb_model.specs.Record.{role_byte, payload, record_of}
 use Rattle.zb_record.specs.declared.version.Version.{Version}
 use Rattle.zb_record.specs.declared.version.Version.TheVariants.{Third}
 use Rattle.zb_record.specs.Fields.{record_version}
-use Rattle.zb_record.specs.Ranges.{FitsBytes, InRange}
+use Rattle.zb_record.specs.Ranges.{FitsBytes, InRange, fits_widths}
 use Rattle.zb_record.specs.Records.{record_read}
 use Rattle.zb_record.specs.Redoing.{redone, place_of}
+use Rattle.zb_record.specs.Sizes.{payload_room}
 
 -- the version of a record; one that is read has one
 abbrev pub version_or : Option Version → Version
@@ -56,24 +57,6 @@ IsGivenFault given (Fault WrongHash) = ⊥
 IsGivenFault given (Fault (BadRecord at)) = given ≡ Err at
 IsGivenFault given NoMemory = Unit {0}
 
--- values within the widths of a record, as a test
-
-abbrev pub floor_fits : SenderFloor → Bool
-floor_fits f = nat_lt f.sender (2 ^ 64) && nat_lt f.stored (2 ^ 32)
-
-abbrev pub net_fits : NetKey → Bool
-net_fits r = nat_eq (length r.key) 16 && (nat_lt r.limit (2 ^ 32) && list_all floor_fits r.floors)
-
-abbrev pub link_fits : LinkKey → Bool
-link_fits r = nat_lt r.partner (2 ^ 64) && (nat_eq (length r.key) 16 && nat_lt r.stored (2 ^ 32))
-
-abbrev pub pair_fits : PairKey → Bool
-pair_fits p = nat_lt p.first (2 ^ 64) && (nat_lt p.second (2 ^ 64) && nat_eq (length p.key) 16)
-
-unfoldable pub fits_widths : NodeState → Bool
-fits_widths s =
-    nat_lt s.declared (2 ^ 32) && (nat_lt s.aps_limit (2 ^ 32) && (list_all net_fits s.nets && (list_all link_fits s.links && list_all pair_fits s.pairs)))
-
 -- A law's list of numbers may have some that are no bytes, and so give values that no record has. They give no core; from
 -- bytes every value fits (`what_bytes_give_is_kept`).
 abbrev pub recorded : Result NodeState ℕ → Restored
@@ -98,7 +81,7 @@ pub record IsStorable (role : Role) (s : NodeState) (changes : List Change) : Ty
   pub kept : IsKept s
   pub range : AllByRecursion InRange changes
   pub fit : AllFit (edits changes) s
-  pub short : length (payload (edits changes)) ≤ 481
+  pub short : length (payload (edits changes)) ≤ payload_room
 
 -- After a plan the tables are those after its changes, but for the counters and floors in memory, which seals and accepted
 -- frames move.

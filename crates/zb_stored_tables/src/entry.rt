@@ -4,22 +4,26 @@ ghost use Rattle.std.specs.List.{AllByRecursion};
 ghost use Rattle.zb_node_types.specs.Changes.{edits};
 ghost use Rattle.zb_model.specs.Record.{payload};
 ghost use Rattle.zb_record.specs.Ranges.{InRange};
+ghost use Rattle.zb_record.specs.Sizes.{payload_room};
 
-use zb_keys::Tables;
 use zb_node_types::{Change, Changes};
+use zb_record::PAYLOAD_ROOM;
 
-/// Writes the payload of changes, which has at most 481 bytes, and answers its length. There are 481 bytes of room.
+/// Writes the payload of changes, and answers its length.
+///
+/// Requires a payload of at most `PAYLOAD_ROOM` bytes, and as many bytes of room.
 pub fn change_bytes(changes: &Changes, into: &mut [u8]) -> u32
-    requires short { length (payload (edits changes.now.items)) ≤ 481 }
-    requires room { 481 ≤ length into.old }
+    requires short { length (payload (edits changes.now.items)) ≤ payload_room }
+    requires room { payload_room ≤ length into.old }
     ensures len { result ≡ length (payload (edits changes.now.items)) }
     ensures bytes { take result into.new ≡ payload (edits changes.now.items) }
 {
-    Tables::change_bytes(changes, &mut into[..481])
+    zb_record::change_bytes(changes, &mut into[..PAYLOAD_ROOM])
 }
 
-/// Says of changes that their values can be spelled: keys have 16 bytes, and numbers are within their types. It does
-/// nothing.
+/// Says of changes that their values can be spelled; does nothing.
+///
+/// Keys have 16 bytes, and numbers are within their types.
 pub fn hold_ranges(changes: &Changes)
     ensures { AllByRecursion InRange changes.now.items }
 {

@@ -2,28 +2,17 @@
 ghost use Rattle.std.specs.Prelude.{◌≡◌, ◌≤◌, Ok, OnOk, IfOk, IfErr, length};
 ghost use Rattle.zb_base.specs.declared.fault.OrMemory.TheVariants.{Fault};
 ghost use Rattle.zb_node_types.specs.Changes.{model_role};
-ghost use Rattle.zb_model.specs.Record.{role_byte};
 ghost use Rattle.zb_model.specs.State.{after_boot};
 ghost use Rattle.zb_record.specs.Ranges.{FitsBytes};
 ghost use Rattle.zb_record.specs.Redoing.{redone};
+ghost use Rattle.zb_record.specs.Sizes.{payloads_room, record_room};
 ghost use Rattle.zb_stored_tables.specs.Stored.{behind, is_of_other, state_given, version_in, IsGivenFault};
 
 use std::alloc::Global;
-use zb_base::{NoMemory, OrMemory, Role};
+use zb_base::{OrMemory, Role};
 use zb_keys::Tables;
 use zb_node_types::KeyError;
-use zb_record::{Version, version_of};
-
-// The byte of a role in a record.
-fn role_byte(role: Role) -> u8
-    ensures { result ≡ role_byte (model_role role) }
-{
-    match role {
-        Role::Centre => 0,
-        Role::Router => 1,
-        Role::Device => 2,
-    }
-}
+use zb_record::{Version, role_byte, version_of};
 
 // Whether a record is of another role, or of none.
 fn is_of_other(role: Role, content: &[u8]) -> bool
@@ -46,10 +35,13 @@ fn redo(
     before: usize,
     entries: &[u8],
 ) -> Result<(), KeyError>
-    requires before { before ≤ 49152 }
-    requires entries { length entries.now ≤ 15488 }
-    ensures made { OnOk result (behind before (length entries.now) (redone version entries.now tables.old).0 (redone version entries.now tables.old).1 ≡ Ok (after_boot tables.new)) }
-    ensures fault { IfErr result (λ e. IsGivenFault (behind before (length entries.now) (redone version entries.now tables.old).0 (redone version entries.now tables.old).1) (Fault e)) }
+    requires before { before ≤ record_room }
+    requires entries { length entries.now ≤ payloads_room }
+    ensures made { OnOk result (behind before (length entries.now) (redone version entries.now tables.old).0
+        (redone version entries.now tables.old).1 ≡ Ok (after_boot tables.new)) }
+    ensures fault { IfErr result (λ e. IsGivenFault
+        (behind before (length entries.now) (redone version entries.now tables.old).0
+        (redone version entries.now tables.old).1) (Fault e)) }
 {
     match tables.redo(version, entries) {
         Ok(()) => Ok(()),
@@ -68,8 +60,8 @@ fn read(
     content: &[u8],
     entries: &[u8],
 ) -> Result<Tables, OrMemory<KeyError>>
-    requires record_size { length content.now ≤ 49152 }
-    requires entries_size { length entries.now ≤ 15488 }
+    requires record_size { length content.now ≤ record_room }
+    requires entries_size { length entries.now ≤ payloads_room }
     ensures given { IfOk result (λ t. state_given (model_role role) content.now entries.now ≡ Ok (after_boot t)) }
     ensures widths { IfOk result (λ t. FitsBytes t) }
     ensures role { IfOk result (λ t. t.role ≡ model_role role) }
@@ -85,40 +77,21 @@ fn read(
     }
 }
 
-// The tables of a node that boots: those of their record.
-fn boot(alloc: Global, tables: &Tables, room: &mut [u8]) -> Result<Tables, NoMemory>
-    requires room { 49152 ≤ length room.old }
-    requires widths { FitsBytes tables.now }
-    ensures { IfOk result (λ t. t ≡ after_boot tables.now) }
-{
-    tables.keep_rules();
-    let len = tables.record_bytes(room) as usize;
-    match Tables::from_record(alloc, &room[..len]) {
-        Ok(booted) => Ok(booted),
-        // A record that was written is one.
-        Err(_) => Err(NoMemory),
-    }
-}
-
-/// The tables with which a node of that role boots on a record and the payloads behind it.
+/// Makes the tables with which a node of that role boots on a record and the payloads behind it.
 pub(crate) fn restore(
     alloc: Global,
     role: Role,
     content: &[u8],
     entries: &[u8],
-    room: &mut [u8],
 ) -> Result<Tables, OrMemory<KeyError>>
-    requires record_size { length content.now ≤ 49152 }
-    requires entries_size { length entries.now ≤ 15488 }
-    requires room { 49152 ≤ length room.old }
+    requires record_size { length content.now ≤ record_room }
+    requires entries_size { length entries.now ≤ payloads_room }
     ensures given { IfOk result (λ t. state_given (model_role role) content.now entries.now ≡ Ok t) }
     ensures widths { IfOk result (λ t. FitsBytes t) }
     ensures role { IfOk result (λ t. t.role ≡ model_role role) }
     ensures fault { IfErr result (IsGivenFault (state_given (model_role role) content.now entries.now)) }
 {
-    let tables = read(alloc, role, content, entries)?;
-    match boot(alloc, &tables, room) {
-        Ok(booted) => Ok(booted),
-        Err(NoMemory) => Err(OrMemory::NoMemory),
-    }
+    let mut tables = read(alloc, role, content, entries)?;
+    tables.boot();
+    Ok(tables)
 }

@@ -8,6 +8,7 @@ ghost use Rattle.zb_model.specs.Fits.{AllFit};
 ghost use Rattle.zb_model.specs.Record.{record_of};
 ghost use Rattle.zb_model.specs.State.{applied_all, counted, next_counter, stored_limit, shown};
 ghost use Rattle.zb_record.specs.Ranges.{InRange};
+ghost use Rattle.zb_record.specs.Sizes.{payloads_room, record_room};
 ghost use Rattle.zb_stored_tables.specs.Stored.{restored, state_given, IsGivenFault, IsKept};
 
 use crate::restore::restore;
@@ -17,8 +18,10 @@ use zb_base::{Eui, Layer, OrMemory, Role};
 use zb_keys::Tables;
 use zb_node_types::{Changes, KeyError};
 
-/// A node's tables, as the core of a host keeps them: what a record and the entries behind it gave, and what plans made of
-/// it since. Their values fit the widths of a record.
+/// Holds a node's tables as the core of a host keeps them.
+///
+/// They are what a record and the entries behind it gave, and what plans made of it since. Their values fit the widths
+/// of a record.
 #[derive(Debug, Drop)]
 pub struct StoredTables {
     tables: Tables,
@@ -36,20 +39,19 @@ impl Model for StoredTables {
 }
 
 impl StoredTables {
-    /// The tables with which a node of that role boots on a record and the payloads behind it. `room` has 49,152 bytes.
+    /// Makes the tables with which a node of that role boots on a record and the payloads behind it.
     ///
-    /// Refused as `BadRecord` at the place of the first fault: at 1 where the record is of another role, in the record where
-    /// `Tables::from_record` finds it, and in the entries where `Tables::redo` finds it, counted on from the record's length.
+    /// Errors: `BadRecord` at the place of the first fault: at 1 where the record is of another role, in the record
+    /// where `Tables::from_record` finds it, and in the entries where `Tables::redo` finds it, counted on from the
+    /// record's length. `NoMemory` where memory is short.
     pub fn restore(
         alloc: Global,
         role: Role,
         content: &[u8],
         entries: &[u8],
-        room: &mut [u8],
     ) -> Result<StoredTables, OrMemory<KeyError>>
-        requires record_size { length content.now ≤ 49152 }
-        requires entries_size { length entries.now ≤ 15488 }
-        requires room { 49152 ≤ length room.old }
+        requires record_size { length content.now ≤ record_room }
+        requires entries_size { length entries.now ≤ payloads_room }
         ensures given { IfOk result (λ t. state_given (model_role role) content.now entries.now ≡ Ok t) }
         ensures role { IfOk result (λ t. t.role ≡ model_role role) }
         ensures fault { IfErr result (IsGivenFault (state_given (model_role role) content.now entries.now)) }
@@ -58,25 +60,27 @@ impl StoredTables {
         ensures core { IfOk result (λ t. restored (model_role role) content.now entries.now ≡ gives (record_of t)) }
         ensures no_core { IfErr result (IsRestoreFault (restored (model_role role) content.now entries.now)) }
     {
-        let tables = restore(alloc, role, content, entries, room)?;
+        let tables = restore(alloc, role, content, entries)?;
         Ok(StoredTables { tables })
     }
 
-    /// The tables.
+    /// Answers the tables.
     pub fn tables(&self) -> &Tables
         ensures { result.now ≡ self.now }
     {
         &self.tables
     }
 
-    /// What holds of them at all times. This call does nothing.
+    /// Says what holds of them at all times; does nothing.
     pub fn keep_rules(&self)
         ensures { IsKept self.now }
     {
         self.tables.keep_rules();
     }
 
-    /// Makes changes, which fit, in their order.
+    /// Makes changes in their order.
+    ///
+    /// Requires changes that fit and have values that can be spelled.
     pub fn apply(&mut self, changes: &Changes)
         requires fit { AllFit (edits changes.now.items) self.old }
         requires range { AllByRecursion InRange changes.now.items }
@@ -86,7 +90,9 @@ impl StoredTables {
         self.tables.apply(changes);
     }
 
-    /// Uses the next outgoing counter of a layer, which is reserved.
+    /// Uses the next outgoing counter of a layer.
+    ///
+    /// Requires one that is reserved.
     pub fn sealed(&mut self, layer: Layer)
         requires { next_counter (model_layer layer) self.old < stored_limit (model_layer layer) self.old }
         ensures counted { self.new ≡ counted (model_layer layer) self.old }
@@ -113,11 +119,13 @@ impl StoredTables {
         self.tables.accepted_link(place, counter);
     }
 
-    /// Writes their record, for which there are 49,152 bytes of room, and answers its length.
+    /// Writes their record, and answers its length.
+    ///
+    /// Requires `RECORD_ROOM` bytes of room.
     pub fn record(&self, into: &mut [u8]) -> u32
-        requires { 49152 ≤ length into.old }
+        requires { record_room ≤ length into.old }
         ensures len { result ≡ length (record_of self.now) }
-        ensures small { result ≤ 49152 }
+        ensures small { result ≤ record_room }
         ensures bytes { take result into.new ≡ record_of self.now }
     {
         self.tables.record_bytes(into)

@@ -1,6 +1,6 @@
 use Rattle.std.proofs.Common.{◌≡◌, ◌≤◌, length, take}
 use Rattle.std.specs.Prelude.{filter}
-use Rattle.zb_keys.specs.declared.net.NetRow.{NetRow}
+use Rattle.zb_record.specs.declared.net_row.NetRow.{NetRow}
 use Rattle.zb_keys.proofs.planning.count_live.Given as goal
 
 abbrev pub invariant-loop-row : goal.invariant-loop-row

@@ -1,6 +1,6 @@
 use Rattle.std.proofs.Common.{◌≡◌, map, drop}
 use Rattle.zb_model.specs.Commands.{dropped_at}
-use Rattle.zb_keys.specs.Rows.{net_key}
+use Rattle.zb_record.specs.RowViews.{net_key}
 use Rattle.zb_keys.proofs.planning.dropped_place.Given as goal
 
 abbrev pub invariant-loop-i : goal.invariant-loop-i

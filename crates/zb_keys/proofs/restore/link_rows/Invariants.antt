@@ -2,7 +2,7 @@ use Rattle.std.proofs.Common.{◌≡◌, ◌≤◌, map, take}
 use Rattle.std.specs.Prelude.{vec_capacity}
 use Rattle.zb_node_types.specs.Changes.{model_role}
 use Rattle.zb_model.specs.Fits.{most_links}
-use Rattle.zb_keys.specs.Rows.{link_key}
+use Rattle.zb_record.specs.RowViews.{link_key}
 use Rattle.zb_record.specs.Rows.{link_seen}
 use Rattle.zb_keys.proofs.restore.link_rows.Given as goal
 

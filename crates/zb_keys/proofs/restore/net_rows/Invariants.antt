@@ -1,6 +1,6 @@
 use Rattle.std.proofs.Common.{◌≡◌, ◌≤◌, map, take}
 use Rattle.std.specs.Prelude.{vec_capacity}
-use Rattle.zb_keys.specs.Rows.{net_key}
+use Rattle.zb_record.specs.RowViews.{net_key}
 use Rattle.zb_record.specs.Rows.{net_seen}
 use Rattle.zb_keys.proofs.restore.net_rows.Given as goal
 

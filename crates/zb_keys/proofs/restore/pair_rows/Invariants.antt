@@ -1,6 +1,6 @@
 use Rattle.std.proofs.Common.{◌≡◌, ◌≤◌, map, take}
 use Rattle.std.specs.Prelude.{vec_capacity}
-use Rattle.zb_keys.specs.Rows.{pair_key}
+use Rattle.zb_record.specs.RowViews.{pair_key}
 use Rattle.zb_record.specs.Rows.{pair_seen}
 use Rattle.zb_keys.proofs.restore.pair_rows.Given as goal
 

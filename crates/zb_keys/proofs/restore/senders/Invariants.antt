@@ -1,5 +1,5 @@
 use Rattle.std.proofs.Common.{◌≡◌, map, take, length}
-use Rattle.zb_keys.specs.Rows.{heard_floor}
+use Rattle.zb_record.specs.RowViews.{heard_floor}
 use Rattle.zb_record.specs.Rows.{sender_seen}
 use Rattle.zb_keys.proofs.restore.senders.Given as goal
 

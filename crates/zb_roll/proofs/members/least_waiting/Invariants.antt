@@ -1,7 +1,7 @@
 use Rattle.std.proofs.Common.{◌≡◌, map, take}
 use Rattle.std.specs.Prelude.{option_map}
 use Rattle.zb_base.specs.declared.address.Eui.{Eui}
-use Rattle.zb_keys.specs.Rows.{link_key}
+use Rattle.zb_record.specs.RowViews.{link_key}
 use Rattle.zb_roll.proofs.LeastLemmas.{least_of}
 use Rattle.zb_roll.proofs.members.least_waiting.Given as goal
 

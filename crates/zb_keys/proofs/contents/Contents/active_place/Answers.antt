@@ -1,8 +1,8 @@
 use Rattle.std.proofs.Common.{◌∙◌, ap, Some, None}
 use Rattle.std.specs.Prelude.{position}
 use Rattle.zb_model.specs.State.{same_key}
-use Rattle.zb_keys.specs.declared.net.NetRow.{NetRow}
-use Rattle.zb_keys.specs.Rows.{net_key}
+use Rattle.zb_record.specs.declared.net_row.NetRow.{NetRow}
+use Rattle.zb_record.specs.RowViews.{net_key}
 use Rattle.zb_keys.proofs.ReadLemmas.{place_found, place_none, place_fits}
 use Rattle.zb_keys.proofs.contents.Contents.active_place.Goals as goal
 

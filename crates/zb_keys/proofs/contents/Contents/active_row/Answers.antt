@@ -1,8 +1,8 @@
 use Rattle.std.proofs.Common.{◌∙◌, ap}
 use Rattle.std.specs.Prelude.{find}
 use Rattle.zb_model.specs.State.{same_key}
-use Rattle.zb_keys.specs.declared.net.NetRow.{NetRow}
-use Rattle.zb_keys.specs.Rows.{net_key}
+use Rattle.zb_record.specs.declared.net_row.NetRow.{NetRow}
+use Rattle.zb_record.specs.RowViews.{net_key}
 use Rattle.zb_keys.proofs.ReadLemmas.{active_found, active_none}
 use Rattle.zb_keys.proofs.contents.Contents.active_row.Goals as goal
 

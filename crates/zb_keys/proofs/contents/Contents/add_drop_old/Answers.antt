@@ -1,9 +1,9 @@
 use Rattle.zb_model.specs.State.{is_active_key}
 use Rattle.std.proofs.Common.{◌∙◌, ap, Some, None, arith, not, ◌&&◌, length}
 use Rattle.std.specs.Prelude.{find, filter}
-use Rattle.zb_keys.specs.declared.net.NetRow.{NetRow}
-use Rattle.zb_keys.specs.Rows.{net_key}
-use Rattle.zb_keys.specs.Tables.{active_bytes}
+use Rattle.zb_record.specs.declared.net_row.NetRow.{NetRow}
+use Rattle.zb_record.specs.RowViews.{net_key}
+use Rattle.zb_record.specs.Headings.{active_bytes}
 use Rattle.zb_keys.proofs.PlanLemmas.{adds_nothing, adds_as, drop_few, drop_idle}
 use Rattle.zb_keys.proofs.contents.Contents.add_drop_old.Goals as goal
 

@@ -1,6 +1,6 @@
 use Rattle.std.proofs.Common.{◌∙◌, sym, map, refl, ◌≤◌, subst, length}
 use Rattle.std.specs.Prelude.{filter}
-use Rattle.zb_keys.specs.Rows.{link_key}
+use Rattle.zb_record.specs.RowViews.{link_key}
 use Rattle.zb_keys.specs.Tables.{state_of}
 use Rattle.zb_keys.proofs.PlanLemmas.{few_live, Dropping, drops_one, drops_over, drops_room, drops_all}
 use Rattle.zb_model.specs.State.{is_live_of}

@@ -2,8 +2,8 @@ use Rattle.std.proofs.Common.{rules, refl, map, ◌≡◌, ◌∙◌, sym, ap, l
 use Rattle.std.specs.Prelude.{vec_len, vec_capacity}
 use Rattle.std.specs.List.{list_any}
 use Rattle.zb_model.specs.State.{same_key}
-use Rattle.zb_keys.specs.declared.net.NetRow.{NetRow}
-use Rattle.zb_keys.specs.Rows.{net_key}
+use Rattle.zb_record.specs.declared.net_row.NetRow.{NetRow}
+use Rattle.zb_record.specs.RowViews.{net_key}
 use Rattle.zb_keys.specs.Tables.{state_of}
 use Rattle.zb_keys.proofs.ShownLemmas.{installed_new, installed_same, installed_room}
 use Rattle.zb_keys.proofs.StateLemmas.{installed_state}

@@ -2,8 +2,8 @@ use Rattle.std.proofs.Common.{rules, ◌≡◌, ◌∙◌, sym, ap, map, refl, l
 use Rattle.std.specs.Prelude.{vec_len, vec_capacity}
 use Rattle.std.specs.List.{list_any}
 use Rattle.zb_model.specs.State.{applied, names_two}
-use Rattle.zb_keys.specs.declared.pair.Pair as program
-use Rattle.zb_keys.specs.Rows.{pair_key}
+use Rattle.zb_record.specs.declared.pair_row.Pair as program
+use Rattle.zb_record.specs.RowViews.{pair_key}
 use Rattle.zb_keys.specs.Tables.{state_of}
 use Rattle.zb_keys.proofs.StateLemmas.{paired_state, paired_same, paired_new, paired_room}
 use Rattle.zb_keys.proofs.contents.Contents.add_pair.Goals as goal

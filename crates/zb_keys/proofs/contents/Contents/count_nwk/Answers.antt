@@ -1,8 +1,9 @@
 use Rattle.std.proofs.Common.{◌∙◌, ap, map}
 use Rattle.zb_model.specs.State.{at_net}
-use Rattle.zb_keys.specs.Rows.{net_key}
-use Rattle.zb_keys.specs.Senders.{counted_row}
-use Rattle.zb_keys.specs.Tables.{state_of, active_bytes}
+use Rattle.zb_record.specs.RowViews.{net_key}
+use Rattle.zb_record.specs.Senders.{counted_row}
+use Rattle.zb_keys.specs.Tables.{state_of}
+use Rattle.zb_record.specs.Headings.{active_bytes}
 use Rattle.zb_keys.proofs.RuleLemmas.{counted_is_mild}
 use Rattle.zb_keys.proofs.HeardLemmas.{sound_nets, state_nets, counted_shows, counted_nets}
 use Rattle.zb_keys.proofs.ReadLemmas.{counted_none}

@@ -1,6 +1,6 @@
 use Rattle.std.proofs.Common.{◌∙◌, ap, map}
 use Rattle.zb_model.specs.State.{at_net, shown_net, dropped_net}
-use Rattle.zb_keys.specs.Rows.{net_key}
+use Rattle.zb_record.specs.RowViews.{net_key}
 use Rattle.zb_keys.specs.Tables.{state_of}
 use Rattle.zb_keys.proofs.StateLemmas.{becomes_nets, dropped_state}
 use Rattle.zb_keys.proofs.contents.Contents.drop_net.Goals as goal

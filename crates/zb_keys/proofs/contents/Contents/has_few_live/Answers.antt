@@ -1,7 +1,7 @@
 use Rattle.std.proofs.Common.{◌∙◌, sym, ap, length}
 use Rattle.std.specs.Prelude.{filter, nat_lt}
-use Rattle.zb_keys.specs.declared.net.NetRow.{NetRow}
-use Rattle.zb_keys.specs.Rows.{net_key}
+use Rattle.zb_record.specs.declared.net_row.NetRow.{NetRow}
+use Rattle.zb_record.specs.RowViews.{net_key}
 use Rattle.zb_keys.proofs.FittingLemmas.{live_count}
 use Rattle.zb_keys.proofs.contents.Contents.has_few_live.Goals as goal
 

@@ -1,6 +1,6 @@
 use Rattle.std.proofs.Common.{◌∙◌, ap, map, ◌+◌}
 use Rattle.zb_model.specs.State.{at_link, link_kept, heard}
-use Rattle.zb_keys.specs.Rows.{link_key}
+use Rattle.zb_record.specs.RowViews.{link_key}
 use Rattle.zb_keys.proofs.HeardLemmas.{state_links, link_heard}
 use Rattle.zb_keys.proofs.contents.Contents.hear_aps.Goals as goal
 

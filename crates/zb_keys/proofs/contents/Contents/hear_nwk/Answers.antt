@@ -1,6 +1,6 @@
 use Rattle.std.proofs.Common.{◌∙◌, ap, map, ◌+◌}
 use Rattle.zb_model.specs.State.{at_net, net_kept, heard}
-use Rattle.zb_keys.specs.Rows.{net_key}
+use Rattle.zb_record.specs.RowViews.{net_key}
 use Rattle.zb_keys.proofs.RuleLemmas.{heard_is_mild}
 use Rattle.zb_keys.proofs.HeardLemmas.{sound_nets, state_nets, heard_shows}
 use Rattle.zb_keys.proofs.contents.Contents.hear_nwk.Goals as goal

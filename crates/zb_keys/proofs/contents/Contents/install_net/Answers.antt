@@ -1,8 +1,8 @@
 use Rattle.std.proofs.Common.{◌∙◌, sym, ap, map, Some, None, arith, length}
 use Rattle.std.proofs.lemmas.List.{length-map}
 use Rattle.zb_model.specs.Commands.{dropped_at}
-use Rattle.zb_keys.specs.declared.net.NetRow.{NetRow}
-use Rattle.zb_keys.specs.Rows.{net_key}
+use Rattle.zb_record.specs.declared.net_row.NetRow.{NetRow}
+use Rattle.zb_record.specs.RowViews.{net_key}
 use Rattle.zb_keys.specs.Tables.{state_of}
 use Rattle.zb_keys.proofs.ReadLemmas.{few_nets}
 use Rattle.zb_keys.proofs.PlanLemmas.{install_at}

@@ -1,5 +1,5 @@
 use Rattle.std.proofs.Common.{◌∙◌, ap, map}
-use Rattle.zb_keys.specs.Rows.{net_key}
+use Rattle.zb_record.specs.RowViews.{net_key}
 use Rattle.zb_keys.specs.Tables.{state_of}
 use Rattle.zb_record.specs.Redoing.{limited}
 use Rattle.zb_keys.proofs.StateLemmas.{becomes_limited, limited_state}

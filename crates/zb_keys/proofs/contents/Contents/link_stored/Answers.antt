@@ -1,7 +1,7 @@
 use Rattle.std.proofs.Common.{◌∙◌, sym, ap}
 use Rattle.std.specs.Prelude.{find, option_map}
-use Rattle.zb_keys.specs.declared.link.LinkRow.{LinkRow}
-use Rattle.zb_keys.specs.Rows.{link_key}
+use Rattle.zb_record.specs.declared.link_row.LinkRow.{LinkRow}
+use Rattle.zb_record.specs.RowViews.{link_key}
 use Rattle.zb_keys.proofs.FindLemmas.{find_map}
 use Rattle.zb_model.specs.Fits.{link_stored}
 use Rattle.zb_model.specs.State.{is_link}

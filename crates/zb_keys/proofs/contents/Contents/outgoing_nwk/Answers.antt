@@ -1,4 +1,4 @@
-use Rattle.zb_keys.specs.Rows.{net_key}
+use Rattle.zb_record.specs.RowViews.{net_key}
 use Rattle.zb_keys.specs.Tables.{state_of}
 use Rattle.zb_keys.proofs.ReadLemmas.{outgoing_row, outgoing_none}
 use Rattle.zb_keys.proofs.contents.Contents.outgoing_nwk.Goals as goal

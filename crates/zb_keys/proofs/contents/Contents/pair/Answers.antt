@@ -1,8 +1,8 @@
 use Rattle.std.proofs.Common.{◌∙◌, sym, ap, arith, length}
 use Rattle.std.specs.Prelude.{Ok}
 use Rattle.std.proofs.lemmas.List.{length-map}
-use Rattle.zb_keys.specs.declared.pair.Pair.{Pair}
-use Rattle.zb_keys.specs.Rows.{pair_key}
+use Rattle.zb_record.specs.declared.pair_row.Pair.{Pair}
+use Rattle.zb_record.specs.RowViews.{pair_key}
 use Rattle.zb_keys.specs.Tables.{state_of}
 use Rattle.zb_keys.proofs.PlanLemmas.{pair_full, pair_new}
 use Rattle.zb_keys.proofs.contents.Contents.pair.Goals as goal

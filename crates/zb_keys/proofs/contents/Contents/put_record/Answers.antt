@@ -1,21 +1,24 @@
-use Rattle.std.proofs.Common.{◌∙◌, arith}
-use Rattle.zb_keys.proofs.WritingLemmas.{writes_then}
-use Rattle.zb_keys.proofs.RecordLemmas.{parts_are, counts}
+use Rattle.std.proofs.Common.{◌≤◌, ◌∙◌, List, length, sym, subst}
+use Rattle.std.specs.Prelude.{filter}
+use Rattle.zb_record.specs.declared.net_row.NetRow.{NetRow}
+use Rattle.zb_record.specs.declared.link_row.LinkRow.{LinkRow}
+use Rattle.zb_record.specs.declared.pair_row.Pair.{Pair}
+use Rattle.zb_record.specs.RowViews.{net_key}
+use Rattle.zb_keys.proofs.RecordLemmas.{counts, same_record}
 use Rattle.zb_keys.proofs.contents.Contents.put_record.Goals as goal
 
-pub put_net_part-at-requires : goal.put_net_part-at-requires
-put_net_part-at-requires c = let n = counts c.args.self.now c.requires.sound in record { few = n.nets; live = n.live; room = omega arith }
-
-pub put_link_part-at-requires : goal.put_link_part-at-requires
-put_link_part-at-requires c = let n = counts c.args.self.now c.requires.sound in record { few = n.links; room = omega arith }
-
-pub put_pair_part-requires : goal.put_pair_part-requires
-put_pair_part-requires c = let n = counts c.args.self.now c.requires.sound in record { few = n.pairs; room = omega arith }
+pub write_record-requires : goal.write_record-requires
+write_record-requires c =
+    let n = counts c.args.self.now c.requires.sound in
+    record {
+      few_nets = subst (λ (l : List NetRow). length l ≤ 256) (sym c.as_slice.ensures.value) n.nets;
+      few_live = subst (λ (l : List NetRow). length (filter (λ (r : NetRow). (net_key r).live) l) ≤ 2) (sym c.as_slice.ensures.value) n.live;
+      few_links = subst (λ (l : List LinkRow). length l ≤ 1024) (sym c.as_slice-2.ensures.value) n.links;
+      few_pairs = subst (λ (l : List Pair). length l ≤ 256) (sym c.as_slice-3.ensures.value) n.pairs;
+      room = c.requires.room;
+    }
 
 pub returns-clause-bytes : goal.returns-clause-bytes
 returns-clause-bytes c =
-    let one = writes_then c.args.into.now c.put_node-at.new.into c.put_counter-at.new.into 0 c.put_node-at.result c.put_counter-at.result _ _ c.put_node-at.ensures.writes c.put_counter-at.ensures.writes in
-    let two = writes_then c.args.into.now c.put_counter-at.new.into c.put_net_part-at.new.into 0 c.put_counter-at.result c.put_net_part-at.result _ _ one c.put_net_part-at.ensures.writes in
-    let three = writes_then c.args.into.now c.put_net_part-at.new.into c.put_link_part-at.new.into 0 c.put_net_part-at.result c.put_link_part-at.result _ _ two c.put_link_part-at.ensures.writes in
-    let four = writes_then c.args.into.now c.put_link_part-at.new.into c.put_pair_part.new.into 0 c.put_link_part-at.result c.put_pair_part.result _ _ three c.put_pair_part.ensures.writes in
-    four.front ∙ parts_are c.args.self.now
+    c.write_record.ensures.bytes c.args.self.now.aps_next
+    ∙ same_record c.args.self.now _ _ _ _ c.heading-heading.ensures c.as_slice.ensures.value c.as_slice-2.ensures.value c.as_slice-3.ensures.value

@@ -1,5 +1,5 @@
 use Rattle.std.proofs.Common.{◌∙◌, sym, refl, Some, None}
-use Rattle.zb_keys.specs.Rows.{link_key}
+use Rattle.zb_record.specs.RowViews.{link_key}
 use Rattle.zb_keys.specs.Tables.{state_of}
 use Rattle.zb_keys.proofs.PlanLemmas.{taking_other}
 use Rattle.zb_keys.proofs.contents.Contents.refusal.Goals as goal

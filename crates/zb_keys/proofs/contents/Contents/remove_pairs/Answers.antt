@@ -1,5 +1,5 @@
 use Rattle.std.proofs.Common.{rules, ◌∙◌, sym, ap, map, refl}
-use Rattle.zb_keys.specs.Rows.{pair_key}
+use Rattle.zb_record.specs.RowViews.{pair_key}
 use Rattle.zb_keys.specs.Tables.{state_of}
 use Rattle.std.proofs.Common.{not}
 use Rattle.zb_model.specs.State.{PairKey, names}

@@ -1,7 +1,8 @@
 use Rattle.std.proofs.Common.{◌∙◌, ap, map}
 use Rattle.zb_model.specs.State.{at_net, reserved}
-use Rattle.zb_keys.specs.Rows.{net_key}
-use Rattle.zb_keys.specs.Tables.{state_of, active_bytes}
+use Rattle.zb_record.specs.RowViews.{net_key}
+use Rattle.zb_keys.specs.Tables.{state_of}
+use Rattle.zb_record.specs.Headings.{active_bytes}
 use Rattle.zb_keys.proofs.StateLemmas.{becomes_nets, reserved_state}
 use Rattle.zb_keys.proofs.contents.Contents.reserve_nwk.Goals as goal
 

@@ -3,8 +3,8 @@ use Rattle.std.specs.Prelude.{vec_len, vec_capacity}
 use Rattle.std.specs.List.{list_any}
 use Rattle.zb_node_types.specs.Changes.{model_attribute}
 use Rattle.zb_model.specs.State.{at_link, applied, is_link, is_live_of, revived}
-use Rattle.zb_keys.specs.declared.link.LinkRow.{LinkRow}
-use Rattle.zb_keys.specs.Rows.{link_key}
+use Rattle.zb_record.specs.declared.link_row.LinkRow.{LinkRow}
+use Rattle.zb_record.specs.RowViews.{link_key}
 use Rattle.zb_keys.specs.Tables.{state_of}
 use Rattle.zb_keys.proofs.StateLemmas.{linked_state, linked_same, linked_new, linked_room, told_of, becomes_links}
 use Rattle.zb_keys.proofs.contents.Contents.set_link.Goals as goal

@@ -2,8 +2,8 @@ use Rattle.std.proofs.Common.{◌≡◌, ◌∙◌, sym, ap, refl, Some, true, f
 use Rattle.std.specs.Prelude.{find, option_map}
 use Rattle.zb_model.specs.Answer.{row_is_started, is_started_key}
 use Rattle.zb_model.specs.State.{same_key}
-use Rattle.zb_keys.specs.declared.net.NetRow.{NetRow}
-use Rattle.zb_keys.specs.Rows.{net_key}
+use Rattle.zb_record.specs.declared.net_row.NetRow.{NetRow}
+use Rattle.zb_record.specs.RowViews.{net_key}
 use Rattle.zb_keys.specs.Tables.{state_of}
 use Rattle.zb_keys.proofs.PlanLemmas.{start_is}
 use Rattle.zb_keys.proofs.contents.Contents.start_of.Goals as goal

@@ -1,7 +1,7 @@
 use Rattle.std.proofs.Common.{◌∙◌, ap, map}
 use Rattle.zb_model.specs.State.{at_net}
-use Rattle.zb_keys.specs.Rows.{net_key}
-use Rattle.zb_keys.specs.Senders.{live_floor}
+use Rattle.zb_record.specs.RowViews.{net_key}
+use Rattle.zb_record.specs.Senders.{live_floor}
 use Rattle.zb_keys.specs.Tables.{state_of}
 use Rattle.zb_keys.proofs.StateLemmas.{becomes_nets, stored_state}
 use Rattle.zb_keys.proofs.contents.Contents.store_nwk.Goals as goal

@@ -2,8 +2,8 @@ use Rattle.std.proofs.Common.{◌∙◌, sym, ap, Some, None, ◌&&◌}
 use Rattle.std.specs.Prelude.{Ok}
 use Rattle.zb_model.specs.State.{last_where}
 use Rattle.std.specs.Prelude.{nat_eq}
-use Rattle.zb_keys.specs.declared.net.NetRow.{NetRow}
-use Rattle.zb_keys.specs.Rows.{net_key}
+use Rattle.zb_record.specs.declared.net_row.NetRow.{NetRow}
+use Rattle.zb_record.specs.RowViews.{net_key}
 use Rattle.zb_keys.specs.Tables.{state_of}
 use Rattle.zb_keys.proofs.PlanLemmas.{newest_found, switch_found}
 use Rattle.zb_keys.proofs.contents.Contents.switch.Goals as goal

@@ -1,7 +1,0 @@
-use Rattle.zb_keys.specs.Rows.{net_key}
-use Rattle.zb_record.specs.Redoing.{limited}
-use Rattle.zb_keys.proofs.Mapping.{Mapped}
-use Rattle.zb_keys.proofs.net.limit_nets.Given as goal
-
-abbrev pub invariant-loop-row : goal.invariant-loop-row
-invariant-loop-row l = Mapped net_key (limited l.limit) l.row-index l.initial.rows l.rows

@@ -1,5 +1,0 @@
-use Rattle.zb_keys.proofs.SenderLemmas.{Passed}
-use Rattle.zb_keys.proofs.net.place.Given as goal
-
-abbrev pub invariant-loop-i : goal.invariant-loop-i
-invariant-loop-i l = Passed l.floors l.sender.0 l.i

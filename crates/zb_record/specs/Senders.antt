@@ -1,0 +1,26 @@
+-- The floors of senders in a row of the program, which has room for 64 of them.
+use Rattle.std.specs.Prelude.{◌≡◌, ℕ, ◌+◌, ◌≤◌, List, ◌∷◌, ◌++◌, length, map, take, drop, ◌≢◌, nat_lt, if◌then◌else◌}
+use Rattle.zb_model.specs.State.{NetKey, floor_stored, net_floor, next_at}
+use Rattle.zb_record.specs.declared.net_row.SenderFloor.{SenderFloor}
+use Rattle.zb_record.specs.RowViews.{heard_floor}
+
+abbrev pub HasRoom : NetKey → Type 0
+HasRoom r = length r.floors ≤ 64
+
+-- a floor is stored where the row is in use
+abbrev pub live_floor : ℕ → ℕ → NetKey → NetKey
+live_floor sender value r = if r.live then net_floor sender value r else r
+
+-- a sender's place among ascending ones: those before it are of smaller senders, and the one there isn't
+pub record IsPlace (floors : List SenderFloor) (sender place : ℕ) : Type 0 where
+  pub within : place ≤ length floors
+  pub before : (value : ℕ) → floor_stored sender value (map heard_floor floors) ≡ map heard_floor (take place floors) ++ floor_stored sender value (map heard_floor (drop place floors))
+  pub here : (f : SenderFloor) (rest : List SenderFloor) → drop place floors ≡ f ∷ rest → sender ≤ f.sender.0
+
+-- the floor at that place isn't of that sender
+abbrev pub IsAbsent : List SenderFloor → ℕ → ℕ → Type 0
+IsAbsent floors sender place = (f : SenderFloor) (rest : List SenderFloor) → drop place floors ≡ f ∷ rest → f.sender.0 ≢ sender
+
+-- a reserved counter is used
+abbrev pub counted_row : NetKey → NetKey
+counted_row r = if nat_lt r.next r.limit then next_at (r.next + 1) r else r

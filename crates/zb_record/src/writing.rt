@@ -1,0 +1,22 @@
+//! Writing fields into a buffer, one behind the other.
+ghost use Rattle.std.specs.Prelude.{◌≡◌, ◌+◌, ◌≤◌, ◌++◌, length, take};
+ghost use Rattle.zb_model.specs.Record.{worth};
+
+/// Writes a piece at a place, and answers the place behind it.
+pub(crate) fn put(into: &mut [u8], at: usize, piece: &[u8]) -> usize
+    requires { at + length piece.now ≤ length into.old }
+    ensures front { take result into.new ≡ take at into.old ++ piece.now }
+    ensures end { result ≡ at + length piece.now }
+{
+    let end = at + piece.len();
+    into[at..end].copy_from_slice(piece);
+    end
+}
+
+/// Answers what a bit of a flags byte is worth.
+pub(crate) fn worth(bit: u8, set: bool) -> u8
+    ensures value { result ≡ worth bit set }
+    ensures small { result ≤ bit }
+{
+    if set { bit } else { 0 }
+}
