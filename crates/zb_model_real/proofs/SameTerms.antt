@@ -7,7 +7,7 @@ use Rattle.zb_base.specs.declared.label.Layer.TheVariants as layer
 use Rattle.zb_node_types.specs.Changes.{model_layer}
 use Rattle.zb_model.specs.Tools.{sealing_key as model_key}
 use Rattle.zb_seal.specs.Keys.{sealing_key}
-use Rattle.zb_seal.specs.Terms.{model_label, model_term}
+use Rattle.zb_trace.specs.Terms.{model_label, model_term}
 use Rattle.zb_seal.specs.Wire.{wire}
 use Rattle.zb_seal.specs.declared.term.Term.{Term}
 use Rattle.zb_model_real.specs.Real.{real, term_of, layer_of, label_of}

@@ -21,7 +21,7 @@ use Rattle.zb_base.specs.declared.label.Layer.TheVariants as layer
 use Rattle.zb_seal.specs.Keys.{sealing_key}
 use Rattle.zb_seal.specs.Opening as opening
 use Rattle.zb_seal.specs.Wire.{real_level}
-use Rattle.zb_seal.specs.Terms.{model_term}
+use Rattle.zb_trace.specs.Terms.{model_term}
 use Rattle.zb_seal.specs.declared.envelope.Envelope.{Envelope}
 use Rattle.zb_model_real.specs.Real.{eui_of, key_of, opened, nwk_auxiliary, nwk_shown, real}
 use Rattle.zb_trace_watch.specs.Readers.{auxiliary, aps_shown}

@@ -26,7 +26,7 @@ use Rattle.zb_nwk.specs.declared.auxiliary.NwkAux.{NwkAux}
 use Rattle.zb_nwk.specs.declared.fault.NwkError.{NwkError}
 use Rattle.zb_nwk.specs.declared.frame.NwkFrame.{NwkFrame}
 use Rattle.zb_seal.specs.Opening.{opened_nwk, opened_aps}
-use Rattle.zb_seal.specs.Terms.{model_term}
+use Rattle.zb_trace.specs.Terms.{model_term}
 use Rattle.zb_seal.specs.Wire.{wire}
 use Rattle.zb_seal.specs.declared.envelope.OpenError.{OpenError}
 use Rattle.zb_seal.specs.declared.term.Term.{Term}

@@ -11,7 +11,7 @@ ghost use Rattle.zb_model_laws.specs.Premises.{Premises};
 ghost use Rattle.zb_model.specs.Play.{Schedule};
 ghost use Rattle.zb_model.specs.Tools.{sealing_key as model_key};
 ghost use Rattle.zb_seal.specs.Keys.{sealing_key};
-ghost use Rattle.zb_seal.specs.Terms.{model_label, model_term};
+ghost use Rattle.zb_trace.specs.Terms.{model_label, model_term};
 ghost use Rattle.zb_seal.specs.Wire.{wire};
 ghost use Rattle.zb_seal.specs.declared.term.Term.{Term};
 ghost use Rattle.zb_model_real.specs.Headline.{Holds};

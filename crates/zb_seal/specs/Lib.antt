@@ -1,4 +1,3 @@
-pub mod Terms
 pub mod Keys
 pub mod Wire
 pub mod Opening

@@ -118,8 +118,8 @@ read_begins bytes s e = by_result (record_at bytes) refl e
     by_result (Err left) is e = absurd (cc)
 
 -- the byte of a role that is read
-role_byte_is : (b : ℕ) (r : Role) → role_of b ≡ Some r → b ≡ role_byte (model_role r)
-role_byte_is b r e = by_tests (b == 0) (b == 1) (b == 2) refl refl refl e
+byte_of_role : (b : ℕ) (r : Role) → role_of b ≡ Some r → b ≡ role_byte (model_role r)
+byte_of_role b r e = by_tests (b == 0) (b == 1) (b == 2) refl refl refl e
   where
     is_role : (x : Role) → Some x ≡ Some r → x ≡ r
     is_role x e = cc
@@ -133,7 +133,7 @@ role_byte_is b r e = by_tests (b == 0) (b == 1) (b == 2) refl refl refl e
 
 second_byte : (bytes : List ℕ) (s : NodeState) → RoleRead bytes s → get_or bytes 1 3 ≡ role_byte s.role
 second_byte bytes s read =
-    ap (λ (l : List ℕ). get_or l 1 3) read.begins.parts ∙ role_byte_is read.begins.second read.read_role read.begins.role_is ∙ ap role_byte (sym read.role_is)
+    ap (λ (l : List ℕ). get_or l 1 3) read.begins.parts ∙ byte_of_role read.begins.second read.read_role read.begins.role_is ∙ ap role_byte (sym read.role_is)
 
 role_of_byte : (a b : model.Role) → role_byte a ≡ role_byte b → a ≡ b
 role_of_byte Centre Centre e = refl

@@ -1,4 +1,5 @@
 pub mod Kinds
+pub mod Terms
 pub mod Text
 pub mod Views
 pub mod Writing

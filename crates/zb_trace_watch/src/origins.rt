@@ -1,7 +1,7 @@
 //! Where what was accepted, and the keys that were taken in, came from.
 ghost use Rattle.std.specs.Prelude.{◌≡◌, ◌||◌, ◌&&◌, ◌⊎◌, ℕ, List, OnOk, Some, bytes_eq, false, true, not};
 ghost use Rattle.zb_model.specs.Secrets.{same_term};
-ghost use Rattle.zb_seal.specs.Terms.{model_term};
+ghost use Rattle.zb_trace.specs.Terms.{model_term};
 ghost use Rattle.zb_seal.specs.declared.term.Term.{Term as AnyTerm};
 ghost use Rattle.zb_trace_watch.specs.Origins.{IsTraced, came};
 ghost use Rattle.zb_trace_watch.specs.Sets.{eui_cmp, is_carried, is_key, is_node, key_cmp, keys_at, meet, node_has};
