@@ -112,8 +112,8 @@ const CODE: &str = "83FED3407A939723A5C639B26916D505C3B5";
 const KEY: &str = "000102030405060708090A0B0C0D0E0F";
 
 /// A capture file without check sequences: a packet whose payload is the first of the frames above.
-const CAPTURE_FILE: &[u8] =
-    b"\xD4\xC3\xB2\xA1\x02\x00\x04\x00\x00\x00\x00\x00\x00\x00\x00\x00\x00\x00\x00\x00\xE6\x00\x00\x00\
+const CAPTURE_FILE: [u8; 85] =
+    *b"\xD4\xC3\xB2\xA1\x02\x00\x04\x00\x00\x00\x00\x00\x00\x00\x00\x00\x00\x00\x00\x00\xE6\x00\x00\x00\
       \x00\x00\x00\x00\x00\x00\x00\x00\x2D\x00\x00\x00\x2D\x00\x00\x00\x41\x88\x01\x62\x1A\x2B\x1A\x00\
       \x00\x08\x02\x2B\x1A\x00\x00\x1E\x00\x28\x00\x00\x00\x00\x01\x00\x00\x00\x00\x4B\x12\x00\x00\x63\
       \xDD\x60\x3D\x81\x98\x63\x1D\x3B\x76\x5B\x34\xBA\x85";
@@ -123,6 +123,12 @@ const CAPTURE_FILE_SHOWN: &[u8] = b"1 nwk key 1 00124B0000000001 0 0001000004010
 key 1 000102030405060708090A0B0C0D0E0F given
 end 1 1 1
 packets 1 0 0
+";
+
+/// What is shown of a file whose one packet has a wrong check sequence.
+const PASSED_OVER: &[u8] = b"key 1 000102030405060708090A0B0C0D0E0F given
+end 0 1 1
+packets 1 1 0
 ";
 
 /// What a run came to: how it ended, and what the sink took.
@@ -152,7 +158,10 @@ fn over<H: AllocGlobal + Threads + Sync>(
 
 #[test]
 fn worked_runs_have_their_outputs(rt: HostRuntime) -> Result<(), Fail> {
-    let runs: [(&[&str], &[u8], &[u8]); 8] = [
+    // the packet of the capture file where the last two bytes of each are its check sequence
+    let mut checked = CAPTURE_FILE;
+    checked[20] = 195;
+    let runs: [(&[&str], &[u8], &[u8]); 11] = [
         (&["play"], TWO_FRAMES, TWO_FRAMES_PLAYED),
         (&["play"], WITHOUT_A_KEY, WITHOUT_A_KEY_PLAYED),
         // comments, empty lines, carriage returns, and a last line without an end
@@ -167,8 +176,15 @@ fn worked_runs_have_their_outputs(rt: HostRuntime) -> Result<(), Fail> {
             b"",
             b"66B6900981E1EE3CA4206B6B861C02BB\n",
         ),
-        (&["sniff", "1", KEY], CAPTURE_FILE, CAPTURE_FILE_SHOWN),
-        (&["sniff", "4", KEY], CAPTURE_FILE, CAPTURE_FILE_SHOWN),
+        (
+            &["install", "83FED3407A932B70"],
+            b"",
+            b"CD4FA064773F46941EC986C09963D1A8\n",
+        ),
+        (&["sniff", "1", KEY], &CAPTURE_FILE, CAPTURE_FILE_SHOWN),
+        (&["sniff", "4", KEY], &CAPTURE_FILE, CAPTURE_FILE_SHOWN),
+        (&["sniff", "1", KEY], &checked, PASSED_OVER),
+        (&["sniff", "4", KEY], &checked, PASSED_OVER),
         (&["inspect", "2"], b"", b"end 0 0 1\n"),
     ];
     for (words, input, output) in runs {
@@ -382,12 +398,13 @@ fn a_source_or_a_sink_that_fails_ends_the_run(rt: HostRuntime) -> Result<(), Fai
     Ok(())
 }
 
-/// Whether words end a run over the longest input of line feeds as a text says, and are told that one byte more is too
-/// long.
+/// Whether words end a run over the longest input of line feeds as a text says, with this output, and are told that one
+/// byte more is too long.
 fn take_the_longest<H: AllocGlobal + Threads + Sync>(
     rt: &H,
     words: &[&str],
     text: &str,
+    output: &[u8],
 ) -> Result<bool, Fail> {
     let mut input = vec![in rt.alloc(); 10u8; 16_777_217]?;
     let long = over(rt, words, input.as_slice(), &[], &[])?;
@@ -395,19 +412,20 @@ fn take_the_longest<H: AllocGlobal + Threads + Sync>(
     let longest = over(rt, words, input.as_slice(), &[], &[])?;
     Ok(
         long.status == Status::TooLong { limit: 16_777_216 }
-            && longest.status.text().as_str() == text,
+            && longest.status.text().as_str() == text
+            && longest.sink.taken() == output,
     )
 }
 
 #[test]
 fn a_schedule_is_too_long_past_the_longest(rt: HostRuntime) -> Result<(), Fail> {
-    assert!(rt; take_the_longest(&rt, &["play"], "refused 16777217 no-centre")?);
+    assert!(rt; take_the_longest(&rt, &["play"], "refused 16777217 no-centre", b"")?);
     Ok(())
 }
 
 #[test]
 fn a_capture_is_too_long_past_the_longest(rt: HostRuntime) -> Result<(), Fail> {
-    assert!(rt; take_the_longest(&rt, &["inspect", "2"], "")?);
+    assert!(rt; take_the_longest(&rt, &["inspect", "2"], "", b"end 0 0 1\n")?);
     Ok(())
 }
 

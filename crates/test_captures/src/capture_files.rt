@@ -109,12 +109,17 @@ fn counted(alloc: Global, file: &[u8]) -> Option<Result<Counts, PcapError>> {
     }
 }
 
-/// Whether a file has one frame, of these bytes.
+/// Whether a file has one packet, whose frame has these bytes.
 fn has_one_frame(alloc: Global, file: &[u8], bytes: &[u8]) -> bool {
     match extract(alloc, file, &[]) {
         Ok(found) => {
             let frames = &found.capture.frames;
-            frames.len() == 1 && frames.from(0).at(0).as_slice() == bytes
+            let counts = Counts {
+                packets: 1,
+                bad_check: 0,
+                other: 0,
+            };
+            found.counts == counts && frames.len() == 1 && frames.from(0).at(0).as_slice() == bytes
         }
         Err(_) => false,
     }

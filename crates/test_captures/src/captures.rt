@@ -161,7 +161,28 @@ fn several_jobs_read_a_capture_whole_and_in_parts(rt: HostRuntime) -> Result<(),
         &[u8],
         u32,
         Result<(usize, usize, usize), (u32, CaptureCause)>,
-    ); 6] = [
+    ); 12] = [
+        (
+            b"# of a network\r\nkey 000102030405060708090A0B0C0D0E0F\r\n\naddr 1A2B 00124B0000000001\nframe 08\n\
+              frame 0802\r\ncode 83FED3407A939723A5C639B26916D505C3B5\naddr 1A2C 00124B0000000002\nframe 080203",
+            b"",
+            0,
+            Ok((2, 2, 3)),
+        ),
+        (b"", b"", 0, Ok((0, 0, 0))),
+        (b"frame 08", b"", 0, Ok((0, 0, 1))),
+        (
+            b"frame 08\nframe\nframe 0802\n",
+            b"",
+            0,
+            Err((2, CaptureCause::Syntax)),
+        ),
+        (
+            b"frame 08\nframe 0802\nframe 0",
+            b"",
+            0,
+            Err((3, CaptureCause::Syntax)),
+        ),
         (b"", b"\n", 5, Ok((0, 0, 0))),
         (
             b"# of a network\r\nkey 000102030405060708090A0B0C0D0E0F\r\n\naddr 1A2B 00124B0000000001\nframe 08\n",
@@ -185,6 +206,12 @@ fn several_jobs_read_a_capture_whole_and_in_parts(rt: HostRuntime) -> Result<(),
         (
             b"",
             b"key 000102030405060708090A0B0C0D0E0F\n",
+            256,
+            Ok((256, 0, 0)),
+        ),
+        (
+            b"",
+            b"key 000102030405060708090A0B0C0D0E0F\n",
             257,
             Err((257, CaptureCause::TooMany)),
         ),
@@ -193,7 +220,7 @@ fn several_jobs_read_a_capture_whole_and_in_parts(rt: HostRuntime) -> Result<(),
         let text = repeated(rt.alloc(), front, piece, count)?;
         let text = &text.as_slice()[..text.len().min(65_536)];
         let wanted = Some(wanted.map_err(|(line, cause)| CaptureError { line, cause }));
-        for jobs in [1, 2, 64] {
+        for jobs in [1, 2, 3, 64] {
             let whole = counted(read_in_pieces(&rt, rt.alloc(), jobs, text));
             let parts = counted(read_in_parts(&rt, jobs, text));
             assert!(rt; whole == wanted && parts == wanted);

@@ -35,11 +35,11 @@ fn cut_frames(rt: HostRuntime) {
     }
 }
 
-// A control byte, a counter and an auxiliary control byte, and the fault.
-const REFUSED: [([u8; 3], ApsError); 3] = [
-    ([0x03, 0x00, 0x20], ApsError::FrameType { found: 3 }),
-    ([0x04, 0x00, 0x20], ApsError::Delivery { found: 1 }),
-    ([0x21, 0x00, 0x28], ApsError::KeyId { found: 1 }),
+// A control byte, a counter and an auxiliary control byte, or fewer, and the fault.
+const REFUSED: [(&[u8], ApsError); 3] = [
+    (&[0x03], ApsError::FrameType { found: 3 }),
+    (&[0x04], ApsError::Delivery { found: 1 }),
+    (&[0x21, 0x00, 0x28], ApsError::KeyId { found: 1 }),
 ];
 
 #[test]

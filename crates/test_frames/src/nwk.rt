@@ -37,23 +37,23 @@ fn cut_frames(rt: HostRuntime) {
     }
 }
 
-// The control word, the auxiliary control byte behind a header of 8 bytes, and the fault.
-const REFUSED: [([u8; 2], u8, NwkError); 5] = [
-    ([0x0B, 0x00], 0x28, NwkError::FrameType { found: 3 }),
-    ([0x0A, 0x00], 0x28, NwkError::FrameType { found: 2 }),
-    ([0x0C, 0x00], 0x28, NwkError::Version { found: 3 }),
-    ([0x08, 0x02], 0x20, NwkError::KeyId { found: 0 }),
-    ([0x08, 0x02], 0x0D, NwkError::NoSource),
+// The control word, the auxiliary control byte behind a header of 8 bytes, how many bytes there are, and the fault.
+const REFUSED: [([u8; 2], u8, usize, NwkError); 5] = [
+    ([0x0B, 0x00], 0x28, 2, NwkError::FrameType { found: 3 }),
+    ([0x0A, 0x00], 0x28, 2, NwkError::FrameType { found: 2 }),
+    ([0x0C, 0x00], 0x28, 2, NwkError::Version { found: 3 }),
+    ([0x08, 0x02], 0x20, 9, NwkError::KeyId { found: 0 }),
+    ([0x08, 0x02], 0x0D, 9, NwkError::NoSource),
 ];
 
 #[test]
 fn refused_fields(rt: HostRuntime) {
-    for (control, aux_control, fault) in &REFUSED {
+    for (control, aux_control, count, fault) in &REFUSED {
         let mut bytes = SECURED;
         bytes[0] = control[0];
         bytes[1] = control[1];
         bytes[8] = *aux_control;
-        assert!(rt; body_size(&bytes[..9]) == Err(*fault));
+        assert!(rt; body_size(&bytes[..(*count).min(40)]) == Err(*fault));
     }
 }
 

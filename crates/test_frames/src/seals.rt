@@ -574,6 +574,10 @@ const LAST_HOP: [u8; 62] = [
 fn a_last_hop(rt: HostRuntime) {
     assert!(rt; open_nwk(&LAST_HOP, &NETWORK_KEY) == Err(OpenError::NotSecured));
     let content = &LAST_HOP[8..];
+    match zb_nwk::read(&LAST_HOP) {
+        Ok(frame) => assert!(rt; frame.body.as_slice() == content),
+        Err(_) => assert!(rt; false),
+    }
     match zb_aps::read(content) {
         Ok(frame) => {
             assert!(rt; envelope_aps(content, &frame).is_ok());
