@@ -5,7 +5,7 @@ use Rattle.hex.specs.Hex.{encode_upper}
 use Rattle.zb_capture.specs.Grammar.{captured}
 use Rattle.zb_capture.specs.declared.capture.Capture.{Capture}
 use Rattle.zb_capture.specs.declared.fault.CaptureError.{CaptureError}
-use Rattle.zb_gen.specs.Made.{made}
+use Rattle.zb_gen.specs.Made.{made_schedule}
 use Rattle.zb_inspect.specs.Report.{report_of}
 use Rattle.zb_install.specs.Code.{code_of_text, code_key}
 use Rattle.zb_install.specs.declared.code_error.CodeError.{CodeError}
@@ -78,7 +78,7 @@ sniff_answer (Err e) = Refuses e.place (pcap_cause e.cause)
 abbrev pub answer : Task → Bytes → Answer
 answer Playing input = within_limit input (play_answer (schedule input))
 answer (Installing code) input = install_answer (code_of_text code)
-answer (Making count) input = make_answer (made 0 count)
+answer (Making count) input = make_answer (made_schedule 0 count)
 answer (Inspecting jobs) input = within_limit input (inspect_answer (captured input))
 answer (Sniffing jobs keys) input = within_limit input (sniff_answer (extracted keys input))
 

@@ -2,7 +2,7 @@
 use Rattle.std.specs.Prelude.{◌≡◌, ℕ, List, Option, Ok, IfSome}
 use Rattle.std.specs.Io.KnownBytes.{Appends, IsAtEnd, Keeps}
 use Rattle.zb_base.specs.Outside.{AppendsFront, Rose}
-use Rattle.zb_gen.specs.Made.{made}
+use Rattle.zb_gen.specs.Made.{made_schedule}
 use Rattle.zb_model.specs.Data.{Bytes}
 use Rattle.zb_model.specs.Lines.{Line}
 use Rattle.zb_model.specs.FirstPath.{Plan, Lawful, Fresh, Counted}
@@ -82,7 +82,7 @@ pub record Played (input : Bytes) (before after : Option Bytes) : Type 0 where
 -- A schedule was made, and its printed text was written, which is a text that reads as that schedule.
 pub record Made (count : ℕ) (before after : Option Bytes) : Type 0 where
   pub plan : sched.Schedule
-  pub is : made 0 count ≡ Ok plan
+  pub is : made_schedule 0 count ≡ Ok plan
   pub valid : IsSchedule plan
   pub reads : schedule_in (printed plan) ≡ Ok plan
   pub written : Appends before after (printed plan)

@@ -1,6 +1,6 @@
 //! The command `make`.
 ghost use Rattle.std.specs.Prelude.{◌≡◌, ◌≤◌, Some};
-ghost use Rattle.zb_gen.specs.Made.{made};
+ghost use Rattle.zb_gen.specs.Made.{made_schedule};
 ghost use Rattle.zb_sched.specs.Schedules.{schedule_of};
 ghost use Rattle.zb_sched.specs.Printed.{printed};
 ghost use Rattle.tc_cli.specs.Answers.{make_answer, Writes};
@@ -15,7 +15,7 @@ use zb_sched::{Schedule, write};
 /// Writes the made schedule of start value 0 for `count` routers and devices.
 pub(crate) fn make_schedule<W: Sink>(alloc: Global, count: u32, output: &mut W) -> Status
     requires { (1 ≤ count) × (count ≤ 60) }
-    ensures ends { Ends result (Some (make_answer (made 0 count))) (W.taken output.old) (W.taken output.new)
+    ensures ends { Ends result (Some (make_answer (made_schedule 0 count))) (W.taken output.old) (W.taken output.new)
         (W.faults output.old) (W.faults output.new) }
     ensures made { result ≡ Status.Ok → Made count (W.taken output.old) (W.taken output.new) }
     ensures read_fault { result ≡ Status.ReadFault → ⊥ }

@@ -6,7 +6,7 @@ use Rattle.zb_node_types.specs.declared.change.Change.TheVariants.{Reserve}
 use Rattle.zb_node_types.specs.Changes.{edits}
 use Rattle.zb_host.specs.declared.plan.Plan.{Plan}
 use Rattle.zb_model.specs.Data.{Centre, Nwk}
-use Rattle.zb_model.specs.State.{NodeState, active_row, next_counter, stored_limit, counted, applied_all, shown, greatest_counter}
+use Rattle.zb_model.specs.State.{NodeState, active_row, next_counter, stored_limit, after_counting, applied_all, shown, greatest_counter}
 use Rattle.zb_stored_tables.specs.Stored.{IsStorable}
 use Rattle.test_tables.specs.declared.sealer.SealerEvent.{SealerEvent}
 use Rattle.test_tables.specs.declared.sealer.SealerEvent.TheVariants.{Rest, Seal}
@@ -42,7 +42,7 @@ pub record IsPlan (c : Sealing) (e : SealerEvent) (p : Plan (Option ℕ)) : Type
 -- a seal uses its counter
 abbrev pub after_out : Option ℕ → NodeState → NodeState
 after_out None s = s
-after_out (Some counter) s = counted Nwk s
+after_out (Some counter) s = after_counting Nwk s
 
 abbrev pub IsAfter : Sealing → Plan (Option ℕ) → Sealing → Type 0
 IsAfter c p d = d ≡ record { tables = after_out p.out (shown (applied_all (edits p.changes.items) c.tables)); block = c.block }

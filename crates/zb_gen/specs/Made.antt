@@ -96,5 +96,5 @@ made_lines start n =
     ++ map (λ k. late_line start n (88 * n + 8 + 2 * k)) (range_with_len 0 (10 * n)))))))))
 
 -- The made schedule, or the first of its lines that no schedule has there, with the cause.
-abbrev pub made : ℕ → ℕ → Result Schedule SchedError
-made start n = schedule_in (page (made_lines start n))
+abbrev pub made_schedule : ℕ → ℕ → Result Schedule SchedError
+made_schedule start n = schedule_in (page (made_lines start n))

@@ -6,7 +6,7 @@ ghost use Rattle.zb_sched.specs.Printed.{printed};
 ghost use Rattle.zb_sched.specs.Reading.{schedule_in};
 ghost use Rattle.zb_sched.specs.Valid.{IsSchedule};
 ghost use Rattle.zb_text.specs.Pages.{page};
-ghost use Rattle.zb_gen.specs.Made.{made, made_lines};
+ghost use Rattle.zb_gen.specs.Made.{made_schedule, made_lines};
 ghost use Rattle.zb_gen.specs.Faults.{Makes};
 ghost use Rattle.zb_gen.specs.declared.maker.GenFault.TheVariants.{NoMemory as lacks};
 
@@ -39,7 +39,7 @@ impl From<AllocError> for GenFault {
 #[tactic(auto, using(crate::proofs::Lengths::made_length))]
 pub fn make(alloc: Global, start: u32, n: u32) -> Result<Schedule, GenFault>
     requires { (1 ≤ n) × (n ≤ 60) }
-    ensures exact { Makes result (made start n) }
+    ensures exact { Makes result (made_schedule start n) }
     ensures valid { IfOk result (λ schedule. IsSchedule (schedule_of schedule)) }
     ensures again { IfOk result (λ schedule. schedule_in (printed (schedule_of schedule)) ≡ Ok (schedule_of schedule)) }
 {

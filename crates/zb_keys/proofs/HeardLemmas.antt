@@ -5,7 +5,7 @@ use Rattle.std.specs.Vec.{with_items}
 use Rattle.std.proofs.lemmas.List.{with_items_is}
 use borrow.Author.Tests.{lt-ltb}
 use Rattle.zb_model.specs.Data.{Bytes, Nwk}
-use Rattle.zb_model.specs.State.{NodeState, NetKey, LinkKey, same_key, at_net, at_link, is_link, shown_net, next_at, net_kept, link_kept, counted, of_active, next_counter, stored_limit, active_row}
+use Rattle.zb_model.specs.State.{NodeState, NetKey, LinkKey, same_key, at_net, at_link, is_link, shown_net, next_at, net_kept, link_kept, after_counting, of_active, next_counter, stored_limit, active_row}
 use Rattle.zb_model.specs.Fits.{keeps_rules, keys_differ, all_apart}
 use Rattle.zb_keys.specs.declared.contents.Contents.{Contents}
 use Rattle.zb_record.specs.declared.net_row.NetRow.{NetRow}
@@ -70,8 +70,8 @@ pub state_links : (a : Contents) (rows : List LinkRow) (links : List LinkKey) �
 state_links a rows links long is = ap (λ l. record (state_of a) { links = map link_key l }) (with_items_is a.links rows long) ∙ ap (λ l. record (state_of a) { links = l }) is
 
 -- the counter of the active key is reserved, so counting it is counting the row
-pub counted_nets : (s : NodeState) (key : Bytes) → s.active ≡ Some key → keeps_rules s ≡ true → next_counter Nwk s < stored_limit Nwk s → record s { nets = at_net key counted_row s.nets } ≡ counted Nwk s
-unfolding counted next_counter stored_limit active_row keys_differ
+pub counted_nets : (s : NodeState) (key : Bytes) → s.active ≡ Some key → keeps_rules s ≡ true → next_counter Nwk s < stored_limit Nwk s → record s { nets = at_net key counted_row s.nets } ≡ after_counting Nwk s
+unfolding after_counting next_counter stored_limit active_row keys_differ
 counted_nets s key active kept reserved =
     let apart = (both (all_apart (λ (a b : NetKey). same_key a.key b.key) s.nets) _ (rules_of s kept).keys).0 in
     let nets : at_net key counted_row s.nets ≡ at_net key (λ (r : NetKey). next_at (r.next + 1) r) s.nets =

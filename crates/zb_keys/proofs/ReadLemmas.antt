@@ -5,7 +5,7 @@ use Rattle.zb_base.specs.declared.key.Key.{Key}
 use Rattle.zb_counter.specs.declared.sending.Outgoing.{Outgoing}
 use Rattle.zb_model.specs.Data.{Nwk}
 use Rattle.zb_model.specs.State as model
-use Rattle.zb_model.specs.State.{NodeState, NetKey, same_key, counted, active_row, net_of_active, next_counter, stored_limit, with_declared, declared_at, sender_floor, floor_of_sender}
+use Rattle.zb_model.specs.State.{NodeState, NetKey, same_key, after_counting, active_row, net_of_active, next_counter, stored_limit, with_declared, declared_at, sender_floor, floor_of_sender}
 use Rattle.zb_model.specs.Fits.{keeps_rules, rows_have_room, keys_differ, at_most_two_live, active_is_live, partners_agree, links_are_marked, floors_are_kept, limits_are_started, role_is_kept, pairs_are_kept}
 use Rattle.zb_keys.specs.declared.contents.Contents.{Contents}
 use Rattle.zb_record.specs.declared.net_row.NetRow.{NetRow}
@@ -19,8 +19,8 @@ use borrow.Author.Tests.{leb-true}
 use Rattle.zb_keys.proofs.FindLemmas.{find_map, position_map, position_below}
 use Rattle.zb_keys.proofs.StateLemmas.{both, rules_of}
 
-pub counted_none : (s : NodeState) → s.active ≡ None → s ≡ counted Nwk s
-unfolding counted
+pub counted_none : (s : NodeState) → s.active ≡ None → s ≡ after_counting Nwk s
+unfolding after_counting
 counted_none s none = ap (λ a. record s { nets = model.of_active (λ (r : NetKey). model.next_at (r.next + 1) r) a s.nets }) (sym none)
 
 pub active_found : (a : Contents) (key : Key) (row : Option NetRow) → a.active ≡ Some key → row ≡ find (λ (r : NetRow). same_key (net_key r).key key.0) a.nets.items → option_map net_key row ≡ active_row (state_of a)

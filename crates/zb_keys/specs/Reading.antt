@@ -3,7 +3,7 @@ use Rattle.std.specs.Prelude.{ℕ, List, Option, Some, None, position, slice_get
 use Rattle.zb_counter.specs.declared.receiving.Floor.{Floor}
 use Rattle.zb_counter.specs.declared.sending.Outgoing.{Outgoing}
 use Rattle.zb_model.specs.Data.{Bytes, Layer, Nwk, Aps}
-use Rattle.zb_model.specs.State.{NodeState, SenderFloor, NetKey, LinkKey, same_key, sender_floor, heard, next_counter, stored_limit}
+use Rattle.zb_model.specs.State.{NodeState, SenderFloor, NetKey, LinkKey, same_key, sender_floor, after_hearing, next_counter, stored_limit}
 
 -- the place of the active network key among the rows
 abbrev pub place_of_key : Option Bytes → List NetKey → Option ℕ
@@ -33,11 +33,11 @@ sender_at s place at = sender_of_row at (slice_get s.nets place)
 -- a counter was accepted under the network key, or the link key, at a place
 abbrev pub heard_under : Option NetKey → ℕ → ℕ → NodeState → NodeState
 heard_under None sender counter s = s
-heard_under (Some r) sender counter s = heard Nwk r.key sender counter s
+heard_under (Some r) sender counter s = after_hearing Nwk r.key sender counter s
 
 abbrev pub heard_from : Option LinkKey → ℕ → NodeState → NodeState
 heard_from None counter s = s
-heard_from (Some r) counter s = heard Aps r.key r.partner counter s
+heard_from (Some r) counter s = after_hearing Aps r.key r.partner counter s
 
 -- the outgoing counter of a layer, which is reserved in blocks of that size
 abbrev pub outgoing_of : Layer → ℕ → NodeState → Outgoing

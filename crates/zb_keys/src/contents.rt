@@ -7,7 +7,7 @@ ghost use Rattle.zb_record.specs.Senders.{HasRoom, live_floor};
 ghost use Rattle.zb_keys.specs.Reading.{outgoing_of, place_of_key};
 ghost use Rattle.zb_keys.specs.Tables.{state_of, with_row, Becomes, IsSound, Forgets};
 ghost use Rattle.zb_model.specs.Data.{Nwk, Aps, Reserve, Floor, Start, Moved, DropNet, DropLink, Install, Active, Row, Pair as Paired, Became, Live, Removed, Roll, Told, Untold};
-ghost use Rattle.zb_model.specs.State.{applied, shown, at_net, next_counter, stored_limit, active_row, counted, heard, with_declared, current, offered};
+ghost use Rattle.zb_model.specs.State.{applied, shown, at_net, next_counter, stored_limit, active_row, after_counting, after_hearing, with_declared, current, offered};
 ghost use Rattle.zb_model.specs.Fits.{keeps_rules};
 
 use zb_base::{Attribute, Eui, Key, Layer, Role, Rollover, State};
@@ -137,7 +137,7 @@ impl Contents {
         requires sound { IsSound self.old }
         requires reserved { next_counter (model_layer layer) (state_of self.old) < stored_limit (model_layer layer)
             (state_of self.old) }
-        ensures state { state_of self.new ≡ counted (model_layer layer) (state_of self.old) }
+        ensures state { state_of self.new ≡ after_counting (model_layer layer) (state_of self.old) }
         ensures sound { IsSound self.new }
     {
         match layer {
@@ -150,7 +150,7 @@ impl Contents {
     fn count_nwk(&mut self)
         requires sound { IsSound self.old }
         requires reserved { next_counter Nwk (state_of self.old) < stored_limit Nwk (state_of self.old) }
-        ensures state { state_of self.new ≡ counted Nwk (state_of self.old) }
+        ensures state { state_of self.new ≡ after_counting Nwk (state_of self.old) }
         ensures sound { IsSound self.new }
     {
         match self.active {
@@ -160,11 +160,11 @@ impl Contents {
     }
 
     /// Uses the next outgoing counter of the application support layer.
-    #[tactic(auto, unfolding(zb_model::specs::State::next_counter, zb_model::specs::State::stored_limit, zb_model::specs::State::counted))]
+    #[tactic(auto, unfolding(zb_model::specs::State::next_counter, zb_model::specs::State::stored_limit, zb_model::specs::State::after_counting))]
     fn count_aps(&mut self)
         requires sound { IsSound self.old }
         requires reserved { next_counter Aps (state_of self.old) < stored_limit Aps (state_of self.old) }
-        ensures state { state_of self.new ≡ counted Aps (state_of self.old) }
+        ensures state { state_of self.new ≡ after_counting Aps (state_of self.old) }
         ensures sound { IsSound self.new }
     {
         let _limit = self.aps_limit;
@@ -175,7 +175,7 @@ impl Contents {
     pub(crate) fn hear_nwk(&mut self, key: &Key, sender: Eui, counter: u32)
         requires sound { IsSound self.old }
         requires below_last { counter < 2 ^ 32 - 1 }
-        ensures state { state_of self.new ≡ heard Nwk key.now.0 sender.0 counter (state_of self.old) }
+        ensures state { state_of self.new ≡ after_hearing Nwk key.now.0 sender.0 counter (state_of self.old) }
         ensures sound { IsSound self.new }
     {
         hear_net(&mut self.nets, key, sender, counter + 1);
@@ -185,7 +185,7 @@ impl Contents {
     pub(crate) fn hear_aps(&mut self, key: &Key, partner: Eui, counter: u32)
         requires sound { IsSound self.old }
         requires below_last { counter < 2 ^ 32 - 1 }
-        ensures state { state_of self.new ≡ heard Aps key.now.0 partner.0 counter (state_of self.old) }
+        ensures state { state_of self.new ≡ after_hearing Aps key.now.0 partner.0 counter (state_of self.old) }
         ensures sound { IsSound self.new }
     {
         hear_link(&mut self.links, partner, key, counter + 1);

@@ -5,7 +5,7 @@ ghost use Rattle.zb_node_types.specs.Changes.{model_role, model_layer, model_sta
 ghost use Rattle.zb_record.specs.RowViews.{heard_floor, net_key, link_key, pair_key};
 ghost use Rattle.zb_keys.specs.Reading.{place_of_key, outgoing_of, floor_at, floor_of_row, sender_at, heard_under, heard_from};
 ghost use Rattle.zb_model.specs.Data.{Nwk};
-ghost use Rattle.zb_model.specs.State.{next_counter, stored_limit, counted, with_declared, current, offered, pair_of, active_row, newest};
+ghost use Rattle.zb_model.specs.State.{next_counter, stored_limit, after_counting, with_declared, current, offered, pair_of, active_row, newest};
 
 use crate::Tables;
 use zb_base::{Eui, Key, Layer, Role, Rollover, State};
@@ -165,7 +165,7 @@ impl Tables {
     /// Requires one that is reserved.
     pub fn sealed(&mut self, layer: Layer)
         requires { next_counter (model_layer layer) self.old < stored_limit (model_layer layer) self.old }
-        ensures { self.new ≡ counted (model_layer layer) self.old }
+        ensures { self.new ≡ after_counting (model_layer layer) self.old }
     {
         self.contents.count(layer);
     }

@@ -2,7 +2,7 @@
 use Rattle.std.specs.Prelude.{◌≡◌, ℕ, true, List, [], ◌∷◌, map, Some, None, refl}
 use Rattle.zb_model.specs.Data.{nobody, Centre, Device, State, Joined, Provisional, Verified, ForData, ForTransport, Aps, Term, Draw, Install, Active, Row, Removed, Roll, Became, Moved}
 use Rattle.zb_model.specs.State.{LinkKey, PairKey, applied, after_boot, active_row}
-use Rattle.zb_model.specs.Rules.{Does, Setting, unless, given, choose, centre_of, drop_old}
+use Rattle.zb_model.specs.Rules.{Does, Setting, unless, found_or, choose, centre_of, drop_old}
 use Rattle.zb_model.specs.OwnEvents.{roll}
 use Rattle.zb_model.specs.Judging.{candidates}
 use Rattle.zb_model.specs.Commands.{Heard, take_net_key}
@@ -40,7 +40,7 @@ first_key_is_active = refl
 
 -- the sequence of network keys wraps at 256
 sequence_wraps : roll (record (keyed_node Centre State.Fresh []) { nets = record (net_at 1 true 7) { sequence = 255 } ∷ [] }) (Some (k 8)) ≡ Does (Draw (k 8) ∷ Install (k 8) 0 ∷ Roll true ∷ []) None
-unfolding roll given unless active_row drop_old
+unfolding roll found_or unless active_row drop_old
 sequence_wraps = refl
 
 -- a pair ends with the removal of either

@@ -2,9 +2,9 @@
 use Rattle.std.specs.Prelude.{◌≡◌, ℕ, true, false, List, [], ◌∷◌, map, Option, Some, None, refl}
 use Rattle.zb_model.specs.Data.{Bytes, Role, Centre, Device, State, Joined, Offered, Confirmed, Rejoining, Provisional, Unverified, Verified, Label, ForData, ForNetwork, ForTransport, ForLoad, Layer, Nwk, Aps, Station, Term, Draw, DropNet, DropLink, Active, Row, Pair, Became, Untold, Floor, Moved, WrongState, TransportNet, TransportApp, TransportLink, ConfirmKey}
 use Rattle.zb_model.specs.Lines.{Line, Declared, GivenLink, Changed, Seal, Forge}
-use Rattle.zb_model.specs.State.{SenderFloor, NetKey, LinkKey, NodeState, active_row, live_of, usable_of, usable_nets, newest, current, offered, is_live, is_told, pair_of, next_counter, other_user, applied, accepted, heard, dropped_link}
+use Rattle.zb_model.specs.State.{SenderFloor, NetKey, LinkKey, NodeState, active_row, live_of, usable_of, usable_nets, newest, current, offered, is_live, is_told, pair_of, next_counter, other_user, applied, after_accepting, after_hearing, dropped_link}
 use Rattle.zb_model.specs.Record.{link_bytes, net_bytes}
-use Rattle.zb_model.specs.Rules.{Secret, Stop, Does, Setting, unless, given, choose, sends, centre_of, short_of, station_of, spent, both_spent, drop_partner, drop_old}
+use Rattle.zb_model.specs.Rules.{Secret, Stop, Does, Setting, unless, found_or, choose, sends, centre_of, short_of, station_of, spent, both_spent, drop_partner, drop_old}
 use Rattle.zb_model.specs.OwnEvents.{again}
 use Rattle.zb_model.specs.Judging.{chosen_row}
 use Rattle.zb_model.specs.Frames.{data_control}
@@ -41,7 +41,7 @@ with_links role state links = keyed_node role state links
 -- Commands
 
 offered_key_is_confirmed : take_confirm device (with_links Device Offered (link_of 1 5 Verified true ∷ link_of 1 6 Unverified true ∷ [])) (from_centre ForData (Some (link_of 1 6 Unverified true))) 0 4 2 ≡ Does (DropLink 1 (k 5) ∷ Row 1 (k 6) Verified ∷ Became Confirmed ∷ []) None
-unfolding take_confirm unless given offered current centre_of
+unfolding take_confirm unless found_or offered current centre_of
 offered_key_is_confirmed = refl
 
 another_key_is_offered : take_link_key device (with_links Device Offered (link_of 1 5 Verified true ∷ link_of 1 6 Unverified true ∷ [])) (from_centre ForLoad (Some (link_of 1 5 Verified true))) (k 7) 2 1 ≡ Does (DropLink 1 (k 6) ∷ Row 1 (k 7) Unverified ∷ Became Offered ∷ []) None
@@ -65,23 +65,23 @@ unfolding take_net_key unless choose centre_of offered current
 rejoined_with_a_code = refl
 
 offer_is_sent_again : take_request centre (with_links Centre State.Fresh (link_of 2 5 Verified true ∷ link_of 2 6 Unverified true ∷ [])) (from_device ForData (Some (link_of 2 5 Verified true))) (Some (k 9)) ≡ Does [] (sends 258 true (Secret ForLoad (k 5) (TransportLink (k 6) 2 1)))
-unfolding take_request unless given offered current both_spent spent next_counter active_row short_of station_of
+unfolding take_request unless found_or offered current both_spent spent next_counter active_row short_of station_of
 offer_is_sent_again = refl
 
 pair_key_is_sent_again : take_app_request centre (record (with_links Centre State.Fresh (link_of 2 5 Verified true ∷ link_of 4 6 Verified true ∷ [])) { pairs = record { first = 2; second = 4; key = k 8 } ∷ [] }) (from_device ForData (Some (link_of 2 5 Verified true))) (Some (k 9)) 4 ≡ Does [] (sends 258 true (Secret ForLoad (k 5) (TransportApp (k 8) 4 1)))
-unfolding take_app_request unless given current is_live pair_of both_spent spent next_counter active_row short_of station_of
+unfolding take_app_request unless found_or current is_live pair_of both_spent spent next_counter active_row short_of station_of
 pair_key_is_sent_again = refl
 
 pair_is_drawn : take_app_request centre (with_links Centre State.Fresh (link_of 2 5 Verified true ∷ link_of 4 6 Verified true ∷ [])) (from_device ForData (Some (link_of 2 5 Verified true))) (Some (k 9)) 4 ≡ Does (Draw (k 9) ∷ Pair 2 4 (k 9) ∷ []) (sends 258 true (Secret ForLoad (k 5) (TransportApp (k 9) 4 1)))
-unfolding take_app_request unless given current is_live pair_of both_spent spent next_counter active_row short_of station_of
+unfolding take_app_request unless found_or current is_live pair_of both_spent spent next_counter active_row short_of station_of
 pair_is_drawn = refl
 
 current_key_is_confirmed_again : take_verify toy centre (with_links Centre State.Fresh (link_of 2 5 Verified true ∷ [])) clear_from_device 4 2 (toy.keyed (k 5) 3) ≡ Does [] (sends 258 true (Secret ForData (k 5) (ConfirmKey 0 4 2)))
-unfolding toy take_verify unless given choose offered current is_live both_spent spent next_counter active_row short_of station_of
+unfolding toy take_verify unless found_or choose offered current is_live both_spent spent next_counter active_row short_of station_of
 current_key_is_confirmed_again = refl
 
 code_is_not_confirmed : take_verify toy centre (with_links Centre State.Fresh (link_of 2 5 Provisional true ∷ [])) clear_from_device 4 2 (toy.keyed (k 5) 3) ≡ Stop WrongState
-unfolding toy take_verify unless given choose offered current is_live both_spent spent next_counter active_row
+unfolding toy take_verify unless found_or choose offered current is_live both_spent spent next_counter active_row
 code_is_not_confirmed = refl
 
 -- Events of a node's own
@@ -133,8 +133,8 @@ senders_by_address = refl
 abbrev from_centre_at : Layer → ℕ → Term
 from_centre_at layer counter = record { layer = layer; base = k 1; label = ForNetwork; source = 1; counter = counter; control = 0x2d; header = []; content = [] }
 
-next_floor_is_one_more : map (λ (r : NetKey). map (λ (f : SenderFloor). f.kept) r.floors) (accepted (from_centre_at Nwk 8) (applied (Floor Nwk (k 1) 1 12) (keyed_node Device Joined []))).nets ≡ (9 ∷ []) ∷ []
-unfolding applied accepted heard
+next_floor_is_one_more : map (λ (r : NetKey). map (λ (f : SenderFloor). f.kept) r.floors) (after_accepting (from_centre_at Nwk 8) (applied (Floor Nwk (k 1) 1 12) (keyed_node Device Joined []))).nets ≡ (9 ∷ []) ∷ []
+unfolding applied after_accepting after_hearing
 next_floor_is_one_more = refl
 
 -- Candidates: the first that opens the frame, though a newer one doesn't

@@ -3,7 +3,7 @@
 use Rattle.std.specs.Prelude.{ℕ, ◌+◌, min, Bool, true, false, not, if◌then◌else◌, ◌&&◌, ◌||◌, List, [], ◌∷◌, ◌++◌, filter, find, Option, Some, None, nat_eq, nat_le, flat_map, option_map, option_to_list}
 use Rattle.std.specs.List.{list_any}
 use Rattle.zb_model.specs.Data.{Bytes, Layer, Nwk, Aps, ForTransport, ForData, Term, Move, Active, Row, Became, Edit, Reserve, Floor, Start, Moved, Place, AtNwk, AtAps, AtEvent, Reason, Malformed, Policy, Tunnel, Task, Received}
-use Rattle.zb_model.specs.State.{greatest_counter, NetKey, LinkKey, NodeState, same_key, is_link, net_of, active_row, next_counter, stored_limit, applied_all, accepted, sealed, same_layer, is_active_key}
+use Rattle.zb_model.specs.State.{greatest_counter, NetKey, LinkKey, NodeState, same_key, is_link, net_of, active_row, next_counter, stored_limit, applied_all, after_accepting, after_sealing, same_layer, is_active_key}
 use Rattle.zb_model.specs.Fits.{net_stored, link_stored}
 use Rattle.zb_model.specs.Record.{state_byte, attribute_byte}
 use Rattle.zb_model.specs.Tools.{Tools, NwkShown, ApsShown, ApsAuxiliary, CommandShown, Known, Unknown, Broken, LeaveShown, Leave, Other, NoCommand}
@@ -283,11 +283,11 @@ answer tools c s task = let p = plan_of tools c s task in answer_by tools c s (c
 -- The state after an answer that was stored and handed out.
 abbrev pub accepted_all : List Term → NodeState → NodeState
 accepted_all [] s = s
-accepted_all (t ∷ ts) s = accepted_all ts (accepted t s)
+accepted_all (t ∷ ts) s = accepted_all ts (after_accepting t s)
 
 abbrev pub sealed_all : List Term → NodeState → NodeState
 sealed_all [] s = s
-sealed_all (t ∷ ts) s = sealed_all ts (sealed t s)
+sealed_all (t ∷ ts) s = sealed_all ts (after_sealing t s)
 
 unfoldable pub answered : Answer → NodeState → NodeState
 answered a s = sealed_all a.seals (accepted_all a.accepts (applied_all a.edits s))

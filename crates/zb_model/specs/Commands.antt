@@ -4,7 +4,7 @@ use Rattle.std.specs.Prelude.{ℕ, ◌+◌, ◌%◌, ◌/◌, Bool, true, false,
 use Rattle.zb_model.specs.Data.{Bytes, Nwk, State, Joined, Offered, Confirmed, Gone, Unverified, Verified, Label, ForData, ForNetwork, ForTransport, ForLoad, Term, Move, Draw, Install, Active, Row, Pair, Became, NoKey, NotMember, WrongState, KeyOld, KeysFull, RowsFull, KeyInUse, NoDraw, CounterSpent, WrongHash, Policy, Command, TransportNet, TransportApp, TransportLink, UpdateDevice, RemoveDevice, RequestApp, RequestLink, SwitchKey, Tunnel, VerifyKey, ConfirmKey}
 use Rattle.zb_model.specs.State.{NetKey, LinkKey, PairKey, NodeState, same_key, is_centre, is_verified, is_live_of, has_net, has_link, active_row, live_of, current, offered, is_live, other_user, pair_of, same_label}
 use Rattle.zb_model.specs.Tools.{Tools, verify_hash}
-use Rattle.zb_model.specs.Rules.{Secret, Tunnelled, Leaving, Relayed, Outcome, Stop, Does, Setting, unless, given, choose, sends, centre_of, short_of, is_declared, acts_as_router, from_centre, is_router, spent, both_spent, in_rejoining, waits_for_key, nets_full, links_full, pairs_full, unless_held, drop_row, drop_partner, drop_old}
+use Rattle.zb_model.specs.Rules.{Secret, Tunnelled, Leaving, Relayed, Outcome, Stop, Does, Setting, unless, found_or, choose, sends, centre_of, short_of, is_declared, acts_as_router, from_centre, is_router, spent, both_spent, in_rejoining, waits_for_key, nets_full, links_full, pairs_full, unless_held, drop_row, drop_partner, drop_old}
 
 -- A command as it came. `sender` is the source of the sealed layer: that of the APS term where the command was sealed,
 -- else that of the NWK term. `sealed_with` is the label and the row that opened it; `nwk_source` that of the NWK term.
@@ -122,7 +122,7 @@ take_app_key c s m key partner =
 unfoldable pub take_switch : Setting → NodeState → Heard → ℕ → Outcome
 take_switch c s m sequence =
     unless (not (is_member c && (clear_or_data m && from_centre c m.sender))) Policy (
-    given (live_of s sequence) WrongState (λ row.
+    found_or (live_of s sequence) WrongState (λ row.
     Does (Active row.key ∷ []) None))
 
 -- Confirm-Key: the offered key was proved, and takes the place of the current one
@@ -132,7 +132,7 @@ take_confirm c s m status kind destination =
     && (nat_eq status 0 && (nat_eq kind 4 && nat_eq destination c.me.eui)))))) Policy (
     unless (in_rejoining s.state) WrongState (
     unless (not (row_is m.row (offered s (centre_of c.stations)))) WrongState (
-    given (offered s (centre_of c.stations)) WrongState (λ row.
+    found_or (offered s (centre_of c.stations)) WrongState (λ row.
     Does (drop_row (current s (centre_of c.stations)) ++ (Row row.partner row.key Verified ∷ Became Confirmed ∷ [])) None))))
 
 -- Taken by routers
@@ -165,8 +165,8 @@ take_update c s m device status =
     unless (not (is_centre c.me.role && (clear_or_data m && (acts_as_router c m.sender && nat_le status 3)))) Policy (
     choose (not (nat_eq status 1 || nat_eq status 3))
     (Does [] None)
-    (given (active_row s) NoKey (λ net.
-    given (current s device) NotMember (λ row.
+    (found_or (active_row s) NoKey (λ net.
+    found_or (current s device) NotMember (λ row.
     unless (both_spent s) CounterSpent (
     Does [] (sends (short_of c (eui_of m.nwk_source)) true (Tunnelled device row.key (TransportNet net.key net.sequence device c.me.eui))))))))
 
@@ -185,14 +185,14 @@ answer_request c s device draw row (Some offer) =
     send_link_key c s device offer.key [] row)
 answer_request c s device draw row None =
     unless (links_full s) RowsFull (
-    given (unless_held s draw) NoDraw (λ key.
+    found_or (unless_held s draw) NoDraw (λ key.
     unless (both_spent s) CounterSpent (
     send_link_key c s device key (Draw key ∷ Row device key Unverified ∷ []) row)))
 
 unfoldable pub take_request : Setting → NodeState → Heard → Option Bytes → Outcome
 take_request c s m draw =
     unless (not (is_centre c.me.role && under_current s m)) Policy (
-    given (current s m.sender) Policy (λ row.
+    found_or (current s m.sender) Policy (λ row.
     answer_request c s m.sender draw row (offered s m.sender)))
 
 -- Request-Key, type 2: the key of the pair is sent again, or a new one is drawn for the two
@@ -212,7 +212,7 @@ answer_pair c s device partner draw row (Some pair) =
     send_app_key c device partner pair.key [] row)
 answer_pair c s device partner draw row None =
     unless (pairs_full s) RowsFull (
-    given (unless_held s draw) NoDraw (λ key.
+    found_or (unless_held s draw) NoDraw (λ key.
     unless (both_spent s) CounterSpent (
     send_app_key c device partner key (Draw key ∷ Pair (lesser device partner) (greater device partner) key ∷ []) row)))
 
@@ -221,7 +221,7 @@ take_app_request c s m draw partner =
     unless (not (is_centre c.me.role && (under_current s m && not (nat_eq partner m.sender || nat_eq partner c.me.eui)))) Policy (
     unless (not (is_live s partner)) NotMember (
     unless (not (is_verified_row (current s m.sender) && is_verified_row (current s partner))) WrongState (
-    given (current s m.sender) Policy (λ row.
+    found_or (current s m.sender) Policy (λ row.
     answer_pair c s m.sender partner draw row (pair_of s m.sender partner)))))
 
 -- Verify-Key: where the proof is of the offered key, that key takes the place of the current one; then, or where it is of
@@ -248,10 +248,10 @@ take_verify tools c s m kind device hash =
     unless (is_none (offered s device) && is_none (verified_current s device)) WrongState (
     unless (both_spent s) CounterSpent (
     choose (proves tools hash (offered s device))
-    (given (offered s device) WrongHash (λ row.
+    (found_or (offered s device) WrongHash (λ row.
     send_confirm c device row.key (drop_row (current s device) ++ (Row device row.key Verified ∷ []))))
     (choose (proves tools hash (verified_current s device))
-    (given (verified_current s device) WrongHash (λ row. send_confirm c device row.key []))
+    (found_or (verified_current s device) WrongHash (λ row. send_confirm c device row.key []))
     (Stop WrongHash))))))
 
 -- The rule of each command.

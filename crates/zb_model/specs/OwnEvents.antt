@@ -5,14 +5,14 @@ use Rattle.zb_model.specs.Data.{Bytes, Nwk, Aps, State, Knocked, Joined, Offered
 use Rattle.zb_model.specs.State.{NetKey, LinkKey, NodeState, is_centre, is_live_of, has_link, active_row, usable_active, newest, current, offered, is_live, is_told, code_row, other_user, pair_of}
 use Rattle.zb_model.specs.Tools.{Tools, verify_hash}
 use Rattle.zb_model.specs.Frames.{clear_command, clear_broadcast, to_all}
-use Rattle.zb_model.specs.Rules.{Saying, Clear, Secret, Telling, Leaving, Sending, Outcome, Stop, Does, Setting, unless, given, choose, sends, centre_of, short_of, spent, both_spent, in_rejoining, in_confirmed, has_joined, nets_full, links_full, unless_held, drop_partner, drop_others, drop_old}
+use Rattle.zb_model.specs.Rules.{Saying, Clear, Secret, Telling, Leaving, Sending, Outcome, Stop, Does, Setting, unless, found_or, choose, sends, centre_of, short_of, spent, both_spent, in_rejoining, in_confirmed, has_joined, nets_full, links_full, unless_held, drop_partner, drop_others, drop_old}
 
 -- Of every node
 
 -- say: application data to a short address, without APS security
 unfoldable pub say : NodeState → ℕ → Bytes → Outcome
 say s to bytes =
-    given (usable_active s) NoKey (λ net.
+    found_or (usable_active s) NoKey (λ net.
     unless (in_rejoining s.state) WrongState (
     unless (spent Nwk s) CounterSpent (
     Does [] (sends to true (Saying bytes)))))
@@ -22,7 +22,7 @@ say s to bytes =
 -- knock: a device asks to be let in. Its code's row is its only live one of the centre, and provisional again.
 unfoldable pub knock : Setting → NodeState → Outcome
 knock c s =
-    given (code_row s (centre_of c.stations)) NoKey (λ row.
+    found_or (code_row s (centre_of c.stations)) NoKey (λ row.
     Does (drop_others s row.partner row.key ++ (Row row.partner row.key Provisional ∷ Became Knocked ∷ [])) None)
 
 -- rejoin: a member that lost the network key's changes asks again
@@ -34,14 +34,14 @@ rejoin s =
 -- timer, joined: a link key of its own is asked for (Request-Key, type 4)
 unfoldable pub request_key : Setting → NodeState → Outcome
 request_key c s =
-    given (current s (centre_of c.stations)) NoKey (λ row.
+    found_or (current s (centre_of c.stations)) NoKey (λ row.
     unless (both_spent s) CounterSpent (
     Does [] (sends 0 true (Secret ForData row.key RequestLink))))
 
 -- timer, offered: the offered key is proved (Verify-Key)
 unfoldable pub verify_key : Tools → Setting → NodeState → Outcome
 verify_key tools c s =
-    given (offered s (centre_of c.stations)) NoKey (λ row.
+    found_or (offered s (centre_of c.stations)) NoKey (λ row.
     unless (spent Nwk s) CounterSpent (
     Does [] (sends 0 true (Clear clear_command (VerifyKey 4 c.me.eui (verify_hash tools row.key))))))
 
@@ -53,14 +53,14 @@ timer_in _ tools c s = Stop WrongState
 -- timer: the next step of the key exchange with the centre; there is none in Confirmed and Rejoining
 unfoldable pub member_timer : Tools → Setting → NodeState → Outcome
 member_timer tools c s =
-    given (usable_active s) NoKey (λ net.
+    found_or (usable_active s) NoKey (λ net.
     timer_in s.state tools c s)
 
 -- ask: the centre is asked for a key with a partner (Request-Key, type 2)
 unfoldable pub ask : Setting → NodeState → ℕ → Outcome
 ask c s partner =
-    given (usable_active s) NoKey (λ net.
-    given (current s (centre_of c.stations)) NoKey (λ row.
+    found_or (usable_active s) NoKey (λ net.
+    found_or (current s (centre_of c.stations)) NoKey (λ row.
     unless (not (in_confirmed s.state)) WrongState (
     unless (both_spent s) CounterSpent (
     Does [] (sends 0 true (Secret ForData row.key (RequestApp partner)))))))
@@ -68,8 +68,8 @@ ask c s partner =
 -- tell: application data under the key shared with a partner
 unfoldable pub tell : Setting → NodeState → ℕ → Bytes → Outcome
 tell c s partner bytes =
-    given (usable_active s) NoKey (λ net.
-    given (find (is_live_of partner) s.links) NoKey (λ row.
+    found_or (usable_active s) NoKey (λ net.
+    found_or (find (is_live_of partner) s.links) NoKey (λ row.
     unless (in_rejoining s.state) WrongState (
     unless (both_spent s) CounterSpent (
     Does [] (sends (short_of c partner) true (Telling row.key bytes))))))
@@ -92,7 +92,7 @@ report_child c s child rejoin (Some row) =
 -- child, at a router: the centre is told of it (Update-Device)
 unfoldable pub child_of_router : Setting → NodeState → ℕ → Bool → Outcome
 child_of_router c s child rejoin =
-    given (usable_active s) NoKey (λ net.
+    found_or (usable_active s) NoKey (λ net.
     unless (in_rejoining s.state) WrongState (
     report_child c s child rejoin (current s (centre_of c.stations))))
 
@@ -101,8 +101,8 @@ child_of_router c s child rejoin =
 -- child, at the centre: the network key to a live device, under its current link key's transport key
 unfoldable pub child_of_centre : Setting → NodeState → ℕ → Outcome
 child_of_centre c s child =
-    given (active_row s) NoKey (λ net.
-    given (current s child) NotMember (λ row.
+    found_or (active_row s) NoKey (λ net.
+    found_or (current s child) NotMember (λ row.
     unless (spent Aps s) CounterSpent (
     Does [] (sends (short_of c child) false (Secret ForTransport row.key (TransportNet net.key net.sequence child c.me.eui))))))
 
@@ -124,11 +124,11 @@ is_unfinished s = s.sending && is_some (next_member s)
 -- timer, at the centre: the newest network key to the next member
 unfoldable pub centre_timer : Setting → NodeState → Outcome
 centre_timer c s =
-    given (active_row s) NoKey (λ net.
+    found_or (active_row s) NoKey (λ net.
     unless (not s.sending) WrongState (
-    given (next_member s) WrongState (λ device.
-    given (newest s) NoKey (λ new.
-    given (current s device) WrongState (λ row.
+    found_or (next_member s) WrongState (λ device.
+    found_or (newest s) NoKey (λ new.
+    found_or (current s device) WrongState (λ row.
     unless (both_spent s) CounterSpent (
     Does (Told device ∷ []) (sends (short_of c device) true (Secret ForTransport row.key (TransportNet new.key new.sequence device c.me.eui)))))))))
 
@@ -160,10 +160,10 @@ remove_device c s device via =
 -- roll: a new network key is drawn, and is to be sent to each member
 unfoldable pub roll : NodeState → Option Bytes → Outcome
 roll s draw =
-    given (active_row s) NoKey (λ net.
+    found_or (active_row s) NoKey (λ net.
     unless s.sending WrongState (
     unless (nets_full s) KeysFull (
-    given (unless_held s draw) NoDraw (λ key.
+    found_or (unless_held s draw) NoDraw (λ key.
     Does (Draw key ∷ drop_old s ++ (Install key ((net.sequence + 1) % 256) ∷ Roll true ∷ [])) None))))
 
 -- switch: the new network key becomes active once every member was sent it, and all are told to switch. It is sealed
@@ -173,11 +173,11 @@ switch_to net moves = Does moves (sends to_all true (Clear clear_broadcast (Swit
 
 unfoldable pub switch_over : NodeState → Outcome
 switch_over s =
-    given (active_row s) NoKey (λ net.
+    found_or (active_row s) NoKey (λ net.
     unless (is_unfinished s) WrongState (
     unless (spent Nwk s) CounterSpent (
     choose s.sending
-    (given (newest s) NoKey (λ new. switch_to new (Active new.key ∷ Roll false ∷ [])))
+    (found_or (newest s) NoKey (λ new. switch_to new (Active new.key ∷ Roll false ∷ [])))
     (switch_to net []))))
 
 -- again: the new network key is to be sent to a member once more
@@ -190,10 +190,10 @@ again s device =
 -- share: the key of a pair to one of the two
 unfoldable pub share : Setting → NodeState → ℕ → ℕ → Outcome
 share c s device partner =
-    given (active_row s) NoKey (λ net.
+    found_or (active_row s) NoKey (λ net.
     unless (not (is_live s device && is_live s partner)) NotMember (
-    given (pair_of s device partner) WrongState (λ pair.
-    given (current s device) NotMember (λ row.
+    found_or (pair_of s device partner) WrongState (λ pair.
+    found_or (current s device) NotMember (λ row.
     unless (both_spent s) CounterSpent (
     Does [] (sends (short_of c device) true (Secret ForLoad row.key (TransportApp pair.key partner 0))))))))
 

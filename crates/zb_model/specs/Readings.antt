@@ -3,7 +3,7 @@
 use Rattle.std.specs.Prelude.{ℕ, ◌+◌, Bool, true, false, if◌then◌else◌, List, [], ◌∷◌, ◌++◌, fold, nat_eq}
 use Rattle.zb_model.specs.Data.{Bytes, nobody, Device, Layer, Nwk, Aps, Station, Draw, Moved}
 use Rattle.zb_model.specs.Lines.{Line, Declared, GivenNet, GivenLink, Counter, Changed, Commit, Accept, Refuse, Seal, Forge, Send, Inject, Stopped, DownReset, DownDisk, Boot, Dump, End}
-use Rattle.zb_model.specs.State.{NodeState, new_node, applied, sealed, accepted, after_boot, with_given_net, with_given_link, with_declared}
+use Rattle.zb_model.specs.State.{NodeState, new_node, applied, after_sealing, after_accepting, after_boot, with_given_net, with_given_link, with_declared}
 
 -- whose line it is; nobody's are those of forged and injected frames and the end line
 unfoldable pub speaker : Line → ℕ
@@ -33,8 +33,8 @@ after (GivenNet n key sequence) s = with_given_net key sequence s
 after (GivenLink n partner key) s = with_given_link partner key s
 after (Counter n layer limit) s = with_declared layer limit s
 after (Changed e n edit) s = applied edit s
-after (Accept e n t) s = accepted t s
-after (Seal e n t) s = sealed t s
+after (Accept e n t) s = after_accepting t s
+after (Seal e n t) s = after_sealing t s
 after (Boot e n) s = after_boot s
 after _ s = s
 

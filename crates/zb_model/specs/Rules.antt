@@ -41,9 +41,9 @@ pub record Setting : Type 0 where
 unfoldable pub unless : Bool → Reason → Outcome → Outcome
 unless bad reason rest = if bad then Stop reason else rest
 
-unfoldable pub given : {A : Type 0} → Option A → Reason → (A → Outcome) → Outcome
-given None reason rest = Stop reason
-given (Some a) reason rest = rest a
+unfoldable pub found_or : {A : Type 0} → Option A → Reason → (A → Outcome) → Outcome
+found_or None reason rest = Stop reason
+found_or (Some a) reason rest = rest a
 
 unfoldable pub choose : Bool → Outcome → Outcome → Outcome
 choose test yes_ no_ = if test then yes_ else no_

@@ -326,13 +326,13 @@ abbrev pub sealed_at : Layer → Term → NodeState → NodeState
 sealed_at Nwk t s = record s { nets = at_net t.base (next_at (t.counter + 1)) s.nets }
 sealed_at Aps t s = record s { aps_next = t.counter + 1 }
 
-unfoldable pub sealed : Term → NodeState → NodeState
-sealed t s = sealed_at t.layer t s
+unfoldable pub after_sealing : Term → NodeState → NodeState
+after_sealing t s = sealed_at t.layer t s
 
 -- the next counter of the layer is used
-unfoldable pub counted : Layer → NodeState → NodeState
-counted Nwk s = record s { nets = of_active (λ r. next_at (r.next + 1) r) s.active s.nets }
-counted Aps s = record s { aps_next = s.aps_next + 1 }
+unfoldable pub after_counting : Layer → NodeState → NodeState
+after_counting Nwk s = record s { nets = of_active (λ r. next_at (r.next + 1) r) s.active s.nets }
+after_counting Aps s = record s { aps_next = s.aps_next + 1 }
 
 abbrev pub floor_kept : ℕ → ℕ → List SenderFloor → List SenderFloor
 floor_kept sender kept floors = map (λ (f : SenderFloor). if nat_eq f.sender sender then record f { kept = kept } else f) floors
@@ -344,12 +344,12 @@ abbrev pub link_kept : ℕ → LinkKey → LinkKey
 link_kept kept r = record r { kept = kept }
 
 -- a sender's counter was accepted under a key of the layer
-unfoldable pub heard : Layer → Bytes → ℕ → ℕ → NodeState → NodeState
-heard Nwk key sender counter s = record s { nets = at_net key (net_kept sender (counter + 1)) s.nets }
-heard Aps key sender counter s = record s { links = at_link sender key (link_kept (counter + 1)) s.links }
+unfoldable pub after_hearing : Layer → Bytes → ℕ → ℕ → NodeState → NodeState
+after_hearing Nwk key sender counter s = record s { nets = at_net key (net_kept sender (counter + 1)) s.nets }
+after_hearing Aps key sender counter s = record s { links = at_link sender key (link_kept (counter + 1)) s.links }
 
-unfoldable pub accepted : Term → NodeState → NodeState
-accepted t s = heard t.layer t.base t.source t.counter s
+unfoldable pub after_accepting : Term → NodeState → NodeState
+after_accepting t s = after_hearing t.layer t.base t.source t.counter s
 
 -- After a boot the counters go on from their limits, and the floors are those that were stored.
 abbrev pub booted_floor : SenderFloor → SenderFloor

@@ -4,7 +4,7 @@ use Rattle.std.specs.List.{AllByRecursion, list_any}
 use Rattle.zb_model.specs.Data.{Bytes, Nwk, ForData, State, Joined, Offered, Term, Move, Draw, DropNet, DropLink, Install, Active, Row, Pair, Became, Live, Removed, Roll, Told, Untold, Reason, Task, SayTo, TellTo, DoKnock, DoRejoin, DoTimer, AskFor, HasChild, DoProvision, DoRemove, DoRoll, DoSwitch, DoAgain, DoShare, Received, Command, TransportNet, TransportApp, TransportLink, UpdateDevice, RemoveDevice, RequestApp, RequestLink, SwitchKey, Tunnel, VerifyKey, ConfirmKey}
 use Rattle.zb_model.specs.State.{NetKey, LinkKey, PairKey, NodeState, same_key, has_net, at_net, new_net, dropped_net, live_nets, active_row, newest, live_of, is_centre, is_live_of, current, offered, other_user, pair_of, is_active_key}
 use Rattle.zb_model.specs.Tools.{Tools, CommandShown, Known, Unknown, Broken, LeaveShown, Leave, Other, NoCommand, NwkShown, ApsShown, ApsAuxiliary}
-use Rattle.zb_model.specs.Rules.{Body, Saying, Clear, Secret, Tunnelled, Telling, Leaving, Relayed, Sending, Outcome, Stop, Does, Plan, Setting, unless, given, choose, sends, short_of, spent, both_spent, drop_link, drop_partner, drop_others, drop_row, drop_old, first_drop, waits_for_key}
+use Rattle.zb_model.specs.Rules.{Body, Saying, Clear, Secret, Tunnelled, Telling, Leaving, Relayed, Sending, Outcome, Stop, Does, Plan, Setting, unless, found_or, choose, sends, short_of, spent, both_spent, drop_link, drop_partner, drop_others, drop_row, drop_old, first_drop, waits_for_key}
 use Rattle.zb_model.specs.OwnEvents.{say, knock, rejoin, request_key, verify_key, timer_in, member_timer, ask, tell, report_child, child_of_router, child_of_centre, centre_timer, provision_new, provision, tell_leave, tell_parent, remove_device, roll, switch_over, again, share, own_at_centre, own_at_member, own}
 use Rattle.zb_model.specs.Judging.{Verdict, Not, Good, Carrier, Unsealed}
 use Rattle.zb_model.specs.Commands.{Heard, unless_old, activates, activate, joined_state, dropped_at, take_net_key, unless_used, take_row, take_link_key, take_app_key, take_switch, take_confirm, take_remove, take_tunnel, take_update, answer_request, take_request, answer_pair, take_app_request, take_verify, take_command, take_leave}
@@ -163,8 +163,8 @@ unfolding unless
 un s true reason rest f = tt
 un s false reason rest f = f
 
-gi : {A : Type 0} (s : NodeState) (o : Option A) (reason : Reason) (rest : A → Outcome) → ((a : A) → o ≡ Some a → Fits s (rest a)) → Fits s (given o reason rest)
-unfolding given
+gi : {A : Type 0} (s : NodeState) (o : Option A) (reason : Reason) (rest : A → Outcome) → ((a : A) → o ≡ Some a → Fits s (rest a)) → Fits s (found_or o reason rest)
+unfolding found_or
 gi s None reason rest k = tt
 gi s (Some a) reason rest k = k a refl
 

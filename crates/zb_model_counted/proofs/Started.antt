@@ -4,7 +4,7 @@ use Rattle.std.proofs.lemmas.Bool.{false≢true, and_parts}
 use Rattle.std.specs.List.{AllByRecursion, list_any}
 use Rattle.zb_model.specs.Data.{Bytes, Layer, Nwk, Aps, Term, Edit, Reserve, Floor, Start, Moved, Move, Draw, DropNet, DropLink, Install, Active, Row, Pair, Became, Live, Removed, Roll, Told, Untold}
 use Rattle.zb_model.specs.Lines.{Line, Declared, GivenNet, GivenLink, Counter, Changed, Commit, Accept, Refuse, Seal, Forge, Send, Inject, Stopped, DownReset, DownDisk, Boot, Dump, End}
-use Rattle.zb_model.specs.State.{NetKey, NodeState, same_key, has_net, at_net, of_active, net_of_active, active_row, new_net, given_net, reserved, started_at, dropped_net, net_floor, net_kept, next_at, booted_net, declared_at, applied, moved, applied_all, sealed, sealed_at, after_boot, heard, accepted, with_given_net, with_given_link, with_declared}
+use Rattle.zb_model.specs.State.{NetKey, NodeState, same_key, has_net, at_net, of_active, net_of_active, active_row, new_net, given_net, reserved, started_at, dropped_net, net_floor, net_kept, next_at, booted_net, declared_at, applied, moved, applied_all, after_sealing, sealed_at, after_boot, after_hearing, after_accepting, with_given_net, with_given_link, with_declared}
 use Rattle.zb_model.specs.Rules.{Sending, Plan, Setting}
 use Rattle.zb_model.specs.Answer.{Answer, Counting, row_is_started, is_started_key, seals_at, may_seal, reserve_of, reserve_edit, floor_edit, start_edit, edits_of}
 use Rattle.zb_model.specs.Readings.{state_of, heard_line, after, speaker}
@@ -222,8 +222,8 @@ started-applied key number n (Floor Aps k p v) s f = or-nothing (started key s.n
 started-applied key number n (Start k v) s f = start-at v k key s.nets f
 started-applied key number n (Moved m) s f = stays _ (started key s.nets) (started-moved key m s)
 
-started-heard : (key : Bytes) (layer : Layer) (k : Bytes) (sender counter : ℕ) (s : NodeState) → started key (heard layer k sender counter s).nets ≡ started key s.nets
-unfolding heard
+started-heard : (key : Bytes) (layer : Layer) (k : Bytes) (sender counter : ℕ) (s : NodeState) → started key (after_hearing layer k sender counter s).nets ≡ started key s.nets
+unfolding after_hearing
 started-heard key Nwk k sender counter s = started-at (net_kept sender (counter + 1)) (plain-row (net_kept sender (counter + 1)) (λ r. refl) (λ r. refl)) key k s.nets
 started-heard key Aps k sender counter s = refl
 
@@ -235,7 +235,7 @@ pub declared-row : (v : ℕ) → KeepsRow (declared_at v)
 declared-row v = only-row (λ r. record r { limit = max r.limit v; next = max r.next v }) (λ r. r.started) (plain-row (λ r. record r { limit = max r.limit v; next = max r.next v }) (λ r. refl) (λ r. refl))
 
 started-after : (key : Bytes) (l : Line) (s : NodeState) → StartFits l s → started key (after l s).nets ≡ (started key s.nets || starting key l)
-unfolding after with_given_net with_given_link with_declared sealed accepted after_boot StartFits
+unfolding after with_given_net with_given_link with_declared after_sealing after_accepting after_boot StartFits
 started-after key (GivenNet n k q) s f = given-by (has_net k s.nets) (given_net s.declared k q) key s.nets refl refl f
 started-after key (Counter n Nwk v) s f = stays _ (started key s.nets) (started-map (declared_at v) (declared-row v) key s.nets)
 started-after key (Counter n Aps v) s f = or-nothing (started key s.nets)

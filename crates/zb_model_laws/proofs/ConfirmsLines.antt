@@ -4,7 +4,7 @@ use Rattle.std.proofs.lemmas.Bool.{false≢true, and_parts}
 use Rattle.std.specs.List.{AllByRecursion}
 use Rattle.zb_model.specs.Data.{Bytes, Layer, Nwk, Aps, Attribute, Provisional, Unverified, Verified, Term, Move, Draw, DropNet, DropLink, Install, Active, Row, Pair, Became, Live, Removed, Roll, Told, Untold, Edit, Reserve, Floor, Start, Moved}
 use Rattle.zb_model.specs.Lines.{Line, Declared, GivenNet, GivenLink, Counter, Changed, Commit, Accept, Seal, Boot}
-use Rattle.zb_model.specs.State.{LinkKey, NodeState, same_key, has_link, is_link, is_live_of, is_told, at_link, with_told, new_link, revived, dropped_link, told_as, link_floor, link_kept, booted_link, applied, moved, sealed, sealed_at, after_boot, heard, accepted, with_given_net, with_given_link, with_declared}
+use Rattle.zb_model.specs.State.{LinkKey, NodeState, same_key, has_link, is_link, is_live_of, is_told, at_link, with_told, new_link, revived, dropped_link, told_as, link_floor, link_kept, booted_link, applied, moved, after_sealing, sealed_at, after_boot, after_hearing, after_accepting, with_given_net, with_given_link, with_declared}
 use Rattle.zb_model.specs.Readings.{state_of, heard_line, after, speaker}
 use Rattle.zb_model.specs.Claims.{Unsettles, StoredVerified}
 use Rattle.zb_model_laws.proofs.Basics.{same_key-eq, same_key-refl, nat_eq-refl, append-nil', state-snoc}
@@ -294,8 +294,8 @@ unfolding Calm
 calm-settled c d b (Changed e n x) k u = k
 calm-settled c d b _ k u = u
 
-heard-meet : (P : ℕ → Bytes → Type 0) (layer : Layer) (k : Bytes) (sender counter : ℕ) (s : NodeState) → RowsMeet P s.links → RowsMeet P (heard layer k sender counter s).links
-unfolding heard
+heard-meet : (P : ℕ → Bytes → Type 0) (layer : Layer) (k : Bytes) (sender counter : ℕ) (s : NodeState) → RowsMeet P s.links → RowsMeet P (after_hearing layer k sender counter s).links
+unfolding after_hearing
 heard-meet P Nwk k sender counter s m = m
 heard-meet P Aps k sender counter s m = meet-if P (link_kept (counter + 1)) (is_link sender k) (alike-kept (counter + 1)) s.links m
 
@@ -321,7 +321,7 @@ declared-meet P Nwk v s m = m
 declared-meet P Aps v s m = m
 
 calm-meet : (P : ℕ → Bytes → Type 0) (l : Line) (s : NodeState) → Calm l → RowsMeet P s.links → RowsMeet P (after l s).links
-unfolding after Calm with_given_net sealed accepted after_boot
+unfolding after Calm with_given_net after_sealing after_accepting after_boot
 calm-meet P (Declared p) s k m = m
 calm-meet P (GivenNet n key q) s k m = m
 calm-meet P (GivenLink n p key) s k m = provisional-meet P p key s m

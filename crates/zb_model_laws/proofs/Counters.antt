@@ -2,7 +2,7 @@
 use Rattle.std.proofs.Common.{◌≡◌, ℕ, ◌<◌, ◌≤◌, ◌+◌, ◌^◌, max, Bool, true, false, cond, List, [], ◌∷◌, ◌++◌, map, Option, Some, None, option_map, find, refl, sym, ap, ◌∙◌, subst, arith, le_refl}
 use Rattle.zb_model.specs.Data.{Bytes, Layer, Nwk, Aps, ForNetwork, Term, Move, Draw, DropNet, DropLink, Install, Active, Row, Pair, Became, Live, Removed, Roll, Told, Untold, Edit, Reserve, Floor, Start, Moved}
 use Rattle.zb_model.specs.Lines.{Line, Declared, GivenNet, GivenLink, Counter, Changed, Accept, Seal, Boot}
-use Rattle.zb_model.specs.State.{greatest_counter, NetKey, NodeState, same_key, has_net, at_net, of_active, new_net, given_net, reserved, started_at, dropped_net, net_floor, net_kept, next_at, booted_net, declared_at, applied, moved, sealed, sealed_at, after_boot, heard, accepted, with_given_net, with_given_link, with_declared}
+use Rattle.zb_model.specs.State.{greatest_counter, NetKey, NodeState, same_key, has_net, at_net, of_active, new_net, given_net, reserved, started_at, dropped_net, net_floor, net_kept, next_at, booted_net, declared_at, applied, moved, after_sealing, sealed_at, after_boot, after_hearing, after_accepting, with_given_net, with_given_link, with_declared}
 use Rattle.zb_model.specs.Frames.{nwk_control}
 use Rattle.zb_model.specs.Readings.{state_of, after, speaker}
 use Rattle.zb_model_laws.proofs.Basics.{same_key-eq, find-map}
@@ -103,7 +103,7 @@ covers-sealed Nwk c key t s m h =
 covers-sealed Aps c key t s m h = h
 
 pub covers-after : (c : ℕ) (key : Bytes) (l : Line) (s : NodeState) → StateFits l s → On (Covers c) key s.nets → On (Covers c) key (after l s).nets
-unfolding after with_given_net with_given_link with_declared sealed
+unfolding after with_given_net with_given_link with_declared after_sealing
 covers-after c key (GivenNet n k q) s m h = on-add (Covers c) (has_net k s.nets) key s.nets (given_net s.declared k q ∷ []) h
 covers-after c key (Counter n Nwk v) s m h = on-map (Covers c) (declared_at v) (covers-declared c v) key s.nets h
 covers-after c key (Counter n Aps v) s m h = h
@@ -140,8 +140,8 @@ aps-applied c (Floor Aps k p v) s h = h
 aps-applied c (Start k v) s h = h
 aps-applied c (Moved m) s h = aps-moved c m s h
 
-aps-heard : (c : ℕ) (layer : Layer) (k : Bytes) (sender counter : ℕ) (s : NodeState) → ApsCovers c s → ApsCovers c (heard layer k sender counter s)
-unfolding heard
+aps-heard : (c : ℕ) (layer : Layer) (k : Bytes) (sender counter : ℕ) (s : NodeState) → ApsCovers c s → ApsCovers c (after_hearing layer k sender counter s)
+unfolding after_hearing
 aps-heard c Nwk k sender counter s h = h
 aps-heard c Aps k sender counter s h = h
 
@@ -151,7 +151,7 @@ aps-sealed Nwk c t s m h = h
 aps-sealed Aps c t s m h = (omega (arith, m.1, h.0), h.1)
 
 pub aps-after : (c : ℕ) (l : Line) (s : NodeState) → StateFits l s → ApsCovers c s → ApsCovers c (after l s)
-unfolding after with_given_net with_given_link with_declared sealed accepted after_boot
+unfolding after with_given_net with_given_link with_declared after_sealing after_accepting after_boot
 aps-after c (GivenNet n k q) s m h = h
 aps-after c (Counter n Nwk v) s m h = h
 aps-after c (Counter n Aps v) s m h = (omega (arith, h.0), omega (arith, h.1))
@@ -237,13 +237,13 @@ commanded-applied (Floor Aps k p v) s o = record { nets = o.nets; aps = o.aps }
 commanded-applied (Start k v) s o = record { nets = if-at (started_at v) k (λ r. refl) (λ r p. omega (arith, p)) s.nets o.nets; aps = o.aps }
 commanded-applied (Moved m) s o = commanded-moved m s o
 
-commanded-heard : (layer : Layer) (k : Bytes) (sender counter : ℕ) (s : NodeState) → Commanded s → Commanded (heard layer k sender counter s)
-unfolding heard Behind
+commanded-heard : (layer : Layer) (k : Bytes) (sender counter : ℕ) (s : NodeState) → Commanded s → Commanded (after_hearing layer k sender counter s)
+unfolding after_hearing Behind
 commanded-heard Nwk k sender counter s o = record { nets = if-at (net_kept sender (counter + 1)) k (λ r. refl) (λ r p. p) s.nets o.nets; aps = o.aps }
 commanded-heard Aps k sender counter s o = record { nets = o.nets; aps = o.aps }
 
-pub commanded-accepted : (t : Term) (s : NodeState) → Commanded s → Commanded (accepted t s)
-unfolding accepted
+pub commanded-accepted : (t : Term) (s : NodeState) → Commanded s → Commanded (after_accepting t s)
+unfolding after_accepting
 commanded-accepted t s o = commanded-heard t.layer t.base t.source t.counter s o
 
 if-moved : (c : ℕ) (key base : Bytes) (nets : List NetKey) (o : Option NetKey) → find (at_key key) nets ≡ o → IfHolds Behind o → On (Gives c) base nets → IfHolds Behind (option_map (λ r. cond (same_key r.key base) (next_at (c + 1) r) r) o)
@@ -283,7 +283,7 @@ key-declared v true r = refl
 key-declared v false r = refl
 
 pub commanded-after : (l : Line) (s : NodeState) → StateFits l s → Commanded s → Commanded (after l s)
-unfolding after with_given_net with_given_link with_declared sealed after_boot Behind
+unfolding after with_given_net with_given_link with_declared after_sealing after_boot Behind
 commanded-after (Declared p) s m o = record { nets = o.nets; aps = o.aps }
 commanded-after (GivenNet n k q) s m o = record { nets = if-add (has_net k s.nets) (given_net s.declared k q) (le_refl s.declared) s.nets o.nets; aps = o.aps }
 commanded-after (GivenLink n p k) s m o = record { nets = o.nets; aps = o.aps }

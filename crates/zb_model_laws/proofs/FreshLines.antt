@@ -5,7 +5,7 @@ use Rattle.std.specs.Int.{w32, w64, from_le_bytes}
 use Rattle.std.proofs.lemmas.Nat.{from_le_bytes-to_le_bytes_4, from_le_bytes-to_le_bytes_8}
 use Rattle.zb_model.specs.Data.{Bytes, Layer, Nwk, Aps, ForNetwork, Term}
 use Rattle.zb_model.specs.Lines.{Line, Seal}
-use Rattle.zb_model.specs.State.{greatest_counter, NetKey, NodeState, at_net, next_at, sealed, sealed_at}
+use Rattle.zb_model.specs.State.{greatest_counter, NetKey, NodeState, at_net, next_at, after_sealing, sealed_at}
 use Rattle.zb_model.specs.Frames.{nwk_control}
 use Rattle.zb_model.specs.Tools.{Tools, sealing_key}
 use Rattle.zb_model.specs.Readings.{state_of, heard_line, after, speaker}
@@ -72,7 +72,7 @@ new-below Nwk t s f = (f.0, f.1, on-given t.counter t.base s.nets f.2)
 new-below Aps t s f = (f.0, (omega arith, f.2))
 
 own-seal : (e n : ℕ) (t : Term) (s : NodeState) → heard_line n s (Seal e n t) ≡ sealed_at t.layer t s
-unfolding heard_line speaker after sealed
+unfolding heard_line speaker after after_sealing
 own-seal e n t s = ap (λ b. cond b (sealed_at t.layer t s) s) (nat_eq-refl n)
 
 seal-marked : (h : List Line) (e n : ℕ) (t : Term) → SealFits n t (state_of h n) → Marked (h ++ Seal e n t ∷ []) t

@@ -5,7 +5,7 @@ use Rattle.std.proofs.lemmas.Bool.{false≢true}
 use Rattle.std.specs.List.{AllByRecursion}
 use Rattle.zb_model.specs.Data.{Bytes, Role, Layer, Nwk, Aps, Station, Term, Move, Draw, DropNet, DropLink, Install, Active, Row, Pair, Became, Live, Removed, Roll, Told, Untold, Edit, Reserve, Floor, Start, Moved}
 use Rattle.zb_model.specs.Lines.{Line, GivenNet, Counter, Changed, Accept, Seal, Boot}
-use Rattle.zb_model.specs.State.{NetKey, NodeState, new_node, same_key, has_net, at_net, of_active, new_net, given_net, reserved, started_at, dropped_net, net_floor, net_kept, next_at, booted_net, declared_at, applied, moved, sealed, sealed_at, after_boot, heard, accepted, with_given_net, with_given_link, with_declared}
+use Rattle.zb_model.specs.State.{NetKey, NodeState, new_node, same_key, has_net, at_net, of_active, new_net, given_net, reserved, started_at, dropped_net, net_floor, net_kept, next_at, booted_net, declared_at, applied, moved, after_sealing, sealed_at, after_boot, after_hearing, after_accepting, with_given_net, with_given_link, with_declared}
 use Rattle.zb_model.specs.Readings.{state_of, heard_line, after, speaker, station_line}
 use Rattle.zb_model.specs.Secrets.{holds, ever_in, ever_from, ever}
 use Rattle.zb_model_laws.proofs.FreshLines.{all-append, all-map}
@@ -69,8 +69,8 @@ applied-held (Floor Aps k p v) e n keys s a = no-more keys s.nets a
 applied-held (Start k v) e n keys s a = no-more keys (at_net k (started_at v) s.nets) (at-held (started_at v) (λ r. refl) k keys s.nets a)
 applied-held (Moved m) e n keys s a = moved-held m e n keys s a
 
-heard-held : (layer : Layer) (k : Bytes) (sender counter : ℕ) (keys : List Bytes) (s : NodeState) → AllHeld keys s.nets → AllHeld keys (heard layer k sender counter s).nets
-unfolding heard
+heard-held : (layer : Layer) (k : Bytes) (sender counter : ℕ) (keys : List Bytes) (s : NodeState) → AllHeld keys s.nets → AllHeld keys (after_hearing layer k sender counter s).nets
+unfolding after_hearing
 heard-held Nwk k sender counter keys s a = at-held (net_kept sender (counter + 1)) (λ r. refl) k keys s.nets a
 heard-held Aps k sender counter keys s a = a
 
@@ -82,12 +82,12 @@ declared-key : (v : ℕ) (r : NetKey) → (declared_at v r).key ≡ r.key
 declared-key v r = cond-key (λ r. record r { limit = max r.limit v; next = max r.next v }) (λ r. refl) r.started r
 
 after-held : (l : Line) (keys : List Bytes) (s : NodeState) → AllHeld keys s.nets → AllHeld (keys ++ given_key l) (after l s).nets
-unfolding after with_given_net with_given_link with_declared sealed accepted after_boot
+unfolding after with_given_net with_given_link with_declared after_sealing after_accepting after_boot
 after-held (GivenNet n k q) keys s a = new-held (has_net k s.nets) (given_net s.declared k q) keys s.nets a
 after-held (Counter n Nwk v) keys s a = no-more keys (map (declared_at v) s.nets) (same-held (declared_at v) (declared-key v) keys s.nets a)
 after-held (Counter n Aps v) keys s a = no-more keys s.nets a
 after-held (Changed e n x) keys s a = applied-held x e n keys s a
-after-held (Accept e n t) keys s a = no-more keys (heard t.layer t.base t.source t.counter s).nets (heard-held t.layer t.base t.source t.counter keys s a)
+after-held (Accept e n t) keys s a = no-more keys (after_hearing t.layer t.base t.source t.counter s).nets (heard-held t.layer t.base t.source t.counter keys s a)
 after-held (Seal e n t) keys s a = no-more keys (sealed_at t.layer t s).nets (sealed-held t.layer t keys s a)
 after-held (Boot e n) keys s a = no-more keys (map booted_net s.nets) (same-held booted_net (λ r. refl) keys s.nets a)
 after-held _ keys s a = no-more keys s.nets a

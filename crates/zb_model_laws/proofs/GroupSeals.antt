@@ -3,7 +3,7 @@ use Rattle.std.proofs.Common.{◌≡◌, ℕ, ◌<◌, ◌≤◌, ◌+◌, ◌^�
 use Rattle.std.specs.List.{AllByRecursion}
 use Rattle.zb_model.specs.Data.{Bytes, Nwk, Aps, Label, ForData, ForNetwork, ForTransport, ForLoad, Term, Move, Draw, DropNet, DropLink, Install, Active, Row, Pair, Became, Live, Removed, Roll, Told, Untold, Edit, Floor, Place, Reason}
 use Rattle.zb_model.specs.Lines.{Line, Changed, Accept, Seal}
-use Rattle.zb_model.specs.State.{greatest_counter, NetKey, NodeState, active_row, next_counter, applied, applied_all, accepted, sealed}
+use Rattle.zb_model.specs.State.{greatest_counter, NetKey, NodeState, active_row, next_counter, applied, applied_all, after_accepting, after_sealing}
 use Rattle.zb_model.specs.Tools.{Tools}
 use Rattle.zb_model.specs.Frames.{nwk_control, nwk_term, aps_term, aps_control, aps_label}
 use Rattle.zb_model.specs.Rules.{Body, Saying, Clear, Secret, Tunnelled, Telling, Leaving, Relayed, Sending, Plan, Setting}
@@ -97,7 +97,7 @@ unfolding after
 refuse-keeps Φ number n place None = tt
 refuse-keeps Φ number n place (Some r) = (λ s p. p, tt)
 
-accepts-keep : (Φ : NodeState → Type 0) → ((t : Term) (s : NodeState) → Φ s → Φ (accepted t s)) → (number n : ℕ) (ts : List Term) → AllByRecursion (λ l. (s : NodeState) → Φ s → Φ (after l s)) (map (Accept number n) ts)
+accepts-keep : (Φ : NodeState → Type 0) → ((t : Term) (s : NodeState) → Φ s → Φ (after_accepting t s)) → (number n : ℕ) (ts : List Term) → AllByRecursion (λ l. (s : NodeState) → Φ s → Φ (after l s)) (map (Accept number n) ts)
 unfolding after
 accepts-keep Φ k number n [] = tt
 accepts-keep Φ k number n (t ∷ ts) = (λ s p. k t s p, accepts-keep Φ k number n ts)
@@ -148,7 +148,7 @@ part-fits tools me n to nwk aps f h number (Relayed bytes) g = tt
 
 -- an APS seal leaves the network rows
 part-keeps : (tools : Tools) (me to nwk aps number n : ℕ) (P : NetKey → Type 0) (key : Bytes) (body : Body) → AllByRecursion (λ l. (s : NodeState) → On P key s.nets → On P key (after l s).nets) (map (Seal number n) (part_of tools me to nwk aps body).seals)
-unfolding part_of after sealed
+unfolding part_of after after_sealing
 part-keeps tools me to nwk aps number n P key (Saying bytes) = tt
 part-keeps tools me to nwk aps number n P key (Clear control command) = tt
 part-keeps tools me to nwk aps number n P key (Secret label k command) = (λ s p. p, tt)

@@ -3,7 +3,7 @@ use Rattle.std.proofs.Common.{◌≡◌, ℕ, ◌+◌, cond, List, [], ◌∷◌
 use Rattle.std.specs.List.{AllByRecursion}
 use Rattle.zb_model.specs.Data.{Bytes, Term, Place, Reason}
 use Rattle.zb_model.specs.Lines.{Line, Accept, Seal}
-use Rattle.zb_model.specs.State.{NodeState, accepted, sealed}
+use Rattle.zb_model.specs.State.{NodeState, after_accepting, after_sealing}
 use Rattle.zb_model.specs.Answer.{Answer, accepted_all, sealed_all, answered}
 use Rattle.zb_model.specs.Readings.{state_of, heard_line, after, speaker, air}
 use Rattle.zb_model.specs.Play.{refuse_lines, send_lines, stored_lines, told_lines, group_of}
@@ -32,13 +32,13 @@ unfolding after
 send-leaves number n frame None = tt
 send-leaves number n frame (Some b) = (λ s. refl, tt)
 
-accept-line : (number n : ℕ) (t : Term) (s : NodeState) → heard_line n s (Accept number n t) ≡ accepted t s
+accept-line : (number n : ℕ) (t : Term) (s : NodeState) → heard_line n s (Accept number n t) ≡ after_accepting t s
 unfolding heard_line speaker after
-accept-line number n t s = ap (λ b. cond b (accepted t s) s) (nat_eq-refl n)
+accept-line number n t s = ap (λ b. cond b (after_accepting t s) s) (nat_eq-refl n)
 
-seal-line : (number n : ℕ) (t : Term) (s : NodeState) → heard_line n s (Seal number n t) ≡ sealed t s
+seal-line : (number n : ℕ) (t : Term) (s : NodeState) → heard_line n s (Seal number n t) ≡ after_sealing t s
 unfolding heard_line speaker after
-seal-line number n t s = ap (λ b. cond b (sealed t s) s) (nat_eq-refl n)
+seal-line number n t s = ap (λ b. cond b (after_sealing t s) s) (nat_eq-refl n)
 
 accepted-state : (number n : ℕ) (h : List Line) (ts : List Term) → state_of (h ++ map (Accept number n) ts) n ≡ accepted_all ts (state_of h n)
 accepted-state number n h [] = ap (λ x. state_of x n) (append-nil' h)

@@ -4,7 +4,7 @@ use Rattle.std.proofs.lemmas.Bool.{and_parts, not-true, false≢true, eqb-false}
 use Rattle.std.specs.List.{AllByRecursion}
 use Rattle.zb_model.specs.Data.{Bytes, Layer, Nwk, Aps, Term, Move, Draw, DropNet, DropLink, Install, Active, Row, Pair, Became, Live, Removed, Roll, Told, Untold, Edit, Reserve, Floor, Start, Moved, Place, Reason}
 use Rattle.zb_model.specs.Lines.{Line, Changed, Accept, Seal}
-use Rattle.zb_model.specs.State.{greatest_counter, NetKey, NodeState, same_key, at_net, of_active, net_of_active, active_row, next_of, limit_of, next_counter, stored_limit, reserved, started_at, applied, applied_all, accepted, sealed, sealed_at}
+use Rattle.zb_model.specs.State.{greatest_counter, NetKey, NodeState, same_key, at_net, of_active, net_of_active, active_row, next_of, limit_of, next_counter, stored_limit, reserved, started_at, applied, applied_all, after_accepting, after_sealing, sealed_at}
 use Rattle.zb_model.specs.Rules.{Sending, Setting, spent}
 use Rattle.zb_model.specs.Answer.{Answer, seals_at, may_seal, row_is_started, reserve_of}
 use Rattle.zb_model.specs.Readings.{state_of, heard_line, after, speaker}
@@ -130,16 +130,16 @@ ready-applied s0 send e g s r = record {
   aps = λ a. aps-gives-applied (next_counter Aps s0) e s (r.aps a);
 }
 
-aps-gives-heard : (c : ℕ) (layer : Layer) (k : Bytes) (sender counter : ℕ) (s : NodeState) → ApsGives c s → ApsGives c (Rattle.zb_model.specs.State.heard layer k sender counter s)
-unfolding Rattle.zb_model.specs.State.heard
+aps-gives-heard : (c : ℕ) (layer : Layer) (k : Bytes) (sender counter : ℕ) (s : NodeState) → ApsGives c s → ApsGives c (Rattle.zb_model.specs.State.after_hearing layer k sender counter s)
+unfolding Rattle.zb_model.specs.State.after_hearing
 aps-gives-heard c Nwk k sender counter s h = h
 aps-gives-heard c Aps k sender counter s h = h
 
-aps-gives-accepted : (c : ℕ) (t : Term) (s : NodeState) → ApsGives c s → ApsGives c (accepted t s)
-unfolding accepted
+aps-gives-accepted : (c : ℕ) (t : Term) (s : NodeState) → ApsGives c s → ApsGives c (after_accepting t s)
+unfolding after_accepting
 aps-gives-accepted c t s h = aps-gives-heard c t.layer t.base t.source t.counter s h
 
-pub ready-accepted : (s0 : NodeState) (send : Option Sending) (t : Term) (s : NodeState) → Ready s0 send s → Ready s0 send (accepted t s)
+pub ready-accepted : (s0 : NodeState) (send : Option Sending) (t : Term) (s : NodeState) → Ready s0 send s → Ready s0 send (after_accepting t s)
 ready-accepted s0 send t s r = record {
   net = λ a row found. on-accepted (Gives (next_counter Nwk s0)) (gives-heard (next_counter Nwk s0)) row.key t s (r.net a row found);
   aps = λ a. aps-gives-accepted (next_counter Aps s0) t s (r.aps a);

@@ -10,7 +10,7 @@ use Rattle.zb_model.specs.Answer.{comes_to, heard_clear, heard_sealed, nwk_comma
 use Rattle.zb_model_laws.specs.Opening.{Opens}
 use Rattle.zb_model.specs.Secrets.{key_in}
 use Rattle.zb_model.specs.Frames.{clear_command, clear_broadcast}
-use Rattle.zb_model.specs.Rules.{Body, Saying, Clear, Secret, Tunnelled, Telling, Leaving, Relayed, Sending, Outcome, Stop, Does, Setting, Plan, unless, given, choose, sends, centre_of, short_of, is_declared, is_router, spent, both_spent, waits_for_key, unless_held, drop_link, drop_row, drop_partner, drop_others, drop_old, first_drop}
+use Rattle.zb_model.specs.Rules.{Body, Saying, Clear, Secret, Tunnelled, Telling, Leaving, Relayed, Sending, Outcome, Stop, Does, Setting, Plan, unless, found_or, choose, sends, centre_of, short_of, is_declared, is_router, spent, both_spent, waits_for_key, unless_held, drop_link, drop_row, drop_partner, drop_others, drop_old, first_drop}
 use Rattle.zb_model.specs.OwnEvents.{say, knock, rejoin, request_key, verify_key, timer_in, member_timer, ask, tell, report_child, child_of_router, child_of_centre, next_member, centre_timer, provision_new, provision, tell_leave, tell_parent, remove_device, roll, switch_over, again, share, own_at_centre, own_at_member, own}
 use Rattle.zb_model.specs.Commands.{Heard, is_clear, names_eui, is_member, take_net_key, unless_old, dropped_at, activates, activate, joined_state, unless_used, take_row, take_link_key, take_app_key, take_switch, take_confirm, take_remove, take_tunnel, take_update, answer_request, take_request, answer_pair, lesser, greater, take_app_request, verified_current, take_verify, take_command, take_leave}
 use Rattle.zb_model_laws.proofs.Judged.{OnGood, reject-good, need-good, In, found-element, in-reverse}
@@ -158,8 +158,8 @@ unfolding unless
 by-unless c s task true reason rest k = tt
 by-unless c s task false reason rest k = k refl
 
-pub by-given : {A : Type 0} (c : Setting) (s : NodeState) (task : Task) (o : Option A) (reason : Rattle.zb_model.specs.Data.Reason) (rest : A → Outcome) → ((a : A) → o ≡ Some a → OutcomeFits c s task (rest a)) → OutcomeFits c s task (given o reason rest)
-unfolding given
+pub by-given : {A : Type 0} (c : Setting) (s : NodeState) (task : Task) (o : Option A) (reason : Rattle.zb_model.specs.Data.Reason) (rest : A → Outcome) → ((a : A) → o ≡ Some a → OutcomeFits c s task (rest a)) → OutcomeFits c s task (found_or o reason rest)
+unfolding found_or
 by-given c s task None reason rest k = tt
 by-given c s task (Some a) reason rest k = k a refl
 

@@ -4,7 +4,7 @@ use Rattle.std.proofs.lemmas.Bool.{false≢true, and_parts}
 use Rattle.std.specs.List.{AllByRecursion, list_any}
 use Rattle.zb_model.specs.Data.{Bytes, Layer, Nwk, Aps, Attribute, Provisional, Term, Move, Draw, DropNet, DropLink, Install, Active, Row, Pair, Became, Live, Removed, Roll, Told, Untold, Edit, Reserve, Floor, Start, Moved}
 use Rattle.zb_model.specs.Lines.{Line, Declared, GivenNet, GivenLink, Counter, Changed, Commit, Accept, Refuse, Seal, Forge, Send, Inject, Stopped, DownReset, DownDisk, Boot, Dump, End}
-use Rattle.zb_model.specs.State.{NetKey, LinkKey, PairKey, NodeState, same_key, has_net, has_link, is_link, is_live_of, is_told, at_net, at_link, of_active, new_net, given_net, new_link, revived, dropped_net, dropped_link, reserved, started_at, net_floor, net_kept, next_at, booted_net, booted_link, declared_at, told_as, link_floor, link_kept, names_two, names, applied, moved, sealed, sealed_at, after_boot, heard, accepted, with_given_net, with_given_link, with_declared}
+use Rattle.zb_model.specs.State.{NetKey, LinkKey, PairKey, NodeState, same_key, has_net, has_link, is_link, is_live_of, is_told, at_net, at_link, of_active, new_net, given_net, new_link, revived, dropped_net, dropped_link, reserved, started_at, net_floor, net_kept, next_at, booted_net, booted_link, declared_at, told_as, link_floor, link_kept, names_two, names, applied, moved, after_sealing, sealed_at, after_boot, after_hearing, after_accepting, with_given_net, with_given_link, with_declared}
 use Rattle.zb_model.specs.Readings.{state_of, heard_line, after, speaker}
 use Rattle.zb_model_laws.proofs.Basics.{same_key-eq, state-snoc}
 use Rattle.zb_model_laws.proofs.Judged.{In, in-filter}
@@ -233,13 +233,13 @@ applied-forth (Floor Aps k p v) s y i = forth-if (link_floor v) (is_link p k) (�
 applied-forth (Start k v) s y i = still s.links y i
 applied-forth (Moved m) s y i = moved-forth m s y i
 
-heard-back : (layer : Layer) (k : Bytes) (sender counter : ℕ) (s : NodeState) (y : LinkKey) → In y (heard layer k sender counter s).links → OldLink s.links y
-unfolding heard
+heard-back : (layer : Layer) (k : Bytes) (sender counter : ℕ) (s : NodeState) (y : LinkKey) → In y (after_hearing layer k sender counter s).links → OldLink s.links y
+unfolding after_hearing
 heard-back Nwk k sender counter s y i = itself s.links y i
 heard-back Aps k sender counter s y i = back-if (link_kept (counter + 1)) (is_link sender k) (tame-kept (counter + 1)) s.links y i
 
-heard-forth : (layer : Layer) (k : Bytes) (sender counter : ℕ) (s : NodeState) (y : LinkKey) → In y s.links → SameLink (heard layer k sender counter s).links y
-unfolding heard
+heard-forth : (layer : Layer) (k : Bytes) (sender counter : ℕ) (s : NodeState) (y : LinkKey) → In y s.links → SameLink (after_hearing layer k sender counter s).links y
+unfolding after_hearing
 heard-forth Nwk k sender counter s y i = still s.links y i
 heard-forth Aps k sender counter s y i = forth-if (link_kept (counter + 1)) (is_link sender k) (λ r. refl) (λ r. refl) s.links y i
 
@@ -262,7 +262,7 @@ declared-forth Nwk v s y i = still s.links y i
 declared-forth Aps v s y i = still s.links y i
 
 after-back : (l : Line) (s : NodeState) (y : LinkKey) → In y (after l s).links → OldLink s.links y ⊎ RowOf l y
-unfolding after with_given_net with_given_link sealed accepted after_boot
+unfolding after with_given_net with_given_link after_sealing after_accepting after_boot
 after-back (Declared p) s y i = inl (itself s.links y i)
 after-back (GivenNet n k q) s y i = inl (itself s.links y i)
 after-back (GivenLink n p k) s y i = back-row p k Provisional false s.links (has_link p k s.links) y i
@@ -283,7 +283,7 @@ after-back (Dump e n b) s y i = inl (itself s.links y i)
 after-back (End a b c d e f) s y i = inl (itself s.links y i)
 
 after-forth : (l : Line) (s : NodeState) (y : LinkKey) → In y s.links → SameLink (after l s).links y
-unfolding after with_given_net with_given_link sealed accepted after_boot
+unfolding after with_given_net with_given_link after_sealing after_accepting after_boot
 after-forth (GivenLink n p k) s y i = forth-row p k Provisional false s.links (has_link p k s.links) y i
 after-forth (Counter n layer v) s y i = declared-forth layer v s y i
 after-forth (Changed e n x) s y i = applied-forth x s y i
@@ -443,8 +443,8 @@ unfolding with_declared
 nets-declared Nwk v s y = ((keyed-declared v).back s.nets y, (keyed-declared v).forth s.nets y)
 nets-declared Aps v s y = (net-self s.nets y, net-self s.nets y)
 
-nets-heard : (layer : Layer) (k : Bytes) (sender counter : ℕ) (s : NodeState) (y : NetKey) → (In y (heard layer k sender counter s).nets → SameNet s.nets y) × (In y s.nets → SameNet (heard layer k sender counter s).nets y)
-unfolding heard
+nets-heard : (layer : Layer) (k : Bytes) (sender counter : ℕ) (s : NodeState) (y : NetKey) → (In y (after_hearing layer k sender counter s).nets → SameNet s.nets y) × (In y s.nets → SameNet (after_hearing layer k sender counter s).nets y)
+unfolding after_hearing
 nets-heard Nwk k sender counter s y = ((keyed-at k (net_kept sender (counter + 1)) (λ r. refl)).back s.nets y, (keyed-at k (net_kept sender (counter + 1)) (λ r. refl)).forth s.nets y)
 nets-heard Aps k sender counter s y = (net-self s.nets y, net-self s.nets y)
 
@@ -453,7 +453,7 @@ nets-sealed Nwk t s y = ((keyed-at t.base (next_at (t.counter + 1)) (λ r. refl)
 nets-sealed Aps t s y = (net-self s.nets y, net-self s.nets y)
 
 nets-after-back : (l : Line) (s : NodeState) (y : NetKey) → In y (after l s).nets → SameNet s.nets y ⊎ NetOf l y
-unfolding after with_given_net with_given_link sealed accepted after_boot
+unfolding after with_given_net with_given_link after_sealing after_accepting after_boot
 nets-after-back (GivenNet n k q) s y i = net-add-back (has_net k s.nets) (given_net s.declared k q) s.nets y i
 nets-after-back (Changed e n x) s y i = nets-applied-back e n x s y i
 nets-after-back (Declared p) s y i = inl (net-self s.nets y i)
@@ -474,7 +474,7 @@ nets-after-back (Dump e n b) s y i = inl (net-self s.nets y i)
 nets-after-back (End a b c d e f) s y i = inl (net-self s.nets y i)
 
 nets-after-forth : (l : Line) (s : NodeState) (y : NetKey) → In y s.nets → SameNet (after l s).nets y
-unfolding after with_given_net with_given_link sealed accepted after_boot
+unfolding after with_given_net with_given_link after_sealing after_accepting after_boot
 nets-after-forth (GivenNet n k q) s y i = net-add-forth (has_net k s.nets) (given_net s.declared k q) s.nets y i
 nets-after-forth (Counter n layer v) s y i = (nets-declared layer v s y).1 i
 nets-after-forth (Changed e n x) s y i = nets-applied-forth x s y i
@@ -541,8 +541,8 @@ unfolding with_declared
 pairs-declared Nwk v s y i = i
 pairs-declared Aps v s y i = i
 
-pairs-heard : (layer : Layer) (k : Bytes) (sender counter : ℕ) (s : NodeState) (y : PairKey) → In y (heard layer k sender counter s).pairs → In y s.pairs
-unfolding heard
+pairs-heard : (layer : Layer) (k : Bytes) (sender counter : ℕ) (s : NodeState) (y : PairKey) → In y (after_hearing layer k sender counter s).pairs → In y s.pairs
+unfolding after_hearing
 pairs-heard Nwk k sender counter s y i = i
 pairs-heard Aps k sender counter s y i = i
 
@@ -551,7 +551,7 @@ pairs-sealed Nwk t s y i = i
 pairs-sealed Aps t s y i = i
 
 pairs-after : (l : Line) (s : NodeState) (y : PairKey) → In y (after l s).pairs → In y s.pairs ⊎ PairOf l y
-unfolding after with_given_net with_given_link sealed accepted after_boot
+unfolding after with_given_net with_given_link after_sealing after_accepting after_boot
 pairs-after (Changed e n x) s y i = pairs-applied e n x s y i
 pairs-after (Declared p) s y i = inl i
 pairs-after (GivenNet n k q) s y i = inl i

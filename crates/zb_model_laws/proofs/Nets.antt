@@ -1,7 +1,7 @@
 -- The network row of a key, and what is kept of it by the changes of rows.
 use Rattle.std.proofs.Common.{◌≡◌, ℕ, ◌<◌, ◌≤◌, ◌+◌, Bool, true, false, cond, List, [], ◌∷◌, ◌++◌, map, Option, Some, None, option_map, find, refl, sym, ap, ◌∙◌, subst, arith}
 use Rattle.zb_model.specs.Data.{Bytes, Layer, Nwk, Aps, Move, Draw, DropNet, DropLink, Install, Active, Row, Pair, Became, Live, Removed, Roll, Told, Untold, Edit, Reserve, Floor, Start, Moved, Term}
-use Rattle.zb_model.specs.State.{NetKey, NodeState, same_key, has_net, at_net, of_active, new_net, reserved, started_at, dropped_net, net_floor, net_kept, booted_net, applied, moved, after_boot, heard, accepted}
+use Rattle.zb_model.specs.State.{NetKey, NodeState, same_key, has_net, at_net, of_active, new_net, reserved, started_at, dropped_net, net_floor, net_kept, booted_net, applied, moved, after_boot, after_hearing, after_accepting}
 use Rattle.zb_model_laws.proofs.Basics.{find-map}
 
 unfoldable pub Holds : (NetKey → Type 0) → Option NetKey → Type 0
@@ -99,13 +99,13 @@ on-applied P c key (Moved m) s x h = on-moved P c key m s h
 abbrev pub KeepsHeard : (NetKey → Type 0) → Type 0
 KeepsHeard P = (sender kept : ℕ) → Keeps P (net_kept sender kept)
 
-pub on-heard : (P : NetKey → Type 0) → KeepsHeard P → (key : Bytes) (layer : Layer) (k : Bytes) (sender counter : ℕ) (s : NodeState) → On P key s.nets → On P key (heard layer k sender counter s).nets
-unfolding heard
+pub on-heard : (P : NetKey → Type 0) → KeepsHeard P → (key : Bytes) (layer : Layer) (k : Bytes) (sender counter : ℕ) (s : NodeState) → On P key s.nets → On P key (after_hearing layer k sender counter s).nets
+unfolding after_hearing
 on-heard P c key Nwk k sender counter s h = on-at P (net_kept sender (counter + 1)) (c sender (counter + 1)) k key s.nets h
 on-heard P c key Aps k sender counter s h = h
 
-pub on-accepted : (P : NetKey → Type 0) → KeepsHeard P → (key : Bytes) (t : Term) (s : NodeState) → On P key s.nets → On P key (accepted t s).nets
-unfolding accepted
+pub on-accepted : (P : NetKey → Type 0) → KeepsHeard P → (key : Bytes) (t : Term) (s : NodeState) → On P key s.nets → On P key (after_accepting t s).nets
+unfolding after_accepting
 on-accepted P c key t s h = on-heard P c key t.layer t.base t.source t.counter s h
 
 pub on-booted : (P : NetKey → Type 0) → Keeps P booted_net → (key : Bytes) (s : NodeState) → On P key s.nets → On P key (after_boot s).nets

@@ -3,7 +3,7 @@ use Rattle.std.proofs.Common.{◌≡◌, ℕ, ◌<◌, ◌+◌, min, Bool, true,
 use Rattle.std.specs.List.{AllByRecursion}
 use Rattle.zb_model.specs.Data.{Bytes, Layer, Nwk, Aps, Term, Edit, Reserve, Floor, Start, Moved, Place, Reason}
 use Rattle.zb_model.specs.Lines.{Line, Changed, Accept, Seal}
-use Rattle.zb_model.specs.State.{greatest_counter, NetKey, LinkKey, NodeState, is_link, reserved, net_floor, link_floor, sender_floor, applied, applied_all, accepted, heard, same_layer}
+use Rattle.zb_model.specs.State.{greatest_counter, NetKey, LinkKey, NodeState, is_link, reserved, net_floor, link_floor, sender_floor, applied, applied_all, after_accepting, after_hearing, same_layer}
 use Rattle.zb_model.specs.Fits.{net_stored, link_stored}
 use Rattle.zb_model.specs.Rules.{Setting, Plan}
 use Rattle.zb_model.specs.Tools.{Tools}
@@ -208,13 +208,13 @@ pre-floor c base source t (Some v) e s h = subst (λ l. PreAt Aps c base source 
 
 -- The lines
 
-heard-nwk-links : (t u : Term) (s : NodeState) → Takes_ Aps u s → Takes_ Aps u (heard Nwk t.base t.source t.counter s)
-unfolding TakesAt heard
+heard-nwk-links : (t u : Term) (s : NodeState) → Takes_ Aps u s → Takes_ Aps u (after_hearing Nwk t.base t.source t.counter s)
+unfolding TakesAt after_hearing
 heard-nwk-links t u s h = h
 
-accept-keeps-aps : (t u : Term) → t.layer ≡ Nwk → (s : NodeState) → Takes_ Aps u s → Takes_ Aps u (accepted t s)
-unfolding accepted
-accept-keeps-aps t u e s h = subst (λ l. Takes_ Aps u (heard l t.base t.source t.counter s)) (sym e) (heard-nwk-links t u s h)
+accept-keeps-aps : (t u : Term) → t.layer ≡ Nwk → (s : NodeState) → Takes_ Aps u s → Takes_ Aps u (after_accepting t s)
+unfolding after_accepting
+accept-keeps-aps t u e s h = subst (λ l. Takes_ Aps u (after_hearing l t.base t.source t.counter s)) (sym e) (heard-nwk-links t u s h)
 
 after-accept : (t u : Term) (number n : ℕ) → t.layer ≡ Nwk → (s : NodeState) → Takes_ Aps u s → Takes_ Aps u (after (Accept number n t) s)
 unfolding after

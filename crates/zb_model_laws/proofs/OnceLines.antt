@@ -5,7 +5,7 @@ use Rattle.std.proofs.lemmas.Bool.{and_parts}
 use Rattle.std.specs.List.{AllByRecursion}
 use Rattle.zb_model.specs.Data.{Bytes, Layer, Nwk, Aps, Attribute, Term, Move, Draw, DropNet, DropLink, Install, Active, Row, Pair, Became, Live, Removed, Roll, Told, Untold, Edit, Reserve, Floor, Start, Moved}
 use Rattle.zb_model.specs.Lines.{Line, Declared, GivenNet, GivenLink, Counter, Changed, Accept, Seal, Boot}
-use Rattle.zb_model.specs.State.{SenderFloor, NetKey, LinkKey, NodeState, same_key, has_net, has_link, is_link, is_live_of, is_told, at_link, new_link, revived, dropped_link, told_as, link_floor, link_kept, booted_link, net_kept, booted_net, declared_at, given_net, next_at, applied, moved, sealed, sealed_at, after_boot, heard, accepted, with_given_net, with_given_link, with_declared}
+use Rattle.zb_model.specs.State.{SenderFloor, NetKey, LinkKey, NodeState, same_key, has_net, has_link, is_link, is_live_of, is_told, at_link, new_link, revived, dropped_link, told_as, link_floor, link_kept, booted_link, net_kept, booted_net, declared_at, given_net, next_at, applied, moved, after_sealing, sealed_at, after_boot, after_hearing, after_accepting, with_given_net, with_given_link, with_declared}
 use Rattle.zb_model.specs.Readings.{state_of, heard_line, after, speaker}
 use Rattle.zb_model.specs.Claims.{Each, Rises, OnceFrom, Once}
 use Rattle.zb_model_laws.proofs.Basics.{same_key-eq, nat_eq-refl, find-map, state-snoc}
@@ -182,8 +182,8 @@ link-heard P Q R f same stay move p q k j links h t =
         by-test true b = move r h (there b)
         by-test false b = stay r h
 
-over-heard : (layer of : Layer) (c : ℕ) (base : Bytes) (source : ℕ) (key : Bytes) (sender counter : ℕ) (s : NodeState) → TakesAt of counter key sender s → OverAt layer c base source s → OverAt layer c base source (heard of key sender counter s)
-unfolding OverAt TakesAt heard
+over-heard : (layer of : Layer) (c : ℕ) (base : Bytes) (source : ℕ) (key : Bytes) (sender counter : ℕ) (s : NodeState) → TakesAt of counter key sender s → OverAt layer c base source s → OverAt layer c base source (after_hearing of key sender counter s)
+unfolding OverAt TakesAt after_hearing
 over-heard Nwk Nwk c base source key sender counter s t h =
     on-sealed (RowOver c source) (RowTakes counter sender) (net_kept sender (counter + 1)) base key s.nets (λ r. refl)
     (λ r p q. (sorted-kept sender (counter + 1) r.floors p.0, kept-over c source sender counter r.floors p.1 q.1)) h t
@@ -232,7 +232,7 @@ over-same Nwk c base source p s h = h
 over-same Aps c base source p s h = h
 
 pub over-after : (layer : Layer) (c : ℕ) (base : Bytes) (source : ℕ) (l : Line) (s : NodeState) → AcceptState l s → OverAt layer c base source s → OverAt layer c base source (after l s)
-unfolding after accepted sealed
+unfolding after after_accepting after_sealing
 over-after layer c base source (Declared p) s m h = over-same layer c base source p.role s h
 over-after layer c base source (GivenNet n key q) s m h = over-net layer c base source key q s h
 over-after layer c base source (GivenLink n p key) s m h = over-given layer c base source p key s h
@@ -253,8 +253,8 @@ link-own P R f same move p k links h =
     by-found None e h = h
     by-found (Some r) e h = subst (λ b. R (cond b (f r) r)) (sym (found-link p k links r e)) (move r h)
 
-taken-over : (layer : Layer) (c : ℕ) (base : Bytes) (source : ℕ) (s : NodeState) → TakesAt layer c base source s → OverAt layer c base source (heard layer base source c s)
-unfolding OverAt TakesAt heard
+taken-over : (layer : Layer) (c : ℕ) (base : Bytes) (source : ℕ) (s : NodeState) → TakesAt layer c base source s → OverAt layer c base source (after_hearing layer base source c s)
+unfolding OverAt TakesAt after_hearing
 taken-over Nwk c base source s t = on-map-found (RowTakes c source) (RowOver c source) (net_kept source (c + 1)) base s.nets (λ r. refl) (λ r q. (sorted-kept source (c + 1) r.floors q.0, kept-new source c r.floors q.1)) t
 taken-over Aps c base source s t = link-own (LinkTakes c) (LinkOver c) (link_kept (c + 1)) (λ p k r. refl) (λ r p. (omega arith, p.1)) source base s.links t
 
@@ -303,9 +303,9 @@ later-rise h (l ∷ ls) n t f o = (
   later-rise (h ++ l ∷ []) ls n t f.1 (line-goes-on (λ s. OverAt t.layer t.counter t.base t.source s) h l n f.0 (λ a p. over-after t.layer t.counter t.base t.source l (state_of h n) a p) o),
 )
 
-accept-line : (e n : ℕ) (t : Term) (s : NodeState) → heard_line n s (Accept e n t) ≡ heard t.layer t.base t.source t.counter s
-unfolding heard_line speaker after accepted
-accept-line e n t s = ap (λ b. cond b (heard t.layer t.base t.source t.counter s) s) (nat_eq-refl n)
+accept-line : (e n : ℕ) (t : Term) (s : NodeState) → heard_line n s (Accept e n t) ≡ after_hearing t.layer t.base t.source t.counter s
+unfolding heard_line speaker after after_accepting
+accept-line e n t s = ap (λ b. cond b (after_hearing t.layer t.base t.source t.counter s) s) (nat_eq-refl n)
 
 once-line : (h : List Line) (l : Line) (ls : List Line) → AcceptFits h l → Each AcceptFits (h ++ l ∷ []) ls → OnceFrom l ls
 unfolding speaker

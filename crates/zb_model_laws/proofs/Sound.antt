@@ -4,7 +4,7 @@ use Rattle.std.proofs.lemmas.Bool.{false≢true}
 use Rattle.std.specs.List.{AllByRecursion, list_any}
 use Rattle.zb_model.specs.Data.{Bytes, Role, Layer, Nwk, Aps, Attribute, Provisional, Term, Move, Draw, DropNet, DropLink, Install, Active, Row, Pair, Became, Live, Removed, Roll, Told, Untold, Edit, Reserve, Floor, Start, Moved}
 use Rattle.zb_model.specs.Lines.{Line, Declared, GivenNet, GivenLink, Counter, Changed, Accept, Seal, Boot}
-use Rattle.zb_model.specs.State.{NetKey, LinkKey, NodeState, new_node, same_key, has_net, has_link, is_link, is_live_of, is_told, at_net, at_link, of_active, with_link, new_net, new_link, given_net, reserved, started_at, dropped_net, net_floor, net_kept, next_at, booted_net, booted_link, declared_at, revived, dropped_link, told_as, link_floor, link_kept, applied, moved, sealed, sealed_at, after_boot, heard, accepted, with_given_net, with_given_link, with_declared, with_told}
+use Rattle.zb_model.specs.State.{NetKey, LinkKey, NodeState, new_node, same_key, has_net, has_link, is_link, is_live_of, is_told, at_net, at_link, of_active, with_link, new_net, new_link, given_net, reserved, started_at, dropped_net, net_floor, net_kept, next_at, booted_net, booted_link, declared_at, revived, dropped_link, told_as, link_floor, link_kept, applied, moved, after_sealing, sealed_at, after_boot, after_hearing, after_accepting, with_given_net, with_given_link, with_declared, with_told}
 use Rattle.zb_model.specs.Readings.{state_of, heard_line, after}
 use Rattle.zb_model_laws.proofs.Basics.{same_key-refl, nat_eq-refl}
 use Rattle.zb_model_laws.proofs.FreshLines.{all-append, heard-keeps}
@@ -193,8 +193,8 @@ sound-applied (Floor Aps k p v) s o = with-links s (at_link p k (link_floor v) s
 sound-applied (Start k v) s o = with-nets s (at_net k (started_at v) s.nets) (nets-at (started_at v) (plain-row (started_at v) (λ r. refl) (λ r. refl)) k s.nets (of-nets s o)) o
 sound-applied (Moved m) s o = sound-moved m s o
 
-sound-heard : (layer : Layer) (k : Bytes) (sender counter : ℕ) (s : NodeState) → Sound s → Sound (heard layer k sender counter s)
-unfolding heard
+sound-heard : (layer : Layer) (k : Bytes) (sender counter : ℕ) (s : NodeState) → Sound s → Sound (after_hearing layer k sender counter s)
+unfolding after_hearing
 sound-heard Nwk k sender counter s o = with-nets s (at_net k (net_kept sender (counter + 1)) s.nets) (nets-at (net_kept sender (counter + 1)) (record { key = λ r. refl; floors = λ r x. sorted-kept sender (counter + 1) r.floors x }) k s.nets (of-nets s o)) o
 sound-heard Aps k sender counter s o = with-links s (at_link sender k (link_kept (counter + 1)) s.links) (links-map (link_kept (counter + 1)) (is_link sender k) (λ r. refl) (λ r. refl) s.links o.links) o
 
@@ -214,7 +214,7 @@ sound-booted s o = record {
     booted = record { key = λ r. refl; floors = λ r x. sorted-booted r.floors x }
 
 sound-after : (l : Line) (s : NodeState) → Sound s → Sound (after l s)
-unfolding after with_given_net with_given_link with_declared sealed accepted
+unfolding after with_given_net with_given_link with_declared after_sealing after_accepting
 sound-after (Declared p) s o = record { nets = o.nets; links = o.links; floors = o.floors }
 sound-after (GivenNet n k q) s o = record { nets = (given k q).found; links = o.links; floors = (given k q).floors }
   where

@@ -5,7 +5,7 @@ use Rattle.zb_model.specs.Data.{Bytes, Nwk, Aps, State, Joined, Offered, Reason,
 use Rattle.zb_model.specs.State.{LinkKey, PairKey, NodeState, is_centre, is_live_of, has_net, active_row, usable_active, usable_of, newest, current, offered, other_user, pair_of}
 use Rattle.zb_model.specs.Tools.{Tools, NwkShown, NwkAuxiliary, ApsShown, ApsAuxiliary, CommandShown, Known, Unknown, Broken, LeaveShown, Leave, Other, NoCommand}
 use Rattle.zb_model.specs.Judging.{Verdict, Not, Good, reject, need, judge_net, Carrier, carrier, judge_security, judge_nwk, payload_of, candidates, chosen_row, aps_source, Unsealed, judge_aps}
-use Rattle.zb_model.specs.Rules.{Outcome, Stop, Does, Plan, Setting, unless, given, choose, centre_of, spent, both_spent, unless_held}
+use Rattle.zb_model.specs.Rules.{Outcome, Stop, Does, Plan, Setting, unless, found_or, choose, centre_of, spent, both_spent, unless_held}
 use Rattle.zb_model.specs.Answer.{comes_to, heard_clear, heard_sealed, nwk_command, aps_command, clear_part, sealed_part, by_security, aps_part, net_part, received_as, plan_of}
 use Rattle.zb_model.specs.OwnEvents.{say, knock, rejoin, request_key, verify_key, timer_in, member_timer, ask, tell, report_child, child_of_router, child_of_centre, next_member, centre_timer, provision_new, provision, remove_device, roll, switch_over, again, share, own_at_centre, own_at_member, own}
 use Rattle.zb_model.specs.Commands.{Heard, take_net_key, unless_old, dropped_at, unless_used, take_row, take_link_key, take_app_key, take_switch, take_confirm, take_remove, take_tunnel, take_update, answer_request, take_request, answer_pair, take_app_request, verified_current, take_verify, take_command, take_leave}
@@ -27,8 +27,8 @@ unfolding unless
 un s true reason rest k f = k refl
 un s false reason rest k f = f
 
-gi : {A : Type 0} (s : NodeState) (o : Option A) (reason : Reason) (rest : A → Outcome) → ReasonFits s reason → ((a : A) → Fits s (rest a)) → Fits s (given o reason rest)
-unfolding given
+gi : {A : Type 0} (s : NodeState) (o : Option A) (reason : Reason) (rest : A → Outcome) → ReasonFits s reason → ((a : A) → Fits s (rest a)) → Fits s (found_or o reason rest)
+unfolding found_or
 gi s None reason rest k f = k
 gi s (Some a) reason rest k f = f a
 

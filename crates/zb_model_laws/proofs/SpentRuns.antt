@@ -3,7 +3,7 @@ use Rattle.std.proofs.Common.{◌≡◌, ℕ, ◌≤◌, ◌+◌, ◌⊎◌, Boo
 use Rattle.std.specs.List.{AllByRecursion}
 use Rattle.zb_model.specs.Data.{Bytes, Layer, Nwk, Aps, Term, Edit, Reserve, Floor, Start, Moved, Place, Reason, CounterSpent, Down, WrongState, Task, Received, DoRoll}
 use Rattle.zb_model.specs.Lines.{Line, Counter, Changed, Accept, Refuse, Seal, Boot, DownReset}
-use Rattle.zb_model.specs.State.{greatest_counter, NetKey, NodeState, same_key, at_net, of_active, net_of_active, active_row, next_of, next_counter, reserved, net_floor, net_kept, applied, heard, accepted}
+use Rattle.zb_model.specs.State.{greatest_counter, NetKey, NodeState, same_key, at_net, of_active, net_of_active, active_row, next_of, next_counter, reserved, net_floor, net_kept, applied, after_hearing, after_accepting}
 use Rattle.zb_model.specs.Tools.{Tools}
 use Rattle.zb_model.specs.Rules.{Setting, Plan, Outcome, Stop, Does, spent}
 use Rattle.zb_model.specs.Answer.{Answer, Counting, answer_by, plan_of, counting_of, edits_of, reserve_edit, floor_edit, move_edits, changes, moves_of}
@@ -77,11 +77,11 @@ mild-same (Floor Aps k p v) m Aps s = refl
 mild-same (Start k v) m layer s = absurd m
 mild-same (Moved x) m layer s = absurd m
 
-heard-same : (of : Layer) (k : Bytes) (sender counter : ℕ) (layer : Layer) (s : NodeState) → next_counter layer (heard of k sender counter s) ≡ next_counter layer s
-unfolding next_counter heard active_row
+heard-same : (of : Layer) (k : Bytes) (sender counter : ℕ) (layer : Layer) (s : NodeState) → next_counter layer (after_hearing of k sender counter s) ≡ next_counter layer s
+unfolding next_counter after_hearing active_row
 heard-same Nwk k sender counter Nwk s = active-next (net_kept sender (counter + 1)) (λ r. refl) (λ r. refl) k s.active s
 heard-same Nwk k sender counter Aps s = refl
-heard-same Aps k sender counter Nwk s = same-active s.active s (heard Aps k sender counter s) refl
+heard-same Aps k sender counter Nwk s = same-active s.active s (after_hearing Aps k sender counter s) refl
 heard-same Aps k sender counter Aps s = refl
 
 ends : (s t : NodeState) → ((layer : Layer) → next_counter layer t ≡ next_counter layer s) → ReachesEnd s → ReachesEnd t
@@ -102,9 +102,9 @@ commit-keeps number n [] = tt
 commit-keeps number n (e ∷ es) = (λ s k. k, tt)
 
 accepts-keep : (number n : ℕ) (ts : List Term) → AllByRecursion KeepsEnd (map (Accept number n) ts)
-unfolding after accepted
+unfolding after after_accepting
 accepts-keep number n [] = tt
-accepts-keep number n (t ∷ ts) = (λ s. ends s (heard t.layer t.base t.source t.counter s) (λ layer. heard-same t.layer t.base t.source t.counter layer s), accepts-keep number n ts)
+accepts-keep number n (t ∷ ts) = (λ s. ends s (after_hearing t.layer t.base t.source t.counter s) (λ layer. heard-same t.layer t.base t.source t.counter layer s), accepts-keep number n ts)
 
 -- the changes of a refused answer
 

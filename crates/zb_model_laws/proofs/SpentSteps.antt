@@ -3,7 +3,7 @@ use Rattle.std.proofs.Common.{◌≡◌, ℕ, ◌+◌, Bool, true, false, cond, 
 use Rattle.std.proofs.lemmas.Bool.{false≢true}
 use Rattle.zb_model.specs.Data.{Bytes, Layer, Nwk, Aps, Term, Move, Draw, DropNet, DropLink, Install, Active, Row, Pair, Became, Live, Removed, Roll, Told, Untold, Edit, Reserve, Floor, Start, Moved}
 use Rattle.zb_model.specs.Lines.{Line, Declared, GivenNet, GivenLink, Counter, Changed, Commit, Accept, Refuse, Seal, Forge, Send, Inject, Stopped, DownReset, DownDisk, Boot, Dump, End}
-use Rattle.zb_model.specs.State.{NetKey, NodeState, same_key, has_net, at_net, of_active, net_of, new_net, given_net, reserved, dropped_net, net_floor, net_kept, next_at, applied, moved, sealed, sealed_at, heard, accepted, with_given_net, with_given_link, same_layer}
+use Rattle.zb_model.specs.State.{NetKey, NodeState, same_key, has_net, at_net, of_active, net_of, new_net, given_net, reserved, dropped_net, net_floor, net_kept, next_at, applied, moved, after_sealing, sealed_at, after_hearing, after_accepting, with_given_net, with_given_link, same_layer}
 use Rattle.zb_model.specs.Readings.{state_of, heard_line, after, speaker}
 use Rattle.zb_model.specs.Claims.{Each}
 use Rattle.zb_model.specs.Play.{Schedule}
@@ -83,8 +83,8 @@ moved-stays (Roll b) s = record { aps = refl; nets = same-nets s.nets }
 moved-stays (Told d) s = record { aps = refl; nets = same-nets s.nets }
 moved-stays (Untold d) s = record { aps = refl; nets = same-nets s.nets }
 
-heard-stays : (layer : Layer) (k : Bytes) (sender counter : ℕ) (s : NodeState) → Stays s (heard layer k sender counter s)
-unfolding heard
+heard-stays : (layer : Layer) (k : Bytes) (sender counter : ℕ) (s : NodeState) → Stays s (after_hearing layer k sender counter s)
+unfolding after_hearing
 heard-stays Nwk k sender counter s = record { aps = refl; nets = at-nets k (net_kept sender (counter + 1)) (λ r. refl) (λ r. refl) s.nets }
 heard-stays Aps k sender counter s = record { aps = refl; nets = same-nets s.nets }
 
@@ -106,7 +106,7 @@ NoSeal (Seal e n t) = ⊥
 NoSeal _ = Unit {0}
 
 line-keeps : (l : Line) → NoSeal l → Keeps l
-unfolding after with_given_net with_given_link accepted
+unfolding after with_given_net with_given_link after_accepting
 line-keeps (Declared p) k = inr (λ s. record { aps = refl; nets = same-nets s.nets })
 line-keeps (GivenNet n key q) k = inr (λ s. record { aps = refl; nets = add-nets (has_net key s.nets) (given_net s.declared key q) s.nets })
 line-keeps (GivenLink n p key) k = inr (λ s. record { aps = refl; nets = same-nets s.nets })
@@ -186,7 +186,7 @@ sealed-takes Nwk t s n = (no-more s.aps_next, λ key r e. sealed-net t s n key r
 sealed-takes Aps t s n = (one-more s.aps_next t.counter n, λ key r e. same-nets s.nets key r e ∙ ap Some (no-more r.next))
 
 seal-takes : (m e n : ℕ) (t : Term) (s : NodeState) → (n ≡ m → NextIs t.layer t s) → Takes (taken_aps m (Seal e n t)) (λ key. taken_nwk m key (Seal e n t)) s (heard_line m s (Seal e n t))
-unfolding heard_line speaker after sealed
+unfolding heard_line speaker after after_sealing
 seal-takes m e n t s k = by-test (nat_eq n m) refl
   where
     by-test : (b : Bool) → nat_eq n m ≡ b → Takes (cond (b && same_layer t.layer Aps) 1 0) (λ key. cond (b && (same_layer t.layer Nwk && same_key t.base key)) 1 0) s (cond b (sealed_at t.layer t s) s)

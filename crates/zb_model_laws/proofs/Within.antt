@@ -3,7 +3,7 @@ use Rattle.std.proofs.Common.{ℕ, ◌<◌, ◌≤◌, ◌+◌, Bool, true, fals
 use Rattle.std.specs.List.{AllByRecursion}
 use Rattle.zb_model.specs.Data.{Bytes, Layer, Nwk, Aps, Term, Move, Draw, DropNet, DropLink, Install, Active, Row, Pair, Became, Live, Removed, Roll, Told, Untold, Edit, Reserve, Floor, Start, Moved}
 use Rattle.zb_model.specs.Lines.{Line, Declared, GivenNet, GivenLink, Counter, Changed, Accept, Seal, Boot}
-use Rattle.zb_model.specs.State.{greatest_counter, NetKey, NodeState, same_key, has_net, at_net, of_active, net_of_active, active_row, new_net, given_net, reserved, started_at, dropped_net, net_floor, net_kept, next_at, booted_net, declared_at, next_of, next_counter, applied, moved, sealed, sealed_at, after_boot, heard, accepted, with_given_net, with_given_link, with_declared}
+use Rattle.zb_model.specs.State.{greatest_counter, NetKey, NodeState, same_key, has_net, at_net, of_active, net_of_active, active_row, new_net, given_net, reserved, started_at, dropped_net, net_floor, net_kept, next_at, booted_net, declared_at, next_of, next_counter, applied, moved, after_sealing, sealed_at, after_boot, after_hearing, after_accepting, with_given_net, with_given_link, with_declared}
 use Rattle.zb_model.specs.Readings.{state_of, after, heard_line, speaker}
 use Rattle.zb_model_laws.proofs.Basics.{append-nil', state-snoc}
 use Rattle.zb_model_laws.proofs.FreshLines.{all-append}
@@ -77,8 +77,8 @@ within-applied (Floor Aps k p v) s w = record { declared = w.declared; next = w.
 within-applied (Start k v) s w = record { declared = w.declared; next = w.next; limit = w.limit; nets = at-rows (started_at v) (λ r q. (omega (arith, q.0), omega (arith, q.1))) k s.nets w.nets }
 within-applied (Moved m) s w = within-moved m s w
 
-within-heard : (layer : Layer) (k : Bytes) (sender counter : ℕ) (s : NodeState) → Within s → Within (heard layer k sender counter s)
-unfolding heard
+within-heard : (layer : Layer) (k : Bytes) (sender counter : ℕ) (s : NodeState) → Within s → Within (after_hearing layer k sender counter s)
+unfolding after_hearing
 within-heard Nwk k sender counter s w = record { declared = w.declared; next = w.next; limit = w.limit; nets = at-rows (net_kept sender (counter + 1)) (λ r q. q) k s.nets w.nets }
 within-heard Aps k sender counter s w = record { declared = w.declared; next = w.next; limit = w.limit; nets = w.nets }
 
@@ -92,7 +92,7 @@ within-declared Nwk v s small w = record { declared = small; next = w.next; limi
 within-declared Aps v s small w = record { declared = w.declared; next = omega (arith, small, w.next); limit = omega (arith, small, w.limit); nets = w.nets }
 
 within-after : (l : Line) (s : NodeState) → LineSmall l → Within s → Within (after l s)
-unfolding after with_given_net with_given_link sealed accepted after_boot
+unfolding after with_given_net with_given_link after_sealing after_accepting after_boot
 within-after (Declared p) s m w = record { declared = w.declared; next = w.next; limit = w.limit; nets = w.nets }
 within-after (GivenNet n k q) s m w = record { declared = w.declared; next = w.next; limit = w.limit; nets = more-rows (has_net k s.nets) (given_net s.declared k q) (w.declared, w.declared) s.nets w.nets }
 within-after (GivenLink n p k) s m w = record { declared = w.declared; next = w.next; limit = w.limit; nets = w.nets }

@@ -15,7 +15,7 @@ use Rattle.zb_record.specs.Changes.{change_at}
 use Rattle.zb_record.specs.Ranges.{InRange}
 use Rattle.zb_record.specs.declared.version.Version.{Version}
 use Rattle.zb_record.specs.declared.version.Version.TheVariants.{First, Second, Third}
-use Rattle.zb_record.specs.Redoing.{Redone, onward, made, fits_behind, applied_behind, change_redone, changes_redone, payloads_redone, redone}
+use Rattle.zb_record.specs.Redoing.{Redone, onward, change_made, fits_behind, applied_behind, change_redone, changes_redone, payloads_redone, redone}
 use Rattle.zb_record.proofs.ReadAgain.{change_again}
 use Rattle.zb_record.proofs.Redone.{one_made}
 use Rattle.zb_record.proofs.Steady.{found, change_steady}
@@ -42,7 +42,7 @@ module _ (v : Version) (more : List ℕ) where
   one_steady bytes rest s t e = by_read (change_at (length bytes) bytes) refl e
     where
       by_fit : (b : Bool) (x : Change × List ℕ) → fits_behind v (edit x.0) s ≡ b → change_at (length bytes) bytes ≡ found x.0 x.1 → (if b then at_end (shown (applied_behind v (edit x.0) s)) x.1 else failed s (length bytes)) ≡ at_end t rest
-          → (length rest ≤ length bytes) × (made v s (length (bytes ++ more)) (change_at (length (bytes ++ more)) (bytes ++ more)) ≡ at_end t (rest ++ more))
+          → (length rest ≤ length bytes) × (change_made v s (length (bytes ++ more)) (change_at (length (bytes ++ more)) (bytes ++ more)) ≡ at_end t (rest ++ more))
       by_fit true x fit read e =
           let a = change_steady (length bytes) bytes x.1 x.0 read in
           let state : shown (applied_behind v (edit x.0) s) ≡ t = ap (λ (r : Redone). r.0) e in
@@ -50,8 +50,8 @@ module _ (v : Version) (more : List ℕ) where
           (omega (arith, a.0, ap (length {A = ℕ}) left), rw (a.1 (length (bytes ++ more)) more, fit) (ap (λ u. at_end u (x.1 ++ more)) state ∙ ap (λ l. at_end t (l ++ more)) left))
       by_fit false x fit read e = not_failed s t (length bytes) rest e
 
-      by_read : (r : Result (Change × List ℕ) ℕ) → change_at (length bytes) bytes ≡ r → made v s (length bytes) r ≡ at_end t rest
-          → (length rest ≤ length bytes) × (made v s (length (bytes ++ more)) (change_at (length (bytes ++ more)) (bytes ++ more)) ≡ at_end t (rest ++ more))
+      by_read : (r : Result (Change × List ℕ) ℕ) → change_at (length bytes) bytes ≡ r → change_made v s (length bytes) r ≡ at_end t rest
+          → (length rest ≤ length bytes) × (change_made v s (length (bytes ++ more)) (change_at (length (bytes ++ more)) (bytes ++ more)) ≡ at_end t (rest ++ more))
       by_read (Ok x) is e = by_fit (fits_behind v (edit x.0) s) x refl is e
       by_read (Err f) is e = not_failed s t f rest e
 

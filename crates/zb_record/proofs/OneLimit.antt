@@ -20,7 +20,7 @@ use Rattle.zb_record.specs.Rows.{net_at, net_flags_fit, is_new_net, floors_at, l
 use Rattle.zb_record.specs.Records.{may_enter, may_roll, has_net_room, is_place, node_at, head_at, nets_at, state_from, record_at, record_read, ended}
 use Rattle.zb_record.proofs.Sound.{both_read, rows_keep, given}
 use Rattle.zb_node_types.specs.Changes.{model_role}
-use Rattle.zb_record.specs.Redoing.{Redone, onward, made, limited, first_applied, first_fits, fits_behind, applied_behind, change_redone, changes_redone, payloads_redone, redone, GoesOn, HasOneLimit}
+use Rattle.zb_record.specs.Redoing.{Redone, onward, change_made, limited, first_applied, first_fits, fits_behind, applied_behind, change_redone, changes_redone, payloads_redone, redone, GoesOn, HasOneLimit}
 
 -- ---- what each change keeps, all of them keep
 
@@ -33,7 +33,7 @@ module _ (v : Version) (P : NodeState → Type 0) (each : (e : Edit) (s : NodeSt
       by_fit true x fit = each (edit x.0) s p fit
       by_fit false x fit = p
 
-      by_read : (r : Result (Change × List ℕ) ℕ) → P (made v s (length bytes) r).0
+      by_read : (r : Result (Change × List ℕ) ℕ) → P (change_made v s (length bytes) r).0
       by_read (Ok x) = by_fit (fits_behind v (edit x.0) s) x refl
       by_read (Err f) = p
 

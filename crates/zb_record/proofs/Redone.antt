@@ -5,21 +5,21 @@ use Rattle.zb_node_types.specs.Changes.{edit}
 use Rattle.zb_model.specs.State.{NodeState, shown}
 use Rattle.zb_record.specs.Changes.{change_at}
 use Rattle.zb_record.specs.declared.version.Version.{Version}
-use Rattle.zb_record.specs.Redoing.{Redone, made, fits_behind, applied_behind, change_redone, changes_redone, payloads_redone, redone}
+use Rattle.zb_record.specs.Redoing.{Redone, change_made, fits_behind, applied_behind, change_redone, changes_redone, payloads_redone, redone}
 
 -- one change
 
 pub one_failed : (v : Version) (bytes : List ℕ) (s : NodeState) (e : ℕ) → change_at (length bytes) bytes ≡ Err e → change_redone v bytes s ≡ (s, Err e)
 unfolding change_redone
-one_failed v bytes s e read = ap (made v s (length bytes)) read
+one_failed v bytes s e read = ap (change_made v s (length bytes)) read
 
 pub one_unfit : (v : Version) (bytes rest : List ℕ) (s : NodeState) (c : Change) → change_at (length bytes) bytes ≡ Ok (c, rest) → fits_behind v (edit c) s ≡ false → change_redone v bytes s ≡ (s, Err (length bytes))
 unfolding change_redone
-one_unfit v bytes rest s c read fit = ap (made v s (length bytes)) read ∙ rw fit refl
+one_unfit v bytes rest s c read fit = ap (change_made v s (length bytes)) read ∙ rw fit refl
 
 pub one_made : (v : Version) (bytes rest : List ℕ) (s : NodeState) (c : Change) → change_at (length bytes) bytes ≡ Ok (c, rest) → fits_behind v (edit c) s ≡ true → change_redone v bytes s ≡ (shown (applied_behind v (edit c) s), Ok rest)
 unfolding change_redone
-one_made v bytes rest s c read fit = ap (made v s (length bytes)) read ∙ rw fit refl
+one_made v bytes rest s c read fit = ap (change_made v s (length bytes)) read ∙ rw fit refl
 
 -- what is left of some bytes is no longer than they are
 pub shorter : (piece rest bytes : List ℕ) → bytes ≡ piece ++ rest → length rest ≤ length bytes

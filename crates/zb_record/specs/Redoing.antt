@@ -63,13 +63,13 @@ onward s (Ok rest) next = next rest s
 onward s (Err left) next = (s, Err left)
 
 -- a change that was read is made where it fits, and is else at fault from its first byte on
-abbrev pub made : Version → NodeState → ℕ → Result (Change × List ℕ) ℕ → Redone
-made v s left (Ok x) = if fits_behind v (edit x.0) s then (shown (applied_behind v (edit x.0) s), Ok x.1) else (s, Err left)
-made v s left (Err e) = (s, Err e)
+abbrev pub change_made : Version → NodeState → ℕ → Result (Change × List ℕ) ℕ → Redone
+change_made v s left (Ok x) = if fits_behind v (edit x.0) s then (shown (applied_behind v (edit x.0) s), Ok x.1) else (s, Err left)
+change_made v s left (Err e) = (s, Err e)
 
 -- the change at the front
 unfoldable pub change_redone : Version → List ℕ → NodeState → Redone
-change_redone v bytes s = made v s (length bytes) (change_at (length bytes) bytes)
+change_redone v bytes s = change_made v s (length bytes) (change_at (length bytes) bytes)
 
 -- so many changes
 unfoldable pub changes_redone : Version → ℕ → List ℕ → NodeState → Redone

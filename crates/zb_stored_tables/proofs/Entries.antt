@@ -10,7 +10,7 @@ use Rattle.zb_record.specs.Changes.{change_at}
 use Rattle.zb_record.specs.Ranges.{FitsBytes}
 use Rattle.zb_record.specs.declared.version.Version.{Version}
 use Rattle.zb_record.specs.declared.version.Version.TheVariants.{First, Second, Third}
-use Rattle.zb_record.specs.Redoing.{Redone, onward, made, fits_behind, applied_behind, first_applied, change_redone, changes_redone, payloads_redone, redone}
+use Rattle.zb_record.specs.Redoing.{Redone, onward, change_made, fits_behind, applied_behind, first_applied, change_redone, changes_redone, payloads_redone, redone}
 use Rattle.zb_record.proofs.First.{fit_kept, behind_shown}
 use Rattle.zb_record.proofs.Steady.{change_steady}
 use Rattle.zb_stored_tables.proofs.Widths.{AreBytes, found}
@@ -58,7 +58,7 @@ one_made v bytes rest s t e = by_read (change_at (length bytes) bytes) refl e
         record { change = x.0; read = read ∙ ap (λ l. found x.0 l) end.left; fit = fit; state = sym end.state }
     by_fit false x fit read e = not_failed s t (length bytes) rest e
 
-    by_read : (r : Result (Change × List ℕ) ℕ) → change_at (length bytes) bytes ≡ r → made v s (length bytes) r ≡ at_end t rest → OneMade v bytes rest s t
+    by_read : (r : Result (Change × List ℕ) ℕ) → change_at (length bytes) bytes ≡ r → change_made v s (length bytes) r ≡ at_end t rest → OneMade v bytes rest s t
     by_read (Ok x) is e = by_fit (fits_behind v (edit x.0) s) x refl is e
     by_read (Err f) is e = not_failed s t f rest e
 
@@ -95,7 +95,7 @@ NoLonger n bytes = length bytes ≤ n
 
 no_longer : (v : Version) (n count : ℕ) (bytes between : List ℕ) (s u : NodeState) → length (count ∷ bytes) ≤ suc n → changes_redone v count bytes s ≡ at_end u between → length between ≤ n
 no_longer v n count bytes between s u le e =
-    (changes_keep v (λ w. Unit {0}) (NoLonger n) (λ b more short. omega (arith, short)) (λ front rest u w made short p. (tt, omega (arith, short, (change_steady (length front) front rest made.change made.read).0)))
+    (changes_keep v (λ w. Unit {0}) (NoLonger n) (λ b more short. omega (arith, short)) (λ front rest u w change_made short p. (tt, omega (arith, short, (change_steady (length front) front rest change_made.change change_made.read).0)))
     count bytes between s u (omega (arith, le)) tt e).1
 
 all_done : (v : Version) (n : ℕ) (bytes rest : List ℕ) (s t : NodeState) → length bytes ≤ n → payloads_redone v n bytes s ≡ at_end t rest → rest ≡ []
@@ -196,13 +196,13 @@ Any bytes = Unit {0}
 pub entries_ruled : (v : Version) (role : Role) (entries rest : List ℕ) (s t : NodeState) → IsRuled role s → redone v entries s ≡ at_end t rest → IsRuled role t
 unfolding redone
 entries_ruled v role entries rest s t p e =
-    (payloads_keep v (IsRuled role) Any (λ b bytes q. tt) (λ bytes left u w made q k. (subst (IsRuled role) (sym made.state) (one_ruled v role made.change u made.fit k), tt))
+    (payloads_keep v (IsRuled role) Any (λ b bytes q. tt) (λ bytes left u w change_made q k. (subst (IsRuled role) (sym change_made.state) (one_ruled v role change_made.change u change_made.fit k), tt))
     (length entries) entries rest s t tt p e).0
 
 one_fits : (v : Version) (bytes rest : List ℕ) (s t : NodeState) → OneMade v bytes rest s t → AreBytes bytes → FitsBytes s → FitsBytes t × AreBytes rest
-one_fits v bytes rest s t made a p =
-    let k = read_in_range (length bytes) bytes rest made.change a made.read in
-    (subst FitsBytes (sym made.state) (shown_fits (applied_behind v (edit made.change) s) (behind_fits v made.change s k.0 p)), k.1)
+one_fits v bytes rest s t change_made a p =
+    let k = read_in_range (length bytes) bytes rest change_made.change a change_made.read in
+    (subst FitsBytes (sym change_made.state) (shown_fits (applied_behind v (edit change_made.change) s) (behind_fits v change_made.change s k.0 p)), k.1)
 
 -- Entries of bytes lead to values within the widths of a record.
 pub entries_fit : (v : Version) (entries rest : List ℕ) (s t : NodeState) → AreBytes entries → FitsBytes s → redone v entries s ≡ at_end t rest → FitsBytes t

@@ -4,7 +4,7 @@ use Rattle.std.specs.Prelude.{nat_eq}
 use Rattle.std.proofs.lemmas.List.{length-map}
 use Rattle.std.proofs.lemmas.List.Concat.{flat_map-cons}
 use Rattle.zb_model.specs.Data.{Bytes, Layer, Nwk, Aps}
-use Rattle.zb_model.specs.State.{SenderFloor, NetKey, LinkKey, NodeState, same_key, is_link, at_net, at_link, of_active, next_at, counted, floor_kept, net_kept, link_kept, heard, booted_floor, booted_net, booted_link, after_boot, shown_net, shown}
+use Rattle.zb_model.specs.State.{SenderFloor, NetKey, LinkKey, NodeState, same_key, is_link, at_net, at_link, of_active, next_at, after_counting, floor_kept, net_kept, link_kept, after_hearing, booted_floor, booted_net, booted_link, after_boot, shown_net, shown}
 use Rattle.zb_model.specs.Record.{place_from, active_place, net_bytes, sender_bytes, floors_bytes, link_bytes, record_of}
 use Rattle.zb_model_fits.proofs.ShownApplied.{shown_twice}
 use Rattle.zb_keys.specs.Reading.{heard_under, heard_from}
@@ -132,14 +132,14 @@ active_memory None rs = refl
 active_memory (Some key) rs = net_memory key (λ r. next_at (r.next + 1) r) (λ r. refl) rs
 
 -- a counter was used
-pub boot_of_counted : (layer : Layer) (s : NodeState) → after_boot (counted layer s) ≡ after_boot s
-unfolding after_boot counted
+pub boot_of_counted : (layer : Layer) (s : NodeState) → after_boot (after_counting layer s) ≡ after_boot s
+unfolding after_boot after_counting
 boot_of_counted Nwk s = ap (λ l. record s { aps_next = s.aps_limit; nets = l; links = map booted_link s.links }) (active_memory s.active s.nets)
 boot_of_counted Aps s = refl
 
 -- a sender's counter was accepted
-pub boot_of_heard : (layer : Layer) (key : Bytes) (sender counter : ℕ) (s : NodeState) → after_boot (heard layer key sender counter s) ≡ after_boot s
-unfolding after_boot heard
+pub boot_of_heard : (layer : Layer) (key : Bytes) (sender counter : ℕ) (s : NodeState) → after_boot (after_hearing layer key sender counter s) ≡ after_boot s
+unfolding after_boot after_hearing
 boot_of_heard Nwk key sender counter s =
     ap (λ l. record s { aps_next = s.aps_limit; nets = l; links = map booted_link s.links })
     (net_memory key (net_kept sender (counter + 1)) (λ r. ap (λ fs. record r { next = r.limit; floors = fs }) (kept_floors sender (counter + 1) r.floors)) s.nets)
@@ -156,13 +156,13 @@ boot_of_heard_from (Some r) counter s = boot_of_heard Aps r.key r.partner counte
 
 -- ---- the role stays
 
-pub role_of_counted : (layer : Layer) (s : NodeState) → (counted layer s).role ≡ s.role
-unfolding counted
+pub role_of_counted : (layer : Layer) (s : NodeState) → (after_counting layer s).role ≡ s.role
+unfolding after_counting
 role_of_counted Nwk s = refl
 role_of_counted Aps s = refl
 
-role_of_heard : (layer : Layer) (key : Bytes) (sender counter : ℕ) (s : NodeState) → (heard layer key sender counter s).role ≡ s.role
-unfolding heard
+role_of_heard : (layer : Layer) (key : Bytes) (sender counter : ℕ) (s : NodeState) → (after_hearing layer key sender counter s).role ≡ s.role
+unfolding after_hearing
 role_of_heard Nwk key sender counter s = refl
 role_of_heard Aps key sender counter s = refl
 

@@ -7,7 +7,7 @@ ghost use Rattle.zb_host.specs.Plans.{gives};
 ghost use Rattle.zb_model.specs.Data.{Bytes, Role, Layer, Reserve};
 ghost use Rattle.zb_model.specs.Fits.{fits, keeps_rules};
 ghost use Rattle.zb_model.specs.Record.{payload, record_of};
-ghost use Rattle.zb_model.specs.State.{NodeState, after_boot, applied, counted, heard, greatest_counter, next_counter, shown, stored_limit};
+ghost use Rattle.zb_model.specs.State.{NodeState, after_boot, applied, after_counting, after_hearing, greatest_counter, next_counter, shown, stored_limit};
 ghost use Rattle.zb_record.specs.declared.version.Version.TheVariants.{Third};
 ghost use Rattle.zb_record.specs.Changes.{change_at};
 ghost use Rattle.zb_record.specs.Fields.{record_version};
@@ -60,9 +60,9 @@ pub fn what_bytes_give_is_kept()
 pub fn what_is_in_memory_alone_is_not_recorded()
     ensures boots { (s : NodeState) → record_of (after_boot s) ≡ record_of s }
     ensures forgets { (s : NodeState) → record_of (shown s) ≡ record_of s }
-    ensures seals { (layer : Layer) (s : NodeState) → after_boot (counted layer s) ≡ after_boot s }
+    ensures seals { (layer : Layer) (s : NodeState) → after_boot (after_counting layer s) ≡ after_boot s }
     ensures hears { (layer : Layer) (key : Bytes) (sender counter : ℕ) (s : NodeState)
-        → after_boot (heard layer key sender counter s) ≡ after_boot s }
+        → after_boot (after_hearing layer key sender counter s) ≡ after_boot s }
 {}
 
 /// Says the law of cores of any core over tables.

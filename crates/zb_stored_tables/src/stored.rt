@@ -6,7 +6,7 @@ ghost use Rattle.zb_host.specs.Plans.{gives, IsRestoreFault};
 ghost use Rattle.zb_keys.specs.Reading.{heard_under, heard_from};
 ghost use Rattle.zb_model.specs.Fits.{AllFit};
 ghost use Rattle.zb_model.specs.Record.{record_of};
-ghost use Rattle.zb_model.specs.State.{applied_all, counted, next_counter, stored_limit, shown};
+ghost use Rattle.zb_model.specs.State.{applied_all, after_counting, next_counter, stored_limit, shown};
 ghost use Rattle.zb_record.specs.Ranges.{InRange};
 ghost use Rattle.zb_record.specs.Sizes.{payloads_room, record_room};
 ghost use Rattle.zb_stored_tables.specs.Stored.{restored, state_given, IsGivenFault, IsKept};
@@ -95,7 +95,7 @@ impl StoredTables {
     /// Requires one that is reserved.
     pub fn sealed(&mut self, layer: Layer)
         requires { next_counter (model_layer layer) self.old < stored_limit (model_layer layer) self.old }
-        ensures counted { self.new ≡ counted (model_layer layer) self.old }
+        ensures counted { self.new ≡ after_counting (model_layer layer) self.old }
         ensures role { self.new.role ≡ self.old.role }
     {
         self.tables.sealed(layer);
