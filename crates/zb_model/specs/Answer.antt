@@ -1,6 +1,6 @@
 -- The answer of one node to one event: the rule that holds, and then its counters. What it says is determined, so it is a
 -- function; where only the policy is meant, the counters are a parameter (`Counting`).
-use Rattle.std.specs.Prelude.{ℕ, ◌+◌, min, Bool, true, false, not, if◌then◌else◌, ◌&&◌, ◌||◌, List, [], ◌∷◌, ◌++◌, filter, find, Option, Some, None, nat_eq, nat_le, flat_map, option_map, option_to_list}
+use Rattle.std.specs.Prelude.{ℕ, ◌+◌, min, Bool, true, false, not, if◌then◌else◌, ◌&&◌, ◌||◌, List, [], ◌∷◌, ◌++◌, filter, find, Option, Some, None, nat_eq, nat_le, flat_map, option_map, option_to_list, is_some}
 use Rattle.std.specs.List.{list_any}
 use Rattle.zb_model.specs.Data.{Bytes, Layer, Nwk, Aps, ForTransport, ForData, Term, Move, Active, Row, Became, Edit, Reserve, Floor, Start, Moved, Place, AtNwk, AtAps, AtEvent, Reason, Malformed, Policy, Tunnel, Task, Received}
 use Rattle.zb_model.specs.State.{greatest_counter, NetKey, LinkKey, NodeState, same_key, is_link, net_of, active_row, next_counter, stored_limit, applied_all, after_accepting, after_sealing, same_layer, is_active_key}
@@ -142,15 +142,12 @@ framed tools c to nwk false row part = plain_out c to part
 framed tools c to nwk true None part = nothing_out
 framed tools c to nwk true (Some row) part = secured_out tools c to nwk row part
 
--- A node never seals without a counter: at NWK its active row is started and not at its end, at APS the counter isn't.
--- The rules have refused before wherever this would not hold.
-abbrev pub row_is_started : Option NetKey → Bool
-row_is_started None = false
-row_is_started (Some r) = r.started
-
+-- A node never seals without a counter: at NWK it has an active row that isn't at its end, at APS its counter isn't. The
+-- rules have refused before wherever this would not hold, so in no run it decides. A row that was never started may
+-- seal: the reserve that comes first starts it.
 unfoldable pub may_seal : NodeState → Option Sending → Bool
 may_seal s send =
-    (not (seals_at Nwk send) || (row_is_started (active_row s) && not (spent Nwk s)))
+    (not (seals_at Nwk send) || (is_some (active_row s) && not (spent Nwk s)))
     && (not (seals_at Aps send) || not (spent Aps s))
 
 abbrev pub sent : Tools → Setting → NodeState → Counting → Option Sending → Outgoing
@@ -169,6 +166,10 @@ changes s (Row partner key attribute) = not (list_any (λ (r : LinkKey). is_link
 changes s (Active key) = not (is_active_key s.active key)
 changes s (Became state) = not (nat_eq (state_byte s.state) (state_byte state))
 changes s _ = true
+
+abbrev pub row_is_started : Option NetKey → Bool
+row_is_started None = false
+row_is_started (Some r) = r.started
 
 abbrev pub is_started_key : NodeState → Bytes → Bool
 is_started_key s key = row_is_started (net_of key s)

@@ -219,8 +219,13 @@ abbrev pub station_or : Option Station → Station
 station_or None = no_station
 station_or (Some p) = p
 
+-- what a node knows of another: name, EUI, short address and role; blocks it knows of itself alone
+abbrev pub without_blocks : Station → Station
+without_blocks p = record p { out_block = 0; in_block = 0 }
+
+-- What a node of the schedule knows of the network: all of itself, and of each declared node what others know of it.
 unfoldable pub setting_of : Schedule → ℕ → Setting
-setting_of w n = record { me = station_or (station_of (stations w) n); stations = stations w }
+setting_of w n = record { me = station_or (station_of (stations w) n); stations = map without_blocks (stations w) }
 
 -- the next key of the supply
 unfoldable pub supply : Schedule → List Line → Option Bytes
