@@ -28,6 +28,12 @@ NamesNode w (ArmStop n calls torn) = Names w n
 NamesNode w (ArmFail n call) = Names w n
 NamesNode w _ = ⊤
 
+-- calls of a disk are counted from 1, so the one that fails is at least the first
+abbrev pub CountsCalls : Event → Type 0
+CountsCalls (ArmFail n call) = 1 ≤ call
+CountsCalls _ = ⊤
+
 pub record IsSchedule (w : Schedule) : Type 0 where
   pub nodes : AllByRecursion IsMember w.nodes
   pub events : AllByRecursion (NamesNode w) w.events
+  pub calls : AllByRecursion CountsCalls w.events
