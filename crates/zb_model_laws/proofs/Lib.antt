@@ -4,6 +4,7 @@ pub mod Counters
 pub mod FreshLines
 pub mod Groups
 pub mod GroupSeals
+pub mod EventStates
 pub mod Runs
 mod Finds
 mod FloorRows

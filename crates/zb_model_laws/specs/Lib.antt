@@ -6,3 +6,4 @@ pub mod Records
 pub mod KeysApart
 pub mod Spent
 pub mod Premises
+pub mod Events
