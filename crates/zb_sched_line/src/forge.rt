@@ -37,6 +37,17 @@ pub struct Route {
     pub source: Eui,
 }
 
+impl Route {
+    ghost use Rattle.std.specs.Prelude.{◌≡◌};
+
+    /// Names the destination and the claimed source.
+    pub fn new(to: Short, from: Short, source: Eui) -> Route
+        ensures { (result.to ≡ to) × (result.from ≡ from) × (result.source ≡ source) }
+    {
+        Route { to, from, source }
+    }
+}
+
 /// Reads a forged frame.
 pub fn forge(mut words: Words) -> Option<Event>
     ensures value { Shows event_of result (forge_of (left words.entry)) }
@@ -65,6 +76,21 @@ pub struct Net {
     pub sequence: u8,
     /// The NWK frame counter.
     pub counter: u32,
+}
+
+impl Net {
+    ghost use Rattle.std.specs.Prelude.{◌≡◌};
+
+    /// Names the network key, its sequence number and the frame counter.
+    pub fn new(key: Key, sequence: u8, counter: u32) -> Net
+        ensures { (result.key ≡ key) × (result.sequence ≡ sequence) × (result.counter ≡ counter) }
+    {
+        Net {
+            key,
+            sequence,
+            counter,
+        }
+    }
 }
 
 fn forge_net(route: Route, mut words: Words) -> Option<Event>
