@@ -1,0 +1,9 @@
+mod Lists
+mod Chains
+mod Bare
+mod Moves
+mod Drops
+mod LinkRows
+mod NetRows
+mod Outcomes
+mod OwnMoves
