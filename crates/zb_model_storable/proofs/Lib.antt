@@ -7,3 +7,4 @@ mod LinkRows
 mod NetRows
 mod Outcomes
 mod OwnMoves
+mod CommandMoves
