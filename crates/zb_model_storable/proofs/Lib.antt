@@ -8,3 +8,4 @@ mod NetRows
 mod Outcomes
 mod OwnMoves
 mod CommandMoves
+mod Accepted

@@ -17,18 +17,23 @@ use Rattle.zb_model_storable.proofs.Moves.{move_fits, moves_fit}
 abbrev of_key : Bytes → NetKey → Bool
 of_key key r = same_key r.key key
 
--- a live row of a key: it is the one that is found, as no two have one key
-pub live_found : (key : Bytes) (nets : List NetKey) → all_apart nets_alike nets ≡ true → list_any (λ (r : NetKey). r.live && same_key r.key key) nets ≡ true → row_is_live (find (λ (r : NetKey). same_key r.key key) nets) ≡ true
-live_found key [] apart some = absurd (cc)
-live_found key (x ∷ xs) apart some =
-    let parts = both (not (list_any (nets_alike x) xs)) (all_apart nets_alike xs) apart in
-    by_test (same_key x.key key) refl (not-true _ parts.0) some (live_found key xs parts.1)
-  where
-    alike : same_key x.key key ≡ true → list_any (λ (r : NetKey). r.live && same_key r.key key) xs ≡ true → list_any (nets_alike x) xs ≡ true
-    alike is e = any_from (λ (r : NetKey). r.live && same_key r.key key) (nets_alike x)
-        (λ y k. same_key_of x.key y.key (same_key_is x.key key is ∙ sym (same_key_is y.key key (both y.live (same_key y.key key) k).1))) xs e
+-- what is found and has something
+abbrev pub has : (NetKey → Bool) → Option NetKey → Bool
+has q None = false
+has q (Some r) = q r
 
-    first : (b : Bool) → same_key x.key key ≡ true → list_any (nets_alike x) xs ≡ false → ((b && true) || list_any (λ (r : NetKey). r.live && same_key r.key key) xs) ≡ true → b ≡ true
+-- a row of a key that has something: it is the one that is found, as no two have one key
+pub found_has : (q : NetKey → Bool) (key : Bytes) (nets : List NetKey) → all_apart nets_alike nets ≡ true → list_any (λ (r : NetKey). q r && same_key r.key key) nets ≡ true → has q (find (λ (r : NetKey). same_key r.key key) nets) ≡ true
+found_has q key [] apart some = absurd (cc)
+found_has q key (x ∷ xs) apart some =
+    let parts = both (not (list_any (nets_alike x) xs)) (all_apart nets_alike xs) apart in
+    by_test (same_key x.key key) refl (not-true _ parts.0) some (found_has q key xs parts.1)
+  where
+    alike : same_key x.key key ≡ true → list_any (λ (r : NetKey). q r && same_key r.key key) xs ≡ true → list_any (nets_alike x) xs ≡ true
+    alike is e = any_from (λ (r : NetKey). q r && same_key r.key key) (nets_alike x)
+        (λ y k. same_key_of x.key y.key (same_key_is x.key key is ∙ sym (same_key_is y.key key (both (q y) (same_key y.key key) k).1))) xs e
+
+    first : (b : Bool) → same_key x.key key ≡ true → list_any (nets_alike x) xs ≡ false → ((b && true) || list_any (λ (r : NetKey). q r && same_key r.key key) xs) ≡ true → b ≡ true
     first true is alone e = refl
     first false is alone e = never (list_any (nets_alike x) xs) (alike is e) alone
 
@@ -36,11 +41,18 @@ live_found key (x ∷ xs) apart some =
     drop_false true c e = e
     drop_false false c e = e
 
-    by_test : (b : Bool) → same_key x.key key ≡ b → list_any (nets_alike x) xs ≡ false → ((x.live && b) || list_any (λ (r : NetKey). r.live && same_key r.key key) xs) ≡ true
-        → (list_any (λ (r : NetKey). r.live && same_key r.key key) xs ≡ true → row_is_live (find (of_key key) xs) ≡ true)
-        → row_is_live (if b then Some x else find (of_key key) xs) ≡ true
-    by_test true is alone e later = first x.live is alone e
-    by_test false is alone e later = later (drop_false x.live (list_any (λ (r : NetKey). r.live && same_key r.key key) xs) e)
+    by_test : (b : Bool) → same_key x.key key ≡ b → list_any (nets_alike x) xs ≡ false → ((q x && b) || list_any (λ (r : NetKey). q r && same_key r.key key) xs) ≡ true
+        → (list_any (λ (r : NetKey). q r && same_key r.key key) xs ≡ true → has q (find (of_key key) xs) ≡ true)
+        → has q (if b then Some x else find (of_key key) xs) ≡ true
+    by_test true is alone e later = first (q x) is alone e
+    by_test false is alone e later = later (drop_false (q x) (list_any (λ (r : NetKey). q r && same_key r.key key) xs) e)
+
+has_live : (o : Option NetKey) → has (λ (r : NetKey). r.live) o ≡ row_is_live o
+has_live None = refl
+has_live (Some r) = refl
+
+pub live_found : (key : Bytes) (nets : List NetKey) → all_apart nets_alike nets ≡ true → list_any (λ (r : NetKey). r.live && same_key r.key key) nets ≡ true → row_is_live (find (λ (r : NetKey). same_key r.key key) nets) ≡ true
+live_found key nets apart some = sym (has_live (find (λ (r : NetKey). same_key r.key key) nets)) ∙ found_has (λ (r : NetKey). r.live) key nets apart some
 
 -- one row less is live after a live one was dropped
 live_any : (key : Bytes) (nets : List NetKey) → row_is_live (find (of_key key) nets) ≡ true → list_any (λ (r : NetKey). r.live && same_key r.key key) nets ≡ true
