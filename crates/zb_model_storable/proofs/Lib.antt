@@ -9,3 +9,5 @@ mod Outcomes
 mod OwnMoves
 mod CommandMoves
 mod Accepted
+mod Answers
+mod Payloads
