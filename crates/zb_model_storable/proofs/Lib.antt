@@ -1,0 +1,13 @@
+mod Lists
+mod Chains
+mod Bare
+mod Moves
+mod Drops
+mod LinkRows
+mod NetRows
+mod Outcomes
+mod OwnMoves
+mod CommandMoves
+mod Accepted
+mod Answers
+mod Payloads
