@@ -1,0 +1,9 @@
+pub mod Questions
+pub mod OwnRules
+pub mod CommandRules
+pub mod Plans
+pub mod Answers
+pub mod Answered
+pub mod LiveKeys
+pub mod States
+pub mod Loops
