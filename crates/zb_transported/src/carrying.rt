@@ -39,8 +39,8 @@ fn is_command_header(header: &[u8]) -> bool
     }
 }
 
-/// Tells whether an APS frame control is that of a command.
-fn is_command(control: u8) -> bool
+/// Tells whether an APS or NWK frame control is that of a command: its two low bits are 1.
+pub fn is_command(control: u8) -> bool
     ensures { result ≡ is_command control }
 {
     control % 4 == 1
