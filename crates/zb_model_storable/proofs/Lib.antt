@@ -9,5 +9,6 @@ mod Outcomes
 mod OwnMoves
 mod CommandMoves
 mod Accepted
+mod Afterwards
 mod Answers
 mod Payloads

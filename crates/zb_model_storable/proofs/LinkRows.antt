@@ -1,18 +1,18 @@
 -- A link row that is entered behind those that were dropped: it has room and no rival.
-use Rattle.std.proofs.Common.{◌≡◌, ℕ, suc, ◌+◌, ◌<◌, ◌≤◌, List, [], ◌∷◌, ◌++◌, length, map, refl, sym, ap, ◌∙◌, arith, Bool, true, false, not, if◌then◌else◌, ◌&&◌, ◌||◌, Option, Some, None, nat_eq, length-append}
+use Rattle.std.proofs.Common.{◌≡◌, ℕ, ◌+◌, ◌≤◌, List, [], ◌∷◌, ◌++◌, length, map, refl, ap, ◌∙◌, arith, Bool, true, false, not, if◌then◌else◌, ◌&&◌, ◌||◌, Option, Some, None, nat_eq, length-append}
 use Rattle.std.specs.Prelude.{find, filter, option_to_list, nat_lt, nat_le}
-use Rattle.std.specs.List.{list_any, list_all}
-use Rattle.std.proofs.lemmas.Bool.{not-true, eq-eqb, eqb-true, lt-ltb, leb-false}
+use Rattle.std.specs.List.{list_any}
+use Rattle.std.proofs.lemmas.Bool.{eq-eqb, lt-ltb, leb-false}
 use Rattle.std.proofs.lemmas.List.{length-map}
 use Rattle.std.proofs.lemmas.List.Folds.{list_any-append}
-use Rattle.zb_model.specs.Data.{Bytes, Attribute, Provisional, Unverified, Verified, State, Move, Row, Became, Live}
-use Rattle.zb_model.specs.State.{LinkKey, NodeState, same_key, is_centre, is_link, has_link, is_live_of, is_live, is_told, is_unverified, at_link, revived, new_link, with_link, other_user, moved}
-use Rattle.zb_model.specs.Fits.{most_links, all_apart, same_bool}
+use Rattle.zb_model.specs.Data.{Bytes, Attribute, Unverified, Verified, State, Move, Row, Became}
+use Rattle.zb_model.specs.State.{LinkKey, NodeState, same_key, is_centre, is_link, has_link, is_live_of, is_live, is_told, is_unverified, at_link, revived, new_link, other_user, moved}
+use Rattle.zb_model.specs.Fits.{most_links, same_bool}
 use Rattle.zb_model.specs.Rules.{links_full, drop_link, drop_row}
 use Rattle.zb_model.specs.Answer.{changes}
 use Rattle.zb_model_fits.specs.Fitting.{is_rival, key_is_used}
-use Rattle.zb_model_fits.proofs.Tests.{both, neither, none_both, any_map, any_from, or_true}
-use Rattle.zb_model_fits.proofs.Parts.{Rules, links_alike, kinds_alike}
+use Rattle.zb_model_fits.proofs.Tests.{both, none_both, any_map, any_from, or_true}
+use Rattle.zb_model_fits.proofs.Parts.{Rules, kinds_alike}
 use Rattle.zb_model_storable.proofs.Lists.{found_none, one_left}
 use Rattle.zb_model_storable.proofs.Moves.{move_fits, moves_fit}
 use Rattle.zb_model_storable.proofs.Drops.{Dropped, kind_alike}

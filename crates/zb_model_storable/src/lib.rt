@@ -5,7 +5,7 @@
 
 ghost use Rattle.std.specs.Prelude.{◌≡◌, ◌≤◌, true, length};
 ghost use Rattle.std.specs.List.{list_all};
-ghost use Rattle.zb_model.specs.Answer.{answer};
+ghost use Rattle.zb_model.specs.Answer.{answer, answered};
 ghost use Rattle.zb_model.specs.Data.{Task};
 ghost use Rattle.zb_model.specs.Fits.{AllFit, keeps_rules};
 ghost use Rattle.zb_model.specs.Record.{payload};
@@ -30,6 +30,14 @@ pub fn the_rules_stand_after_an_answer()
     ensures { (tools : Tools) → OpensAsJudged tools → (c : Setting) (s : NodeState) (task : Task)
         → keeps_rules s ≡ true → s.role ≡ c.me.role → 1 ≤ c.me.in_block
         → keeps_rules (applied_all (answer tools c s task).edits s) ≡ true }
+{}
+
+/// Says that they stand after the whole answer too: its changes, its accepted terms and its seals.
+#[tactic(auto, using(crate::proofs::Answers::kept_answered))]
+pub fn the_rules_stand_after_accepts_and_seals()
+    ensures { (tools : Tools) → OpensAsJudged tools → (c : Setting) (s : NodeState) (task : Task)
+        → keeps_rules s ≡ true → s.role ≡ c.me.role → 1 ≤ c.me.in_block
+        → keeps_rules (answered (answer tools c s task) s) ≡ true }
 {}
 
 /// Says that an answer has fourteen changes at most.
