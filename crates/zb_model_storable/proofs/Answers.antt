@@ -474,10 +474,20 @@ few_of_moves k (m ∷ ms) = omega (arith, length-append (move_edits k m) (flat_m
 few_edits : (c : Setting) (s : NodeState) (p : Plan) → PlanFits s p → length (edits_of s (counting_of c s p) p) ≤ 14
 few_edits c s p fit =
     let moves : List Edit = flat_map (move_edits (counting_of c s p)) (filter (changes s) (moves_of p.outcome)) in
-    omega (arith, ap (length {A = Edit}) (answer_edits c s p), length-append (at_nwk c s p ++ at_aps c s p) (floors c s p.accepts p.accepts ++ moves), length-append (at_nwk c s p) (at_aps c s p), length-append (floors c s p.accepts p.accepts) moves,
-    few_maybe (Reserve Nwk) (reserve_of c s (sending_of p.outcome) Nwk), few_maybe (Reserve Aps) (reserve_of c s (sending_of p.outcome) Aps),
-    few_floors c s p.accepts p.accepts, few_accepted s p.accepts fit.accepted, few_of_moves (counting_of c s p) (filter (changes s) (moves_of p.outcome)),
-    filter_shorter (changes s) (moves_of p.outcome), fit.outcome.few)
+    omega (
+      arith,
+      ap (length {A = Edit}) (answer_edits c s p),
+      length-append (at_nwk c s p ++ at_aps c s p) (floors c s p.accepts p.accepts ++ moves),
+      length-append (at_nwk c s p) (at_aps c s p),
+      length-append (floors c s p.accepts p.accepts) moves,
+      few_maybe (Reserve Nwk) (reserve_of c s (sending_of p.outcome) Nwk),
+      few_maybe (Reserve Aps) (reserve_of c s (sending_of p.outcome) Aps),
+      few_floors c s p.accepts p.accepts,
+      few_accepted s p.accepts fit.accepted,
+      few_of_moves (counting_of c s p) (filter (changes s) (moves_of p.outcome)),
+      filter_shorter (changes s) (moves_of p.outcome),
+      fit.outcome.few,
+    )
 
 pub few_stored : (tools : Tools) → OpensAsJudged tools → (c : Setting) (s : NodeState) (task : Task) → keeps_rules s ≡ true → s.role ≡ c.me.role → length (answer tools c s task).edits ≤ 14
 unfolding answer answer_by

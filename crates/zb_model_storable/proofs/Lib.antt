@@ -1,5 +1,5 @@
 mod Lists
-mod Chains
+pub mod Chains
 mod Bare
 mod Moves
 mod Drops
@@ -10,5 +10,6 @@ mod OwnMoves
 mod CommandMoves
 mod Accepted
 mod Afterwards
-mod Answers
-mod Payloads
+pub mod Answers
+pub mod Payloads
+mod Cases

@@ -161,10 +161,14 @@ two_kinds q u (x ∷ xs) = by_tests (q x) (u x) (two_kinds q u xs)
 
 pub few_of_partner : (s : NodeState) → Rules s → (partner : ℕ) (q : LinkKey → Bool) → ((r : LinkKey) → q r ≡ true → is_live_of partner r ≡ true) → length (filter q s.links) ≤ 2
 few_of_partner s r partner q of =
-    omega (arith, two_kinds q (λ x. is_unverified x.attribute) s.links,
-    ap (length {A = LinkKey}) (one_left kinds_alike (λ x. q x && is_unverified x.attribute) (λ x y e f. kind_alike partner true x y (offered_kind x e) (offered_kind y f)) s.links r.kinds),
-    ap (length {A = LinkKey}) (one_left kinds_alike (λ x. q x && not (is_unverified x.attribute)) (λ x y e f. kind_alike partner false x y (current_kind x e) (current_kind y f)) s.links r.kinds),
-    few_found (find (λ x. q x && is_unverified x.attribute) s.links), few_found (find (λ x. q x && not (is_unverified x.attribute)) s.links))
+    omega (
+      arith,
+      two_kinds q (λ x. is_unverified x.attribute) s.links,
+      ap (length {A = LinkKey}) (one_left kinds_alike (λ x. q x && is_unverified x.attribute) (λ x y e f. kind_alike partner true x y (offered_kind x e) (offered_kind y f)) s.links r.kinds),
+      ap (length {A = LinkKey}) (one_left kinds_alike (λ x. q x && not (is_unverified x.attribute)) (λ x y e f. kind_alike partner false x y (current_kind x e) (current_kind y f)) s.links r.kinds),
+      few_found (find (λ x. q x && is_unverified x.attribute) s.links),
+      few_found (find (λ x. q x && not (is_unverified x.attribute)) s.links),
+    )
   where
     offered_kind : (x : LinkKey) → (q x && is_unverified x.attribute) ≡ true → (is_live_of partner x && same_bool (is_unverified x.attribute) true) ≡ true
     offered_kind x e = let parts = both (q x) (is_unverified x.attribute) e in kind_of_offered partner x (rw (of x parts.0, parts.1) refl)

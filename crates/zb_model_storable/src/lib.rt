@@ -16,8 +16,8 @@ ghost use Rattle.zb_model_storable.specs.Storing.{OpensAsJudged, has_whole_keys}
 
 /// Says that each change of an answer fits the state after those before it.
 ///
-/// The state keeps the rules for records, and its role is the setting's, by which the rules of the policy are chosen. An
-/// incoming block is 1 or more: a floor of 0 isn't kept. Of the outgoing block nothing is asked.
+/// The state keeps the rules for records, and its role is the setting's, by which the rules of the policy are chosen.
+/// An incoming block is 1 or more: a floor of 0 isn't kept. Of the outgoing block nothing is asked.
 #[tactic(auto, using(crate::proofs::Answers::all_stored))]
 pub fn changes_of_an_answer_fit()
     ensures { (tools : Tools) → OpensAsJudged tools → (c : Setting) (s : NodeState) (task : Task)
@@ -32,7 +32,7 @@ pub fn the_rules_stand_after_an_answer()
         → keeps_rules (applied_all (answer tools c s task).edits s) ≡ true }
 {}
 
-/// Says that they stand after the whole answer too: its changes, its accepted terms and its seals.
+/// Says that the rules for records stand after a whole answer: its changes, accepted terms and seals.
 #[tactic(auto, using(crate::proofs::Answers::kept_answered))]
 pub fn the_rules_stand_after_accepts_and_seals()
     ensures { (tools : Tools) → OpensAsJudged tools → (c : Setting) (s : NodeState) (task : Task)
