@@ -17,7 +17,7 @@ pub record OpensAsJudged (tools : Tools) : Type 0 where
   pub aps : (bytes key : Bytes) (given : ℕ) (a : ApsShown) (aux : ApsAuxiliary) (t : Term) → tools.read_aps bytes ≡ Some a → a.auxiliary ≡ Some aux → tools.open_aps bytes key given ≡ Some t
       → (t.layer ≡ Aps) × (t.base ≡ key) × (t.source ≡ source_or given aux.source) × (t.counter ≡ aux.counter)
 
--- The keys that a change spells have 16 bytes; a draw spells none.
+-- The keys that a change spells have 16 bytes, as those of a program's changes do by their type; a draw spells none.
 abbrev pub is_key : Bytes → Bool
 is_key key = nat_eq (length key) 16
 

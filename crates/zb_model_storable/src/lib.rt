@@ -17,7 +17,8 @@ ghost use Rattle.zb_model_storable.specs.Storing.{OpensAsJudged, has_whole_keys}
 /// Says that each change of an answer fits the state after those before it.
 ///
 /// The state keeps the rules for records, and its role is the setting's, by which the rules of the policy are chosen.
-/// An incoming block is 1 or more: a floor of 0 isn't kept. Of the outgoing block nothing is asked.
+/// An incoming block is 1 or more: a floor of 0 isn't kept. Of the outgoing block nothing is asked. A core keeps these
+/// three of its tables and its setting, by its invariant.
 #[tactic(auto, using(crate::proofs::Answers::all_stored))]
 pub fn changes_of_an_answer_fit()
     ensures { (tools : Tools) → OpensAsJudged tools → (c : Setting) (s : NodeState) (task : Task)
