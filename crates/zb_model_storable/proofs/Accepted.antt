@@ -1,20 +1,21 @@
 -- What judging accepts has its row: a floor for it has a live row to be stored in, and room there. And the plan of every
 -- event: what it accepts, and moves that may be made.
-use Rattle.std.proofs.Common.{◌≡◌, ℕ, ◌<◌, ◌≤◌, Bool, true, false, not, if◌then◌else◌, ◌&&◌, ◌||◌, List, [], ◌∷◌, ◌++◌, length, Option, Some, None, refl, sym, ap, ◌∙◌, subst, arith, ◌⊎◌, inl, inr}
+use Rattle.std.proofs.Common.{◌≡◌, ℕ, ◌<◌, Bool, true, false, not, if◌then◌else◌, ◌&&◌, ◌||◌, List, [], ◌∷◌, ◌++◌, length, Option, Some, None, refl, sym, ap, ◌∙◌, arith, ◌⊎◌, inl, inr}
 use Rattle.std.specs.Prelude.{find, filter, reverse, option_to_list, nat_eq, nat_lt, nat_le}
 use Rattle.std.specs.List.{list_any}
-use Rattle.std.proofs.lemmas.Bool.{leb-false, lt-ltb}
-use Rattle.zb_model.specs.Data.{Bytes, Layer, Nwk, Aps, Label, Term, Place, AtAps, Reason, Task, Received}
+use Rattle.std.proofs.lemmas.Bool.{leb-false, lt-ltb, not-true}
+use Rattle.zb_model.specs.Data.{Bytes, Nwk, Aps, Label, Term, Place, AtAps, Reason, Task, Received}
 use Rattle.zb_model.specs.State.{greatest_counter, SenderFloor, NetKey, LinkKey, NodeState, same_key, is_link, is_live_of, net_of, sender_floor, usable_of, usable_nets, live_nets, may_use}
 use Rattle.zb_model.specs.Fits.{live_net, live_link, net_stored, row_is_live}
 use Rattle.zb_model.specs.Tools.{Tools, NwkShown, NwkAuxiliary, ApsShown, ApsAuxiliary, CommandShown, Known, Unknown, Broken, LeaveShown, Leave, Other, NoCommand}
-use Rattle.zb_model.specs.Rules.{Setting, Plan, Outcome, Does}
+use Rattle.zb_model.specs.Rules.{Setting, Plan, Does}
 use Rattle.zb_model.specs.Commands.{Heard}
 use Rattle.zb_model.specs.Judging.{Verdict, Not, Good, reject, need, senders_full, judge_net, Carrier, carrier, judge_security, judge_nwk, payload_of, candidates, opens_with, chosen, chosen_row, aps_source, Unsealed, judge_aps}
-use Rattle.zb_model.specs.Answer.{comes_to, stopped_at, nwk_command, heard_clear, heard_sealed, aps_command, clear_part, sealed_part, by_security, aps_part, net_part, received_as, plan_of}
+use Rattle.zb_model.specs.Answer.{comes_to, nwk_command, heard_clear, heard_sealed, aps_command, clear_part, sealed_part, by_security, aps_part, net_part, received_as, plan_of}
 use Rattle.zb_model_fits.specs.Fitting.{has_floor, floor_has_room}
 use Rattle.zb_model_fits.proofs.Tests.{both, neither, any_from}
 use Rattle.zb_model_fits.proofs.Parts.{Rules, same_key_of}
+use Rattle.zb_model.specs.OwnEvents.{own}
 use Rattle.zb_model_storable.specs.Storing.{OpensAsJudged, source_or}
 use Rattle.zb_model_storable.proofs.Lists.{found_any, any_reverse, any_filter}
 use Rattle.zb_model_storable.proofs.NetRows.{has, found_has}
@@ -112,7 +113,7 @@ nwk_heard s r sequence source counter row found full small t layer base from cou
 
     room_in : (o : Option NetKey) → has test o ≡ true → nat_le (net_stored t.source o) t.counter ≡ true → (value : ℕ) → 0 < value → floor_has_room t.source value o ≡ true
     room_in None e below value some = absurd (cc)
-    room_in (Some x) e below value some = has_room t.source t.counter x (Rattle.std.proofs.lemmas.Bool.not-true _ (both x.live (not (senders_full t.source t.counter x)) e).1) below value some
+    room_in (Some x) e below value some = has_room t.source t.counter x (not-true _ (both x.live (not (senders_full t.source t.counter x)) e).1) below value some
 
 net_judged : (tools : Tools) → OpensAsJudged tools → (c : Setting) (s : NodeState) → Rules s → (bytes : Bytes) (f : NwkShown) (aux : NwkAuxiliary) → tools.read_nwk bytes ≡ Some f → f.auxiliary ≡ Some aux → OnGood (HeardNwk s) (judge_net tools c s bytes aux)
 unfolding judge_net
@@ -266,7 +267,7 @@ module _ (tools : Tools) (opens : OpensAsJudged tools) (c : Setting) (s : NodeSt
   received_plan (Not place reason) g = record { accepted = tt; outcome = stopped s reason }
   received_plan (Good k) g = net_plan k.frame k.term g
 
-own_plan : (tools : Tools) (c : Setting) (s : NodeState) (task : Task) → Rules s → s.role ≡ c.me.role → PlanFits s (comes_to [] Place.AtEvent (Rattle.zb_model.specs.OwnEvents.own tools c s task))
+own_plan : (tools : Tools) (c : Setting) (s : NodeState) (task : Task) → Rules s → s.role ≡ c.me.role → PlanFits s (comes_to [] Place.AtEvent (own tools c s task))
 own_plan tools c s task r role = record { accepted = tt; outcome = own_fits tools c s task r role }
 
 pub plan_fits : (tools : Tools) → OpensAsJudged tools → (c : Setting) (s : NodeState) (task : Task) → Rules s → s.role ≡ c.me.role → PlanFits s (plan_of tools c s task)

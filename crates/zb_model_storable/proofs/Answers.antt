@@ -1,26 +1,26 @@
 -- The changes of an answer, one after the other: reserves, floors, and the moves of the rule. Each fits, and there are
 -- fourteen at most.
-use Rattle.std.proofs.Common.{◌≡◌, ℕ, suc, ◌+◌, ◌<◌, ◌≤◌, min, max, List, [], ◌∷◌, ◌++◌, length, map, refl, sym, ap, ◌∙◌, arith, Bool, true, false, not, if◌then◌else◌, ◌&&◌, ◌||◌, Option, Some, None, option_map, ◌⊎◌, inl, inr, length-append}
-use Rattle.std.specs.Prelude.{find, filter, flat_map, option_to_list, is_some, is_none, nat_eq, nat_lt, nat_le}
+use Rattle.std.proofs.Common.{◌≡◌, ℕ, ◌+◌, ◌<◌, ◌≤◌, min, List, [], ◌∷◌, ◌++◌, length, map, refl, sym, ap, ◌∙◌, arith, Bool, true, false, not, if◌then◌else◌, ◌&&◌, ◌||◌, Option, Some, None, option_map, inl, inr, length-append, subst}
+use Rattle.std.specs.Prelude.{find, filter, flat_map, option_to_list, is_some, nat_eq, nat_le}
 use Rattle.std.specs.List.{list_any, list_all}
-use Rattle.std.proofs.lemmas.Bool.{not-true, eqb-true, eq-eqb, leb-true, leb-false, le-leb, lt-ltb}
-use Rattle.zb_model.specs.Data.{Bytes, Layer, Nwk, Aps, Term, Move, Draw, DropNet, DropLink, Install, Active, Row, Pair, Became, Live, Removed, Roll, Told, Untold, Edit, Reserve, Floor, Start, Moved, Task}
-use Rattle.zb_model.specs.State.{greatest_counter, SenderFloor, NetKey, LinkKey, NodeState, same_key, is_link, is_active_key, active_row, net_of, at_net, of_active, reserved, net_floor, next_counter, stored_limit, same_layer, applied, applied_all}
-use Rattle.zb_model.specs.Fits.{keeps_rules, may_change, fits, all_fit, live_net, live_link, net_stored, link_stored, net_limit, row_is_live}
+use Rattle.std.proofs.lemmas.Bool.{not-true, eqb-true, leb-true, leb-false, le-leb}
+use Rattle.zb_model.specs.Data.{Bytes, Layer, Nwk, Aps, Term, Move, Active, Row, Became, Edit, Reserve, Floor, Task}
+use Rattle.zb_model.specs.State.{greatest_counter, NetKey, LinkKey, NodeState, same_key, is_link, is_active_key, active_row, net_of, at_net, of_active, reserved, net_floor, next_counter, stored_limit, applied, applied_all, sender_floor}
+use Rattle.zb_model.specs.Fits.{keeps_rules, fits, all_fit, live_net, live_link, net_stored, link_stored, net_limit, row_is_live}
 use Rattle.zb_model.specs.Tools.{Tools}
 use Rattle.zb_model.specs.Rules.{Setting, Sending, Plan, spent}
-use Rattle.zb_model.specs.Answer.{Counting, seals_at, may_seal, changes, row_is_started, is_started_key, start_edit, move_edits, reserve_edit, floor_edit, moves_of, sending_of, edits_of, answer_by, reserve_of, stored_floor, floor_for, floor_of, first_counter, activated, start_for, counting_of, plan_of, answer}
-use Rattle.zb_model_fits.specs.Fitting.{leaves_rules, has_floor, floor_has_room}
-use Rattle.zb_model_fits.proofs.Tests.{both}
-use Rattle.zb_model_fits.proofs.Parts.{Rules, rules_of, limit_rule}
+use Rattle.zb_model.specs.Answer.{Counting, seals_at, may_seal, changes, row_is_started, is_started_key, start_edit, move_edits, floor_edit, moves_of, sending_of, edits_of, answer_by, reserve_of, stored_floor, floor_for, floor_of, first_counter, activated, start_for, counting_of, plan_of, answer, accepted_all, answered}
+use Rattle.zb_model_fits.specs.Fitting.{leaves_rules, floor_has_room}
+use Rattle.zb_model_fits.proofs.Tests.{both, filter_shorter, never}
+use Rattle.zb_model_fits.proofs.Parts.{Rules, rules_of, limit_rule, same_key_of, same_key_is}
 use Rattle.zb_model.specs.Record.{payload}
 use Rattle.zb_model_storable.specs.Storing.{OpensAsJudged, has_whole_keys}
+use Rattle.zb_model_storable.proofs.Afterwards.{kept_accepted, kept_sealed}
 use Rattle.zb_model_storable.proofs.Payloads.{few_short}
 use Rattle.zb_model_storable.proofs.Lists.{found_map}
-use Rattle.zb_model_storable.proofs.Chains.{change_fits, kept_after, kept_all, fit_then, fit_none, fit_append}
+use Rattle.zb_model_storable.proofs.Chains.{change_fits, kept_all, fit_then, fit_none, fit_append}
 use Rattle.zb_model_storable.proofs.Bare.{bare, reserve_bare, floor_bare}
-use Rattle.zb_model_storable.proofs.Moves.{moves_same, starts_fit, starts_left, moves_stored}
-use Rattle.zb_model_storable.proofs.Outcomes.{Fitting}
+use Rattle.zb_model_storable.proofs.Moves.{moves_same, starts_fit, moves_stored}
 use Rattle.zb_model_storable.proofs.Accepted.{HeardNwk, HeardAps, Accepted, PlanFits, plan_fits}
 
 -- a change that may be there
@@ -142,7 +142,7 @@ live_same None = refl
 live_same (Some r) = refl
 
 stored_same : (sender : ℕ) (o : Option NetKey) → net_stored sender (option_map quiet o) ≡ net_stored sender o
-unfolding Rattle.zb_model.specs.State.sender_floor
+unfolding sender_floor
 stored_same sender None = refl
 stored_same sender (Some r) = refl
 
@@ -267,8 +267,8 @@ reserve_limit limit (Some active) key other rs =
 
     limit_of : (b : Bool) (r : NetKey) → same_key r.key active ≡ b → same_key r.key key ≡ true → (if b then reserved limit r else r).limit ≡ r.limit
     limit_of true r is e =
-        Rattle.zb_model_fits.proofs.Tests.never (same_key active key)
-        (Rattle.zb_model_fits.proofs.Parts.same_key_of active key (sym (Rattle.zb_model_fits.proofs.Parts.same_key_is r.key active is) ∙ Rattle.zb_model_fits.proofs.Parts.same_key_is r.key key e)) other
+        never (same_key active key)
+        (same_key_of active key (sym (same_key_is r.key active is) ∙ same_key_is r.key key e)) other
     limit_of false r is e = refl
 
 floor_limit : (base : Bytes) (sender value : ℕ) (key : Bytes) (rs : List NetKey) → net_limit (find (λ (r : NetKey). same_key r.key key) (at_net base (net_floor sender value) rs)) ≡ net_limit (find (λ (r : NetKey). same_key r.key key) rs)
@@ -313,7 +313,7 @@ ready_floors : (c : Setting) (s : NodeState) (all ts : List Term) (u : NodeState
 unfolding applied_all
 ready_floors c s all [] u r = r
 ready_floors c s all (t ∷ ts) u r =
-    Rattle.std.proofs.Common.subst (Ready s) (sym (applied_append (maybe (Floor t.layer t.base t.source) (floor_of c s all t.layer)) (floors c s all ts) u))
+    subst (Ready s) (sym (applied_append (maybe (Floor t.layer t.base t.source) (floor_of c s all t.layer)) (floors c s all ts) u))
     (ready_floors c s all ts (applied_all (maybe (Floor t.layer t.base t.source) (floor_of c s all t.layer)) u) (ready_floor t.layer t.base t.source (floor_of c s all t.layer) s u r))
 
 -- the first counter
@@ -392,13 +392,13 @@ module _ (c : Setting) (s : NodeState) (p : Plan) (kept : keeps_rules s ≡ true
   reserved_all : Reserved s after_reserves
   unfolding after_reserves
   reserved_all =
-      Rattle.std.proofs.Common.subst (Reserved s) (sym (applied_append (at_nwk c s p) (at_aps c s p) s))
+      subst (Reserved s) (sym (applied_append (at_nwk c s p) (at_aps c s p) s))
       (aps_reserved (reserve_of c s (sending_of p.outcome) Aps) s (applied_all (at_nwk c s p) s) (nwk_reserved (reserve_of c s (sending_of p.outcome) Nwk) s))
 
   ready_all : Ready s after_reserves
   unfolding after_reserves
   ready_all =
-      Rattle.std.proofs.Common.subst (Ready s) (sym (applied_append (at_nwk c s p) (at_aps c s p) s))
+      subst (Ready s) (sym (applied_append (at_nwk c s p) (at_aps c s p) s))
       (ready_reserve Aps (reserve_of c s (sending_of p.outcome) Aps) s (applied_all (at_nwk c s p) s)
       (ready_reserve Nwk (reserve_of c s (sending_of p.outcome) Nwk) s s (record { plain = refl; active = refl; limits = λ key other. refl })))
 
@@ -440,6 +440,12 @@ all_stored tools opens c s task kept role block = plan_stored c s (plan_of tools
 pub kept_stored : (tools : Tools) → OpensAsJudged tools → (c : Setting) (s : NodeState) (task : Task) → keeps_rules s ≡ true → s.role ≡ c.me.role → 1 ≤ c.me.in_block → keeps_rules (applied_all (answer tools c s task).edits s) ≡ true
 kept_stored tools opens c s task kept role block = kept_all (answer tools c s task).edits s kept (all_stored tools opens c s task kept role block)
 
+pub kept_answered : (tools : Tools) → OpensAsJudged tools → (c : Setting) (s : NodeState) (task : Task) → keeps_rules s ≡ true → s.role ≡ c.me.role → 1 ≤ c.me.in_block → keeps_rules (answered (answer tools c s task) s) ≡ true
+unfolding answered
+kept_answered tools opens c s task kept role block =
+    let a = answer tools c s task in
+    kept_sealed a.seals (accepted_all a.accepts (applied_all a.edits s)) (kept_accepted a.accepts (applied_all a.edits s) (kept_stored tools opens c s task kept role block))
+
 -- few changes
 
 few_floors : (c : Setting) (s : NodeState) (all ts : List Term) → length (floors c s all ts) ≤ length ts
@@ -468,10 +474,20 @@ few_of_moves k (m ∷ ms) = omega (arith, length-append (move_edits k m) (flat_m
 few_edits : (c : Setting) (s : NodeState) (p : Plan) → PlanFits s p → length (edits_of s (counting_of c s p) p) ≤ 14
 few_edits c s p fit =
     let moves : List Edit = flat_map (move_edits (counting_of c s p)) (filter (changes s) (moves_of p.outcome)) in
-    omega (arith, ap (length {A = Edit}) (answer_edits c s p), length-append (at_nwk c s p ++ at_aps c s p) (floors c s p.accepts p.accepts ++ moves), length-append (at_nwk c s p) (at_aps c s p), length-append (floors c s p.accepts p.accepts) moves,
-    few_maybe (Reserve Nwk) (reserve_of c s (sending_of p.outcome) Nwk), few_maybe (Reserve Aps) (reserve_of c s (sending_of p.outcome) Aps),
-    few_floors c s p.accepts p.accepts, few_accepted s p.accepts fit.accepted, few_of_moves (counting_of c s p) (filter (changes s) (moves_of p.outcome)),
-    Rattle.zb_model_fits.proofs.Tests.filter_shorter (changes s) (moves_of p.outcome), fit.outcome.few)
+    omega (
+      arith,
+      ap (length {A = Edit}) (answer_edits c s p),
+      length-append (at_nwk c s p ++ at_aps c s p) (floors c s p.accepts p.accepts ++ moves),
+      length-append (at_nwk c s p) (at_aps c s p),
+      length-append (floors c s p.accepts p.accepts) moves,
+      few_maybe (Reserve Nwk) (reserve_of c s (sending_of p.outcome) Nwk),
+      few_maybe (Reserve Aps) (reserve_of c s (sending_of p.outcome) Aps),
+      few_floors c s p.accepts p.accepts,
+      few_accepted s p.accepts fit.accepted,
+      few_of_moves (counting_of c s p) (filter (changes s) (moves_of p.outcome)),
+      filter_shorter (changes s) (moves_of p.outcome),
+      fit.outcome.few,
+    )
 
 pub few_stored : (tools : Tools) → OpensAsJudged tools → (c : Setting) (s : NodeState) (task : Task) → keeps_rules s ≡ true → s.role ≡ c.me.role → length (answer tools c s task).edits ≤ 14
 unfolding answer answer_by

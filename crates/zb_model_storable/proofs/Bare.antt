@@ -1,13 +1,12 @@
 -- What the moves of a rule ask of a state is asked of its bare rows: without limits, counters and floors. Reserves, floors
 -- and first counters leave these as they are.
-use Rattle.std.proofs.Common.{◌≡◌, ℕ, suc, List, [], ◌∷◌, ◌++◌, length, map, refl, sym, ap, ◌∙◌, Bool, true, false, not, if◌then◌else◌, ◌&&◌, ◌||◌, Option, Some, None, option_map}
-use Rattle.std.specs.Prelude.{find, filter, nat_lt, nat_eq}
-use Rattle.std.specs.List.{list_any}
+use Rattle.std.proofs.Common.{◌≡◌, ℕ, suc, List, [], ◌∷◌, ◌++◌, length, map, refl, sym, ap, ◌∙◌, Bool, true, false, not, if◌then◌else◌, ◌&&◌, Option, Some, None, option_map}
+use Rattle.std.specs.Prelude.{filter}
 use Rattle.std.proofs.lemmas.List.{length-map, map-append}
-use Rattle.zb_model.specs.Data.{Bytes, Attribute, Layer, Nwk, Aps, Move, Draw, DropNet, DropLink, Install, Active, Row, Pair, Became, Live, Removed, Roll, Told, Untold, Edit, Reserve, Floor, Start, Moved}
-use Rattle.zb_model.specs.State.{NetKey, LinkKey, NodeState, same_key, is_centre, has_net, has_link, is_link, is_live_of, is_live, is_told, is_active_key, net_of, live_nets, at_net, at_link, of_active, new_net, reserved, started_at, dropped_net, dropped_link, net_floor, link_floor, told_as, revived, new_link, pair_of, with_link, with_told, moved, applied}
-use Rattle.zb_model.specs.Fits.{row_is_live, live_net, live_link, may_move, most_nets, most_links}
-use Rattle.zb_model_fits.specs.Fitting.{move_leaves, is_rival, key_is_used}
+use Rattle.zb_model.specs.Data.{Bytes, Attribute, Layer, Nwk, Aps, Move, Draw, DropNet, DropLink, Install, Active, Row, Pair, Became, Live, Removed, Roll, Told, Untold, Reserve, Floor, Start}
+use Rattle.zb_model.specs.State.{NetKey, LinkKey, NodeState, same_key, is_centre, has_net, has_link, is_link, is_live_of, is_live, is_told, net_of, at_link, of_active, new_net, reserved, started_at, dropped_net, dropped_link, net_floor, link_floor, told_as, revived, new_link, pair_of, with_link, with_told, moved, applied}
+use Rattle.zb_model.specs.Fits.{row_is_live, live_net, may_move}
+use Rattle.zb_model_fits.specs.Fitting.{move_leaves, is_rival}
 use Rattle.zb_model_fits.proofs.Tests.{any_map}
 use Rattle.zb_model_storable.proofs.Lists.{found_map}
 

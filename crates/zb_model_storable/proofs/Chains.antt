@@ -1,6 +1,6 @@
 -- Changes one after the other: where each fits, the rules stand after all of them.
-use Rattle.std.proofs.Common.{◌≡◌, List, [], ◌∷◌, ◌++◌, refl, sym, ap, ◌∙◌, Bool, true, false, ◌&&◌, Option, Some, None}
-use Rattle.zb_model.specs.Data.{Draw, DropNet, DropLink, Install, Active, Row, Pair, Became, Live, Removed, Roll, Told, Untold, Edit, Reserve, Floor, Start, Moved}
+use Rattle.std.proofs.Common.{◌≡◌, List, [], ◌∷◌, ◌++◌, refl, ◌∙◌, true}
+use Rattle.zb_model.specs.Data.{Draw, Edit, Reserve, Floor, Start, Moved}
 use Rattle.zb_model.specs.State.{NodeState, applied, applied_all}
 use Rattle.zb_model.specs.Fits.{keeps_rules, may_change, fits, all_fit}
 use Rattle.zb_model_fits.specs.Fitting.{leaves_rules}

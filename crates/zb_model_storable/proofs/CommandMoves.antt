@@ -1,19 +1,18 @@
 -- The commands that a node receives: the moves of each rule may be made one after the other.
-use Rattle.std.proofs.Common.{◌≡◌, ℕ, ◌+◌, ◌<◌, ◌≤◌, List, [], ◌∷◌, ◌++◌, length, map, refl, sym, ap, ◌∙◌, subst, arith, Bool, true, false, not, if◌then◌else◌, ◌&&◌, ◌||◌, Option, Some, None, nat_eq, nat_lt, nat_le, min, max, length-append}
-use Rattle.std.specs.Prelude.{find, filter, reverse, is_some, is_none}
-use Rattle.std.specs.List.{list_any}
-use Rattle.std.proofs.lemmas.Bool.{not-true, eqb-true, eq-eqb, eqb-false, lt-ltb, ltb-true, ltb-false, leb-false}
-use Rattle.zb_model.specs.Data.{Bytes, Unverified, Verified, State, Offered, Confirmed, Gone, Move, Draw, Install, Active, Row, Pair, Became, Reason, Command, TransportNet, TransportApp, TransportLink, UpdateDevice, RemoveDevice, RequestApp, RequestLink, SwitchKey, Tunnel, VerifyKey, ConfirmKey, Term}
-use Rattle.zb_model.specs.State.{NetKey, LinkKey, PairKey, NodeState, same_key, is_centre, is_link, has_link, has_net, is_live_of, is_live, is_unverified, net_of, live_of, current, offered, other_user, pair_of, names_two}
-use Rattle.zb_model.specs.Fits.{live_net, row_is_live}
+use Rattle.std.proofs.Common.{◌≡◌, ℕ, ◌+◌, ◌<◌, ◌≤◌, List, [], ◌∷◌, ◌++◌, length, map, refl, sym, ap, ◌∙◌, subst, arith, Bool, true, false, not, if◌then◌else◌, ◌&&◌, ◌||◌, Option, Some, None, nat_eq, nat_lt, min, max}
+use Rattle.std.specs.Prelude.{find, filter, reverse, is_none}
+use Rattle.std.proofs.lemmas.Bool.{not-true, eqb-true, eqb-false, lt-ltb, ltb-false, leb-false}
+use Rattle.zb_model.specs.Data.{Bytes, Unverified, Verified, State, Offered, Confirmed, Gone, Move, Install, Active, Row, Became, Reason, Command, TransportNet, TransportApp, TransportLink, UpdateDevice, RemoveDevice, RequestApp, RequestLink, SwitchKey, Tunnel, VerifyKey, ConfirmKey, Term}
+use Rattle.zb_model.specs.State.{NetKey, LinkKey, PairKey, NodeState, same_key, is_centre, is_link, has_link, has_net, is_live_of, is_unverified, live_of, current, offered, other_user, pair_of, names_two}
+use Rattle.zb_model.specs.Fits.{live_net, row_is_live, most_links}
 use Rattle.zb_model.specs.Tools.{Tools}
-use Rattle.zb_model.specs.Rules.{Outcome, Does, Stop, Setting, Sending, centre_of, waits_for_key, nets_full, links_full, pairs_full, unless_held, drop_link, drop_row, drop_partner, drop_old, spent, both_spent}
-use Rattle.zb_model.specs.Commands.{Heard, is_member, dropped_at, unless_old, activates, joined_state, activate, take_net_key, unless_used, take_row, take_link_key, take_app_key, take_switch, take_confirm, take_remove, take_tunnel, take_update, under_current, answer_request, take_request, lesser, greater, answer_pair, take_app_request, proves, verified_current, take_verify, take_command, take_leave}
-use Rattle.zb_model_fits.proofs.Tests.{both, neither, never, any_from}
-use Rattle.zb_model_fits.proofs.Parts.{Rules, same_key_of, same_key_is}
+use Rattle.zb_model.specs.Rules.{Outcome, Does, Setting, centre_of, waits_for_key, nets_full, links_full, pairs_full, unless_held, drop_link, drop_row, drop_partner, both_spent}
+use Rattle.zb_model.specs.Commands.{Heard, is_member, dropped_at, unless_old, activates, joined_state, activate, take_net_key, unless_used, take_row, take_link_key, take_app_key, take_switch, take_confirm, take_remove, take_tunnel, take_update, under_current, answer_request, take_request, lesser, greater, answer_pair, take_app_request, take_verify, take_command, take_leave}
+use Rattle.zb_model_fits.proofs.Tests.{both}
+use Rattle.zb_model_fits.proofs.Parts.{Rules, same_key_of}
 use Rattle.zb_model_storable.proofs.Lists.{found_test, found_any, found_none, any_reverse}
-use Rattle.zb_model_storable.proofs.Moves.{moves_fit, move_fits}
-use Rattle.zb_model_storable.proofs.Drops.{Dropped, dropped_then, dropped_none, row_then, itself}
+use Rattle.zb_model_storable.proofs.Moves.{moves_fit}
+use Rattle.zb_model_storable.proofs.Drops.{dropped_then, dropped_none, row_then}
 use Rattle.zb_model_storable.proofs.LinkRows.{room_for, row_after, room_asked, rival_of_partner, rival_of_current, rival_of_offered, kind_of_current, kind_of_offered, row_alone, row_then_state, state_alone, few_of_partner, few_dropped, few_row}
 use Rattle.zb_model_storable.proofs.NetRows.{live_found, old_then, few_old, active_alone, activated_fit}
 use Rattle.zb_model_storable.proofs.Outcomes.{Fitting, stopped, no_moves, after_unless, after_found, after_choice}
@@ -175,7 +174,7 @@ answer_fits c s device draw row None e = after_unless s (links_full s) Reason.Ro
 
     room : (key : Bytes) → links_full s ≡ false → unless_held s draw ≡ Some key → room_for device key s ≡ true
     room key full f =
-        let small : nat_lt (length s.links) (Rattle.zb_model.specs.Fits.most_links s.role) ≡ true = lt-ltb _ _ (leb-false _ _ full) in
+        let small : nat_lt (length s.links) (most_links s.role) ≡ true = lt-ltb _ _ (leb-false _ _ full) in
         rw (small, (held_by_none s draw key f).1) (or_end (has_link device key s.links))
 
 request_key_fits : (c : Setting) (s : NodeState) (m : Heard) (draw : Option Bytes) → Fitting s (take_request c s m draw)

@@ -1,14 +1,14 @@
 -- Link rows that are dropped one after the other, and what may follow.
-use Rattle.std.proofs.Common.{◌≡◌, ℕ, ◌<◌, ◌≤◌, List, [], ◌∷◌, ◌++◌, length, map, refl, sym, ap, ◌∙◌, arith, Bool, true, false, not, if◌then◌else◌, ◌&&◌, ◌||◌, Option, Some, None, nat_eq}
+use Rattle.std.proofs.Common.{◌≡◌, ℕ, List, [], ◌∷◌, ◌++◌, length, map, refl, sym, ap, ◌∙◌, Bool, true, false, not, if◌then◌else◌, ◌&&◌, ◌||◌, Option, Some, None, nat_eq}
 use Rattle.std.specs.Prelude.{find, filter, option_to_list}
 use Rattle.std.specs.List.{list_any, list_all}
 use Rattle.std.proofs.lemmas.Bool.{not-true, eq-eqb, eqb-true}
 use Rattle.std.proofs.lemmas.List.{length-map}
-use Rattle.zb_model.specs.Data.{Bytes, Move, DropLink}
+use Rattle.zb_model.specs.Data.{Move}
 use Rattle.zb_model.specs.State.{LinkKey, NodeState, same_key, is_link, is_live_of, is_unverified, at_link, dropped_link, moved}
-use Rattle.zb_model.specs.Fits.{all_apart, live_link, like_rows, same_bool}
+use Rattle.zb_model.specs.Fits.{all_apart, same_bool}
 use Rattle.zb_model.specs.Rules.{drop_link, drop_row}
-use Rattle.zb_model_fits.proofs.Tests.{both, neither, never, any_map, any_same, any_from, all_map, apart_filter, or_true}
+use Rattle.zb_model_fits.proofs.Tests.{both, neither, never, any_map, any_same, any_from, all_map, apart_filter, or_true, none_where}
 use Rattle.zb_model_fits.proofs.Parts.{links_alike, kinds_alike, same_key_is, same_key_of}
 use Rattle.zb_model_storable.proofs.Lists.{one_left}
 use Rattle.zb_model_storable.proofs.Moves.{moves_fit}
@@ -96,7 +96,7 @@ dropped_all q links = record {
 pub dropped_none : (q : LinkKey → Bool) (links : List LinkKey) → list_any q links ≡ false → Dropped q links links
 dropped_none q links none = record {
   same = λ u same. refl;
-  gone = λ t off within. Rattle.zb_model_fits.proofs.Tests.none_where q t within links none;
+  gone = λ t off within. none_where q t within links none;
   room = refl;
 }
 

@@ -1,5 +1,5 @@
 mod Lists
-mod Chains
+pub mod Chains
 mod Bare
 mod Moves
 mod Drops
@@ -9,5 +9,7 @@ mod Outcomes
 mod OwnMoves
 mod CommandMoves
 mod Accepted
-mod Answers
-mod Payloads
+mod Afterwards
+pub mod Answers
+pub mod Payloads
+mod Cases

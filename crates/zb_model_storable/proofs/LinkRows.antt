@@ -1,18 +1,18 @@
 -- A link row that is entered behind those that were dropped: it has room and no rival.
-use Rattle.std.proofs.Common.{◌≡◌, ℕ, suc, ◌+◌, ◌<◌, ◌≤◌, List, [], ◌∷◌, ◌++◌, length, map, refl, sym, ap, ◌∙◌, arith, Bool, true, false, not, if◌then◌else◌, ◌&&◌, ◌||◌, Option, Some, None, nat_eq, length-append}
+use Rattle.std.proofs.Common.{◌≡◌, ℕ, ◌+◌, ◌≤◌, List, [], ◌∷◌, ◌++◌, length, map, refl, ap, ◌∙◌, arith, Bool, true, false, not, if◌then◌else◌, ◌&&◌, ◌||◌, Option, Some, None, nat_eq, length-append}
 use Rattle.std.specs.Prelude.{find, filter, option_to_list, nat_lt, nat_le}
-use Rattle.std.specs.List.{list_any, list_all}
-use Rattle.std.proofs.lemmas.Bool.{not-true, eq-eqb, eqb-true, lt-ltb, leb-false}
+use Rattle.std.specs.List.{list_any}
+use Rattle.std.proofs.lemmas.Bool.{eq-eqb, lt-ltb, leb-false}
 use Rattle.std.proofs.lemmas.List.{length-map}
 use Rattle.std.proofs.lemmas.List.Folds.{list_any-append}
-use Rattle.zb_model.specs.Data.{Bytes, Attribute, Provisional, Unverified, Verified, State, Move, Row, Became, Live}
-use Rattle.zb_model.specs.State.{LinkKey, NodeState, same_key, is_centre, is_link, has_link, is_live_of, is_live, is_told, is_unverified, at_link, revived, new_link, with_link, other_user, moved}
-use Rattle.zb_model.specs.Fits.{most_links, all_apart, same_bool}
+use Rattle.zb_model.specs.Data.{Bytes, Attribute, Unverified, Verified, State, Move, Row, Became}
+use Rattle.zb_model.specs.State.{LinkKey, NodeState, same_key, is_centre, is_link, has_link, is_live_of, is_live, is_told, is_unverified, at_link, revived, new_link, other_user, moved}
+use Rattle.zb_model.specs.Fits.{most_links, same_bool}
 use Rattle.zb_model.specs.Rules.{links_full, drop_link, drop_row}
 use Rattle.zb_model.specs.Answer.{changes}
 use Rattle.zb_model_fits.specs.Fitting.{is_rival, key_is_used}
-use Rattle.zb_model_fits.proofs.Tests.{both, neither, none_both, any_map, any_from, or_true}
-use Rattle.zb_model_fits.proofs.Parts.{Rules, links_alike, kinds_alike}
+use Rattle.zb_model_fits.proofs.Tests.{both, none_both, any_map, any_from, or_true}
+use Rattle.zb_model_fits.proofs.Parts.{Rules, kinds_alike}
 use Rattle.zb_model_storable.proofs.Lists.{found_none, one_left}
 use Rattle.zb_model_storable.proofs.Moves.{move_fits, moves_fit}
 use Rattle.zb_model_storable.proofs.Drops.{Dropped, kind_alike}
@@ -161,10 +161,14 @@ two_kinds q u (x ∷ xs) = by_tests (q x) (u x) (two_kinds q u xs)
 
 pub few_of_partner : (s : NodeState) → Rules s → (partner : ℕ) (q : LinkKey → Bool) → ((r : LinkKey) → q r ≡ true → is_live_of partner r ≡ true) → length (filter q s.links) ≤ 2
 few_of_partner s r partner q of =
-    omega (arith, two_kinds q (λ x. is_unverified x.attribute) s.links,
-    ap (length {A = LinkKey}) (one_left kinds_alike (λ x. q x && is_unverified x.attribute) (λ x y e f. kind_alike partner true x y (offered_kind x e) (offered_kind y f)) s.links r.kinds),
-    ap (length {A = LinkKey}) (one_left kinds_alike (λ x. q x && not (is_unverified x.attribute)) (λ x y e f. kind_alike partner false x y (current_kind x e) (current_kind y f)) s.links r.kinds),
-    few_found (find (λ x. q x && is_unverified x.attribute) s.links), few_found (find (λ x. q x && not (is_unverified x.attribute)) s.links))
+    omega (
+      arith,
+      two_kinds q (λ x. is_unverified x.attribute) s.links,
+      ap (length {A = LinkKey}) (one_left kinds_alike (λ x. q x && is_unverified x.attribute) (λ x y e f. kind_alike partner true x y (offered_kind x e) (offered_kind y f)) s.links r.kinds),
+      ap (length {A = LinkKey}) (one_left kinds_alike (λ x. q x && not (is_unverified x.attribute)) (λ x y e f. kind_alike partner false x y (current_kind x e) (current_kind y f)) s.links r.kinds),
+      few_found (find (λ x. q x && is_unverified x.attribute) s.links),
+      few_found (find (λ x. q x && not (is_unverified x.attribute)) s.links),
+    )
   where
     offered_kind : (x : LinkKey) → (q x && is_unverified x.attribute) ≡ true → (is_live_of partner x && same_bool (is_unverified x.attribute) true) ≡ true
     offered_kind x e = let parts = both (q x) (is_unverified x.attribute) e in kind_of_offered partner x (rw (of x parts.0, parts.1) refl)

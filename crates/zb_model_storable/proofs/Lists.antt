@@ -1,7 +1,7 @@
 -- Lists of rows: what is found in them, what a filter leaves, and items of which no two are alike.
-use Rattle.std.proofs.Common.{◌≡◌, ℕ, ◌<◌, ◌≤◌, List, [], ◌∷◌, ◌++◌, length, map, refl, sym, ap, ◌∙◌, subst, arith, Bool, true, false, not, if◌then◌else◌, ◌&&◌, ◌||◌, Option, Some, None, option_map}
+use Rattle.std.proofs.Common.{◌≡◌, List, [], ◌∷◌, map, refl, sym, ap, ◌∙◌, subst, Bool, true, false, not, if◌then◌else◌, ◌&&◌, ◌||◌, Option, Some, None, option_map}
 use Rattle.std.specs.Prelude.{find, filter, reverse, is_some, option_to_list}
-use Rattle.std.specs.List.{list_any, list_all}
+use Rattle.std.specs.List.{list_any}
 use Rattle.std.proofs.lemmas.Bool.{not-true}
 use mathlib.Core.List.{reverse_aux}
 use Rattle.zb_model.specs.Fits.{all_apart}

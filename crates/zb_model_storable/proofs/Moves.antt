@@ -1,11 +1,10 @@
 -- The moves of a rule, one after the other: each that changes something may be made after those before it and leaves the
 -- rules. Then their changes fit, with the first counter of a key that becomes active.
-use Rattle.std.proofs.Common.{◌≡◌, ℕ, ◌≤◌, List, [], ◌∷◌, ◌++◌, length, map, refl, sym, ap, ◌∙◌, arith, Bool, true, false, not, if◌then◌else◌, ◌&&◌, ◌||◌, Option, Some, None}
+use Rattle.std.proofs.Common.{◌≡◌, ℕ, List, [], ◌∷◌, ◌++◌, map, refl, sym, ap, ◌∙◌, arith, Bool, true, false, if◌then◌else◌, ◌&&◌, Option, Some, None, is_some, option_map, le-leb, eqb-true}
 use Rattle.std.specs.Prelude.{find, filter, flat_map, is_none, nat_le, nat_eq}
-use Rattle.std.specs.List.{list_any}
-use Rattle.zb_model.specs.Data.{Bytes, Move, Draw, DropNet, DropLink, Install, Active, Row, Pair, Became, Live, Removed, Roll, Told, Untold, Edit, Reserve, Floor, Start, Moved}
-use Rattle.zb_model.specs.State.{NetKey, NodeState, same_key, has_net, net_of, moved, applied, applied_all, is_active_key, at_net, dropped_net, new_net}
-use Rattle.zb_model.specs.Fits.{keeps_rules, may_change, may_move, fits, all_fit, net_limit, row_is_live, live_net}
+use Rattle.zb_model.specs.Data.{Bytes, Move, Draw, DropNet, DropLink, Install, Active, Row, Pair, Became, Live, Removed, Roll, Told, Untold, Start, Moved}
+use Rattle.zb_model.specs.State.{NetKey, NodeState, same_key, has_net, net_of, moved, applied, at_net, dropped_net, new_net}
+use Rattle.zb_model.specs.Fits.{keeps_rules, may_move, fits, all_fit, net_limit, row_is_live, live_net}
 use Rattle.zb_model.specs.Answer.{Counting, changes, move_edits, start_edit, activated}
 use Rattle.zb_model_fits.specs.Fitting.{leaves_rules, move_leaves}
 use Rattle.zb_model_fits.proofs.Tests.{both}
@@ -55,7 +54,7 @@ limit_mapped : (f : NetKey → NetKey) → ((r : NetKey) → (f r).key ≡ r.key
     → net_limit (find (λ (r : NetKey). same_key r.key key) (map f rs)) ≡ net_limit (find (λ (r : NetKey). same_key r.key key) rs)
 limit_mapped f keyed limited key rs = ap net_limit (found_map (λ (r : NetKey). same_key r.key key) f (λ r. ap (λ k. same_key k key) (keyed r)) rs) ∙ of_row (find (λ (r : NetKey). same_key r.key key) rs)
   where
-    of_row : (o : Option NetKey) → net_limit (Rattle.std.specs.Prelude.option_map f o) ≡ net_limit o
+    of_row : (o : Option NetKey) → net_limit (option_map f o) ≡ net_limit o
     of_row None = refl
     of_row (Some r) = limited r
 
@@ -135,12 +134,12 @@ module _ (start : NodeState) (k : Counting) (ms rest : List Move) (later : Later
       (later (applied (Start key value) s) (kept_after (Start key value) s kept fit) (moves_same start ms s (applied (Start key value) s) (start_bare key value s) more)
       (no_more k.start (activated start rest) (applied (Start key value) s) last))
     where
-      some_row : (o : Option NetKey) → row_is_live o ≡ true → Rattle.std.specs.Prelude.is_some o ≡ true
+      some_row : (o : Option NetKey) → row_is_live o ≡ true → is_some o ≡ true
       some_row None e = e
       some_row (Some r) e = refl
 
       no_limit : (n : ℕ) → nat_eq n 0 ≡ true → nat_le n value ≡ true
-      no_limit n e = Rattle.std.proofs.lemmas.Bool.le-leb _ _ (omega (arith, Rattle.std.proofs.lemmas.Bool.eqb-true n 0 e))
+      no_limit n e = le-leb _ _ (omega (arith, eqb-true n 0 e))
 
   activating : (key : Bytes) (s : NodeState) → keeps_rules s ≡ true → move_fits (Active key) s ≡ true → is_none (activated start rest) ≡ true → moves_fit start ms (moved (Active key) s) ≡ true
       → starts_fit k.start (Some key) s ≡ true → all_fit (Moved (Active key) ∷ (start_edit key k.start ++ flat_map (move_edits k) rest)) s ≡ true

@@ -1,15 +1,15 @@
 -- Network rows: a row that a rule found is the one of its key; before a third live key comes one is dropped.
-use Rattle.std.proofs.Common.{◌≡◌, ℕ, zero, suc, ◌+◌, ◌<◌, ◌≤◌, List, [], ◌∷◌, ◌++◌, length, map, refl, sym, ap, ◌∙◌, arith, Bool, true, false, not, if◌then◌else◌, ◌&&◌, ◌||◌, Option, Some, None, nat_eq, length-append}
+use Rattle.std.proofs.Common.{◌≡◌, ℕ, ◌<◌, ◌≤◌, List, [], ◌∷◌, ◌++◌, length, refl, sym, ap, ◌∙◌, arith, Bool, true, false, not, if◌then◌else◌, ◌&&◌, ◌||◌, Option, Some, None}
 use Rattle.std.specs.Prelude.{find, filter, nat_lt, nat_le, is_none}
-use Rattle.std.specs.List.{list_any, list_all}
-use Rattle.std.proofs.lemmas.Bool.{not-true, not_from_false, lt-ltb, ltb-true, leb-true, leb-false}
+use Rattle.std.specs.List.{list_any}
+use Rattle.std.proofs.lemmas.Bool.{not-true, lt-ltb, leb-true, leb-false}
 use Rattle.std.proofs.lemmas.List.{length-map}
-use Rattle.zb_model.specs.Data.{Bytes, State, Move, DropNet, Install, Active, Became, Roll}
-use Rattle.zb_model.specs.State.{NetKey, NodeState, same_key, is_centre, is_active_key, has_net, net_of, live_nets, at_net, dropped_net, new_net, moved}
-use Rattle.zb_model.specs.Fits.{all_apart, row_is_live, live_net, most_nets}
+use Rattle.zb_model.specs.Data.{Bytes, State, Move, Install, Active, Became, Roll}
+use Rattle.zb_model.specs.State.{NetKey, NodeState, same_key, is_centre, is_active_key, has_net, live_nets, at_net, dropped_net, new_net, moved}
+use Rattle.zb_model.specs.Fits.{all_apart, row_is_live, live_net}
 use Rattle.zb_model.specs.Rules.{nets_full, first_drop, drop_old}
 use Rattle.zb_model.specs.Answer.{changes, activated}
-use Rattle.zb_model_fits.proofs.Tests.{both, neither, never, any_map, any_from, any_same, apart_filter, filter_shorter}
+use Rattle.zb_model_fits.proofs.Tests.{both, neither, never, any_map, any_from, any_same, apart_filter, or_true}
 use Rattle.zb_model_fits.proofs.Parts.{Rules, nets_alike, same_key_is, same_key_of}
 use Rattle.zb_model_storable.proofs.Lists.{Heads, heads_of, any_filter}
 use Rattle.zb_model_storable.proofs.Moves.{move_fits, moves_fit}
@@ -62,7 +62,7 @@ live_any key (x ∷ xs) e = by_test (same_key x.key key) e (live_any key xs)
     by_test : (b : Bool) → row_is_live (if b then Some x else find (of_key key) xs) ≡ true → (row_is_live (find (of_key key) xs) ≡ true → list_any (λ (r : NetKey). r.live && same_key r.key key) xs ≡ true)
         → ((x.live && b) || list_any (λ (r : NetKey). r.live && same_key r.key key) xs) ≡ true
     by_test true e later = rw e refl
-    by_test false e later = Rattle.zb_model_fits.proofs.Tests.or_true (x.live && false) _ (later e)
+    by_test false e later = or_true (x.live && false) _ (later e)
 
 abbrev alive : NetKey → Bool
 alive r = r.live

@@ -1,7 +1,7 @@
 -- What an outcome of a rule is to be: its moves may be made one after the other, and are five at most. A rule is a chain of
 -- refusals, so it is asked of what stands behind them.
-use Rattle.std.proofs.Common.{◌≡◌, ◌≤◌, List, [], ◌∷◌, length, refl, arith, Bool, true, false, Option, Some, None}
-use Rattle.zb_model.specs.Data.{Move, Reason}
+use Rattle.std.proofs.Common.{◌≡◌, ◌≤◌, [], length, refl, arith, Bool, true, false, Option, Some, None}
+use Rattle.zb_model.specs.Data.{Reason}
 use Rattle.zb_model.specs.State.{NodeState}
 use Rattle.zb_model.specs.Rules.{Sending, Outcome, Stop, Does, unless, found_or, choose}
 use Rattle.zb_model.specs.Answer.{moves_of}

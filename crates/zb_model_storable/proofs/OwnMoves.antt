@@ -1,20 +1,20 @@
 -- The events of a node's own: the moves of each rule may be made one after the other.
-use Rattle.std.proofs.Common.{◌≡◌, ℕ, ◌+◌, ◌≤◌, ◌%◌, List, [], ◌∷◌, ◌++◌, length, map, refl, sym, ap, ◌∙◌, arith, Bool, true, false, not, if◌then◌else◌, ◌&&◌, ◌||◌, Option, Some, None, nat_eq, nat_le}
+use Rattle.std.proofs.Common.{◌≡◌, ℕ, ◌+◌, ◌≤◌, ◌%◌, List, [], ◌∷◌, ◌++◌, length, refl, sym, ap, ◌∙◌, arith, Bool, true, false, not, if◌then◌else◌, ◌&&◌, ◌||◌, Option, Some, None, nat_eq, length-append}
 use Rattle.std.specs.Prelude.{find, filter, reverse}
 use Rattle.std.specs.List.{list_any}
-use Rattle.std.proofs.lemmas.Bool.{not-true, not-false}
-use Rattle.zb_model.specs.Data.{Bytes, Provisional, State, Knocked, Rejoining, Joined, Offered, Move, Draw, Install, Active, Row, Became, Live, Removed, Roll, Told, Untold, Reason, NoKey, WrongState, RowsFull, KeysFull, NoDraw, CounterSpent, NotMember, Task, SayTo, TellTo, DoKnock, DoRejoin, DoTimer, AskFor, HasChild, DoProvision, DoRemove, DoRoll, DoSwitch, DoAgain, DoShare}
-use Rattle.zb_model.specs.State.{NetKey, LinkKey, NodeState, same_key, is_centre, is_link, has_link, has_net, is_live_of, is_live, is_unverified, active_row, usable_active, newest, current, offered, code_row, other_user, pair_of, moved}
+use Rattle.zb_model.specs.Data.{Bytes, Provisional, State, Knocked, Rejoining, Joined, Offered, Move, Draw, Install, Row, Became, Removed, Roll, NoKey, WrongState, RowsFull, KeysFull, NoDraw, CounterSpent, NotMember, Task, SayTo, TellTo, DoKnock, DoRejoin, DoTimer, AskFor, HasChild, DoProvision, DoRemove, DoRoll, DoSwitch, DoAgain, DoShare, Aps, Nwk}
+use Rattle.zb_model.specs.State.{NetKey, LinkKey, NodeState, same_key, is_centre, is_link, has_link, has_net, is_live_of, is_live, is_unverified, active_row, usable_active, newest, current, offered, code_row, other_user, pair_of}
 use Rattle.zb_model.specs.Fits.{live_net}
 use Rattle.zb_model.specs.Tools.{Tools}
-use Rattle.zb_model.specs.Rules.{Outcome, Does, Stop, Setting, unless, found_or, centre_of, short_of, spent, both_spent, in_rejoining, in_confirmed, has_joined, nets_full, links_full, unless_held, drop_link, drop_partner, drop_others, drop_old}
-use Rattle.zb_model.specs.OwnEvents.{say, knock, rejoin, request_key, verify_key, timer_in, member_timer, ask, tell, report_child, child_of_router, child_of_centre, next_member, is_unfinished, centre_timer, provision_new, provision, tell_leave, tell_parent, remove_device, roll, switch_over, again, share, own_at_centre, own_at_member, own}
+use Rattle.zb_model.specs.Rules.{Setting, centre_of, spent, both_spent, in_rejoining, in_confirmed, has_joined, nets_full, links_full, unless_held, drop_partner, drop_others, drop_old}
+use Rattle.zb_model.specs.OwnEvents.{say, knock, rejoin, request_key, verify_key, timer_in, member_timer, ask, tell, report_child, child_of_router, child_of_centre, next_member, is_unfinished, centre_timer, provision_new, provision, remove_device, roll, switch_over, again, share, own_at_centre, own_at_member, own}
 use Rattle.zb_model.specs.Answer.{changes}
-use Rattle.zb_model_fits.proofs.Tests.{both, neither, any_from, none_where}
+use Rattle.zb_model_fits.proofs.Tests.{both, neither, none_where}
 use Rattle.zb_model_fits.proofs.Parts.{Rules, same_key_of}
+use Rattle.zb_model.specs.Record.{attribute_byte}
 use Rattle.zb_model_storable.proofs.Lists.{found_test, found_any, any_reverse}
-use Rattle.zb_model_storable.proofs.Moves.{moves_fit, move_fits}
-use Rattle.zb_model_storable.proofs.Drops.{Dropped, dropped_then, dropped_none, itself}
+use Rattle.zb_model_storable.proofs.Moves.{move_fits}
+use Rattle.zb_model_storable.proofs.Drops.{dropped_then, dropped_none, itself}
 use Rattle.zb_model_storable.proofs.LinkRows.{room_for, row_after, room_asked, rival_of_partner, rival_of_others, row_then_state, state_alone, live_with_row, few_of_partner, few_dropped}
 use Rattle.zb_model_storable.proofs.NetRows.{live_found, old_then, few_old, active_then}
 use Rattle.zb_model_storable.proofs.Outcomes.{Fitting, stopped, no_moves, after_unless, after_found, after_choice}
@@ -27,7 +27,7 @@ other_part partner key r e = (both (is_live_of partner r) (not (same_key r.key k
 
 say_fits : (s : NodeState) (to : ℕ) (bytes : Bytes) → Fitting s (say s to bytes)
 unfolding say
-say_fits s to bytes = after_found s (usable_active s) NoKey _ (λ net e. after_unless s (in_rejoining s.state) WrongState _ (λ a. after_unless s (spent Rattle.zb_model.specs.Data.Layer.Nwk s) CounterSpent _ (λ b. no_moves s _)))
+say_fits s to bytes = after_found s (usable_active s) NoKey _ (λ net e. after_unless s (in_rejoining s.state) WrongState _ (λ a. after_unless s (spent Nwk s) CounterSpent _ (λ b. no_moves s _)))
 
 knock_fits : (c : Setting) (s : NodeState) → Rules s → is_centre s.role ≡ false → Fitting s (knock c s)
 unfolding knock code_row drop_others
@@ -57,7 +57,7 @@ request_fits c s = after_found s (current s (centre_of c.stations)) NoKey _ (λ 
 
 proof_fits : (tools : Tools) (c : Setting) (s : NodeState) → Fitting s (verify_key tools c s)
 unfolding verify_key
-proof_fits tools c s = after_found s (offered s (centre_of c.stations)) NoKey _ (λ row e. after_unless s (spent Rattle.zb_model.specs.Data.Layer.Nwk s) CounterSpent _ (λ b. no_moves s _))
+proof_fits tools c s = after_found s (offered s (centre_of c.stations)) NoKey _ (λ row e. after_unless s (spent Nwk s) CounterSpent _ (λ b. no_moves s _))
 
 timer_fits : (state : State) (tools : Tools) (c : Setting) (s : NodeState) → Fitting s (timer_in state tools c s)
 timer_fits Joined tools c s = request_fits c s
@@ -79,7 +79,7 @@ tell_fits c s partner bytes = after_found s (usable_active s) NoKey _ (λ net e.
     after_unless s (in_rejoining s.state) WrongState _ (λ a. after_unless s (both_spent s) CounterSpent _ (λ b. no_moves s _))))
 
 report_fits : (c : Setting) (s : NodeState) (child : ℕ) (rejoins : Bool) (o : Option LinkKey) → Fitting s (report_child c s child rejoins o)
-report_fits c s child rejoins None = after_unless s (spent Rattle.zb_model.specs.Data.Layer.Nwk s) CounterSpent _ (λ b. no_moves s _)
+report_fits c s child rejoins None = after_unless s (spent Nwk s) CounterSpent _ (λ b. no_moves s _)
 report_fits c s child rejoins (Some row) = after_unless s (both_spent s) CounterSpent _ (λ b. no_moves s _)
 
 router_child_fits : (c : Setting) (s : NodeState) (child : ℕ) (rejoins : Bool) → Fitting s (child_of_router c s child rejoins)
@@ -88,7 +88,7 @@ router_child_fits c s child rejoins = after_found s (usable_active s) NoKey _ (�
 
 centre_child_fits : (c : Setting) (s : NodeState) (child : ℕ) → Fitting s (child_of_centre c s child)
 unfolding child_of_centre
-centre_child_fits c s child = after_found s (active_row s) NoKey _ (λ net e. after_found s (current s child) NotMember _ (λ row f. after_unless s (spent Rattle.zb_model.specs.Data.Layer.Aps s) CounterSpent _ (λ b. no_moves s _)))
+centre_child_fits c s child = after_found s (active_row s) NoKey _ (λ net e. after_found s (current s child) NotMember _ (λ row f. after_unless s (spent Aps s) CounterSpent _ (λ b. no_moves s _)))
 
 -- a device with a current row is live
 current_live : (s : NodeState) (device : ℕ) (row : LinkKey) → current s device ≡ Some row → is_live s device ≡ true
@@ -110,11 +110,11 @@ provision_new_fits s device key part away room (Some other) unused = stopped s _
 provision_new_fits s device key part away room None unused =
     let row : move_fits (Row device key Provisional) s ≡ true =
     row_after device key Provisional s (is_live_of device) s.links (dropped_none (is_live_of device) s.links away) (room_asked device key s room unused) (rival_of_partner device key Provisional) in
-    let changed : changes s (Row device key Provisional) ≡ true = ap not (none_where (is_live_of device) (λ (x : LinkKey). is_link device key x && (x.live && nat_eq (Rattle.zb_model.specs.Record.attribute_byte x.attribute) 0)) (λ x e. not_row x e) s.links away) in
+    let changed : changes s (Row device key Provisional) ≡ true = ap not (none_where (is_live_of device) (λ (x : LinkKey). is_link device key x && (x.live && nat_eq (attribute_byte x.attribute) 0)) (λ x e. not_row x e) s.links away) in
     record { fit = rw (changed, row, part, live_with_row device key Provisional s) refl; few = omega arith }
   where
-    not_row : (x : LinkKey) → is_live_of device x ≡ false → (is_link device key x && (x.live && nat_eq (Rattle.zb_model.specs.Record.attribute_byte x.attribute) 0)) ≡ false
-    not_row x e = tests x.live (nat_eq x.partner device) (same_key x.key key) (nat_eq (Rattle.zb_model.specs.Record.attribute_byte x.attribute) 0) e
+    not_row : (x : LinkKey) → is_live_of device x ≡ false → (is_link device key x && (x.live && nat_eq (attribute_byte x.attribute) 0)) ≡ false
+    not_row x e = tests x.live (nat_eq x.partner device) (same_key x.key key) (nat_eq (attribute_byte x.attribute) 0) e
       where
         tests : (a b c d : Bool) → (a && b) ≡ false → ((b && c) && (a && d)) ≡ false
         tests true true c d e = absurd (cc)
@@ -159,7 +159,7 @@ roll_fits s draw r part = after_found s (active_row s) NoKey _ (λ net e. after_
     }))))
   where
     few_more : (s : NodeState) (rest : List Move) → length rest ≤ 3 → length (Draw [] ∷ (drop_old s ++ rest)) ≤ 5
-    few_more s rest few = omega (arith, Rattle.zb_model_storable.proofs.NetRows.few_old s (Roll true ∷ rest) (omega (arith, few)), Rattle.std.proofs.Common.length-append (drop_old s) rest, Rattle.std.proofs.Common.length-append (drop_old s) (Roll true ∷ rest))
+    few_more s rest few = omega (arith, few_old s (Roll true ∷ rest) (omega (arith, few)), length-append (drop_old s) rest, length-append (drop_old s) (Roll true ∷ rest))
 
 newest_live : (s : NodeState) → Rules s → (new : NetKey) → newest s ≡ Some new → live_net new.key s ≡ true
 unfolding newest
@@ -170,7 +170,7 @@ newest_live s r new e =
 
 switch_fits : (s : NodeState) → Rules s → Fitting s (switch_over s)
 unfolding switch_over
-switch_fits s r = after_found s (active_row s) NoKey _ (λ net e. after_unless s (is_unfinished s) WrongState _ (λ a. after_unless s (spent Rattle.zb_model.specs.Data.Layer.Nwk s) CounterSpent _ (λ b.
+switch_fits s r = after_found s (active_row s) NoKey _ (λ net e. after_unless s (is_unfinished s) WrongState _ (λ a. after_unless s (spent Nwk s) CounterSpent _ (λ b.
     after_choice s s.sending _ _ (λ d. after_found s (newest s) NoKey _ (λ new f. record { fit = active_then s s new.key false refl (newest_live s r new f); few = omega arith })) (λ d. no_moves s _))))
 
 again_fits : (s : NodeState) (device : ℕ) → is_centre s.role ≡ true → Fitting s (again s device)

@@ -1,10 +1,10 @@
 -- Fourteen changes have room in an entry of the journal: none has more than 33 bytes.
-use Rattle.std.proofs.Common.{◌≡◌, ℕ, ◌+◌, ◌*◌, ◌≤◌, List, [], ◌∷◌, ◌++◌, length, refl, ap, arith, true, ◌&&◌, length-append}
+use Rattle.std.proofs.Common.{◌≡◌, ◌*◌, ◌≤◌, List, [], ◌∷◌, ◌++◌, length, arith, true, length-append}
 use Rattle.std.specs.Prelude.{flat_map, nat_eq}
 use Rattle.std.specs.List.{list_all}
 use Rattle.std.proofs.lemmas.Bool.{eqb-true}
 use Rattle.zb_model.specs.Data.{Bytes, Draw, DropNet, DropLink, Install, Active, Row, Pair, Became, Live, Removed, Roll, Told, Untold, Edit, Reserve, Floor, Start, Moved}
-use Rattle.zb_model.specs.Record.{eight_bytes, four_bytes, attribute_byte, edit_bytes, is_stored, payload}
+use Rattle.zb_model.specs.Record.{eight_bytes, four_bytes, attribute_byte, edit_bytes, payload}
 use Rattle.zb_model_fits.proofs.Tests.{both}
 use Rattle.zb_model_storable.specs.Storing.{has_whole_keys}
 

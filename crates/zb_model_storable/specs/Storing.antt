@@ -1,6 +1,6 @@
 -- What is asked so that all changes of an answer can be stored: of the tools, and of the keys in the changes.
-use Rattle.std.specs.Prelude.{ℕ, ◌≡◌, Bool, true, ◌&&◌, List, length, Option, Some, None, nat_eq}
-use Rattle.zb_model.specs.Data.{Bytes, Nwk, Aps, Term, Move, Draw, DropNet, DropLink, Install, Active, Row, Pair, Edit, Reserve, Floor, Start, Moved}
+use Rattle.std.specs.Prelude.{ℕ, ◌≡◌, Bool, true, length, Option, Some, None, nat_eq}
+use Rattle.zb_model.specs.Data.{Bytes, Nwk, Aps, Term, DropNet, DropLink, Install, Active, Row, Pair, Edit, Reserve, Floor, Start, Moved}
 use Rattle.zb_model.specs.Tools.{Tools, NwkShown, NwkAuxiliary, ApsShown, ApsAuxiliary}
 
 -- the source that an APS frame shows, or the one that was given for it
@@ -17,7 +17,7 @@ pub record OpensAsJudged (tools : Tools) : Type 0 where
   pub aps : (bytes key : Bytes) (given : ℕ) (a : ApsShown) (aux : ApsAuxiliary) (t : Term) → tools.read_aps bytes ≡ Some a → a.auxiliary ≡ Some aux → tools.open_aps bytes key given ≡ Some t
       → (t.layer ≡ Aps) × (t.base ≡ key) × (t.source ≡ source_or given aux.source) × (t.counter ≡ aux.counter)
 
--- The keys in a change have 16 bytes.
+-- The keys that a change spells have 16 bytes, as those of a program's changes do by their type; a draw spells none.
 abbrev pub is_key : Bytes → Bool
 is_key key = nat_eq (length key) 16
 
@@ -25,7 +25,6 @@ abbrev pub has_whole_keys : Edit → Bool
 has_whole_keys (Reserve layer limit) = true
 has_whole_keys (Floor layer key sender value) = is_key key
 has_whole_keys (Start key value) = is_key key
-has_whole_keys (Moved (Draw key)) = is_key key
 has_whole_keys (Moved (DropNet key)) = is_key key
 has_whole_keys (Moved (DropLink partner key)) = is_key key
 has_whole_keys (Moved (Install key sequence)) = is_key key

@@ -5,7 +5,7 @@
 
 ghost use Rattle.std.specs.Prelude.{◌≡◌, ◌≤◌, true, length};
 ghost use Rattle.std.specs.List.{list_all};
-ghost use Rattle.zb_model.specs.Answer.{answer};
+ghost use Rattle.zb_model.specs.Answer.{answer, answered};
 ghost use Rattle.zb_model.specs.Data.{Task};
 ghost use Rattle.zb_model.specs.Fits.{AllFit, keeps_rules};
 ghost use Rattle.zb_model.specs.Record.{payload};
@@ -16,8 +16,9 @@ ghost use Rattle.zb_model_storable.specs.Storing.{OpensAsJudged, has_whole_keys}
 
 /// Says that each change of an answer fits the state after those before it.
 ///
-/// The state keeps the rules for records, and its role is the setting's, by which the rules of the policy are chosen. An
-/// incoming block is 1 or more: a floor of 0 isn't kept. Of the outgoing block nothing is asked.
+/// The state keeps the rules for records, and its role is the setting's, by which the rules of the policy are chosen.
+/// An incoming block is 1 or more: a floor of 0 isn't kept. Of the outgoing block nothing is asked. A core keeps these
+/// three of its tables and its setting, by its invariant.
 #[tactic(auto, using(crate::proofs::Answers::all_stored))]
 pub fn changes_of_an_answer_fit()
     ensures { (tools : Tools) → OpensAsJudged tools → (c : Setting) (s : NodeState) (task : Task)
@@ -30,6 +31,14 @@ pub fn the_rules_stand_after_an_answer()
     ensures { (tools : Tools) → OpensAsJudged tools → (c : Setting) (s : NodeState) (task : Task)
         → keeps_rules s ≡ true → s.role ≡ c.me.role → 1 ≤ c.me.in_block
         → keeps_rules (applied_all (answer tools c s task).edits s) ≡ true }
+{}
+
+/// Says that the rules for records stand after a whole answer: its changes, accepted terms and seals.
+#[tactic(auto, using(crate::proofs::Answers::kept_answered))]
+pub fn the_rules_stand_after_accepts_and_seals()
+    ensures { (tools : Tools) → OpensAsJudged tools → (c : Setting) (s : NodeState) (task : Task)
+        → keeps_rules s ≡ true → s.role ≡ c.me.role → 1 ≤ c.me.in_block
+        → keeps_rules (answered (answer tools c s task) s) ≡ true }
 {}
 
 /// Says that an answer has fourteen changes at most.
