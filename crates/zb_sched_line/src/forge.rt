@@ -27,7 +27,7 @@ pub struct Command {
 }
 
 /// Says to whom a forged frame goes, and from whom it claims to come.
-#[derive(Clone, Copy, Debug)]
+#[derive(Clone, Copy)]
 pub struct Route {
     /// The destination.
     pub to: Short,
@@ -68,7 +68,7 @@ pub fn forge(mut words: Words) -> Option<Event>
 }
 
 /// Says how a forged frame is sealed at the network layer.
-#[derive(Clone, Copy, Debug)]
+#[derive(Clone, Copy)]
 pub struct Net {
     /// The network key.
     pub key: Key,
