@@ -7,3 +7,4 @@ pub mod KeysApart
 pub mod Spent
 pub mod Premises
 pub mod Events
+pub mod CentreAlone
