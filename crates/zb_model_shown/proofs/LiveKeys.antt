@@ -1,7 +1,6 @@
 -- A term that is accepted has a live network key as its base key, where network rows have different keys.
-use Rattle.std.proofs.Common.{◌≡◌, ℕ, List, [], ◌∷◌, ◌++◌, filter, reverse, find, option_to_list, refl, sym, ap, ◌∙◌, subst, Bool, true, false, not, if◌then◌else◌, Option, Some, None, nat_eq}
-use Rattle.std.specs.List.{AllByRecursion, list_any}
-use Rattle.std.proofs.lemmas.Bool.{not-true}
+use Rattle.std.proofs.Common.{◌≡◌, ℕ, List, [], ◌∷◌, ◌++◌, filter, reverse, find, option_to_list, refl, sym, ap, ◌∙◌, subst, Bool, true, false, if◌then◌else◌, Option, Some, None, nat_eq}
+use Rattle.std.specs.List.{AllByRecursion}
 use Rattle.std.proofs.lemmas.Slice.Eq.{bytes_eq-Decides}
 use mathlib.Core.List.{reverse_aux}
 use Rattle.zb_model.specs.Data.{Bytes, Layer, Nwk, Aps, Term, Place, Reason, Task, SayTo, TellTo, DoKnock, DoRejoin, DoTimer, AskFor, HasChild, DoProvision, DoRemove, DoRoll, DoSwitch, DoAgain, DoShare, Received}
@@ -12,13 +11,10 @@ use Rattle.zb_model.specs.Rules.{Setting, Plan}
 use Rattle.zb_model.specs.Judging.{Verdict, Not, Good, reject, need, judge_net, Carrier, carrier, judge_security, judge_nwk, payload_of, candidates, chosen_row, aps_source, Unsealed, judge_aps}
 use Rattle.zb_model.specs.Commands.{Heard}
 use Rattle.zb_model.specs.Answer.{nwk_command, heard_clear, heard_sealed, aps_command, clear_part, sealed_part, by_security, aps_part, net_part, received_as, plan_of}
-use Rattle.zb_model_fits.proofs.Tests.{both, neither}
+use Rattle.zb_model_shown.proofs.Apart.{each_first}
 use Rattle.zb_model_shown.specs.Showing.{IsUnderLive, AreUnderLive, OpensUnder, nets_differ}
 
 -- ---- a live row is found by its key
-
-alike : NetKey → NetKey → Bool
-alike a b = same_key a.key b.key
 
 key_same : (key : Bytes) → same_key key key ≡ true
 key_same key = (bytes_eq-Decides key key).1 refl
@@ -26,17 +22,8 @@ key_same key = (bytes_eq-Decides key key).1 refl
 abbrev IsFound : List NetKey → NetKey → Type 0
 IsFound nets r = find (λ (x : NetKey). same_key x.key r.key) nets ≡ Some r
 
-found_behind : (x : NetKey) (nets rs : List NetKey) → list_any (λ (r : NetKey). same_key x.key r.key) rs ≡ false → AllByRecursion (IsFound nets) rs → AllByRecursion (IsFound (x ∷ nets)) rs
-found_behind x nets [] none all = tt
-found_behind x nets (r ∷ rs) none all =
-    let parts = neither (same_key x.key r.key) (list_any (λ (y : NetKey). same_key x.key y.key) rs) none in
-    (ap (λ (b : Bool). if b then Some x else find (λ (y : NetKey). same_key y.key r.key) nets) parts.0 ∙ all.0, found_behind x nets rs parts.1 all.1)
-
 each_found : (nets : List NetKey) → all_apart (λ (a b : NetKey). same_key a.key b.key) nets ≡ true → AllByRecursion (IsFound nets) nets
-each_found [] differ = tt
-each_found (x ∷ rs) differ =
-    let parts = both (not (list_any (λ (y : NetKey). same_key x.key y.key) rs)) (all_apart (λ (a b : NetKey). same_key a.key b.key) rs) differ in
-    (ap (λ (b : Bool). if b then Some x else find (λ (y : NetKey). same_key y.key x.key) rs) (key_same x.key), found_behind x rs rs (not-true _ parts.0) (each_found rs parts.1))
+each_found nets differ = each_first (λ (a b : NetKey). same_key a.key b.key) (λ r. key_same r.key) nets differ
 
 abbrev IsLiveIn : List NetKey → NetKey → Type 0
 IsLiveIn nets r = row_is_live (find (λ (x : NetKey). same_key x.key r.key) nets) ≡ true

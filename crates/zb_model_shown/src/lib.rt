@@ -3,12 +3,17 @@
 #![tactic(auto)]
 
 ghost use Rattle.std.specs.Prelude.{◌≡◌, ℕ, true, List};
+ghost use Rattle.std.specs.List.{AllByRecursion};
+ghost use Rattle.zb_model_shown.specs.Along.{AnswersKeepRules, IsAsDeclared, IsRuled, NodesAllAlong, StartsAlone, euis_differ};
 ghost use Rattle.zb_model_shown.specs.Showing.{AreUnderLive, OpensUnder, nets_differ};
 ghost use Rattle.zb_model.specs.Answer.{Answer, answer, answered, plan_of};
 ghost use Rattle.zb_model.specs.Data.{Edit, Task};
+ghost use Rattle.zb_model.specs.Fits.{keeps_rules};
 ghost use Rattle.zb_model.specs.Lines.{Line};
+ghost use Rattle.zb_model.specs.Play.{Schedule, setting_of, start};
 ghost use Rattle.zb_model.specs.Readings.{state_of};
 ghost use Rattle.zb_model.specs.Rules.{Setting};
+ghost use Rattle.zb_model.specs.Schedules.{IsSchedule, Names};
 ghost use Rattle.zb_model.specs.State.{NodeState, after_boot, applied, applied_all, shown};
 ghost use Rattle.zb_model.specs.Tools.{Tools};
 
@@ -56,4 +61,32 @@ pub fn what_is_shown_goes_on()
     ensures changes { (es : List Edit) (s : NodeState) → shown (applied_all es (shown s)) ≡ shown (applied_all es s) }
     ensures boot { (s : NodeState) → after_boot (shown s) ≡ shown (after_boot s) }
     ensures again { (s : NodeState) → shown (shown s) ≡ shown s }
+{}
+
+/// Says that before each event of a run its node is as it was declared, with its EUI and its role.
+///
+/// Its blocks aren't empty. No two nodes of the schedule may have one EUI.
+pub fn nodes_are_as_declared_all_along()
+    ensures { (tools : Tools) (w : Schedule) → IsSchedule w → euis_differ w ≡ true
+        → NodesAllAlong IsAsDeclared tools w }
+{}
+
+/// Says that of all start lines of a run each node's own alone say what it is.
+pub fn nodes_start_by_their_own_lines()
+    ensures { (w : Schedule) → euis_differ w ≡ true → AllByRecursion (StartsAlone w) w.nodes }
+{}
+
+/// Says that each declared node starts in a state that keeps the rules for records.
+pub fn nodes_start_by_the_rules()
+    ensures { (w : Schedule) → IsSchedule w → euis_differ w ≡ true → (n : ℕ) → Names w n
+        → keeps_rules (state_of (start w) n) ≡ true }
+{}
+
+/// Says that before each event of a run its node's state keeps the rules for records, if answers keep them.
+///
+/// Accepted terms, seals, boots and cut groups keep them in any case.
+pub fn states_keep_the_rules_all_along()
+    ensures { (tools : Tools) (w : Schedule) → IsSchedule w → euis_differ w ≡ true
+        → ((n : ℕ) → Names w n → AnswersKeepRules tools (setting_of w n))
+        → NodesAllAlong IsRuled tools w }
 {}
