@@ -12,7 +12,8 @@ use Rattle.zb_model.specs.Judging.{Verdict, Not, Good, reject, need, judge_net, 
 use Rattle.zb_model.specs.Commands.{Heard}
 use Rattle.zb_model.specs.Answer.{nwk_command, heard_clear, heard_sealed, aps_command, clear_part, sealed_part, by_security, aps_part, net_part, received_as, plan_of}
 use Rattle.zb_model_shown.proofs.Apart.{each_first}
-use Rattle.zb_model_shown.specs.Showing.{IsUnderLive, AreUnderLive, OpensUnder, nets_differ}
+use Rattle.zb_model_storable.specs.Storing.{OpensAsJudged}
+use Rattle.zb_model_shown.specs.Showing.{IsUnderLive, AreUnderLive, nets_differ}
 
 -- ---- a live row is found by its key
 
@@ -91,7 +92,7 @@ under s Aps t live = tt
 abbrev TermLive : NodeState → Term → Type 0
 TermLive s t = IsUnderLive s t.layer t
 
-net_live : (tools : Tools) → OpensUnder tools → (c : Setting) (s : NodeState) → nets_differ s ≡ true → (bytes : Bytes) (f : NwkShown) (aux : NwkAuxiliary) → tools.read_nwk bytes ≡ Some f → f.auxiliary ≡ Some aux
+net_live : (tools : Tools) → OpensAsJudged tools → (c : Setting) (s : NodeState) → nets_differ s ≡ true → (bytes : Bytes) (f : NwkShown) (aux : NwkAuxiliary) → tools.read_nwk bytes ≡ Some f → f.auxiliary ≡ Some aux
     → OnGood (TermLive s) (judge_net tools c s bytes aux)
 unfolding judge_net
 net_live tools opens c s differ bytes f aux read aux_is =
@@ -102,7 +103,7 @@ net_live tools opens c s differ bytes f aux read aux_is =
     reject_good (TermLive s) _ _ _ _ (
     reject_good (TermLive s) _ _ _ _ (
     reject_good (TermLive s) _ _ _ _ (
-    under s t.layer t (subst (λ k. live_net k s ≡ true) (sym (opens.nwk bytes row.key f aux t read aux_is opened)) (subst (IfSome (λ (r : NetKey). live_net r.key s ≡ true)) found (usable_is_live s differ aux.sequence)))
+    under s t.layer t (subst (λ k. live_net k s ≡ true) (sym (opens.nwk bytes row.key f aux t read aux_is opened).1) (subst (IfSome (λ (r : NetKey). live_net r.key s ≡ true)) found (usable_is_live s differ aux.sequence)))
     )))))))
 
 abbrev CarrierLive : NodeState → Carrier → Type 0
@@ -112,12 +113,12 @@ carried : (s : NodeState) (f : NwkShown) (v : Verdict Term) → OnGood (TermLive
 carried s f (Not place reason) good = tt
 carried s f (Good t) good = good
 
-security_live : (tools : Tools) → OpensUnder tools → (c : Setting) (s : NodeState) → nets_differ s ≡ true → (bytes : Bytes) (f : NwkShown) (o : Option NwkAuxiliary) → tools.read_nwk bytes ≡ Some f → f.auxiliary ≡ o
+security_live : (tools : Tools) → OpensAsJudged tools → (c : Setting) (s : NodeState) → nets_differ s ≡ true → (bytes : Bytes) (f : NwkShown) (o : Option NwkAuxiliary) → tools.read_nwk bytes ≡ Some f → f.auxiliary ≡ o
     → OnGood (CarrierLive s) (judge_security tools c s bytes f o)
 security_live tools opens c s differ bytes f None read aux_is = reject_good (CarrierLive s) _ _ _ _ tt
 security_live tools opens c s differ bytes f (Some aux) read aux_is = carried s f (judge_net tools c s bytes aux) (net_live tools opens c s differ bytes f aux read aux_is)
 
-nwk_live : (tools : Tools) → OpensUnder tools → (c : Setting) (s : NodeState) → nets_differ s ≡ true → (bytes : Bytes) → OnGood (CarrierLive s) (judge_nwk tools c s bytes)
+nwk_live : (tools : Tools) → OpensAsJudged tools → (c : Setting) (s : NodeState) → nets_differ s ≡ true → (bytes : Bytes) → OnGood (CarrierLive s) (judge_nwk tools c s bytes)
 unfolding judge_nwk
 nwk_live tools opens c s differ bytes =
     need_good (CarrierLive s) (tools.read_nwk bytes) _ _ _ (λ f read. reject_good (CarrierLive s) _ _ _ _ (security_live tools opens c s differ bytes f f.auxiliary read refl))
@@ -125,7 +126,7 @@ nwk_live tools opens c s differ bytes =
 abbrev IsAps : Unsealed → Type 0
 IsAps u = u.term.layer ≡ Aps
 
-aps_good : (tools : Tools) → OpensUnder tools → (c : Setting) (s : NodeState) (f : NwkShown) (bytes : Bytes) (a : ApsShown) (aux : ApsAuxiliary) → tools.read_aps bytes ≡ Some a → a.auxiliary ≡ Some aux
+aps_good : (tools : Tools) → OpensAsJudged tools → (c : Setting) (s : NodeState) (f : NwkShown) (bytes : Bytes) (a : ApsShown) (aux : ApsAuxiliary) → tools.read_aps bytes ≡ Some a → a.auxiliary ≡ Some aux
     → OnGood IsAps (judge_aps tools c s f bytes aux)
 unfolding judge_aps
 aps_good tools opens c s f bytes a aux read aux_is =
@@ -134,7 +135,7 @@ aps_good tools opens c s f bytes a aux read aux_is =
     reject_good IsAps _ _ _ _ (
     reject_good IsAps _ _ _ _ (
     need_good IsAps (tools.open_aps bytes row.key source) _ _ _ (λ t opened.
-    opens.aps bytes row.key source a aux t read aux_is opened)))))
+    (opens.aps bytes row.key source a aux t read aux_is opened).0)))))
 
 -- ---- the terms of a plan
 
@@ -170,7 +171,7 @@ sealed_live tools c s draw nwk a aux (Not place reason) live good = alone s nwk 
 sealed_live tools c s draw nwk a aux (Good u) live good =
     either s a.is_command _ _ (command_live tools c s draw (option_to_list nwk ++ u.term ∷ []) (heard_sealed nwk aux u) (tools.read_command u.term.content) (with_aps s nwk u.term live good)) (with_aps s nwk u.term live good)
 
-module _ (tools : Tools) (opens : OpensUnder tools) (c : Setting) (s : NodeState) where
+module _ (tools : Tools) (opens : OpensAsJudged tools) (c : Setting) (s : NodeState) where
   by_security_live : (draw : Option Bytes) (f : NwkShown) (nwk : Option Term) (a : ApsShown) (o : Option ApsAuxiliary) → tools.read_aps (payload_of f nwk) ≡ Some a → a.auxiliary ≡ o → IfSome (TermLive s) nwk
       → AreUnderLive s (by_security tools c s draw f nwk a o).accepts
   by_security_live draw f nwk a None read aux_is live = clear_live tools c s draw nwk a live
@@ -190,7 +191,7 @@ module _ (tools : Tools) (opens : OpensUnder tools) (c : Setting) (s : NodeState
   received_live draw (Not place reason) good = tt
   received_live draw (Good k) good = net_part_live draw k.frame k.term good
 
-pub accepts_live : (tools : Tools) → OpensUnder tools → (c : Setting) (s : NodeState) → nets_differ s ≡ true → (task : Task) → AreUnderLive s (plan_of tools c s task).accepts
+pub accepts_live : (tools : Tools) → OpensAsJudged tools → (c : Setting) (s : NodeState) → nets_differ s ≡ true → (task : Task) → AreUnderLive s (plan_of tools c s task).accepts
 unfolding plan_of
 accepts_live tools opens c s differ (Received bytes draw) = received_live tools opens c s draw (judge_nwk tools c s bytes) (nwk_live tools opens c s differ bytes)
 accepts_live tools opens c s differ (SayTo to bytes) = tt

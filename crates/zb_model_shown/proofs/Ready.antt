@@ -1,4 +1,4 @@
--- Before each event of a run its node is as it was declared, and its state keeps the rules for records where answers do.
+-- Before each event of a run its node is as it was declared, and its state keeps the rules for records.
 use Rattle.std.proofs.Common.{◌≡◌, ℕ, ◌<◌, List, [], ◌∷◌, map, find, option_map, is_some, refl, sym, ap, ◌∙◌, subst, eqb-true, Bool, true, false, if◌then◌else◌, Option, Some, None, nat_eq}
 use Rattle.std.specs.List.{AllByRecursion}
 use Rattle.std.proofs.lemmas.Bool.{false≢true}
@@ -11,7 +11,9 @@ use Rattle.zb_model.specs.Answer.{answer}
 use Rattle.zb_model.specs.Readings.{state_of}
 use Rattle.zb_model.specs.Play.{Schedule, Node, Event, Own, RollOver, Deliver, Reset, PowerOn, ShowRecord, ArmStop, ArmFail, InjectBytes, ForgeNet, ForgeNetAps, ForgeOpen, stations, setting_of, station_or, start}
 use Rattle.zb_model.specs.Schedules.{IsMember, Names, NamesNode, IsSchedule}
-use Rattle.zb_model_shown.specs.Along.{OfNode, NodesAllAlong, euis_differ, IsAsDeclared, IsRuled, AnswersKeepRules}
+use Rattle.zb_model_storable.specs.Storing.{OpensAsJudged}
+use Rattle.zb_model_storable.proofs.Answers.{kept_stored}
+use Rattle.zb_model_shown.specs.Along.{OfNode, NodesAllAlong, euis_differ, IsAsDeclared, IsRuled}
 use Rattle.zb_model_shown.proofs.Loops.{all_along}
 use Rattle.zb_model_shown.proofs.Memory.{accepted_ruled, sealed_ruled, booted_ruled, accepted_role, sealed_role, booted_role}
 use Rattle.zb_model_shown.proofs.Steps.{IsKept, AllKept, step_keeps}
@@ -148,8 +150,8 @@ record IsSound (w : Schedule) (n : ℕ) (s : NodeState) : Type 0 where
   role : HasRole w n s
   rules : keeps_rules s ≡ true
 
-sound_kept : (tools : Tools) (w : Schedule) → IsSchedule w → ((n : ℕ) → Names w n → AnswersKeepRules tools (setting_of w n)) → IsKept tools w (IsSound w)
-sound_kept tools w i answers = record {
+sound_kept : (tools : Tools) → OpensAsJudged tools → (w : Schedule) → IsSchedule w → IsKept tools w (IsSound w)
+sound_kept tools opens w i = record {
   calm = λ n. record {
     accepted = λ t s j. record { role = accepted_role t s ∙ j.role; rules = accepted_ruled t s j.rules };
     sealed = λ t s j. record { role = sealed_role t s ∙ j.role; rules = sealed_ruled t s j.rules };
@@ -158,13 +160,13 @@ sound_kept tools w i answers = record {
   answered = λ n named s task j. record {
     role = applied_role (answer tools (setting_of w n) s task).edits s ∙ j.role;
     rules = with_node w i n named (λ m f.
-        answers n named (subst (λ (p : Station). 0 < p.out_block) (sym f.me) f.member.out_block) (subst (λ (p : Station). 0 < p.in_block) (sym f.me) f.member.in_block) s task j.role j.rules);
+        kept_stored tools opens (setting_of w n) s task j.rules j.role (subst (λ (p : Station). 0 < p.in_block) (sym f.me) f.member.in_block));
   };
 }
 
 pub start_rules : (w : Schedule) → IsSchedule w → euis_differ w ≡ true → (n : ℕ) → Names w n → keeps_rules (state_of (start w) n) ≡ true
 start_rules w i differ n named = with_node w i n named (λ m f. ap keeps_rules (start_read w differ n m f.found f.is) ∙ first_ruled (centre_of (stations w)) m)
 
-pub ruled_along : (tools : Tools) (w : Schedule) → IsSchedule w → euis_differ w ≡ true → ((n : ℕ) → Names w n → AnswersKeepRules tools (setting_of w n)) → NodesAllAlong IsRuled tools w
-ruled_along tools w i differ answers =
-    nodes_along IsRuled tools w i (IsSound w) (sound_kept tools w i answers) (λ n named. record { role = start_role w i differ n named; rules = start_rules w i differ n named }) (λ n named s j. j.rules)
+pub ruled_along : (tools : Tools) → OpensAsJudged tools → (w : Schedule) → IsSchedule w → euis_differ w ≡ true → NodesAllAlong IsRuled tools w
+ruled_along tools opens w i differ =
+    nodes_along IsRuled tools w i (IsSound w) (sound_kept tools opens w i) (λ n named. record { role = start_role w i differ n named; rules = start_rules w i differ n named }) (λ n named s j. j.rules)

@@ -1,12 +1,11 @@
 -- Claims on a run as it goes on, in a form that a loop over its events carries.
 use Rattle.std.specs.Prelude.{ℕ, ◌≡◌, ◌<◌, ◌+◌, true, Bool, List, [], ◌∷◌, ◌++◌, nat_eq, ⊤}
-use Rattle.zb_model.specs.Data.{Nwk, Aps, Station, Task}
+use Rattle.zb_model.specs.Data.{Nwk, Aps, Station}
 use Rattle.zb_model.specs.Lines.{Line, Declared}
 use Rattle.zb_model.specs.Tools.{Tools}
-use Rattle.zb_model.specs.State.{NodeState, applied_all}
+use Rattle.zb_model.specs.State.{NodeState}
 use Rattle.zb_model.specs.Fits.{all_apart, keeps_rules}
 use Rattle.zb_model.specs.Rules.{Setting, centre_of}
-use Rattle.zb_model.specs.Answer.{answer}
 use Rattle.zb_model.specs.Readings.{state_of}
 use Rattle.zb_model.specs.Play.{Schedule, Node, Event, Own, RollOver, Deliver, Reset, PowerOn, ShowRecord, ArmStop, ArmFail, Disk, setting_of, stations, net_line, link_line, limit_line, start, step}
 
@@ -55,11 +54,6 @@ pub record IsAsDeclared (s : NodeState) (c : Setting) (n : ℕ) : Type 0 where
 -- A state keeps the rules for records.
 abbrev pub IsRuled : NodeState → Setting → ℕ → Type 0
 IsRuled s c n = keeps_rules s ≡ true
-
--- The changes of a node's answers leave a state that keeps the rules for records: of a node whose blocks aren't empty, in a state
--- of its role.
-abbrev pub AnswersKeepRules : Tools → Setting → Type 0
-AnswersKeepRules tools c = 0 < c.me.out_block → 0 < c.me.in_block → (s : NodeState) (task : Task) → s.role ≡ c.me.role → keeps_rules s ≡ true → keeps_rules (applied_all (answer tools c s task).edits s) ≡ true
 
 -- the start lines of one node, in the order in which a run has them
 abbrev pub own_start : ℕ → Node → List Line
