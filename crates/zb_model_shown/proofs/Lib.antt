@@ -9,6 +9,5 @@ pub mod LiveKeys
 pub mod States
 pub mod Loops
 mod Memory
-pub mod Steps
 mod Starts
 pub mod Ready

@@ -3,8 +3,9 @@ use Rattle.std.proofs.Common.{◌≡◌, ℕ, ◌+◌, List, [], ◌∷◌, leng
 use Rattle.std.specs.List.{list_all}
 use Rattle.std.proofs.lemmas.List.{length-map}
 use Rattle.zb_model.specs.Data.{Bytes, Role, Layer, Nwk, Aps, Term}
-use Rattle.zb_model.specs.State.{NodeState, SenderFloor, NetKey, LinkKey, same_key, is_link, at_net, next_at, sealed_at, after_sealing, net_kept, link_kept, after_hearing, after_accepting, booted_floor, booted_net, booted_link, after_boot}
+use Rattle.zb_model.specs.State.{NodeState, SenderFloor, NetKey, LinkKey, same_key, is_link, at_net, next_at, sealed_at, after_sealing, net_kept, link_kept, after_hearing, after_accepting, after_boot}
 use Rattle.zb_model.specs.Fits.{keeps_rules, rows_have_room, keys_differ, at_most_two_live, active_is_live, partners_agree, links_are_marked, floors_are_kept, limits_are_started, role_is_kept, pairs_are_kept, most_senders, senders_ascend}
+use Rattle.zb_model_laws.proofs.StoredFits.{rules_same}
 use Rattle.zb_model_fits.proofs.Tests.{all_map, apart_map}
 use Rattle.zb_model_fits.proofs.Parts.{rules_of, floors_rule, links_alike, kinds_alike, told_apart, link_rule}
 use Rattle.zb_model_fits.proofs.Nets.{Mild, mild_kept, mild_at}
@@ -96,11 +97,7 @@ unfolding after_sealing
 sealed_ruled t s kept = sealed_by t.layer t s kept
 
 pub booted_ruled : (s : NodeState) → keeps_rules s ≡ true → keeps_rules (after_boot s) ≡ true
-unfolding after_boot
-booted_ruled s kept =
-    next_unruled (record s { nets = map booted_net s.nets; links = map booted_link s.links }) s.aps_limit
-    ∙ links_ruled booted_link (λ r. refl) (record s { nets = map booted_net s.nets })
-    (nets_ruled booted_net (record { key = λ r. refl; live = λ r. refl; limit = λ r e. e }) (λ r. floors_same booted_floor (λ f. refl) r) s kept)
+booted_ruled s kept = rules_same s ∙ kept
 
 -- ---- the role
 

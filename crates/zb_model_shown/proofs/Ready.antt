@@ -3,6 +3,7 @@ use Rattle.std.proofs.Common.{◌≡◌, ℕ, ◌<◌, List, [], ◌∷◌, map,
 use Rattle.std.specs.List.{AllByRecursion}
 use Rattle.std.proofs.lemmas.Bool.{false≢true}
 use Rattle.zb_model.specs.Data.{Station, Nwk, Aps, Move, Draw, DropNet, DropLink, Install, Active, Row, Pair, Became, Live, Removed, Roll, Told, Untold, Edit, Reserve, Floor, Start, Moved}
+use Rattle.zb_model.specs.Lines.{Line}
 use Rattle.zb_model.specs.State.{NodeState, moved, applied, applied_all}
 use Rattle.zb_model.specs.Fits.{keeps_rules}
 use Rattle.zb_model.specs.Tools.{Tools}
@@ -16,7 +17,7 @@ use Rattle.zb_model_storable.proofs.Answers.{kept_stored}
 use Rattle.zb_model_shown.specs.Along.{OfNode, NodesAllAlong, euis_differ, IsAsDeclared, IsRuled}
 use Rattle.zb_model_shown.proofs.Loops.{all_along}
 use Rattle.zb_model_shown.proofs.Memory.{accepted_ruled, sealed_ruled, booted_ruled, accepted_role, sealed_role, booted_role}
-use Rattle.zb_model_shown.proofs.Steps.{IsKept, AllKept, step_keeps}
+use Rattle.zb_model_laws.proofs.EventStates.{IsKept, AllKeep, answer_to, step-kept}
 use Rattle.zb_model_shown.proofs.Starts.{has_eui, start_read, first_ruled, first_role}
 
 -- ---- the declared node
@@ -94,17 +95,19 @@ applied_role (e ∷ es) s = applied_role es (applied e s) ∙ change_role e s
 abbrev HasRole : Schedule → ℕ → NodeState → Type 0
 HasRole w n s = s.role ≡ (setting_of w n).me.role
 
-role_kept : (tools : Tools) (w : Schedule) → IsKept tools w (HasRole w)
+abbrev IfNamed : Schedule → (ℕ → NodeState → Type 0) → List Line → ℕ → NodeState → Type 0
+IfNamed w J h n s = Names w n → J n s
+
+role_kept : (tools : Tools) (w : Schedule) → IsKept tools w (NamesNode w) (IfNamed w (HasRole w))
 role_kept tools w = record {
-  calm = λ n. record {
-    accepted = λ t s e. accepted_role t s ∙ e;
-    sealed = λ t s e. sealed_role t s ∙ e;
-    booted = λ s e. booted_role s ∙ e;
-  };
-  answered = λ n named s task e. applied_role (answer tools (setting_of w n) s task).edits s ∙ e;
+  more = λ h ls n s j. j;
+  answers = λ h number n task of all named. applied_role (answer_to tools w h n task).edits (state_of h n) ∙ all n named;
+  accepts = λ h n t s j named. accepted_role t s ∙ j named;
+  seals = λ h n t s j named. sealed_role t s ∙ j named;
+  boots = λ h n s j named. booted_role s ∙ j named;
 }
 
-start_role : (w : Schedule) → IsSchedule w → euis_differ w ≡ true → AllKept w (HasRole w) (start w)
+start_role : (w : Schedule) → IsSchedule w → euis_differ w ≡ true → AllKeep (IfNamed w (HasRole w)) (start w)
 start_role w i differ n named =
     with_node w i n named (λ m f.
     ap (λ (s : NodeState). s.role) (start_read w differ n m f.found f.is) ∙ first_role (centre_of (stations w)) m ∙ sym (ap (λ (p : Station). p.role) f.me))
@@ -125,14 +128,14 @@ of_node P w each (ForgeNet to from source key sequence counter content) named = 
 of_node P w each (ForgeNetAps to from source key sequence counter label base aps_counter command) named = tt
 of_node P w each (ForgeOpen to from source label base aps_counter command) named = tt
 
-nodes_along : (P : NodeState → Setting → ℕ → Type 0) (tools : Tools) (w : Schedule) → IsSchedule w → (J : ℕ → NodeState → Type 0) → IsKept tools w J → AllKept w J (start w)
+nodes_along : (P : NodeState → Setting → ℕ → Type 0) (tools : Tools) (w : Schedule) → IsSchedule w → (J : ℕ → NodeState → Type 0) → IsKept tools w (NamesNode w) (IfNamed w J) → AllKeep (IfNamed w J) (start w)
     → ((n : ℕ) → Names w n → (s : NodeState) → J n s → P s (setting_of w n) n) → NodesAllAlong P tools w
 nodes_along P tools w i J k begins gives =
-    all_along tools w (NamesNode w) (λ h disks number. AllKept w J h) (λ h disks number event. OfNode (λ n. P (state_of h n) (setting_of w n) n) event)
+    all_along tools w (NamesNode w) (λ h disks number. AllKeep (IfNamed w J) h) (λ h event. OfNode (λ n. P (state_of h n) (setting_of w n) n) event)
     (record {
       begins = begins;
       gives = λ h disks number event named all. of_node (λ n. P (state_of h n) (setting_of w n) n) w (λ n its. gives n its (state_of h n) (all n its)) event named;
-      goes_on = λ h disks number event named all. step_keeps tools w J k h disks number event named all;
+      goes_on = λ h disks number event named all. step-kept tools w (NamesNode w) (IfNamed w J) k h disks number event named all;
     }) i.events
 
 -- ---- the laws
@@ -150,18 +153,18 @@ record IsSound (w : Schedule) (n : ℕ) (s : NodeState) : Type 0 where
   role : HasRole w n s
   rules : keeps_rules s ≡ true
 
-sound_kept : (tools : Tools) → OpensAsJudged tools → (w : Schedule) → IsSchedule w → IsKept tools w (IsSound w)
+sound_kept : (tools : Tools) → OpensAsJudged tools → (w : Schedule) → IsSchedule w → IsKept tools w (NamesNode w) (IfNamed w (IsSound w))
+unfolding answer
 sound_kept tools opens w i = record {
-  calm = λ n. record {
-    accepted = λ t s j. record { role = accepted_role t s ∙ j.role; rules = accepted_ruled t s j.rules };
-    sealed = λ t s j. record { role = sealed_role t s ∙ j.role; rules = sealed_ruled t s j.rules };
-    booted = λ s j. record { role = booted_role s ∙ j.role; rules = booted_ruled s j.rules };
-  };
-  answered = λ n named s task j. record {
-    role = applied_role (answer tools (setting_of w n) s task).edits s ∙ j.role;
+  more = λ h ls n s j. j;
+  answers = λ h number n task of all named. record {
+    role = applied_role (answer_to tools w h n task).edits (state_of h n) ∙ (all n named).role;
     rules = with_node w i n named (λ m f.
-        kept_stored tools opens (setting_of w n) s task j.rules j.role (subst (λ (p : Station). 0 < p.in_block) (sym f.me) f.member.in_block));
+        kept_stored tools opens (setting_of w n) (state_of h n) task (all n named).rules (all n named).role (subst (λ (p : Station). 0 < p.in_block) (sym f.me) f.member.in_block));
   };
+  accepts = λ h n t s j named. record { role = accepted_role t s ∙ (j named).role; rules = accepted_ruled t s (j named).rules };
+  seals = λ h n t s j named. record { role = sealed_role t s ∙ (j named).role; rules = sealed_ruled t s (j named).rules };
+  boots = λ h n s j named. record { role = booted_role s ∙ (j named).role; rules = booted_ruled s (j named).rules };
 }
 
 pub start_rules : (w : Schedule) → IsSchedule w → euis_differ w ≡ true → (n : ℕ) → Names w n → keeps_rules (state_of (start w) n) ≡ true

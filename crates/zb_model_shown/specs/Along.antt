@@ -7,20 +7,13 @@ use Rattle.zb_model.specs.State.{NodeState}
 use Rattle.zb_model.specs.Fits.{all_apart, keeps_rules}
 use Rattle.zb_model.specs.Rules.{Setting, centre_of}
 use Rattle.zb_model.specs.Readings.{state_of}
+use Rattle.zb_model_laws.specs.Events.{BeforeEach}
 use Rattle.zb_model.specs.Play.{Schedule, Node, Event, Own, RollOver, Deliver, Reset, PowerOn, ShowRecord, ArmStop, ArmFail, Disk, setting_of, stations, net_line, link_line, limit_line, start, step}
 
--- A claim of the lines and disks so far, an event's number and the event holds before each of these events, the lines and disks
--- being those of the events before.
-abbrev pub AllAlong : (List Line → List Disk → ℕ → Event → Type 0) → Tools → Schedule → List Line → List Disk → ℕ → List Event → Type 0
-AllAlong P tools w h disks number [] = ⊤
-AllAlong P tools w h disks number (event ∷ events) =
-    P h disks number event
-    × (let g = step tools w h disks number event in AllAlong P tools w (h ++ g.lines) g.disks (number + 1) events)
-
 -- What is carried along: it holds of the start; before an event it gives the claim, and it holds after that event.
-pub record IsCarried (tools : Tools) (w : Schedule) (Q : Event → Type 0) (I : List Line → List Disk → ℕ → Type 0) (P : List Line → List Disk → ℕ → Event → Type 0) : Type 0 where
+pub record IsCarried (tools : Tools) (w : Schedule) (Q : Event → Type 0) (I : List Line → List Disk → ℕ → Type 0) (P : List Line → Event → Type 0) : Type 0 where
   pub begins : I (start w) [] 1
-  pub gives : (h : List Line) (disks : List Disk) (number : ℕ) (event : Event) → Q event → I h disks number → P h disks number event
+  pub gives : (h : List Line) (disks : List Disk) (number : ℕ) (event : Event) → Q event → I h disks number → P h event
   pub goes_on : (h : List Line) (disks : List Disk) (number : ℕ) (event : Event) → Q event → I h disks number
       → I (h ++ (step tools w h disks number event).lines) (step tools w h disks number event).disks (number + 1)
 
@@ -38,7 +31,7 @@ OfNode P _ = ⊤
 
 -- a claim on the node of each event, in its state before the event
 abbrev pub NodesAllAlong : (NodeState → Setting → ℕ → Type 0) → Tools → Schedule → Type 0
-NodesAllAlong P tools w = AllAlong (λ h disks number event. OfNode (λ n. P (state_of h n) (setting_of w n) n) event) tools w (start w) [] 1 w.events
+NodesAllAlong P tools w = BeforeEach (λ h event. OfNode (λ n. P (state_of h n) (setting_of w n) n) event) tools w (start w) [] 1 w.events
 
 -- no two nodes of the schedule have the same EUI
 unfoldable pub euis_differ : Schedule → Bool

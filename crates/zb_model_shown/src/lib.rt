@@ -38,8 +38,8 @@ pub fn what_is_shown_gives_the_answer()
 
 /// Says that accepted terms are under live network keys, in a state whose network rows have different keys.
 pub fn accepted_terms_are_under_live_keys()
-    ensures { (tools : Tools) → OpensAsJudged tools → (c : Setting) (s : NodeState) → nets_differ s ≡ true → (task : Task)
-        → AreUnderLive s (plan_of tools c s task).accepts }
+    ensures { (tools : Tools) → OpensAsJudged tools → (c : Setting) (s : NodeState) → nets_differ s ≡ true
+        → (task : Task) → AreUnderLive s (plan_of tools c s task).accepts }
 {}
 
 /// Says that no two network rows of a node have the same key, whatever lines say of it.
