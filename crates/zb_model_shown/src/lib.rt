@@ -85,7 +85,7 @@ pub fn nodes_start_by_the_rules()
 
 /// Says that before each event of a run its node's state keeps the rules for records.
 ///
-/// So all changes of its answer fit, and what it stores is read back.
+/// In such a state all changes of an answer fit (zb_model_storable).
 pub fn states_keep_the_rules_all_along()
     ensures { (tools : Tools) → OpensAsJudged tools → (w : Schedule) → IsSchedule w → euis_differ w ≡ true
         → NodesAllAlong IsRuled tools w }
