@@ -17,8 +17,9 @@ use Rattle.zb_model_laws.proofs.Basics.{append-nil'}
 use Rattle.zb_model_laws.specs.Commanding.{SpellsConfirm}
 use Rattle.zb_model.specs.Data as model
 use Rattle.zb_model.specs.Tools.{CommandShown, Known}
-use Rattle.zb_model_real.specs.Real.{eui_of, real}
-use Rattle.zb_trace_watch.specs.Readers.{model_command, command_shown}
+use Rattle.zb_model_real.specs.Real.{real}
+use Rattle.zb_model_real.specs.Terms.{eui_of}
+use Rattle.zb_model_real.specs.Readers.{model_command, command_shown}
 
 -- readings that give no Confirm-Key
 

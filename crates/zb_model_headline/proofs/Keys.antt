@@ -21,8 +21,8 @@ use Rattle.zb_model.specs.Frames.{aps_term, sealed_command, sealed_data, data_fr
 use Rattle.zb_model.specs.Secrets.{is_command_header}
 use Rattle.zb_model.specs.Tools.{ApsShown}
 use Rattle.zb_seal.specs.Wire.{wire}
-use Rattle.zb_model_real.specs.Real.{term_of}
-use Rattle.zb_trace_watch.specs.Readers.{auxiliary, aps_shown}
+use Rattle.zb_model_real.specs.Terms.{term_of}
+use Rattle.zb_model_real.specs.Readers.{auxiliary, aps_shown}
 
 abbrev pub IsNone : (A : Type 0) → Option A → Type 0
 IsNone A None = Unit {0}

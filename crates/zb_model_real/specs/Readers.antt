@@ -1,20 +1,24 @@
 -- Frames and commands, read by this program's readers, as the model's tools show them.
-use Rattle.std.specs.Prelude.{ℕ, List, ◌==◌, if◌then◌else◌, Option, Some, None, Result, Ok, Err}
+use Rattle.std.specs.Prelude.{Option, Some, None, Result, Ok, Err}
 use Rattle.std.specs.Option.{option_map}
-use Rattle.zb_aps.specs.Reading.{frame_of}
 use Rattle.zb_aps.specs.Shape.{key_id}
 use Rattle.zb_aps.specs.declared.auxiliary.ApsAux.{ApsAux}
 use Rattle.zb_aps.specs.declared.fault.ApsError.{ApsError}
 use Rattle.zb_aps.specs.declared.frame.ApsFrame.{ApsFrame}
 use Rattle.zb_base.specs.declared.address.Eui.{Eui}
 use Rattle.zb_transported.specs.Carrying.{is_command}
-use Rattle.zb_cmd.specs.Reading.{command_of}
 use Rattle.zb_cmd.specs.declared.command.Command.{Command}
 use Rattle.zb_cmd.specs.declared.command.Command.TheVariants as command
 use Rattle.zb_cmd.specs.declared.fault.CmdError.{CmdError}
 use Rattle.zb_cmd.specs.declared.fault.CmdError.TheVariants as fault
+use Rattle.zb_cmd.specs.declared.leave.Leave as leaving
 use Rattle.zb_model.specs.Data as model
-use Rattle.zb_model.specs.Tools.{Tools, ApsShown, ApsAuxiliary, CommandShown, Known, Unknown, Broken}
+use Rattle.zb_model.specs.Tools.{NwkShown, NwkAuxiliary, ApsShown, ApsAuxiliary, CommandShown, Known, Unknown, Broken, LeaveShown, Leave, Other, NoCommand}
+use Rattle.zb_nwk.specs.declared.auxiliary.NwkAux.{NwkAux}
+use Rattle.zb_nwk.specs.declared.fault.NwkError.{NwkError}
+use Rattle.zb_nwk.specs.declared.frame.NwkFrame.{NwkFrame}
+use Rattle.zb_seal.specs.Opening.{label_of}
+use Rattle.zb_model_real.specs.Terms.{model_label}
 
 abbrev pub model_command : Command → model.Command
 model_command (command.TransportNetwork key sequence destination source) = model.TransportNet key.0 sequence destination.0 source.0
@@ -35,17 +39,33 @@ command_shown (Err (fault.Unknown id)) = Unknown
 command_shown (Err (fault.KeyType found)) = Unknown
 command_shown (Err _) = Broken
 
--- the key identifiers of an APS auxiliary header: the link key itself (0), the key-transport key (2), the key-load key (3)
-abbrev pub label : ℕ → model.Label
-label id = if id == 2 then model.ForTransport else if id == 3 then model.ForLoad else model.ForData
-
 abbrev pub auxiliary : ApsAux → ApsAuxiliary
-auxiliary aux = record { label = label (key_id aux.control); counter = aux.counter; source = option_map (λ (e : Eui). e.0) aux.source }
+auxiliary aux = record { label = model_label (label_of (key_id aux.control)); counter = aux.counter; source = option_map (λ (e : Eui). e.0) aux.source }
+
+abbrev pub aps_frame_shown : ApsFrame → ApsShown
+aps_frame_shown f = record { is_command = is_command f.header.control; auxiliary = option_map auxiliary f.aux; body = f.body.items }
 
 abbrev pub aps_shown : Result ApsFrame ApsError → Option ApsShown
-aps_shown (Ok f) = Some (record { is_command = is_command f.header.control; auxiliary = option_map auxiliary f.aux; body = f.body.items })
+aps_shown (Ok f) = Some (aps_frame_shown f)
 aps_shown (Err e) = None
 
--- these tools, with this program's readers of APS frames and commands
-abbrev pub with_readers : Tools → Tools
-with_readers tools = record tools { read_command = λ (bytes : List ℕ). command_shown (command_of bytes); read_aps = λ (bytes : List ℕ). aps_shown (frame_of bytes) }
+abbrev pub nwk_auxiliary : NwkAux → NwkAuxiliary
+nwk_auxiliary aux = record { counter = aux.counter; source = aux.source.0; sequence = aux.key_sequence }
+
+abbrev pub nwk_frame_shown : NwkFrame → NwkShown
+nwk_frame_shown f = record {
+  is_command = is_command f.header.control;
+  destination = f.header.destination.0;
+  source = f.header.source.0;
+  auxiliary = option_map nwk_auxiliary f.aux;
+  body = f.body.items;
+}
+
+abbrev pub nwk_shown : Result NwkFrame NwkError → Option NwkShown
+nwk_shown (Err e) = None
+nwk_shown (Ok f) = Some (nwk_frame_shown f)
+
+abbrev pub leave_shown : Result leaving.Leave CmdError → LeaveShown
+leave_shown (Ok l) = Leave l.options
+leave_shown (Err (fault.Unknown id)) = Other
+leave_shown (Err _) = NoCommand

@@ -14,11 +14,11 @@ use Rattle.zb_model.specs.Lines.{Line}
 use Rattle.zb_model.specs.Play.{Schedule}
 use Rattle.zb_model.specs.Secrets.{ideal, private}
 use Rattle.zb_model.specs.Transcript.{end_line, run_lines, transcript}
-use Rattle.zb_model_real.specs.Headline.{EndsYesYes, Holds, SaysYesYes}
+use Rattle.zb_model_headline.specs.Headline.{EndsYesYes, Holds, SaysYesYes}
 use Rattle.zb_model_real.specs.Real.{real}
-use Rattle.zb_model_real.proofs.Showing.{opens-real}
-use Rattle.zb_model_real.proofs.Confirming.{spells-confirm}
-use Rattle.zb_model_real.proofs.OwnKeys.{shows-keys}
+use Rattle.zb_model_headline.proofs.Opening.{opens-real}
+use Rattle.zb_model_headline.proofs.Confirming.{spells-confirm}
+use Rattle.zb_model_headline.proofs.OwnKeys.{shows-keys}
 
 -- a list of lines ends with its last line
 ends : (ls : List Line) (l : Line) → EndsYesYes (ls ++ l ∷ []) → SaysYesYes l

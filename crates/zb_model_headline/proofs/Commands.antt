@@ -18,9 +18,10 @@ use Rattle.zb_cursor.specs.Spelling.{eui}
 use Rattle.zb_model.specs.Data as model
 use Rattle.zb_model.specs.Data.{Bytes}
 use Rattle.zb_model.specs.Secrets.{key_in, key_shown}
-use Rattle.zb_model_real.specs.Real.{eui_of, key_of, command_for}
-use Rattle.zb_trace_watch.specs.Readers.{model_command, command_shown}
-use Rattle.zb_model_real.proofs.Keys.{none-is, some-same, Reads, follow-reads, Any, any-reads}
+use Rattle.zb_model_real.specs.Real.{command_for}
+use Rattle.zb_model_real.specs.Terms.{eui_of, key_of}
+use Rattle.zb_model_real.specs.Readers.{model_command, command_shown}
+use Rattle.zb_model_headline.proofs.Keys.{none-is, some-same, Reads, follow-reads, Any, any-reads}
 
 abbrev F : Type 0
 F = CmdError
