@@ -1,9 +1,14 @@
-pub mod Questions
-pub mod OwnRules
-pub mod CommandRules
-pub mod Plans
+mod Questions
+mod OwnRules
+mod CommandRules
+mod Plans
 pub mod Answers
 pub mod Answered
+mod Apart
 pub mod LiveKeys
 pub mod States
 pub mod Loops
+mod Memory
+pub mod Steps
+mod Starts
+pub mod Ready

@@ -1,7 +1,6 @@
 -- A term that is accepted has a live network key as its base key, where network rows have different keys.
-use Rattle.std.proofs.Common.{◌≡◌, ℕ, List, [], ◌∷◌, ◌++◌, filter, reverse, find, option_to_list, refl, sym, ap, ◌∙◌, subst, Bool, true, false, not, if◌then◌else◌, Option, Some, None, nat_eq}
-use Rattle.std.specs.List.{AllByRecursion, list_any}
-use Rattle.std.proofs.lemmas.Bool.{not-true}
+use Rattle.std.proofs.Common.{◌≡◌, ℕ, List, [], ◌∷◌, ◌++◌, filter, reverse, find, option_to_list, refl, sym, ap, ◌∙◌, subst, Bool, true, false, if◌then◌else◌, Option, Some, None, nat_eq}
+use Rattle.std.specs.List.{AllByRecursion}
 use Rattle.std.proofs.lemmas.Slice.Eq.{bytes_eq-Decides}
 use mathlib.Core.List.{reverse_aux}
 use Rattle.zb_model.specs.Data.{Bytes, Layer, Nwk, Aps, Term, Place, Reason, Task, SayTo, TellTo, DoKnock, DoRejoin, DoTimer, AskFor, HasChild, DoProvision, DoRemove, DoRoll, DoSwitch, DoAgain, DoShare, Received}
@@ -12,13 +11,11 @@ use Rattle.zb_model.specs.Rules.{Setting, Plan}
 use Rattle.zb_model.specs.Judging.{Verdict, Not, Good, reject, need, judge_net, Carrier, carrier, judge_security, judge_nwk, payload_of, candidates, chosen_row, aps_source, Unsealed, judge_aps}
 use Rattle.zb_model.specs.Commands.{Heard}
 use Rattle.zb_model.specs.Answer.{nwk_command, heard_clear, heard_sealed, aps_command, clear_part, sealed_part, by_security, aps_part, net_part, received_as, plan_of}
-use Rattle.zb_model_fits.proofs.Tests.{both, neither}
-use Rattle.zb_model_shown.specs.Showing.{IsUnderLive, AreUnderLive, OpensUnder, nets_differ}
+use Rattle.zb_model_shown.proofs.Apart.{each_first}
+use Rattle.zb_model_storable.specs.Storing.{OpensAsJudged}
+use Rattle.zb_model_shown.specs.Showing.{IsUnderLive, AreUnderLive, nets_differ}
 
 -- ---- a live row is found by its key
-
-alike : NetKey → NetKey → Bool
-alike a b = same_key a.key b.key
 
 key_same : (key : Bytes) → same_key key key ≡ true
 key_same key = (bytes_eq-Decides key key).1 refl
@@ -26,17 +23,8 @@ key_same key = (bytes_eq-Decides key key).1 refl
 abbrev IsFound : List NetKey → NetKey → Type 0
 IsFound nets r = find (λ (x : NetKey). same_key x.key r.key) nets ≡ Some r
 
-found_behind : (x : NetKey) (nets rs : List NetKey) → list_any (λ (r : NetKey). same_key x.key r.key) rs ≡ false → AllByRecursion (IsFound nets) rs → AllByRecursion (IsFound (x ∷ nets)) rs
-found_behind x nets [] none all = tt
-found_behind x nets (r ∷ rs) none all =
-    let parts = neither (same_key x.key r.key) (list_any (λ (y : NetKey). same_key x.key y.key) rs) none in
-    (ap (λ (b : Bool). if b then Some x else find (λ (y : NetKey). same_key y.key r.key) nets) parts.0 ∙ all.0, found_behind x nets rs parts.1 all.1)
-
 each_found : (nets : List NetKey) → all_apart (λ (a b : NetKey). same_key a.key b.key) nets ≡ true → AllByRecursion (IsFound nets) nets
-each_found [] differ = tt
-each_found (x ∷ rs) differ =
-    let parts = both (not (list_any (λ (y : NetKey). same_key x.key y.key) rs)) (all_apart (λ (a b : NetKey). same_key a.key b.key) rs) differ in
-    (ap (λ (b : Bool). if b then Some x else find (λ (y : NetKey). same_key y.key x.key) rs) (key_same x.key), found_behind x rs rs (not-true _ parts.0) (each_found rs parts.1))
+each_found nets differ = each_first (λ (a b : NetKey). same_key a.key b.key) (λ r. key_same r.key) nets differ
 
 abbrev IsLiveIn : List NetKey → NetKey → Type 0
 IsLiveIn nets r = row_is_live (find (λ (x : NetKey). same_key x.key r.key) nets) ≡ true
@@ -104,7 +92,7 @@ under s Aps t live = tt
 abbrev TermLive : NodeState → Term → Type 0
 TermLive s t = IsUnderLive s t.layer t
 
-net_live : (tools : Tools) → OpensUnder tools → (c : Setting) (s : NodeState) → nets_differ s ≡ true → (bytes : Bytes) (f : NwkShown) (aux : NwkAuxiliary) → tools.read_nwk bytes ≡ Some f → f.auxiliary ≡ Some aux
+net_live : (tools : Tools) → OpensAsJudged tools → (c : Setting) (s : NodeState) → nets_differ s ≡ true → (bytes : Bytes) (f : NwkShown) (aux : NwkAuxiliary) → tools.read_nwk bytes ≡ Some f → f.auxiliary ≡ Some aux
     → OnGood (TermLive s) (judge_net tools c s bytes aux)
 unfolding judge_net
 net_live tools opens c s differ bytes f aux read aux_is =
@@ -115,7 +103,7 @@ net_live tools opens c s differ bytes f aux read aux_is =
     reject_good (TermLive s) _ _ _ _ (
     reject_good (TermLive s) _ _ _ _ (
     reject_good (TermLive s) _ _ _ _ (
-    under s t.layer t (subst (λ k. live_net k s ≡ true) (sym (opens.nwk bytes row.key f aux t read aux_is opened)) (subst (IfSome (λ (r : NetKey). live_net r.key s ≡ true)) found (usable_is_live s differ aux.sequence)))
+    under s t.layer t (subst (λ k. live_net k s ≡ true) (sym (opens.nwk bytes row.key f aux t read aux_is opened).1) (subst (IfSome (λ (r : NetKey). live_net r.key s ≡ true)) found (usable_is_live s differ aux.sequence)))
     )))))))
 
 abbrev CarrierLive : NodeState → Carrier → Type 0
@@ -125,12 +113,12 @@ carried : (s : NodeState) (f : NwkShown) (v : Verdict Term) → OnGood (TermLive
 carried s f (Not place reason) good = tt
 carried s f (Good t) good = good
 
-security_live : (tools : Tools) → OpensUnder tools → (c : Setting) (s : NodeState) → nets_differ s ≡ true → (bytes : Bytes) (f : NwkShown) (o : Option NwkAuxiliary) → tools.read_nwk bytes ≡ Some f → f.auxiliary ≡ o
+security_live : (tools : Tools) → OpensAsJudged tools → (c : Setting) (s : NodeState) → nets_differ s ≡ true → (bytes : Bytes) (f : NwkShown) (o : Option NwkAuxiliary) → tools.read_nwk bytes ≡ Some f → f.auxiliary ≡ o
     → OnGood (CarrierLive s) (judge_security tools c s bytes f o)
 security_live tools opens c s differ bytes f None read aux_is = reject_good (CarrierLive s) _ _ _ _ tt
 security_live tools opens c s differ bytes f (Some aux) read aux_is = carried s f (judge_net tools c s bytes aux) (net_live tools opens c s differ bytes f aux read aux_is)
 
-nwk_live : (tools : Tools) → OpensUnder tools → (c : Setting) (s : NodeState) → nets_differ s ≡ true → (bytes : Bytes) → OnGood (CarrierLive s) (judge_nwk tools c s bytes)
+nwk_live : (tools : Tools) → OpensAsJudged tools → (c : Setting) (s : NodeState) → nets_differ s ≡ true → (bytes : Bytes) → OnGood (CarrierLive s) (judge_nwk tools c s bytes)
 unfolding judge_nwk
 nwk_live tools opens c s differ bytes =
     need_good (CarrierLive s) (tools.read_nwk bytes) _ _ _ (λ f read. reject_good (CarrierLive s) _ _ _ _ (security_live tools opens c s differ bytes f f.auxiliary read refl))
@@ -138,7 +126,7 @@ nwk_live tools opens c s differ bytes =
 abbrev IsAps : Unsealed → Type 0
 IsAps u = u.term.layer ≡ Aps
 
-aps_good : (tools : Tools) → OpensUnder tools → (c : Setting) (s : NodeState) (f : NwkShown) (bytes : Bytes) (a : ApsShown) (aux : ApsAuxiliary) → tools.read_aps bytes ≡ Some a → a.auxiliary ≡ Some aux
+aps_good : (tools : Tools) → OpensAsJudged tools → (c : Setting) (s : NodeState) (f : NwkShown) (bytes : Bytes) (a : ApsShown) (aux : ApsAuxiliary) → tools.read_aps bytes ≡ Some a → a.auxiliary ≡ Some aux
     → OnGood IsAps (judge_aps tools c s f bytes aux)
 unfolding judge_aps
 aps_good tools opens c s f bytes a aux read aux_is =
@@ -147,7 +135,7 @@ aps_good tools opens c s f bytes a aux read aux_is =
     reject_good IsAps _ _ _ _ (
     reject_good IsAps _ _ _ _ (
     need_good IsAps (tools.open_aps bytes row.key source) _ _ _ (λ t opened.
-    opens.aps bytes row.key source a aux t read aux_is opened)))))
+    (opens.aps bytes row.key source a aux t read aux_is opened).0)))))
 
 -- ---- the terms of a plan
 
@@ -183,7 +171,7 @@ sealed_live tools c s draw nwk a aux (Not place reason) live good = alone s nwk 
 sealed_live tools c s draw nwk a aux (Good u) live good =
     either s a.is_command _ _ (command_live tools c s draw (option_to_list nwk ++ u.term ∷ []) (heard_sealed nwk aux u) (tools.read_command u.term.content) (with_aps s nwk u.term live good)) (with_aps s nwk u.term live good)
 
-module _ (tools : Tools) (opens : OpensUnder tools) (c : Setting) (s : NodeState) where
+module _ (tools : Tools) (opens : OpensAsJudged tools) (c : Setting) (s : NodeState) where
   by_security_live : (draw : Option Bytes) (f : NwkShown) (nwk : Option Term) (a : ApsShown) (o : Option ApsAuxiliary) → tools.read_aps (payload_of f nwk) ≡ Some a → a.auxiliary ≡ o → IfSome (TermLive s) nwk
       → AreUnderLive s (by_security tools c s draw f nwk a o).accepts
   by_security_live draw f nwk a None read aux_is live = clear_live tools c s draw nwk a live
@@ -203,7 +191,7 @@ module _ (tools : Tools) (opens : OpensUnder tools) (c : Setting) (s : NodeState
   received_live draw (Not place reason) good = tt
   received_live draw (Good k) good = net_part_live draw k.frame k.term good
 
-pub accepts_live : (tools : Tools) → OpensUnder tools → (c : Setting) (s : NodeState) → nets_differ s ≡ true → (task : Task) → AreUnderLive s (plan_of tools c s task).accepts
+pub accepts_live : (tools : Tools) → OpensAsJudged tools → (c : Setting) (s : NodeState) → nets_differ s ≡ true → (task : Task) → AreUnderLive s (plan_of tools c s task).accepts
 unfolding plan_of
 accepts_live tools opens c s differ (Received bytes draw) = received_live tools opens c s draw (judge_nwk tools c s bytes) (nwk_live tools opens c s differ bytes)
 accepts_live tools opens c s differ (SayTo to bytes) = tt

@@ -1,10 +1,9 @@
 -- When a term's floor is shown, so that an answer doesn't depend on what tables forget.
-use Rattle.std.specs.Prelude.{ℕ, ◌≡◌, Bool, true, List, Some, ⊤}
+use Rattle.std.specs.Prelude.{◌≡◌, Bool, true, List, ⊤}
 use Rattle.std.specs.List.{AllByRecursion}
-use Rattle.zb_model.specs.Data.{Bytes, Layer, Nwk, Aps, Term}
+use Rattle.zb_model.specs.Data.{Layer, Nwk, Aps, Term}
 use Rattle.zb_model.specs.State.{NetKey, NodeState, same_key}
 use Rattle.zb_model.specs.Fits.{all_apart, live_net}
-use Rattle.zb_model.specs.Tools.{Tools, NwkShown, NwkAuxiliary, ApsShown, ApsAuxiliary}
 
 -- the base key of a NWK term is a live network key; of APS terms nothing is asked
 abbrev pub IsUnderLive : NodeState → Layer → Term → Type 0
@@ -17,8 +16,3 @@ AreUnderLive s ts = AllByRecursion (λ (t : Term). IsUnderLive s t.layer t) ts
 -- no two network rows have the same key
 unfoldable pub nets_differ : NodeState → Bool
 nets_differ s = all_apart (λ (a b : NetKey). same_key a.key b.key) s.nets
-
--- What opens is of its layer and, at NWK, has the base key under which it opened.
-pub record OpensUnder (tools : Tools) : Type 0 where
-  pub nwk : (bytes key : Bytes) (f : NwkShown) (aux : NwkAuxiliary) (t : Term) → tools.read_nwk bytes ≡ Some f → f.auxiliary ≡ Some aux → tools.open_nwk bytes key ≡ Some t → t.base ≡ key
-  pub aps : (bytes key : Bytes) (given : ℕ) (a : ApsShown) (aux : ApsAuxiliary) (t : Term) → tools.read_aps bytes ≡ Some a → a.auxiliary ≡ Some aux → tools.open_aps bytes key given ≡ Some t → t.layer ≡ Aps

@@ -3,12 +3,18 @@
 #![tactic(auto)]
 
 ghost use Rattle.std.specs.Prelude.{◌≡◌, ℕ, true, List};
-ghost use Rattle.zb_model_shown.specs.Showing.{AreUnderLive, OpensUnder, nets_differ};
+ghost use Rattle.std.specs.List.{AllByRecursion};
+ghost use Rattle.zb_model_shown.specs.Along.{IsAsDeclared, IsRuled, NodesAllAlong, StartsAlone, euis_differ};
+ghost use Rattle.zb_model_shown.specs.Showing.{AreUnderLive, nets_differ};
+ghost use Rattle.zb_model_storable.specs.Storing.{OpensAsJudged};
 ghost use Rattle.zb_model.specs.Answer.{Answer, answer, answered, plan_of};
 ghost use Rattle.zb_model.specs.Data.{Edit, Task};
+ghost use Rattle.zb_model.specs.Fits.{keeps_rules};
 ghost use Rattle.zb_model.specs.Lines.{Line};
+ghost use Rattle.zb_model.specs.Play.{Schedule, start};
 ghost use Rattle.zb_model.specs.Readings.{state_of};
 ghost use Rattle.zb_model.specs.Rules.{Setting};
+ghost use Rattle.zb_model.specs.Schedules.{IsSchedule, Names};
 ghost use Rattle.zb_model.specs.State.{NodeState, after_boot, applied, applied_all, shown};
 ghost use Rattle.zb_model.specs.Tools.{Tools};
 
@@ -32,7 +38,7 @@ pub fn what_is_shown_gives_the_answer()
 
 /// Says that accepted terms are under live network keys, in a state whose network rows have different keys.
 pub fn accepted_terms_are_under_live_keys()
-    ensures { (tools : Tools) → OpensUnder tools → (c : Setting) (s : NodeState) → nets_differ s ≡ true → (task : Task)
+    ensures { (tools : Tools) → OpensAsJudged tools → (c : Setting) (s : NodeState) → nets_differ s ≡ true → (task : Task)
         → AreUnderLive s (plan_of tools c s task).accepts }
 {}
 
@@ -43,7 +49,7 @@ pub fn network_keys_differ_after_any_lines()
 
 /// Says that no answer asks for what tables forget, in the state that any lines give.
 pub fn what_tables_forget_is_asked_by_none()
-    ensures { (tools : Tools) → OpensUnder tools → (c : Setting) (h : List Line) (n : ℕ) (task : Task)
+    ensures { (tools : Tools) → OpensAsJudged tools → (c : Setting) (h : List Line) (n : ℕ) (task : Task)
         → answer tools c (shown (state_of h n)) task ≡ answer tools c (state_of h n) task }
 {}
 
@@ -56,4 +62,31 @@ pub fn what_is_shown_goes_on()
     ensures changes { (es : List Edit) (s : NodeState) → shown (applied_all es (shown s)) ≡ shown (applied_all es s) }
     ensures boot { (s : NodeState) → after_boot (shown s) ≡ shown (after_boot s) }
     ensures again { (s : NodeState) → shown (shown s) ≡ shown s }
+{}
+
+/// Says that before each event of a run its node is as it was declared, with its EUI and its role.
+///
+/// Its blocks aren't empty. No two nodes of the schedule may have one EUI.
+pub fn nodes_are_as_declared_all_along()
+    ensures { (tools : Tools) (w : Schedule) → IsSchedule w → euis_differ w ≡ true
+        → NodesAllAlong IsAsDeclared tools w }
+{}
+
+/// Says that of all start lines of a run each node's own alone say what it is.
+pub fn nodes_start_by_their_own_lines()
+    ensures { (w : Schedule) → euis_differ w ≡ true → AllByRecursion (StartsAlone w) w.nodes }
+{}
+
+/// Says that each declared node starts in a state that keeps the rules for records.
+pub fn nodes_start_by_the_rules()
+    ensures { (w : Schedule) → IsSchedule w → euis_differ w ≡ true → (n : ℕ) → Names w n
+        → keeps_rules (state_of (start w) n) ≡ true }
+{}
+
+/// Says that before each event of a run its node's state keeps the rules for records.
+///
+/// So all changes of its answer fit, and what it stores is read back.
+pub fn states_keep_the_rules_all_along()
+    ensures { (tools : Tools) → OpensAsJudged tools → (w : Schedule) → IsSchedule w → euis_differ w ≡ true
+        → NodesAllAlong IsRuled tools w }
 {}
