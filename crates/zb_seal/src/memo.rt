@@ -1,14 +1,15 @@
 //! Base keys whose sealing keys were expanded before, so that no frame expands a key again.
-ghost use Rattle.std.specs.Prelude.{◌≡◌, ◌<◌, IfOk, IfSome, OnErr};
-ghost use Rattle.zb_seal.specs.Opening.{opened_aps, opened_nwk};
+ghost use Rattle.std.specs.Prelude.{◌≡◌, ◌<◌, IfOk, IfSome, OnErr, length};
+ghost use Rattle.zb_seal.specs.Opening.{opened};
 ghost use Rattle.zb_seal.specs.Wire.{wire, wire_length};
 
-use crate::envelope::OpenError;
-use crate::opening::{open_aps, open_aps_with, open_nwk, open_nwk_with};
+use crate::envelope::{Envelope, OpenError};
+use crate::key::sealing_key;
 use crate::sealing::{wire, wire_with};
 use crate::sealing_keys::SealingKeys;
 use crate::term::Term;
-use zb_base::{Eui, Frame, Key, Label};
+use zb_aes::Cipher;
+use zb_base::{Eui, Frame, Key};
 use zb_cursor::TooLong;
 
 /// The base keys that were used last, with their sealing keys expanded: at most 8.
@@ -53,31 +54,28 @@ impl KeyMemo {
         self.next = (place + 1) % 8;
     }
 
-    /// Opens a NWK frame under a network key, as `open_nwk` does.
+    /// Opens an envelope under a base key. `given` is the source where the frame names none.
     ///
     /// # Errors
     ///
-    /// As for `open_nwk`.
-    pub fn open_nwk(&self, bytes: &[u8], key: &Key) -> Result<Term, OpenError>
-        ensures { result ≡ opened_nwk bytes.now key.now }
+    /// `NoSource` where the source is not known, then `BadMic` where the code is not that of a content.
+    pub fn open(
+        &self,
+        envelope: Envelope,
+        key: &Key,
+        given: Option<Eui>,
+    ) -> Result<Term, OpenError>
+        ensures { result ≡ opened envelope key.now given }
     {
         match self.find(key) {
-            Some(keys) => open_nwk_with(bytes, key, keys.of(Label::Network)),
-            None => open_nwk(bytes, key),
-        }
-    }
-
-    /// Opens an APS frame under a link key, as `open_aps` does.
-    ///
-    /// # Errors
-    ///
-    /// As for `open_aps`.
-    pub fn open_aps(&self, bytes: &[u8], key: &Key, source: Option<Eui>) -> Result<Term, OpenError>
-        ensures { result ≡ opened_aps bytes.now key.now source }
-    {
-        match self.find(key) {
-            Some(keys) => open_aps_with(bytes, keys, source),
-            None => open_aps(bytes, key, source),
+            Some(keys) => {
+                let cipher = keys.of(envelope.label);
+                envelope.open_with(key, cipher, given)
+            }
+            None => {
+                let sealing = sealing_key(envelope.label, key);
+                envelope.open_with(key, &Cipher::new(&sealing.0), given)
+            }
         }
     }
 
@@ -89,6 +87,7 @@ impl KeyMemo {
     pub fn wire(&self, term: &Term) -> Result<Frame, TooLong>
         ensures text { IfOk result (λ bytes. bytes.items ≡ wire term.now) }
         ensures long { OnErr result (127 < wire_length term.now) }
+        ensures len { length (wire term.now) ≡ wire_length term.now }
     {
         match self.find(&term.base) {
             Some(keys) => wire_with(term, keys.of(term.label)),
