@@ -1,13 +1,12 @@
 -- The state of a node before its first event.
-use Rattle.std.specs.Prelude.{ℕ, if◌then◌else◌, List, [], ◌∷◌, ◌++◌, false, Option, Some, None, option_map}
+use Rattle.std.specs.Prelude.{ℕ, Bool, nat_eq, if◌then◌else◌, List, [], ◌∷◌, false, Option, Some, None, option_map}
 use Rattle.zb_node_types.specs.Changes.{model_role}
 use Rattle.zb_keys.specs.declared.declaration.Declaration.{Declaration}
 use Rattle.zb_keys.specs.declared.declaration.HeldNetwork.{HeldNetwork}
 use Rattle.zb_keys.specs.declared.declaration.HeldCode.{HeldCode}
 use Rattle.zb_model.specs.Data.{Bytes, Role, State, Fresh, Joined, Nwk, Aps, Provisional}
 use Rattle.zb_model.specs.State.{NodeState, NetKey, LinkKey, new_node, is_centre, given_net, new_link, with_given_net, with_given_link, with_declared}
-use Rattle.zb_model.specs.Lines.{Line, Declared}
-use Rattle.zb_model.specs.Play.{Node, net_line, link_line, limit_line}
+use Rattle.zb_model.specs.Play.{Node}
 
 abbrev pub with_network : Option (Bytes × ℕ) → NodeState → NodeState
 with_network None s = s
@@ -47,12 +46,9 @@ abbrev pub held_state : Role → Option (Bytes × ℕ) → State
 held_state role None = Fresh
 held_state role (Some given) = joined_unless_centre role
 
--- the start lines of one node, in the order in which a run has them
-abbrev pub own_start : ℕ → Node → List Line
-own_start centre m =
-    Declared m.station
-    ∷ (net_line m.station.eui m.network ++ (link_line centre m.station.eui m.code
-    ++ (limit_line m.station.eui Nwk m.start_nwk ++ limit_line m.station.eui Aps m.start_aps)))
+-- two nodes of one EUI
+abbrev pub same_eui : Node → Node → Bool
+same_eui a b = nat_eq a.station.eui b.station.eui
 
 abbrev pub code_with : ℕ → Option Bytes → Option (ℕ × Bytes)
 code_with centre code = option_map (λ (key : Bytes). (centre, key)) code

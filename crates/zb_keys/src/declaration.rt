@@ -1,12 +1,13 @@
 //! The tables of a node before its first event, from what it is declared with.
-ghost use Rattle.std.specs.Prelude.{◌≡◌, ◌≤◌, ℕ, IfOk, map, option_map, vec_capacity};
+ghost use Rattle.std.specs.Prelude.{◌≡◌, ◌≤◌, IfOk, Some, find, map, nat_eq, true, option_map, vec_capacity};
 ghost use Rattle.zb_node_types.specs.Changes.{model_role, model_state};
 ghost use Rattle.zb_record.specs.RowViews.{net_key, link_key};
 ghost use Rattle.zb_record.specs.Headings.{active_bytes};
-ghost use Rattle.zb_keys.specs.Declarations.{held_nets, held_links, held_state, joined_unless_centre, network_of, code_of, declared_state, first_state, own_start, code_with};
-ghost use Rattle.zb_model.specs.Play.{Node};
+ghost use Rattle.zb_keys.specs.Declarations.{held_nets, held_links, held_state, joined_unless_centre, network_of, code_of, declared_state, first_state, same_eui, code_with};
+ghost use Rattle.zb_model.specs.Play.{Node, Schedule, start, stations};
 ghost use Rattle.zb_model.specs.Readings.{state_of};
-ghost use Rattle.zb_model.specs.Fits.{most_links};
+ghost use Rattle.zb_model.specs.Fits.{all_apart, most_links};
+ghost use Rattle.zb_model.specs.Rules.{centre_of};
 ghost use Rattle.zb_model.specs.State.{after_boot};
 
 use crate::Tables;
@@ -145,11 +146,13 @@ impl Tables {
     }
 }
 
-/// Says that the start lines of a node give the state that its declarations do; does nothing.
+/// Says that the start lines of a schedule give each node the state of its declarations; does nothing.
 ///
-/// `centre` is the partner of its install code.
+/// No two nodes have one EUI. The link key of an install code is shared with the centre.
 #[tactic(auto, using(crate::proofs::DeclarationLemmas::start_gives))]
 pub fn start_lines_give_the_first_state()
-    ensures { (centre : ℕ) (m : Node) → state_of (own_start centre m) m.station.eui
-        ≡ first_state m.station.role m.network (code_with centre m.code) m.start_nwk m.start_aps }
+    ensures { (w : Schedule) (m : Node) → all_apart same_eui w.nodes ≡ true
+        → find (λ x. nat_eq x.station.eui m.station.eui) w.nodes ≡ Some m
+        → state_of (start w) m.station.eui ≡ first_state m.station.role m.network
+        (code_with (centre_of (stations w)) m.code) m.start_nwk m.start_aps }
 {}
