@@ -1,10 +1,10 @@
 //! A key of two devices: it is asked for, drawn, and shared with both.
-ghost use Rattle.std.specs.Prelude.{◌≡◌, ◌≤◌, ◌∷◌, [], length, map, option_map, nat_eq};
+ghost use Rattle.std.specs.Prelude.{◌≡◌, ◌≤◌, ◌∷◌, [], length, map, option_map, nat_eq, true};
 ghost use Rattle.std.specs.Option.{option_copied};
 ghost use Rattle.zb_base.specs.declared.place.Place.TheVariants.{Aps, Event};
 ghost use Rattle.zb_node_types.specs.Changes.{edits};
 ghost use Rattle.zb_model.specs.Commands.{answer_pair, greater, is_verified_row, lesser, take_app_request};
-ghost use Rattle.zb_model.specs.Data.{Draw, ForLoad, Moved, Pair, TransportApp};
+ghost use Rattle.zb_model.specs.Data.{Draw, ForLoad, Moved, Pair as Paired, TransportApp};
 ghost use Rattle.zb_model.specs.OwnEvents.{share};
 ghost use Rattle.zb_model.specs.Rules.{Secret, sends, short_of};
 ghost use Rattle.zb_centre_rules.specs.Forms.{is_app_request_form};
@@ -91,7 +91,7 @@ fn is_verified(row: Option<&LinkRow>) -> bool
 /// Lists what a new pair changes: its key is drawn, and stands under the smaller address first.
 fn paired(device: Eui, partner: Eui, key: &Key) -> Changes
     ensures made { edits result.items ≡ map Moved
-        (Draw key.now.0 ∷ Pair (lesser device.0 partner.0) (greater device.0 partner.0) key.now.0 ∷ []) }
+        (Draw key.now.0 ∷ Paired (lesser device.0 partner.0) (greater device.0 partner.0) key.now.0 ∷ []) }
     ensures few { length result.items ≤ most_changes }
 {
     let (first, second) = if device.0 < partner.0 { (device, partner) } else { (partner, device) };

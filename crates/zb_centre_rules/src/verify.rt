@@ -1,5 +1,5 @@
 //! A device proves that it holds its link key.
-ghost use Rattle.std.specs.Prelude.{◌≡◌, ◌≤◌, ◌++◌, ◌∷◌, [], length, map, option_map};
+ghost use Rattle.std.specs.Prelude.{◌≡◌, ◌≤◌, ◌++◌, ◌∷◌, [], length, map, option_map, true};
 ghost use Rattle.std.specs.Option.{option_copied};
 ghost use Rattle.zb_base.specs.declared.place.Place.TheVariants.{Aps};
 ghost use Rattle.zb_node_types.specs.Changes.{edits};

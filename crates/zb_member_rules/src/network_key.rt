@@ -1,5 +1,5 @@
 //! Network keys come, and one of them becomes the active one.
-ghost use Rattle.std.specs.Prelude.{◌≡◌, ◌≤◌, ◌++◌, ◌∷◌, [], length, map, option_map, is_some};
+ghost use Rattle.std.specs.Prelude.{◌≡◌, ◌≤◌, ◌+◌, ◌++◌, ◌∷◌, [], length, map, option_map};
 ghost use Rattle.std.specs.Option.{option_copied};
 ghost use Rattle.zb_base.specs.declared.place.Place.TheVariants.{Aps};
 ghost use Rattle.zb_node_types.specs.Changes.{edits, model_state};

@@ -12,6 +12,7 @@ ghost use Rattle.zb_send.specs.Sendings.{relayed_room};
 
 use zb_base::{Eui, Frame, Label, Layer, Place, Short};
 use zb_cmd::Command;
+use zb_cursor::frame_from;
 use zb_keys::Tables;
 use zb_network::Network;
 use zb_node_types::Refusal;
@@ -131,5 +132,5 @@ pub fn take_tunnel(network: &Network, tables: &Tables, heard: &Heard, destinatio
     if !network.is_declared(destination) || destination == network.eui() {
         return Err(Refusal::NotMember { place: Place::Aps });
     }
-    Ok(Effect::of_sending(network.short_of(destination), false, Body::Relayed { bytes: copied(inner) }))
+    Ok(Effect::of_sending(network.short_of(destination), false, Body::Relayed { bytes: frame_from(inner.as_slice()) }))
 }
