@@ -1,5 +1,6 @@
 -- A centre that seals under its active network key, and does nothing else: its plans.
-use Rattle.std.specs.Prelude.{ℕ, ◌+◌, ◌≡◌, ◌≤◌, Bool, not, ◌&&◌, List, [], ◌∷◌, Option, Some, None, min, nat_lt, is_some, if◌then◌else◌}
+use Rattle.std.specs.Prelude.{ℕ, ◌+◌, ◌≡◌, ◌≤◌, Bool, not, ◌&&◌, List, [], ◌∷◌, Option, Some, None, Ok, min, nat_lt, is_some, if◌then◌else◌}
+use Rattle.zb_base.specs.declared.node.Config.{Config}
 use Rattle.zb_base.specs.declared.label.Layer.TheVariants as layer
 use Rattle.zb_node_types.specs.declared.change.Change.{Change}
 use Rattle.zb_node_types.specs.declared.change.Change.TheVariants.{Reserve}
@@ -7,7 +8,7 @@ use Rattle.zb_node_types.specs.Changes.{edits}
 use Rattle.zb_host.specs.declared.plan.Plan.{Plan}
 use Rattle.zb_model.specs.Data.{Centre, Nwk}
 use Rattle.zb_model.specs.State.{NodeState, active_row, next_counter, stored_limit, after_counting, applied_all, shown, greatest_counter}
-use Rattle.zb_stored_tables.specs.Stored.{IsStorable}
+use Rattle.zb_stored_tables.specs.Stored.{IsStorable, state_given}
 use Rattle.test_tables.specs.declared.sealer.SealerEvent.{SealerEvent}
 use Rattle.test_tables.specs.declared.sealer.SealerEvent.TheVariants.{Rest, Seal}
 
@@ -46,3 +47,8 @@ after_out (Some counter) s = after_counting Nwk s
 
 abbrev pub IsAfter : Sealing → Plan (Option ℕ) → Sealing → Type 0
 IsAfter c p d = d ≡ record { tables = after_out p.out (shown (applied_all (edits p.changes.items) c.tables)); block = c.block }
+
+-- the core with which it boots: the tables that the bytes give, and the block of its configuration
+pub record IsBooted (config : Config) (content entries : List ℕ) (c : Sealing) : Type 0 where
+  pub tables : state_given Centre content entries ≡ Ok c.tables
+  pub block : c.block ≡ config.out_block

@@ -7,7 +7,7 @@ ghost use Rattle.zb_model.specs.Data.{Centre, Nwk};
 ghost use Rattle.zb_model.specs.Record.{payload, record_of};
 ghost use Rattle.zb_model.specs.State.{greatest_counter, next_counter, stored_limit};
 ghost use Rattle.zb_stored_tables.specs.Stored.{restored};
-ghost use Rattle.test_tables.specs.Sealers.{IsPlan, IsAfter, Sealing, can_seal, planned, sealed};
+ghost use Rattle.test_tables.specs.Sealers.{IsPlan, IsAfter, IsBooted, Sealing, can_seal, planned, sealed};
 ghost use Rattle.test_tables.specs.SealerLaws.{sealer_adds, sealer_keeps, sealer_newest, sealer_idle, sealer_short};
 
 use std::alloc::Global;
@@ -60,6 +60,10 @@ impl Core for Sealer {
     ghost payload = { λ changes. payload (edits changes) };
 
     ghost restored = { restored Centre };
+
+    ghost is_of_role = { λ config. Unit {0} };
+
+    ghost is_booted = { IsBooted };
 
     fn plan(&self, event: &SealerEvent) -> Plan<Option<u32>> {
         match event {

@@ -1,17 +1,18 @@
 -- What seals and accepted frames do to the contents of tables.
-use Rattle.std.proofs.Common.{◌≡◌, ℕ, ◌+◌, ◌<◌, List, [], map, length, refl, sym, ap, ◌∙◌, Bool, true, false, if◌then◌else◌, subst, Some}
+use Rattle.std.proofs.Common.{◌≡◌, ℕ, ◌+◌, ◌<◌, List, [], map, length, refl, sym, ap, ◌∙◌, Bool, true, false, if◌then◌else◌, subst, Some, None}
 use Rattle.std.specs.Prelude.{nat_lt}
 use Rattle.std.specs.Vec.{with_items}
 use Rattle.std.proofs.lemmas.List.{with_items_is}
 use borrow.Author.Tests.{lt-ltb}
-use Rattle.zb_model.specs.Data.{Bytes, Nwk}
-use Rattle.zb_model.specs.State.{NodeState, NetKey, LinkKey, same_key, at_net, at_link, is_link, shown_net, next_at, net_kept, link_kept, after_counting, of_active, next_counter, stored_limit, active_row}
+use Rattle.zb_model.specs.Data.{Bytes, Layer, Nwk, Aps, Term}
+use Rattle.zb_model.specs.State.{greatest_counter, NodeState, NetKey, LinkKey, same_key, at_net, at_link, is_link, shown_net, next_at, net_kept, link_kept, after_counting, after_sealing, of_active, next_counter, stored_limit, active_row}
 use Rattle.zb_model.specs.Fits.{keeps_rules, keys_differ, all_apart}
 use Rattle.zb_keys.specs.declared.contents.Contents.{Contents}
 use Rattle.zb_record.specs.declared.net_row.NetRow.{NetRow}
 use Rattle.zb_record.specs.declared.link_row.LinkRow.{LinkRow}
 use Rattle.zb_record.specs.RowViews.{net_key, link_key}
 use Rattle.zb_record.specs.Senders.{counted_row}
+use Rattle.zb_keys.specs.Reading.{next_under, behind_next, IsNext}
 use Rattle.zb_keys.specs.Tables.{state_of, IsSound, Forgets}
 use Rattle.zb_keys.proofs.ShownLemmas.{shown_at}
 use Rattle.zb_keys.proofs.StateLemmas.{both, rules_of}
@@ -77,3 +78,32 @@ counted_nets s key active kept reserved =
     let nets : at_net key counted_row s.nets ≡ at_net key (λ (r : NetKey). next_at (r.next + 1) r) s.nets =
     at_net_found key counted_row (λ (r : NetKey). next_at (r.next + 1) r) s.nets apart (λ r found. let lt : r.next < r.limit = rw (active, found) at reserved in let t : nat_lt r.next r.limit ≡ true = lt-ltb _ _ lt in rw t refl) in
     ap (λ l. record s { nets = l }) (nets ∙ ap (λ a. of_active (λ (r : NetKey). next_at (r.next + 1) r) a s.nets) (sym active))
+
+-- a term was sealed with the next counter of its base key
+pub next_is_mild : (next : ℕ) → Mild (next_at next)
+next_is_mild next = record { key = λ r. refl; live = λ r. refl; limit = λ r e. e; floors = λ r e. e }
+
+pub next_shows : (next : ℕ) (r : NetKey) → shown_net r ≡ r → shown_net (next_at next r) ≡ next_at next r
+next_shows next r same = ap (next_at next) same
+
+pub behind_is : (layer : Layer) (key : Bytes) (s : NodeState) (t : Term) → IsNext layer key s t → behind_next (next_under layer key s) ≡ Some (t.counter + 1)
+behind_is layer key s t so =
+    let lt : nat_lt t.counter greatest_counter ≡ true = lt-ltb _ _ so.below_last in
+    ap behind_next so.counter_is ∙ rw lt refl
+
+pub sealed_nwk : (key : Bytes) (s : NodeState) (t : Term) (next : ℕ) → IsNext Nwk key s t → Some next ≡ behind_next (next_under Nwk key s) → record s { nets = at_net key (next_at next) s.nets } ≡ after_sealing t s
+unfolding after_sealing
+sealed_nwk key s t next so is =
+    let both_ : Some next ≡ Some (t.counter + 1) = is ∙ behind_is Nwk key s t so in
+    let same : next ≡ t.counter + 1 = cc in
+    rw (so.layer_is, so.base_is, same) refl
+
+pub sealed_aps : (key : Bytes) (s : NodeState) (t : Term) (next : ℕ) → IsNext Aps key s t → Some next ≡ behind_next (Some s.aps_next) → record s { aps_next = next } ≡ after_sealing t s
+unfolding after_sealing
+sealed_aps key s t next so is =
+    let both_ : Some next ≡ Some (t.counter + 1) = is ∙ behind_is Aps key s t so in
+    let same : next ≡ t.counter + 1 = cc in
+    rw (so.layer_is, same) refl
+
+pub sealed_none : (layer : Layer) (key : Bytes) (s : NodeState) (t : Term) → IsNext layer key s t → None ≡ behind_next (next_under layer key s) → s ≡ after_sealing t s
+sealed_none layer key s t so is = let clash : None ≡ Some (t.counter + 1) = is ∙ behind_is layer key s t so in absurd (cc)

@@ -137,6 +137,16 @@ impl NetRow {
         }
     }
 
+    /// Goes on from a counter, if the row has that key.
+    fn go_on_at(&mut self, key: &Key, next: u32)
+        ensures { net_key self.new ≡ (if same_key (net_key self.old).key key.now.0
+            then next_at next (net_key self.old) else net_key self.old) }
+    {
+        if self.key == *key {
+            self.next = next;
+        }
+    }
+
     /// Stores a sender's floor, if the row has that key and is in use.
     fn store_at(&mut self, key: &Key, sender: Eui, value: u32)
         requires { HasRoom (if same_key (net_key self.old).key key.now.0
@@ -291,6 +301,15 @@ pub fn count_net(rows: &mut [NetRow], key: &Key)
 {
     for row in rows.iter_mut() {
         row.count_at(key);
+    }
+}
+
+/// Sets the next outgoing counter of a key.
+pub fn set_net_next(rows: &mut [NetRow], key: &Key, next: u32)
+    ensures { map net_key rows.new ≡ at_net key.now.0 (next_at next) (map net_key rows.old) }
+{
+    for row in rows.iter_mut() {
+        row.go_on_at(key, next);
     }
 }
 

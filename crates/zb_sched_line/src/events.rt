@@ -22,29 +22,23 @@ pub fn own_event(keyword: &[u8], words: Words) -> Option<Event>
     } else if keyword == b"deliver".as_slice() {
         deliver(words)
     } else if keyword == b"timer".as_slice() {
-        Some(Event::Timer {
-            name: only_name(words)?,
-        })
+        let name = only_name(words)?;
+        Some(Event::Timer { name })
     } else if keyword == b"knock".as_slice() {
-        Some(Event::Knock {
-            name: only_name(words)?,
-        })
+        let name = only_name(words)?;
+        Some(Event::Knock { name })
     } else if keyword == b"rejoin".as_slice() {
-        Some(Event::Rejoin {
-            name: only_name(words)?,
-        })
+        let name = only_name(words)?;
+        Some(Event::Rejoin { name })
     } else if keyword == b"reset".as_slice() {
-        Some(Event::Reset {
-            name: only_name(words)?,
-        })
+        let name = only_name(words)?;
+        Some(Event::Reset { name })
     } else if keyword == b"boot".as_slice() {
-        Some(Event::Boot {
-            name: only_name(words)?,
-        })
+        let name = only_name(words)?;
+        Some(Event::Boot { name })
     } else if keyword == b"dump".as_slice() {
-        Some(Event::Dump {
-            name: only_name(words)?,
-        })
+        let name = only_name(words)?;
+        Some(Event::Dump { name })
     } else if keyword == b"stop".as_slice() {
         stop(words)
     } else if keyword == b"fail".as_slice() {
@@ -66,9 +60,8 @@ pub fn other_event(keyword: &[u8], words: Words) -> Option<Event>
     } else if keyword == b"child".as_slice() {
         child(words)
     } else if keyword == b"again".as_slice() {
-        Some(Event::Again {
-            name: only_name(words)?,
-        })
+        let name = only_name(words)?;
+        Some(Event::Again { name })
     } else if keyword == b"roll".as_slice() {
         words.end()?;
         Some(Event::Roll)

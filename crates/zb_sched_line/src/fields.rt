@@ -36,11 +36,13 @@ pub fn real_eui(words: &mut Words) -> Option<Eui>
     ensures fits { IfSome result (λ eui. (eui.0 < 2 ^ 64) × IsTrue (is_real_eui eui.0)) }
 {
     let eui = words.eui()?;
-    if eui.0 != 0 && eui.0 != u64::MAX {
-        Some(eui)
-    } else {
-        None
-    }
+    if is_real_eui(eui) { Some(eui) } else { None }
+}
+
+fn is_real_eui(eui: Eui) -> bool
+    ensures { result ≡ is_real_eui eui.0 }
+{
+    eui.0 != 0 && eui.0 != u64::MAX
 }
 
 /// Takes at least one byte, and at most `N`.

@@ -27,7 +27,7 @@ pub struct Command {
 }
 
 /// Says to whom a forged frame goes, and from whom it claims to come.
-#[derive(Clone, Copy, Debug)]
+#[derive(Clone, Copy)]
 pub struct Route {
     /// The destination.
     pub to: Short,
@@ -35,6 +35,17 @@ pub struct Route {
     pub from: Short,
     /// The source's IEEE address.
     pub source: Eui,
+}
+
+impl Route {
+    ghost use Rattle.std.specs.Prelude.{◌≡◌};
+
+    /// Names the destination and the claimed source.
+    pub fn new(to: Short, from: Short, source: Eui) -> Route
+        ensures { (result.to ≡ to) × (result.from ≡ from) × (result.source ≡ source) }
+    {
+        Route { to, from, source }
+    }
 }
 
 /// Reads a forged frame.
@@ -57,7 +68,7 @@ pub fn forge(mut words: Words) -> Option<Event>
 }
 
 /// Says how a forged frame is sealed at the network layer.
-#[derive(Clone, Copy, Debug)]
+#[derive(Clone, Copy)]
 pub struct Net {
     /// The network key.
     pub key: Key,
@@ -65,6 +76,21 @@ pub struct Net {
     pub sequence: u8,
     /// The NWK frame counter.
     pub counter: u32,
+}
+
+impl Net {
+    ghost use Rattle.std.specs.Prelude.{◌≡◌};
+
+    /// Names the network key, its sequence number and the frame counter.
+    pub fn new(key: Key, sequence: u8, counter: u32) -> Net
+        ensures { (result.key ≡ key) × (result.sequence ≡ sequence) × (result.counter ≡ counter) }
+    {
+        Net {
+            key,
+            sequence,
+            counter,
+        }
+    }
 }
 
 fn forge_net(route: Route, mut words: Words) -> Option<Event>

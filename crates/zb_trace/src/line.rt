@@ -6,7 +6,7 @@ use zb_seal::Term;
 /// Is one line of a transcript. `event` is the number of the event that gave the line, from 1; the lines of the start
 /// have the number 0. A node is named by its name, and where a line names a partner, a sender or a device, by its
 /// IEEE address.
-#[derive(Debug, Drop)]
+#[derive(Drop)]
 pub enum Line {
     /// At the start: a node, with the blocks in which it reserves outgoing counters and stores floors.
     Node {
