@@ -8,7 +8,7 @@ use Rattle.zb_model.specs.State.{greatest_counter, NetKey, NodeState, net_of_act
 use Rattle.zb_model.specs.Tools.{Tools}
 use Rattle.zb_model.specs.Frames.{nwk_term, aps_term, sealed_command, data_front, sealed_data}
 use Rattle.zb_model.specs.Rules.{Body, Saying, Clear, Secret, Tunnelled, Telling, Leaving, Relayed, Sending, Setting, spent}
-use Rattle.zb_model.specs.Answer.{Counting, Part, has_aps_seal, seals_at, part_of, framed, sent, nothing_out, may_seal, out_of, sending_of, counting_of, plan_of, answer_by, answer}
+use Rattle.zb_model.specs.Answer.{Counting, has_aps_seal, seals_at, part_of, framed, sent, nothing_out, may_seal, out_of, sending_of, counting_of, plan_of, answer_by, answer}
 use Rattle.zb_model_fits.proofs.Tests.{both}
 use Rattle.zb_model_fits.proofs.Parts.{same_key_is}
 use Rattle.zb_model_seals.specs.Sealing.{SealsAlong}
@@ -28,7 +28,7 @@ passes q (r ∷ rs) = by_test (q r) refl (passes q rs)
     by_test true e h = e
     by_test false e h = h
 
-found_key : (key : Bytes) (rs : List NetKey) (r : NetKey) → find (with_key key) rs ≡ Some r → r.key ≡ key
+pub found_key : (key : Bytes) (rs : List NetKey) (r : NetKey) → find (with_key key) rs ≡ Some r → r.key ≡ key
 found_key key rs r e = same_key_is r.key key (subst (Passes (with_key key)) e (passes (with_key key) rs))
 
 key_of_active : (o : Option Bytes) (s : NodeState) (r : NetKey) → net_of_active o s ≡ Some r → o ≡ Some r.key

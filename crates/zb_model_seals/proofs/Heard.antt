@@ -1,7 +1,7 @@
 -- An answer accepts at most one term of NWK and then one of APS, and none with the greatest counter.
-use Rattle.std.proofs.Common.{◌≡◌, ℕ, ◌<◌, Bool, true, false, if◌then◌else◌, List, [], ◌∷◌, ◌++◌, Option, Some, None, refl, sym, ap, ◌∙◌, arith, inl, inr, leb-false}
+use Rattle.std.proofs.Common.{◌≡◌, Bool, true, false, if◌then◌else◌, List, [], ◌∷◌, ◌++◌, Option, Some, None, refl, arith, inl, inr, leb-false}
 use Rattle.std.specs.Prelude.{option_to_list, nat_le}
-use Rattle.zb_model.specs.Data.{Bytes, Layer, Nwk, Aps, Term, Place, Reason, Task, SayTo, TellTo, DoKnock, DoRejoin, DoTimer, AskFor, HasChild, DoProvision, DoRemove, DoRoll, DoSwitch, DoAgain, DoShare, Received}
+use Rattle.zb_model.specs.Data.{Bytes, Nwk, Aps, Term, Place, Reason, Task, Received}
 use Rattle.zb_model.specs.State.{greatest_counter, NodeState, usable_of}
 use Rattle.zb_model.specs.Tools.{Tools, NwkShown, NwkAuxiliary, ApsShown, ApsAuxiliary, CommandShown, Known, Unknown, Broken, LeaveShown, Leave, Other, NoCommand}
 use Rattle.zb_model.specs.Rules.{Setting, Plan}

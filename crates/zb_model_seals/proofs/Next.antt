@@ -1,6 +1,6 @@
 -- The counters that an answer's seals take are the next ones of the state after its changes and accepted terms: no change
 -- touches a next counter but a first counter, which isn't above that of the active key.
-use Rattle.std.proofs.Common.{◌≡◌, ℕ, ◌≤◌, max, Bool, true, false, if◌then◌else◌, List, [], ◌∷◌, ◌++◌, filter, find, flat_map, Option, Some, None, option_map, option_to_list, refl, sym, ap, ◌∙◌, subst, arith, le_refl, zero-le}
+use Rattle.std.proofs.Common.{◌≡◌, ℕ, ◌≤◌, Bool, true, false, if◌then◌else◌, List, [], ◌∷◌, ◌++◌, filter, find, flat_map, Option, Some, None, option_map, option_to_list, refl, sym, ap, ◌∙◌, subst, arith, le_refl, zero-le}
 use Rattle.std.specs.Prelude.{nat_le}
 use Rattle.std.specs.List.{AllByRecursion}
 use Rattle.zb_model.specs.Data.{Bytes, Layer, Nwk, Aps, Term, Move, Active, Edit, Reserve, Floor, Task}
@@ -9,7 +9,7 @@ use Rattle.zb_model.specs.Tools.{Tools}
 use Rattle.zb_model.specs.Rules.{Plan, Setting}
 use Rattle.zb_model.specs.Answer.{Counting, start_edit, move_edits, floor_edit, reserve_edit, moves_of, changes, edits_of, half, first_counter, activated, start_for, is_started_key, counting_of, plan_of, answer_by, answer, accepted_all}
 use Rattle.zb_model_seals.specs.Sealing.{IsNext, SealsNext}
-use Rattle.zb_model_seals.proofs.Rows.{Holds, with_key, On, OnAps, Rises, Starts, Gentle, on_applied_all, on_accepted, on_shown, aps_applied_all, aps_accepted, aps_shown}
+use Rattle.zb_model_seals.proofs.Rows.{Holds, with_key, On, Gentle, on_applied_all, on_accepted, on_shown, aps_applied_all, aps_accepted, aps_shown}
 use Rattle.zb_model_seals.proofs.Along.{active_found, next_is, unspent_nwk, unspent_aps, sending_at, answer_along}
 
 -- the changes of an answer: a first counter is at most the next one

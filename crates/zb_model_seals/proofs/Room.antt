@@ -1,12 +1,12 @@
 -- The counters that an answer's seals take were reserved: where a counter has reached its limit, a reserve makes room.
-use Rattle.std.proofs.Common.{◌≡◌, ℕ, ◌<◌, ◌≤◌, ◌+◌, min, max, Bool, true, false, if◌then◌else◌, ◌&&◌, List, [], ◌∷◌, ◌++◌, find, Option, Some, None, option_map, option_to_list, refl, sym, ap, ◌∙◌, subst, arith}
+use Rattle.std.proofs.Common.{◌≡◌, ℕ, ◌<◌, ◌≤◌, ◌+◌, min, Bool, true, false, if◌then◌else◌, ◌&&◌, List, [], ◌∷◌, ◌++◌, find, Option, Some, None, option_map, option_to_list, refl, sym, ap, ◌∙◌, subst, arith}
 use Rattle.std.specs.Prelude.{nat_eq}
 use Rattle.std.proofs.lemmas.Bool.{eqb-false}
 use Rattle.zb_model.specs.Data.{Bytes, Layer, Nwk, Aps, Edit, Reserve, Task}
-use Rattle.zb_model.specs.State.{greatest_counter, NetKey, NodeState, net_of_active, of_active, active_row, next_counter, stored_limit, reserved, applied, applied_all, shown}
+use Rattle.zb_model.specs.State.{greatest_counter, NetKey, NodeState, of_active, active_row, next_counter, stored_limit, reserved, applied, applied_all, shown}
 use Rattle.zb_model.specs.Tools.{Tools}
 use Rattle.zb_model.specs.Rules.{Plan, Sending, Setting}
-use Rattle.zb_model.specs.Answer.{seals_at, may_seal, reserve_of, edits_of, counting_of, plan_of, answer_by, answer, accepted_all}
+use Rattle.zb_model.specs.Answer.{seals_at, may_seal, reserve_of, edits_of, counting_of, plan_of, answer_by, answer}
 use Rattle.zb_model_seals.specs.Sealing.{IsBelow, IsReserved, SealsReserved, RowIsWithin, IsWithinLimits}
 use Rattle.zb_model_seals.proofs.Rows.{Holds, with_key, On, OnAps, Rises, made_found, on_applied_all, on_accepted, on_shown, aps_applied_all, aps_accepted, aps_shown}
 use Rattle.zb_model_seals.proofs.Along.{active_is, active_found, next_is, limit_is, unspent_nwk, unspent_aps, sending_at, answer_along}

@@ -23,7 +23,7 @@ chosen_map : {X : Type 0} (f : X → X) (b : Bool) (x : X) (o p : Option X) → 
 chosen_map f true x o p e = refl
 chosen_map f false x o p e = e
 
-find_map : {X : Type 0} (test : X → Bool) (f : X → X) → ((x : X) → test (f x) ≡ test x) → (xs : List X) → find test (map f xs) ≡ option_map f (find test xs)
+pub find_map : {X : Type 0} (test : X → Bool) (f : X → X) → ((x : X) → test (f x) ≡ test x) → (xs : List X) → find test (map f xs) ≡ option_map f (find test xs)
 find_map test f same [] = refl
 find_map test f same (x ∷ xs) = rw (same x) (chosen_map f (test x) x (find test (map f xs)) (find test xs) (find_map test f same xs))
 

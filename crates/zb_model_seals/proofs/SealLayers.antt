@@ -1,12 +1,12 @@
 -- An answer seals at most one term of APS and then one of NWK.
-use Rattle.std.proofs.Common.{◌≡◌, ℕ, Bool, true, false, if◌then◌else◌, List, [], ◌∷◌, ◌++◌, Option, Some, None, refl, inl, inr}
-use Rattle.zb_model.specs.Data.{Bytes, Nwk, Aps, Label, Term, Task}
+use Rattle.std.proofs.Common.{◌≡◌, ℕ, Bool, true, false, if◌then◌else◌, [], ◌∷◌, ◌++◌, Option, Some, None, refl, inl, inr}
+use Rattle.zb_model.specs.Data.{Nwk, Aps, Term, Task}
 use Rattle.zb_model.specs.State.{NetKey, NodeState, active_row}
 use Rattle.zb_model.specs.Tools.{Tools}
-use Rattle.zb_model.specs.Frames.{nwk_term, aps_term}
+use Rattle.zb_model.specs.Frames.{nwk_term}
 use Rattle.zb_model.specs.Rules.{Body, Saying, Clear, Secret, Tunnelled, Telling, Leaving, Relayed, Sending, Setting}
 use Rattle.zb_model.specs.Answer.{Counting, part_of, framed, sent, nothing_out, may_seal, out_of, counting_of, plan_of, answer_by, answer}
-use Rattle.zb_model_seals.specs.Sealing.{IsApsSeal, IsNwkSeal, AreSeals}
+use Rattle.zb_model_seals.specs.Sealing.{IsNwkSeal, AreSeals}
 use Rattle.zb_model_seals.proofs.Along.{active_is, sending_at}
 
 module _ (tools : Tools) (c : Setting) (to nwk aps : ℕ) (s : NodeState) where

@@ -3,10 +3,10 @@
 #![tactic(auto)]
 
 ghost use Rattle.std.specs.Prelude.{◌≤◌};
-ghost use Rattle.zb_model.specs.Answer.{accepted_all, answer};
-ghost use Rattle.zb_model.specs.Data.{Task};
+ghost use Rattle.zb_model.specs.Answer.{accepted_all, answer, sealed_all};
+ghost use Rattle.zb_model.specs.Data.{Edit, Task};
 ghost use Rattle.zb_model.specs.Rules.{Setting};
-ghost use Rattle.zb_model.specs.State.{NodeState, applied_all, shown};
+ghost use Rattle.zb_model.specs.State.{NodeState, after_boot, applied, applied_all, shown};
 ghost use Rattle.zb_model.specs.Tools.{Tools};
 ghost use Rattle.zb_model_seals.specs.Sealing.{AreHeard, AreSeals, IsWithinLimits, SealsNext, SealsReserved};
 ghost use Rattle.zb_model_storable.specs.Storing.{OpensAsJudged};
@@ -30,6 +30,20 @@ pub fn an_answer_seals_with_reserved_counters()
     ensures { (tools : Tools) (c : Setting) (s : NodeState) (task : Task) → IsWithinLimits s → 1 ≤ c.me.out_block
         → SealsReserved (accepted_all (answer tools c s task).accepts (shown (applied_all (answer tools c s task).edits s)))
         (answer tools c s task).seals }
+{}
+
+/// Says that no next counter passes its limit in an answer: not by its changes, accepted terms and seals.
+///
+/// A boot sets each counter to its limit, so from then on it holds. Nor does it pass by one change alone, as when a
+/// journal is read, or by what tables forget.
+#[tactic(auto, using(crate::proofs::Limits::answered_within, crate::proofs::Limits::applied_within, crate::proofs::Limits::shown_within, crate::proofs::Limits::booted_within))]
+pub fn no_counter_passes_its_limit()
+    ensures answer { (tools : Tools) (c : Setting) (s : NodeState) (task : Task) → IsWithinLimits s → 1 ≤ c.me.out_block
+        → IsWithinLimits (sealed_all (answer tools c s task).seals
+        (accepted_all (answer tools c s task).accepts (shown (applied_all (answer tools c s task).edits s)))) }
+    ensures change { (e : Edit) (s : NodeState) → IsWithinLimits s → IsWithinLimits (applied e s) }
+    ensures memory { (s : NodeState) → IsWithinLimits s → IsWithinLimits (shown s) }
+    ensures boot { (s : NodeState) → IsWithinLimits (after_boot s) }
 {}
 
 /// Says that an answer seals at most one term of APS and then one of NWK, under the key that was active before.
