@@ -113,8 +113,11 @@ fn seal<D: Disk>(
     disk: &mut D,
 ) -> Result<Option<u32>, HostFault> {
     assert!(rt; host.is_up());
-    let (_, counter) = host.handle(disk, &SealerEvent::Seal)?;
-    Ok(counter)
+    let (_, seal) = host.handle(disk, &SealerEvent::Seal)?;
+    match seal {
+        Some(seal) => Ok(Some(seal.counter)),
+        None => Ok(None),
+    }
 }
 
 // Makes a store of a centre that has sealed nothing, boots, and seals 40 times, each time with a reserve, or until the
