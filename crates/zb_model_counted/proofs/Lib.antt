@@ -4,6 +4,6 @@ mod Calls
 mod Same
 pub mod Started
 pub mod ActiveRows
-mod Events
+pub mod Events
 pub mod Unique
 pub mod Floors

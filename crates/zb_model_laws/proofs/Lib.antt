@@ -21,7 +21,7 @@ mod OutsiderRuns
 pub mod LawfulRuns
 mod CountedRuns
 pub mod LockoutDeeds
-mod ConfirmsLines
+pub mod ConfirmsLines
 pub mod ConfirmsRuns
 mod RecordLaws
 pub mod RecordBack
@@ -29,7 +29,7 @@ pub mod GroupStates
 pub mod LockoutRows
 pub mod LockoutKept
 mod LockoutSteps
-mod LockoutMoves
+pub mod LockoutMoves
 mod LockoutDevices
 pub mod LockoutGroups
 mod LockoutRuns

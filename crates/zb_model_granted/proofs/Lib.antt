@@ -1,0 +1,5 @@
+pub mod Alike
+pub mod Held
+pub mod Joining
+pub mod Drawn
+pub mod Standing
