@@ -1,13 +1,12 @@
 //! A router reports a child.
 ghost use Rattle.std.specs.Prelude.{◌≡◌};
 ghost use Rattle.zb_base.specs.declared.place.Place.TheVariants.{Aps};
-ghost use Rattle.zb_model.specs.Commands.{eui_of, take_update};
-ghost use Rattle.zb_model.specs.Rules.{short_of};
+ghost use Rattle.zb_model.specs.Commands.{take_update};
 ghost use Rattle.zb_centre_rules.specs.Forms.{is_update_form};
 ghost use Rattle.zb_rules.specs.Hearing.{heard_of};
 ghost use Rattle.zb_rules.specs.Outcomes.{decided, told, Keeps};
 
-use zb_base::{Eui, Place, Short};
+use zb_base::{Eui, Place};
 use zb_cmd::Command;
 use zb_keys::Tables;
 use zb_network::Network;
@@ -21,16 +20,6 @@ fn is_update(network: &Network, heard: &Heard, status: u8) -> bool
     ensures { result ≡ is_update_form network.now (heard_of heard.now) status }
 {
     network.is_centre() && heard.is_clear_or_data() && heard.is_from_router(network) && status <= 3
-}
-
-/// Answers the address of the node whose NWK layer was secured, or that of no declared node.
-fn reporter(network: &Network, heard: &Heard) -> Short
-    ensures { result.0 ≡ short_of network.now (eui_of (heard_of heard.now).nwk_source) }
-{
-    match heard.nwk_source() {
-        Some(source) => network.short_of(source),
-        None => Short(0xffff),
-    }
 }
 
 /// Takes an Update-Device of a child that joins (1) or rejoins (3): the network key goes to it through a Tunnel to the
@@ -66,7 +55,7 @@ pub fn take_update(network: &Network, tables: &Tables, heard: &Heard, device: Eu
                 };
                 let key = row.key;
                 let body = Body::Tunnelled { device, key, command };
-                Ok(Effect::of_sending(reporter(network, heard), true, body))
+                Ok(Effect::of_sending(network.short_of_source(heard.nwk_source()), true, body))
             }
         },
     }
