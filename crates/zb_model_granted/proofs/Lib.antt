@@ -3,3 +3,4 @@ pub mod Held
 pub mod Joining
 pub mod Drawn
 pub mod Standing
+pub mod NoDraws
