@@ -7,7 +7,7 @@ use Rattle.zb_model.specs.Data.{Bytes, Layer, Nwk, Aps, Term, Move, Active, Edit
 use Rattle.zb_model.specs.State.{NetKey, NodeState, active_row, next_counter, applied_all, shown}
 use Rattle.zb_model.specs.Tools.{Tools}
 use Rattle.zb_model.specs.Rules.{Plan, Setting}
-use Rattle.zb_model.specs.Answer.{Counting, start_edit, move_edits, floor_edit, reserve_edit, moves_of, changes, edits_of, half, first_counter, activated, start_for, is_started_key, counting_of, plan_of, answer_by, answer, accepted_all}
+use Rattle.zb_model.specs.Answer.{Counting, start_edit, move_edits, floor_edit, reserve_edit, moves_of, changes, edits_of, half, first_counter, activated, start_for, is_started_key, counting_of, plan_of, answer_by, answer}
 use Rattle.zb_model_seals.specs.Sealing.{before_seals, IsNext, SealsNext}
 use Rattle.zb_model_seals.proofs.Rows.{Holds, with_key, On, Gentle, on_applied_all, on_accepted, on_shown, aps_applied_all, aps_accepted, aps_shown}
 use Rattle.zb_model_seals.proofs.Along.{active_found, next_is, unspent_nwk, unspent_aps, sending_at, answer_along}

@@ -2,9 +2,9 @@
 //! definitions (`specs/`), and its code carries the laws: each is the contract of a function with an empty body.
 #![tactic(auto)]
 
-ghost use Rattle.std.specs.Prelude.{◌<◌, ◌≤◌};
+ghost use Rattle.std.specs.Prelude.{◌≡◌, ◌<◌, ◌≤◌, ◌++◌, List};
 ghost use Rattle.std.specs.List.{AllByRecursion};
-ghost use Rattle.zb_model.specs.Answer.{answer, sealed_all};
+ghost use Rattle.zb_model.specs.Answer.{accepted_all, answer, sealed_all};
 ghost use Rattle.zb_model.specs.Data.{Edit, Task, Term};
 ghost use Rattle.zb_model.specs.Rules.{Setting};
 ghost use Rattle.zb_model.specs.State.{NodeState, after_boot, applied, greatest_counter, shown};
@@ -61,4 +61,15 @@ pub fn an_answer_accepts_once_at_each_layer()
         → AreHeard (answer tools c s task).accepts }
     ensures below_last { (tools : Tools) → OpensAsJudged tools → (c : Setting) (s : NodeState) (task : Task)
         → AllByRecursion (λ (t : Term). t.counter < greatest_counter) (answer tools c s task).accepts }
+{}
+
+/// Says that terms may be accepted and sealed in two parts, as those of one layer and then those of the other.
+#[tactic(auto, using(crate::proofs::InParts::parts))]
+pub fn terms_go_in_parts()
+    ensures next { (first second : List Term) (s : NodeState) → SealsNext s (first ++ second)
+        → SealsNext s first × SealsNext (sealed_all first s) second }
+    ensures sealed { (first second : List Term) (s : NodeState)
+        → sealed_all (first ++ second) s ≡ sealed_all second (sealed_all first s) }
+    ensures accepted { (first second : List Term) (s : NodeState)
+        → accepted_all (first ++ second) s ≡ accepted_all second (accepted_all first s) }
 {}
