@@ -6,7 +6,6 @@ pub mod ApplyLemmas
 pub mod FindLemmas
 pub mod HeardLemmas
 pub mod ReadLemmas
-pub mod NewestLemmas
 pub mod RecordLemmas
 pub mod FittingLemmas
 pub mod RestoreLemmas

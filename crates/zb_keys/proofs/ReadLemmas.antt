@@ -1,11 +1,11 @@
 -- What readers find in the contents of tables.
-use Rattle.std.proofs.Common.{◌≡◌, ℕ, ◌+◌, ◌≤◌, [], map, length, refl, sym, ap, ◌∙◌, true, Option, Some, None}
+use Rattle.std.proofs.Common.{◌≡◌, ℕ, ◌≤◌, [], map, length, sym, ap, ◌∙◌, true, Option, Some, None}
 use Rattle.std.specs.Prelude.{find, option_map, nat_eq, nat_le}
 use Rattle.zb_base.specs.declared.key.Key.{Key}
 use Rattle.zb_counter.specs.declared.sending.Outgoing.{Outgoing}
-use Rattle.zb_model.specs.Data.{Nwk, Aps}
+use Rattle.zb_model.specs.Data.{Nwk}
 use Rattle.zb_model.specs.State as model
-use Rattle.zb_model.specs.State.{NodeState, NetKey, same_key, after_counting, active_row, net_of_active, next_counter, stored_limit, with_declared, declared_at, sender_floor, floor_of_sender}
+use Rattle.zb_model.specs.State.{NodeState, NetKey, same_key, active_row, net_of_active, next_counter, stored_limit, with_declared, declared_at, sender_floor, floor_of_sender, last_where, newest}
 use Rattle.zb_model.specs.Fits.{keeps_rules, rows_have_room, keys_differ, at_most_two_live, active_is_live, partners_agree, links_are_marked, floors_are_kept, limits_are_started, role_is_kept, pairs_are_kept}
 use Rattle.zb_keys.specs.declared.contents.Contents.{Contents}
 use Rattle.zb_record.specs.declared.net_row.NetRow.{NetRow}
@@ -15,16 +15,8 @@ use Rattle.zb_keys.specs.Reading.{outgoing_of}
 use Rattle.zb_keys.specs.Tables.{state_of, IsSound}
 use Rattle.zb_record.specs.Headings.{active_bytes}
 use borrow.Author.Tests.{leb-true}
-use Rattle.zb_keys.proofs.FindLemmas.{find_map}
+use Rattle.zb_keys.proofs.FindLemmas.{find_map, last_map}
 use Rattle.zb_keys.proofs.StateLemmas.{both, rules_of}
-
-pub counted_none : (s : NodeState) → s.active ≡ None → s ≡ after_counting Nwk s
-unfolding after_counting
-counted_none s none = ap (λ a. record s { nets = model.of_active (λ (r : NetKey). model.next_at (r.next + 1) r) a s.nets }) (sym none)
-
-pub counted_aps : (s : NodeState) → record s { aps_next = s.aps_next + 1 } ≡ after_counting Aps s
-unfolding after_counting
-counted_aps s = refl
 
 pub active_found : (a : Contents) (key : Key) (row : Option NetRow) → a.active ≡ Some key → row ≡ find (λ (r : NetRow). same_key (net_key r).key key.0) a.nets.items → option_map net_key row ≡ active_row (state_of a)
 unfolding active_row
@@ -75,3 +67,7 @@ declared_state s n none = ap (λ l. record s { declared = n; nets = l }) (none �
 pub few_nets : (s : NodeState) → keeps_rules s ≡ true → length s.nets ≤ 256
 unfolding rows_have_room
 few_nets s kept = leb-true (length s.nets) 256 (both (nat_le (length s.nets) 256) _ (rules_of s kept).room).0
+
+pub newest_is : (a : Contents) (o : Option NetRow) → o ≡ last_where (λ (r : NetRow). (net_key r).live) a.nets.items → option_map net_key o ≡ newest (state_of a)
+unfolding newest
+newest_is a o found = ap (option_map net_key) found ∙ sym (last_map (λ (r : NetKey). r.live) net_key a.nets.items)

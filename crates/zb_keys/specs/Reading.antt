@@ -3,21 +3,12 @@ use Rattle.std.specs.Prelude.{◌≡◌, ◌<◌, ◌+◌, ℕ, if◌then◌else
 use Rattle.zb_counter.specs.declared.receiving.Floor.{Floor}
 use Rattle.zb_counter.specs.declared.sending.Outgoing.{Outgoing}
 use Rattle.zb_model.specs.Data.{Bytes, Layer, Nwk, Aps, Term}
-use Rattle.zb_model.specs.State.{greatest_counter, NodeState, NetKey, LinkKey, net_of, sender_floor, after_hearing, next_counter, stored_limit}
+use Rattle.zb_model.specs.State.{greatest_counter, NodeState, NetKey, net_of, sender_floor, next_counter, stored_limit}
 
 -- the floor of a sender in a row that was looked for: 0 and 0 where none was stored
 abbrev pub floor_of_row : ℕ → Option NetKey → Floor
 floor_of_row sender None = record { kept = 0; stored = 0 }
 floor_of_row sender (Some r) = record { kept = (sender_floor sender r).kept; stored = (sender_floor sender r).stored }
-
--- a counter was accepted under the network key, or the link key, at a place
-abbrev pub heard_under : Option NetKey → ℕ → ℕ → NodeState → NodeState
-heard_under None sender counter s = s
-heard_under (Some r) sender counter s = after_hearing Nwk r.key sender counter s
-
-abbrev pub heard_from : Option LinkKey → ℕ → NodeState → NodeState
-heard_from None counter s = s
-heard_from (Some r) counter s = after_hearing Aps r.key r.partner counter s
 
 -- the outgoing counter of a layer, which is reserved in blocks of that size
 abbrev pub outgoing_of : Layer → ℕ → NodeState → Outgoing

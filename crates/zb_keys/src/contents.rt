@@ -2,12 +2,12 @@
 ghost use Rattle.std.specs.Option.{option_copied};
 ghost use Rattle.std.specs.Prelude.{ℕ, List, Some, ◌≡◌, ◌<◌, ◌≤◌, ◌-◌, ◌^◌, option_map, [], ◌∷◌, ◌++◌, true, false, length, vec_capacity, vec_len, All};
 ghost use Rattle.zb_node_types.specs.Changes.{model_layer, model_attribute, model_state, edit, is_sending};
-ghost use Rattle.zb_record.specs.RowViews.{net_key, link_key};
+ghost use Rattle.zb_record.specs.RowViews.{net_key};
 ghost use Rattle.zb_record.specs.Senders.{HasRoom, live_floor};
 ghost use Rattle.zb_keys.specs.Reading.{outgoing_of, next_under, behind_next, IsNext};
 ghost use Rattle.zb_keys.specs.Tables.{state_of, with_row, Becomes, IsSound, Forgets};
 ghost use Rattle.zb_model.specs.Data.{Term, Nwk, Aps, Reserve, Floor, Start, Moved, DropNet, DropLink, Install, Active, Row, Pair as Paired, Became, Live, Removed, Roll, Told, Untold};
-ghost use Rattle.zb_model.specs.State.{applied, shown, at_net, next_counter, stored_limit, active_row, after_counting, after_hearing, after_sealing, last_where, newest, with_declared};
+ghost use Rattle.zb_model.specs.State.{applied, shown, at_net, next_counter, stored_limit, active_row, after_hearing, after_sealing, last_where, newest, with_declared};
 ghost use Rattle.zb_model.specs.Fits.{keeps_rules};
 
 use zb_base::{Attribute, Eui, Key, Layer, Role, Rollover, State};
@@ -17,8 +17,7 @@ use zb_record::link_row::{
     drop_link, has_row, has_told, hear_link, revive_link, store_link, tell_links, untell_links,
 };
 use zb_record::net_row::{
-    count_net, drop_net, has_key, hear_net, key_row, reserve_net, set_net_next, start_net,
-    store_net,
+    drop_net, has_key, hear_net, key_row, reserve_net, set_net_next, start_net, store_net,
 };
 use zb_record::pair_row::{drop_pairs, has_pair};
 use zb_record::{LinkRow, NetRow, Pair};
@@ -107,45 +106,6 @@ impl Contents {
         ensures sound { IsSound self.new }
     {
         self.declared = start;
-    }
-
-    /// Uses the next outgoing counter of a layer, which is reserved.
-    pub(crate) fn count(&mut self, layer: Layer)
-        requires sound { IsSound self.old }
-        requires reserved { next_counter (model_layer layer) (state_of self.old) < stored_limit (model_layer layer)
-            (state_of self.old) }
-        ensures state { state_of self.new ≡ after_counting (model_layer layer) (state_of self.old) }
-        ensures sound { IsSound self.new }
-    {
-        match layer {
-            Layer::Nwk => self.count_nwk(),
-            Layer::Aps => self.count_aps(),
-        }
-    }
-
-    /// Uses the next outgoing counter of the active network key.
-    fn count_nwk(&mut self)
-        requires sound { IsSound self.old }
-        requires reserved { next_counter Nwk (state_of self.old) < stored_limit Nwk (state_of self.old) }
-        ensures state { state_of self.new ≡ after_counting Nwk (state_of self.old) }
-        ensures sound { IsSound self.new }
-    {
-        match self.active {
-            Some(key) => count_net(&mut self.nets, &key),
-            None => {}
-        }
-    }
-
-    /// Uses the next outgoing counter of the application support layer.
-    #[tactic(auto, unfolding(zb_model::specs::State::next_counter, zb_model::specs::State::stored_limit))]
-    fn count_aps(&mut self)
-        requires sound { IsSound self.old }
-        requires reserved { next_counter Aps (state_of self.old) < stored_limit Aps (state_of self.old) }
-        ensures state { state_of self.new ≡ after_counting Aps (state_of self.old) }
-        ensures sound { IsSound self.new }
-    {
-        let _limit = self.aps_limit;
-        self.aps_next += 1;
     }
 
     /// Goes on behind a term that was sealed under a key of a layer with its next counter.

@@ -1,11 +1,11 @@
 //! The readers of tables, and what seals and accepted frames do to them.
-ghost use Rattle.std.specs.Prelude.{◌≡◌, ◌<◌, ◌-◌, ◌^◌, [], Some, find, map, nat_eq, option_map, slice_get};
+ghost use Rattle.std.specs.Prelude.{◌≡◌, ◌<◌, ◌-◌, ◌^◌, [], Some, find, map, nat_eq, option_map};
 ghost use Rattle.std.specs.Option.{option_copied};
 ghost use Rattle.zb_node_types.specs.Changes.{model_role, model_layer, model_state, is_sending};
 ghost use Rattle.zb_record.specs.RowViews.{heard_floor, net_key, link_key, pair_key};
-ghost use Rattle.zb_keys.specs.Reading.{IsNext, outgoing_of, floor_of_row, heard_under, heard_from};
+ghost use Rattle.zb_keys.specs.Reading.{IsNext, outgoing_of, floor_of_row};
 ghost use Rattle.zb_model.specs.Data.{Nwk, Term};
-ghost use Rattle.zb_model.specs.State.{next_counter, stored_limit, after_counting, after_hearing, after_sealing, with_declared, current, offered, pair_of, active_row, newest};
+ghost use Rattle.zb_model.specs.State.{after_hearing, after_sealing, with_declared, current, offered, pair_of, active_row, newest};
 
 use crate::Tables;
 use zb_base::{Eui, Key, Layer, Role, Rollover, State};
@@ -131,16 +131,6 @@ impl Tables {
         self.contents.outgoing(layer, block)
     }
 
-    /// Uses the next outgoing counter of a layer.
-    ///
-    /// Requires one that is reserved.
-    pub fn sealed(&mut self, layer: Layer)
-        requires { next_counter (model_layer layer) self.old < stored_limit (model_layer layer) self.old }
-        ensures { self.new ≡ after_counting (model_layer layer) self.old }
-    {
-        self.contents.count(layer);
-    }
-
     /// Goes on behind a term that was sealed under a base key of a layer.
     ///
     /// Its counter is the next one: at NWK that of the key's row, whether it is the active one or not, at APS the
@@ -159,29 +149,6 @@ impl Tables {
         ensures { self.new ≡ after_hearing (model_layer layer) key.now.0 sender.0 counter self.old }
     {
         self.contents.hear(layer, key, sender, counter);
-    }
-
-    /// Keeps what was accepted of a sender under the network key at a place. A dropped key keeps nothing.
-    pub fn accepted_net(&mut self, place: u32, sender: Eui, counter: u32)
-        requires { counter < 2 ^ 32 - 1 }
-        ensures { self.new ≡ heard_under (slice_get self.old.nets place) sender.0 counter self.old }
-    {
-        if let Some(row) = self.contents.nets.get(place as usize) {
-            let key = row.key;
-            self.contents.hear_nwk(&key, sender, counter);
-        }
-    }
-
-    /// Keeps what was accepted under the link key at a place, a dropped one too.
-    pub fn accepted_link(&mut self, place: u32, counter: u32)
-        requires { counter < 2 ^ 32 - 1 }
-        ensures { self.new ≡ heard_from (slice_get self.old.links place) counter self.old }
-    {
-        if let Some(row) = self.contents.links.get(place as usize) {
-            let key = row.key;
-            let partner = row.partner;
-            self.contents.hear_aps(&key, partner, counter);
-        }
     }
 
     /// Sets the outgoing NWK counter of the start.

@@ -28,8 +28,8 @@ pub fn terms_go_out_as_they_are_sealed()
 /// counter that the frame shows.
 
 pub fn frames_open_as_they_show()
-    ensures nwk { (bytes key : Bytes) (f : NwkShown) (aux : NwkAuxiliary) (t : model.Term) → real.read_nwk bytes ≡ Some f
-        → f.auxiliary ≡ Some aux → real.open_nwk bytes key ≡ Some t
+    ensures nwk { (bytes key : Bytes) (f : NwkShown) (aux : NwkAuxiliary) (t : model.Term)
+        → real.read_nwk bytes ≡ Some f → f.auxiliary ≡ Some aux → real.open_nwk bytes key ≡ Some t
         → (t.layer ≡ Nwk) × (t.base ≡ key) × (t.source ≡ aux.source) × (t.counter ≡ aux.counter) }
     ensures aps { (bytes key : Bytes) (given : ℕ) (f : ApsShown) (aux : ApsAuxiliary) (t : model.Term)
         → real.read_aps bytes ≡ Some f → f.auxiliary ≡ Some aux → real.open_aps bytes key given ≡ Some t

@@ -3,21 +3,11 @@ use Rattle.std.proofs.Common.{◌≡◌, ℕ, List, [], ◌∷◌, ◌++◌, map
 use Rattle.std.specs.Prelude.{filter, find, nat_eq, option_map, reverse}
 use Rattle.std.specs.List.{list_any}
 use mathlib.Core.List.{reverse-cons}
-use Rattle.std.proofs.lemmas.List.{map_push}
 use Rattle.zb_model.specs.Data.{Role, State, Fresh, Knocked, Joined, Offered, Confirmed, Rejoining, Gone}
 use Rattle.zb_model.specs.State.{NodeState, NetKey, last_where, live_of, may_use, live_nets, usable_nets, usable_of}
 use Rattle.zb_rows.specs.Asking.{may_use_in}
-use Rattle.zb_keys.proofs.FindLemmas.{find_map}
+use Rattle.zb_keys.proofs.FindLemmas.{find_map, last_map}
 use Rattle.zb_record.proofs.Lists.{any_map}
-
-reverse-map : {X Y : Type 0} (view : X → Y) (xs : List X) → reverse (map view xs) ≡ map view (reverse xs)
-reverse-map view [] = refl
-reverse-map view (x ∷ xs) =
-    reverse-cons (view x) (map view xs) ∙ ap (λ l. l ++ view x ∷ []) (reverse-map view xs)
-    ∙ sym (map_push view (reverse xs) x) ∙ sym (ap (map view) (reverse-cons x xs))
-
-last_map : {X Y : Type 0} (p : Y → Bool) (view : X → Y) (xs : List X) → last_where p (map view xs) ≡ option_map view (last_where (λ x. p (view x)) xs)
-last_map p view xs = ap (find p) (reverse-map view xs) ∙ find_map p view (reverse xs)
 
 -- a row of the program that was found is the one that the model finds
 pub found_in : {X Y : Type 0} (p : Y → Bool) (view : X → Y) (rows : List X) (xs : List Y) (o : Option X) → map view rows ≡ xs → o ≡ find (λ x. p (view x)) rows → option_map view o ≡ find p xs

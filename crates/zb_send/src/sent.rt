@@ -190,7 +190,8 @@ fn seals_at(layer: Layer, sending: &Sending) -> bool
 
 /// Tells whether the counters that are reserved at a layer are used up.
 fn is_used_up(tables: &Tables, layer: Layer) -> bool
-    ensures { result ≡ nat_eq (next_counter (model_layer layer) tables.now) (stored_limit (model_layer layer) tables.now) }
+    ensures { result
+        ≡ nat_eq (next_counter (model_layer layer) tables.now) (stored_limit (model_layer layer) tables.now) }
 {
     next_counter(tables, layer) == stored_limit(tables, layer)
 }

@@ -7,7 +7,6 @@ use Rattle.zb_model.specs.Data.{Bytes, Layer, Nwk, Aps, Term}
 use Rattle.zb_model.specs.State.{SenderFloor, NetKey, LinkKey, NodeState, same_key, is_link, at_net, at_link, of_active, next_at, sealed_at, after_sealing, after_counting, floor_kept, net_kept, link_kept, after_hearing, after_accepting, booted_floor, booted_net, booted_link, after_boot, shown_net, shown}
 use Rattle.zb_model.specs.Record.{place_from, active_place, net_bytes, sender_bytes, floors_bytes, link_bytes, record_of}
 use Rattle.zb_model_fits.proofs.ShownApplied.{shown_twice}
-use Rattle.zb_keys.specs.Reading.{heard_under, heard_from}
 use Rattle.zb_keys.proofs.BootLemmas.{booted_shown}
 
 -- ---- the bytes of rows that are changed
@@ -160,14 +159,6 @@ pub boot_of_accepted : (t : Term) (s : NodeState) → after_boot (after_acceptin
 unfolding after_accepting
 boot_of_accepted t s = boot_of_heard t.layer t.base t.source t.counter s
 
-pub boot_of_heard_under : (o : Option NetKey) (sender counter : ℕ) (s : NodeState) → after_boot (heard_under o sender counter s) ≡ after_boot s
-boot_of_heard_under None sender counter s = refl
-boot_of_heard_under (Some r) sender counter s = boot_of_heard Nwk r.key sender counter s
-
-pub boot_of_heard_from : (o : Option LinkKey) (counter : ℕ) (s : NodeState) → after_boot (heard_from o counter s) ≡ after_boot s
-boot_of_heard_from None counter s = refl
-boot_of_heard_from (Some r) counter s = boot_of_heard Aps r.key r.partner counter s
-
 -- ---- the role stays
 
 pub role_of_counted : (layer : Layer) (s : NodeState) → (after_counting layer s).role ≡ s.role
@@ -187,11 +178,3 @@ pub role_of_heard : (layer : Layer) (key : Bytes) (sender counter : ℕ) (s : No
 unfolding after_hearing
 role_of_heard Nwk key sender counter s = refl
 role_of_heard Aps key sender counter s = refl
-
-pub role_of_heard_under : (o : Option NetKey) (sender counter : ℕ) (s : NodeState) → (heard_under o sender counter s).role ≡ s.role
-role_of_heard_under None sender counter s = refl
-role_of_heard_under (Some r) sender counter s = role_of_heard Nwk r.key sender counter s
-
-pub role_of_heard_from : (o : Option LinkKey) (counter : ℕ) (s : NodeState) → (heard_from o counter s).role ≡ s.role
-role_of_heard_from None counter s = refl
-role_of_heard_from (Some r) counter s = role_of_heard Aps r.key r.partner counter s
