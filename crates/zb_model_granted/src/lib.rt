@@ -2,8 +2,8 @@
 //! an empty body; docs/THEOREMS.md says it in words.
 #![tactic(auto)]
 
-ghost use Rattle.std.specs.Prelude.{◌≡◌, ℕ, true, List, [], Some, None};
-ghost use Rattle.zb_model_granted.specs.Granted.{Granted};
+ghost use Rattle.std.specs.Prelude.{◌≡◌, ◌≤◌, ℕ, length, true, List, [], Some, None};
+ghost use Rattle.zb_model_granted.specs.Granted.{Granted, HasRoom};
 ghost use Rattle.zb_model_laws.specs.Events.{BeforeEach};
 ghost use Rattle.zb_model_laws.specs.KeysApart.{KeysApart};
 ghost use Rattle.zb_model_laws.specs.Opening.{Opens};
@@ -34,4 +34,11 @@ pub fn no_draw_comes_where_the_supply_is_empty()
         → is_centre (setting_of w n).me.role ≡ true → (bytes : Bytes)
         → refusal_of (plan_of tools (setting_of w n) (state_of h n) (Received bytes (supply w h))) ≡ Some NoDraw
         → supply w h ≡ None }
+{}
+
+/// Before each event of a run with at most 64 nodes: under each network key that a node may use there is room for the
+/// floor of each declared sender. So rows-full never comes at NWK, where only declared senders are asked for it.
+pub fn each_sender_has_room()
+    ensures { (tools : Tools) → Opens tools → (w : Schedule) → length w.nodes ≤ 64
+        → BeforeEach (λ (h : List Line) (event : Event). (n : ℕ) → HasRoom w h n) tools w (start w) [] 1 w.events }
 {}
