@@ -36,16 +36,20 @@ fn admitted(device: Eui, key: &Key) -> Changes
 /// # Errors
 /// Wrong state where the device is live; rows full where a new row has no room; key in use where another device has
 /// the key.
-#[tactic(auto, unfolding(zb_model::specs::OwnEvents::provision, zb_model::specs::Rules::unless))]
+#[tactic(auto, unfolding(zb_model::specs::OwnEvents::provision, zb_rules::specs::Chains::steps))]
 pub fn provision(tables: &Tables, device: Eui, key: &Key) -> Result<Effect, Refusal>
     ensures rule { decided result ≡ told (provision tables.now device.0 key.now.0) }
     ensures keeps { Keeps Event result }
 {
     if is_live(tables, device) {
-        return Err(Refusal::WrongState { place: Place::Event });
+        return Err(Refusal::WrongState {
+            place: Place::Event,
+        });
     }
     if !has_link(tables, device, key) && links_full(tables) {
-        return Err(Refusal::RowsFull { place: Place::Event });
+        return Err(Refusal::RowsFull {
+            place: Place::Event,
+        });
     }
     match other_user(tables, device, key) {
         Some(row) => Err(Refusal::KeyInUse {

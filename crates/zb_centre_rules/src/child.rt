@@ -18,18 +18,24 @@ use zb_send::Body;
 ///
 /// # Errors
 /// No key without an active network key; not a member where the device isn't live; the APS counter is spent.
-#[tactic(auto, unfolding(zb_model::specs::OwnEvents::child_of_centre, zb_model::specs::Rules::found_or, zb_model::specs::Rules::unless))]
+#[tactic(auto, unfolding(zb_model::specs::OwnEvents::child_of_centre, zb_rules::specs::Chains::steps))]
 pub fn child_of_centre(network: &Network, tables: &Tables, child: Eui) -> Result<Effect, Refusal>
     ensures rule { decided result ≡ told (child_of_centre network.now tables.now child.0) }
     ensures keeps { Keeps Event result }
 {
     match tables.active_row() {
-        None => Err(Refusal::NoKey { place: Place::Event }),
+        None => Err(Refusal::NoKey {
+            place: Place::Event,
+        }),
         Some(net) => match tables.current(child) {
-            None => Err(Refusal::NotMember { place: Place::Event }),
+            None => Err(Refusal::NotMember {
+                place: Place::Event,
+            }),
             Some(row) => {
                 if is_spent(tables, Layer::Aps) {
-                    return Err(Refusal::CounterSpent { place: Place::Event });
+                    return Err(Refusal::CounterSpent {
+                        place: Place::Event,
+                    });
                 }
                 let command = Command::TransportNetwork {
                     key: net.key,

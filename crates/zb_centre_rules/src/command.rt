@@ -29,7 +29,7 @@ fn not_taken() -> Result<Effect, Refusal>
 ///
 /// # Errors
 /// Those of the rule of each command; policy for a command that routers and devices alone take.
-#[tactic(auto, unfolding(zb_model::specs::Commands::take_command, zb_model::specs::Commands::take_net_key, zb_model::specs::Commands::take_link_key, zb_model::specs::Commands::take_app_key, zb_model::specs::Commands::take_switch, zb_model::specs::Commands::take_confirm, zb_model::specs::Commands::take_remove, zb_model::specs::Commands::take_tunnel, zb_model::specs::Rules::unless))]
+#[tactic(auto, unfolding(crate::specs::Refused::commands_of_members))]
 pub fn take_command(
     network: &Network,
     tables: &Tables,
@@ -46,13 +46,19 @@ pub fn take_command(
         Command::TransportNetwork { .. } => not_taken(),
         Command::TransportApplication { .. } => not_taken(),
         Command::TransportLink { .. } => not_taken(),
-        Command::Update { device, status, .. } => take_update(network, tables, heard, *device, *status),
+        Command::Update { device, status, .. } => take_update(
+            network, tables, heard, *device, *status,
+        ),
         Command::Remove { .. } => not_taken(),
-        Command::RequestApplication { partner } => take_app_request(network, tables, heard, draw, *partner),
+        Command::RequestApplication { partner } => take_app_request(
+            network, tables, heard, draw, *partner,
+        ),
         Command::RequestLink => take_request(network, tables, heard, draw),
         Command::Switch { .. } => not_taken(),
         Command::Tunnel { .. } => not_taken(),
-        Command::Verify { kind, source, hash } => take_verify(network, tables, heard, *kind, *source, hash),
+        Command::Verify { kind, source, hash } => take_verify(
+            network, tables, heard, *kind, *source, hash,
+        ),
         Command::Confirm { .. } => not_taken(),
     }
 }

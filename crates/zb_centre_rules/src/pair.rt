@@ -28,7 +28,14 @@ use zb_send::{Body, Sending};
 /// Answers what sends the key of a pair to a device, sealed for load under its current row.
 ///
 /// `initiator`: 1 where the device asked for it.
-fn app_key_for(network: &Network, device: Eui, partner: Eui, key: &Key, row: &LinkRow, initiator: u8) -> Option<Sending>
+fn app_key_for(
+    network: &Network,
+    device: Eui,
+    partner: Eui,
+    key: &Key,
+    row: &LinkRow,
+    initiator: u8,
+) -> Option<Sending>
     ensures what { option_map sending_of result ≡ sends (short_of network.now device.0) true
         (Secret ForLoad (link_key row.now).key (TransportApp key.now.0 partner.0 initiator)) }
     ensures fits { CanBeSent result }
@@ -51,24 +58,39 @@ fn app_key_for(network: &Network, device: Eui, partner: Eui, key: &Key, row: &Li
 /// # Errors
 /// No key without an active network key; not a member where either device isn't live; wrong state without a pair; a
 /// counter is spent.
-#[tactic(auto, unfolding(zb_model::specs::OwnEvents::share, zb_model::specs::Rules::found_or, zb_model::specs::Rules::unless))]
-pub fn share(network: &Network, tables: &Tables, device: Eui, partner: Eui) -> Result<Effect, Refusal>
+#[tactic(auto, unfolding(zb_model::specs::OwnEvents::share, zb_rules::specs::Chains::steps))]
+pub fn share(
+    network: &Network,
+    tables: &Tables,
+    device: Eui,
+    partner: Eui,
+) -> Result<Effect, Refusal>
     ensures rule { decided result ≡ told (share network.now tables.now device.0 partner.0) }
     ensures keeps { Keeps Event result }
 {
     if tables.active_row().is_none() {
-        return Err(Refusal::NoKey { place: Place::Event });
+        return Err(Refusal::NoKey {
+            place: Place::Event,
+        });
     }
     if !(is_live(tables, device) && is_live(tables, partner)) {
-        return Err(Refusal::NotMember { place: Place::Event });
+        return Err(Refusal::NotMember {
+            place: Place::Event,
+        });
     }
     match tables.pair_between(device, partner) {
-        None => Err(Refusal::WrongState { place: Place::Event }),
+        None => Err(Refusal::WrongState {
+            place: Place::Event,
+        }),
         Some(pair) => match tables.current(device) {
-            None => Err(Refusal::NotMember { place: Place::Event }),
+            None => Err(Refusal::NotMember {
+                place: Place::Event,
+            }),
             Some(row) => {
                 if is_any_spent(tables) {
-                    return Err(Refusal::CounterSpent { place: Place::Event });
+                    return Err(Refusal::CounterSpent {
+                        place: Place::Event,
+                    });
                 }
                 let changes = ArrayVec::new();
                 let sending = app_key_for(network, device, partner, &pair.key, row, 0);
@@ -94,15 +116,26 @@ fn paired(device: Eui, partner: Eui, key: &Key) -> Changes
         (Draw key.now.0 ∷ Paired (lesser device.0 partner.0) (greater device.0 partner.0) key.now.0 ∷ []) }
     ensures few { length result.items ≤ most_changes }
 {
-    let (first, second) = if device.0 < partner.0 { (device, partner) } else { (partner, device) };
+    let (first, second) = if device.0 < partner.0 {
+        (device, partner)
+    } else {
+        (partner, device)
+    };
     let mut changes = ArrayVec::new();
     add(&mut changes, Change::Draw { key: *key });
-    add(&mut changes, Change::Pair { first, second, key: *key });
+    add(
+        &mut changes,
+        Change::Pair {
+            first,
+            second,
+            key: *key,
+        },
+    );
     changes
 }
 
 /// Sends the key of a pair again, or draws one for the two.
-#[tactic(auto, unfolding(zb_model::specs::Rules::found_or, zb_model::specs::Rules::unless))]
+#[tactic(auto, unfolding(zb_rules::specs::Chains::steps))]
 fn answer_pair(
     network: &Network,
     tables: &Tables,
@@ -152,9 +185,9 @@ fn is_app_request(network: &Network, tables: &Tables, heard: &Heard, partner: Eu
 /// Takes a Request-Key of a key with a partner: the pair's key is sent again, or drawn.
 ///
 /// # Errors
-/// Policy in any other form; not a member where the partner isn't live; wrong state where a current row of the two isn't
-/// verified; rows full; no draw; a counter is spent.
-#[tactic(auto, unfolding(zb_model::specs::Commands::take_app_request, zb_model::specs::Rules::found_or, zb_model::specs::Rules::unless))]
+/// Policy in any other form; not a member where the partner isn't live; wrong state where a current row of the two
+/// isn't verified; rows full; no draw; a counter is spent.
+#[tactic(auto, unfolding(zb_model::specs::Commands::take_app_request, zb_rules::specs::Chains::steps))]
 pub fn take_app_request(
     network: &Network,
     tables: &Tables,

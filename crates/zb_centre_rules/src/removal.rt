@@ -44,7 +44,13 @@ fn leave(network: &Network, tables: &Tables, device: Eui) -> Option<Sending>
 }
 
 /// Answers the Remove-Device to the device's parent, where a frame can be sealed.
-fn remove_by(network: &Network, tables: &Tables, device: Eui, via: Eui, row: Option<&LinkRow>) -> Option<Sending>
+fn remove_by(
+    network: &Network,
+    tables: &Tables,
+    device: Eui,
+    via: Eui,
+    row: Option<&LinkRow>,
+) -> Option<Sending>
     ensures what { option_map sending_of result
         ≡ tell_parent network.now tables.now device.0 via.0 (option_map link_key (option_copied row.entry)) }
     ensures fits { CanBeSent result }
@@ -72,13 +78,20 @@ fn remove_by(network: &Network, tables: &Tables, device: Eui, via: Eui, row: Opt
 ///
 /// # Errors
 /// Not a member where the device isn't live.
-#[tactic(auto, unfolding(zb_model::specs::OwnEvents::remove_device, zb_model::specs::Rules::unless))]
-pub fn remove_device(network: &Network, tables: &Tables, device: Eui, via: Eui) -> Result<Effect, Refusal>
+#[tactic(auto, unfolding(zb_model::specs::OwnEvents::remove_device, zb_rules::specs::Chains::steps))]
+pub fn remove_device(
+    network: &Network,
+    tables: &Tables,
+    device: Eui,
+    via: Eui,
+) -> Result<Effect, Refusal>
     ensures rule { decided result ≡ told (remove_device network.now tables.now device.0 via.0) }
     ensures keeps { Keeps Event result }
 {
     if !is_live(tables, device) {
-        return Err(Refusal::NotMember { place: Place::Event });
+        return Err(Refusal::NotMember {
+            place: Place::Event,
+        });
     }
     let changes = removed(tables, device);
     let sending = if via == network.eui() {

@@ -75,7 +75,7 @@ fn offered(device: Eui, key: &Key) -> Changes
 }
 
 /// Sends the offered key again, or draws a new one and offers it.
-#[tactic(auto, unfolding(zb_model::specs::Rules::found_or, zb_model::specs::Rules::unless))]
+#[tactic(auto, unfolding(zb_rules::specs::Chains::steps))]
 fn answer_request(
     network: &Network,
     tables: &Tables,
@@ -118,8 +118,13 @@ fn answer_request(
 /// # Errors
 /// Policy unless this is the centre, and the command is sealed for data under the sender's current row; rows full; no
 /// draw; a counter is spent.
-#[tactic(auto, unfolding(zb_model::specs::Commands::take_request, zb_model::specs::Rules::found_or, zb_model::specs::Rules::unless))]
-pub fn take_request(network: &Network, tables: &Tables, heard: &Heard, draw: Option<Key>) -> Result<Effect, Refusal>
+#[tactic(auto, unfolding(zb_model::specs::Commands::take_request, zb_rules::specs::Chains::steps))]
+pub fn take_request(
+    network: &Network,
+    tables: &Tables,
+    heard: &Heard,
+    draw: Option<Key>,
+) -> Result<Effect, Refusal>
     ensures rule { decided result ≡ told
         (take_request network.now tables.now (heard_of heard.now) (option_map (λ k. k.0) draw)) }
     ensures keeps { Keeps Aps result }

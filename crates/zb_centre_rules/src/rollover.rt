@@ -42,18 +42,24 @@ fn told_one(device: Eui) -> Changes
 }
 
 /// Sends the newest network key to a device, sealed for transport under its current row.
-#[tactic(auto, unfolding(zb_model::specs::Rules::found_or, zb_model::specs::Rules::unless))]
+#[tactic(auto, unfolding(zb_rules::specs::Chains::steps))]
 fn hand_newest(network: &Network, tables: &Tables, device: Eui) -> Result<Effect, Refusal>
     ensures rule { decided result ≡ told (newest_to network.now tables.now device.0) }
     ensures keeps { Keeps Event result }
 {
     match tables.newest() {
-        None => Err(Refusal::NoKey { place: Place::Event }),
+        None => Err(Refusal::NoKey {
+            place: Place::Event,
+        }),
         Some(new) => match tables.current(device) {
-            None => Err(Refusal::WrongState { place: Place::Event }),
+            None => Err(Refusal::WrongState {
+                place: Place::Event,
+            }),
             Some(row) => {
                 if is_any_spent(tables) {
-                    return Err(Refusal::CounterSpent { place: Place::Event });
+                    return Err(Refusal::CounterSpent {
+                        place: Place::Event,
+                    });
                 }
                 let command = Command::TransportNetwork {
                     key: new.key,
@@ -80,19 +86,25 @@ fn hand_newest(network: &Network, tables: &Tables, device: Eui) -> Result<Effect
 /// # Errors
 /// No key without an active network key; wrong state unless the centre gives a key to its devices and one is waiting;
 /// a counter is spent.
-#[tactic(auto, unfolding(zb_model::specs::OwnEvents::centre_timer, zb_model::specs::Rules::found_or, zb_model::specs::Rules::unless))]
+#[tactic(auto, unfolding(zb_model::specs::OwnEvents::centre_timer, zb_rules::specs::Chains::steps))]
 pub fn centre_timer(network: &Network, tables: &Tables) -> Result<Effect, Refusal>
     ensures rule { decided result ≡ told (centre_timer network.now tables.now) }
     ensures keeps { Keeps Event result }
 {
     if tables.active_row().is_none() {
-        return Err(Refusal::NoKey { place: Place::Event });
+        return Err(Refusal::NoKey {
+            place: Place::Event,
+        });
     }
     if !is_sending(tables) {
-        return Err(Refusal::WrongState { place: Place::Event });
+        return Err(Refusal::WrongState {
+            place: Place::Event,
+        });
     }
     match next_member(tables) {
-        None => Err(Refusal::WrongState { place: Place::Event }),
+        None => Err(Refusal::WrongState {
+            place: Place::Event,
+        }),
         Some(device) => hand_newest(network, tables, device),
     }
 }
@@ -126,22 +138,30 @@ fn rolled(tables: &Tables, net: &NetRow, key: &Key) -> Changes
 /// # Errors
 /// No key without an active network key; wrong state while a key is given to devices; keys full where there are 256; no
 /// draw where the supply is empty.
-#[tactic(auto, unfolding(zb_model::specs::OwnEvents::roll, zb_model::specs::Rules::found_or, zb_model::specs::Rules::unless))]
+#[tactic(auto, unfolding(zb_model::specs::OwnEvents::roll, zb_rules::specs::Chains::steps))]
 pub fn roll(tables: &Tables, draw: Option<Key>) -> Result<Effect, Refusal>
     ensures rule { decided result ≡ told (roll tables.now (option_map (λ k. k.0) draw)) }
     ensures keeps { Keeps Event result }
 {
     match tables.active_row() {
-        None => Err(Refusal::NoKey { place: Place::Event }),
+        None => Err(Refusal::NoKey {
+            place: Place::Event,
+        }),
         Some(net) => {
             if is_sending(tables) {
-                return Err(Refusal::WrongState { place: Place::Event });
+                return Err(Refusal::WrongState {
+                    place: Place::Event,
+                });
             }
             if nets_full(tables) {
-                return Err(Refusal::KeysFull { place: Place::Event });
+                return Err(Refusal::KeysFull {
+                    place: Place::Event,
+                });
             }
             match unless_held(tables, draw) {
-                None => Err(Refusal::NoDraw { place: Place::Event }),
+                None => Err(Refusal::NoDraw {
+                    place: Place::Event,
+                }),
                 Some(key) => Ok(Effect::of_changes(rolled(tables, net, &key))),
             }
         }
@@ -158,7 +178,10 @@ fn switch_to(net: &NetRow, changes: Changes) -> Effect
     let command = Command::Switch {
         sequence: net.sequence,
     };
-    let body = Body::Clear { control: 9, command };
+    let body = Body::Clear {
+        control: 9,
+        command,
+    };
     Effect {
         changes,
         sending: sending(Short(0xffff), true, body),
@@ -186,25 +209,33 @@ fn switched(new: &NetRow) -> Changes
 ///
 /// # Errors
 /// No key without an active network key; wrong state while a live device isn't told; the NWK counter is spent.
-#[tactic(auto, unfolding(zb_model::specs::OwnEvents::switch_over, zb_model::specs::Rules::found_or, zb_model::specs::Rules::unless, zb_model::specs::Rules::choose))]
+#[tactic(auto, unfolding(zb_model::specs::OwnEvents::switch_over, zb_rules::specs::Chains::steps))]
 pub fn switch_over(tables: &Tables) -> Result<Effect, Refusal>
     ensures rule { decided result ≡ told (switch_over tables.now) }
     ensures keeps { Keeps Event result }
 {
     match tables.active_row() {
-        None => Err(Refusal::NoKey { place: Place::Event }),
+        None => Err(Refusal::NoKey {
+            place: Place::Event,
+        }),
         Some(net) => {
             if !may_switch(tables) {
-                return Err(Refusal::WrongState { place: Place::Event });
+                return Err(Refusal::WrongState {
+                    place: Place::Event,
+                });
             }
             if is_spent(tables, Layer::Nwk) {
-                return Err(Refusal::CounterSpent { place: Place::Event });
+                return Err(Refusal::CounterSpent {
+                    place: Place::Event,
+                });
             }
             if !is_sending(tables) {
                 return Ok(switch_to(net, ArrayVec::new()));
             }
             match tables.newest() {
-                None => Err(Refusal::NoKey { place: Place::Event }),
+                None => Err(Refusal::NoKey {
+                    place: Place::Event,
+                }),
                 Some(new) => Ok(switch_to(new, switched(new))),
             }
         }
@@ -215,16 +246,20 @@ pub fn switch_over(tables: &Tables) -> Result<Effect, Refusal>
 ///
 /// # Errors
 /// Not a member where the device isn't live; wrong state outside a rollover, and where it wasn't told.
-#[tactic(auto, unfolding(zb_model::specs::OwnEvents::again, zb_model::specs::Rules::unless))]
+#[tactic(auto, unfolding(zb_model::specs::OwnEvents::again, zb_rules::specs::Chains::steps))]
 pub fn again(tables: &Tables, device: Eui) -> Result<Effect, Refusal>
     ensures rule { decided result ≡ told (again tables.now device.0) }
     ensures keeps { Keeps Event result }
 {
     if !is_live(tables, device) {
-        return Err(Refusal::NotMember { place: Place::Event });
+        return Err(Refusal::NotMember {
+            place: Place::Event,
+        });
     }
     if !is_sending(tables) || !is_told(tables, device) {
-        return Err(Refusal::WrongState { place: Place::Event });
+        return Err(Refusal::WrongState {
+            place: Place::Event,
+        });
     }
     let mut changes = ArrayVec::new();
     add(&mut changes, Change::Untold { device });

@@ -27,8 +27,14 @@ fn is_update(network: &Network, heard: &Heard, status: u8) -> bool
 ///
 /// # Errors
 /// Policy in any other form; no key; not a member where the device isn't live; a counter is spent.
-#[tactic(auto, unfolding(zb_model::specs::Commands::take_update, zb_model::specs::Rules::found_or, zb_model::specs::Rules::unless, zb_model::specs::Rules::choose))]
-pub fn take_update(network: &Network, tables: &Tables, heard: &Heard, device: Eui, status: u8) -> Result<Effect, Refusal>
+#[tactic(auto, unfolding(zb_model::specs::Commands::take_update, zb_rules::specs::Chains::steps))]
+pub fn take_update(
+    network: &Network,
+    tables: &Tables,
+    heard: &Heard,
+    device: Eui,
+    status: u8,
+) -> Result<Effect, Refusal>
     ensures rule { decided result ≡ told
         (take_update network.now tables.now (heard_of heard.now) device.0 status) }
     ensures keeps { Keeps Aps result }
@@ -54,7 +60,11 @@ pub fn take_update(network: &Network, tables: &Tables, heard: &Heard, device: Eu
                     source: network.eui(),
                 };
                 let key = row.key;
-                let body = Body::Tunnelled { device, key, command };
+                let body = Body::Tunnelled {
+                    device,
+                    key,
+                    command,
+                };
                 Ok(Effect::of_sending(network.short_of_source(heard.nwk_source()), true, body))
             }
         },

@@ -61,13 +61,7 @@ fn verified_row<'a>(tables: &'a Tables, device: Eui) -> Option<&'a LinkRow>
 {
     match tables.current(device) {
         None => None,
-        Some(row) => {
-            if row.is_verified() {
-                Some(row)
-            } else {
-                None
-            }
-        }
+        Some(row) => { if row.is_verified() { Some(row) } else { None } }
     }
 }
 
@@ -110,8 +104,13 @@ fn verified(tables: &Tables, device: Eui, key: &Key) -> Changes
 }
 
 /// Confirms the key that the hash is of: the offered one, which then is verified, or the verified current one.
-#[tactic(auto, unfolding(zb_model::specs::Rules::found_or, zb_model::specs::Rules::choose))]
-fn confirm(network: &Network, tables: &Tables, device: Eui, hash: &[u8; 16]) -> Result<Effect, Refusal>
+#[tactic(auto, unfolding(zb_rules::specs::Chains::steps))]
+fn confirm(
+    network: &Network,
+    tables: &Tables,
+    device: Eui,
+    hash: &[u8; 16],
+) -> Result<Effect, Refusal>
     ensures rule { decided result ≡ told (confirmed_by real network.now tables.now device.0 hash.now) }
     ensures keeps { Keeps Aps result }
 {
@@ -138,7 +137,7 @@ fn confirm(network: &Network, tables: &Tables, device: Eui, hash: &[u8; 16]) -> 
 /// # Errors
 /// Policy in any other form; not a member where the device isn't live; wrong state without an offered row and a
 /// verified current one; a counter is spent; wrong hash.
-#[tactic(auto, unfolding(zb_model::specs::Commands::take_verify, zb_model::specs::Rules::unless))]
+#[tactic(auto, unfolding(zb_model::specs::Commands::take_verify, zb_rules::specs::Chains::steps))]
 pub fn take_verify(
     network: &Network,
     tables: &Tables,

@@ -54,7 +54,7 @@ fn shared(tables: &Tables, partner: Eui, key: &Key) -> Changes
 /// # Errors
 /// Policy in any other form; not a member where the partner isn't declared; wrong state in rejoining; rows full; key
 /// in use.
-#[tactic(auto, unfolding(zb_model::specs::Commands::take_app_key, zb_model::specs::Rules::unless, zb_model::specs::Rules::choose))]
+#[tactic(auto, unfolding(zb_model::specs::Commands::take_app_key, zb_rules::specs::Chains::steps))]
 pub fn take_app_key(
     network: &Network,
     tables: &Tables,

@@ -10,7 +10,9 @@ ghost use Rattle.zb_model_real.specs.Real.{real};
 ghost use Rattle.zb_rules.specs.Hearing.{heard_of};
 ghost use Rattle.zb_rules.specs.Outcomes.{decided, told, Keeps};
 
-use crate::{take_app_key, take_confirm, take_link_key, take_net_key, take_remove, take_switch, take_tunnel};
+use crate::{
+    take_app_key, take_confirm, take_link_key, take_net_key, take_remove, take_switch, take_tunnel,
+};
 use zb_base::Place;
 use zb_cmd::Command;
 use zb_keys::Tables;
@@ -31,8 +33,13 @@ fn not_taken() -> Result<Effect, Refusal>
 ///
 /// # Errors
 /// Those of the rule of each command; policy for a command that the centre alone takes.
-#[tactic(auto, unfolding(zb_model::specs::Commands::take_command, zb_model::specs::Commands::take_update, zb_model::specs::Commands::take_request, zb_model::specs::Commands::take_app_request, zb_model::specs::Commands::take_verify, zb_model::specs::Rules::unless))]
-pub fn take_command(network: &Network, tables: &Tables, heard: &Heard, command: &Command) -> Result<Effect, Refusal>
+#[tactic(auto, unfolding(crate::specs::Refused::commands_of_the_centre))]
+pub fn take_command(
+    network: &Network,
+    tables: &Tables,
+    heard: &Heard,
+    command: &Command,
+) -> Result<Effect, Refusal>
     requires member { is_centre network.now.me.role ≡ false }
     requires small { IsSmall command.now }
     ensures rule { (draw : Option Bytes) → decided result ≡ told (take_command real network.now tables.now draw
@@ -45,8 +52,18 @@ pub fn take_command(network: &Network, tables: &Tables, heard: &Heard, command: 
             sequence,
             destination,
             source,
-        } => take_net_key(network, tables, heard, key, *sequence, *destination, *source),
-        Command::TransportApplication { key, partner, .. } => take_app_key(network, tables, heard, key, *partner),
+        } => take_net_key(
+            network,
+            tables,
+            heard,
+            key,
+            *sequence,
+            *destination,
+            *source,
+        ),
+        Command::TransportApplication { key, partner, .. } => take_app_key(
+            network, tables, heard, key, *partner,
+        ),
         Command::TransportLink {
             key,
             destination,
@@ -57,7 +74,13 @@ pub fn take_command(network: &Network, tables: &Tables, heard: &Heard, command: 
         Command::RequestApplication { .. } => not_taken(),
         Command::RequestLink => not_taken(),
         Command::Switch { sequence } => take_switch(network, tables, heard, *sequence),
-        Command::Tunnel { destination, inner } => take_tunnel(network, tables, heard, *destination, inner),
+        Command::Tunnel { destination, inner } => take_tunnel(
+            network,
+            tables,
+            heard,
+            *destination,
+            inner,
+        ),
         Command::Verify { .. } => not_taken(),
         Command::Confirm {
             status,

@@ -60,7 +60,7 @@ fn confirmed(tables: &Tables, centre: Eui, row: &LinkRow) -> Changes
 ///
 /// # Errors
 /// Policy in any other form; wrong state in rejoining, and where the row that opened it isn't the offered one.
-#[tactic(auto, unfolding(zb_model::specs::Commands::take_confirm, zb_model::specs::Rules::found_or, zb_model::specs::Rules::unless))]
+#[tactic(auto, unfolding(zb_model::specs::Commands::take_confirm, zb_rules::specs::Chains::steps))]
 pub fn take_confirm(
     network: &Network,
     tables: &Tables,

@@ -55,13 +55,15 @@ fn knocked(tables: &Tables, row: &LinkRow) -> Changes
 ///
 /// # Errors
 /// No key without a row of the node's install code.
-#[tactic(auto, unfolding(zb_model::specs::OwnEvents::knock, zb_model::specs::Rules::found_or))]
+#[tactic(auto, unfolding(zb_model::specs::OwnEvents::knock, zb_rules::specs::Chains::steps))]
 pub fn knock(network: &Network, tables: &Tables) -> Result<Effect, Refusal>
     ensures rule { decided result ≡ told (knock network.now tables.now) }
     ensures keeps { Keeps Event result }
 {
     match code_row(tables, network.centre()) {
-        None => Err(Refusal::NoKey { place: Place::Event }),
+        None => Err(Refusal::NoKey {
+            place: Place::Event,
+        }),
         Some(row) => Ok(Effect::of_changes(knocked(tables, row))),
     }
 }
@@ -70,13 +72,15 @@ pub fn knock(network: &Network, tables: &Tables) -> Result<Effect, Refusal>
 ///
 /// # Errors
 /// Wrong state outside joined, offered and confirmed.
-#[tactic(auto, unfolding(zb_model::specs::OwnEvents::rejoin, zb_model::specs::Rules::unless))]
+#[tactic(auto, unfolding(zb_model::specs::OwnEvents::rejoin, zb_rules::specs::Chains::steps))]
 pub fn rejoin(tables: &Tables) -> Result<Effect, Refusal>
     ensures rule { decided result ≡ told (rejoin tables.now) }
     ensures keeps { Keeps Event result }
 {
     if !has_joined(tables.state()) {
-        return Err(Refusal::WrongState { place: Place::Event });
+        return Err(Refusal::WrongState {
+            place: Place::Event,
+        });
     }
     let mut changes = ArrayVec::new();
     add(

@@ -23,7 +23,7 @@ fn asks_to_go(options: u8) -> bool
 ///
 /// # Errors
 /// Policy unless this is a router or device, and the Leave is from the centre or a router and asks it to go.
-#[tactic(auto, unfolding(zb_model::specs::Commands::take_leave, zb_model::specs::Rules::unless))]
+#[tactic(auto, unfolding(zb_model::specs::Commands::take_leave, zb_rules::specs::Chains::steps))]
 pub fn take_leave(network: &Network, term: &Term, options: u8) -> Result<Effect, Refusal>
     ensures rule { decided result ≡ told (take_leave network.now (model_term term.now) options) }
     ensures keeps { Keeps Nwk result }

@@ -44,9 +44,10 @@ pub(crate) fn has_key(row: Option<&LinkRow>, key: &Key) -> bool
 }
 
 /// Answers why a link key gets no row: there is no room for one, or another partner has the key.
-#[tactic(auto, unfolding(zb_model::specs::Commands::take_row, zb_model::specs::Rules::unless))]
+#[tactic(auto, unfolding(zb_model::specs::Commands::take_row, zb_rules::specs::Chains::steps))]
 pub(crate) fn row_refusal(tables: &Tables, partner: Eui, key: &Key) -> Option<Refusal>
-    ensures rule { (moves : List Move) → told (take_row tables.now partner.0 key.now.0 moves) ≡ refused_or result moves }
+    ensures rule { (moves : List Move)
+        → told (take_row tables.now partner.0 key.now.0 moves) ≡ refused_or result moves }
     ensures keeps { RefusesAt Aps result }
 {
     if !has_link(tables, partner, key) && links_full(tables) {
@@ -91,7 +92,7 @@ fn offered(tables: &Tables, centre: Eui, key: &Key) -> Changes
 ///
 /// # Errors
 /// Policy in any other form; wrong state in rejoining; rows full; key in use.
-#[tactic(auto, unfolding(zb_model::specs::Commands::take_link_key, zb_model::specs::Rules::unless, zb_model::specs::Rules::choose))]
+#[tactic(auto, unfolding(zb_model::specs::Commands::take_link_key, zb_rules::specs::Chains::steps))]
 pub fn take_link_key(
     network: &Network,
     tables: &Tables,

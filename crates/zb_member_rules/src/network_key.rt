@@ -95,7 +95,13 @@ fn installed(network: &Network, tables: &Tables, key: &Key, sequence: u8) -> Cha
 {
     let mut changes = ArrayVec::new();
     add_drop_old(tables, &mut changes);
-    add(&mut changes, Change::Install { key: *key, sequence });
+    add(
+        &mut changes,
+        Change::Install {
+            key: *key,
+            sequence,
+        },
+    );
     add_activation(&mut changes, network, tables, key);
     changes
 }
@@ -108,7 +114,7 @@ fn installed(network: &Network, tables: &Tables, key: &Key, sequence: u8) -> Cha
 ///
 /// # Errors
 /// Policy in any other form; key old where a dropped row has the key; keys full where there are 256.
-#[tactic(auto, unfolding(zb_model::specs::Commands::take_net_key, zb_model::specs::Rules::unless, zb_model::specs::Rules::choose))]
+#[tactic(auto, unfolding(zb_model::specs::Commands::take_net_key, zb_rules::specs::Chains::steps))]
 pub fn take_net_key(
     network: &Network,
     tables: &Tables,
@@ -126,7 +132,10 @@ pub fn take_net_key(
         return Err(Refusal::Policy { place: Place::Aps });
     }
     if let Some(at) = dropped_place(tables, key) {
-        return Err(Refusal::KeyOld { place: Place::Aps, at });
+        return Err(Refusal::KeyOld {
+            place: Place::Aps,
+            at,
+        });
     }
     if has_net(tables, key) {
         return Ok(Effect::of_changes(known(network, tables, key)));
@@ -142,8 +151,13 @@ pub fn take_net_key(
 /// # Errors
 /// Policy unless this is a router or device, and the command is sealed for data or in clear, from the centre; wrong
 /// state where no live row has the sequence.
-#[tactic(auto, unfolding(zb_model::specs::Commands::take_switch, zb_model::specs::Rules::found_or, zb_model::specs::Rules::unless))]
-pub fn take_switch(network: &Network, tables: &Tables, heard: &Heard, sequence: u8) -> Result<Effect, Refusal>
+#[tactic(auto, unfolding(zb_model::specs::Commands::take_switch, zb_rules::specs::Chains::steps))]
+pub fn take_switch(
+    network: &Network,
+    tables: &Tables,
+    heard: &Heard,
+    sequence: u8,
+) -> Result<Effect, Refusal>
     ensures rule { decided result ≡ told (take_switch network.now tables.now (heard_of heard.now) sequence) }
     ensures keeps { Keeps Aps result }
 {

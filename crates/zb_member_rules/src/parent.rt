@@ -29,8 +29,14 @@ fn child_status(rejoin: bool) -> u8
 }
 
 /// Reports a child under that row, or in clear at APS where there is none.
-#[tactic(auto, unfolding(zb_model::specs::Rules::unless))]
-fn report_child(network: &Network, tables: &Tables, child: Eui, rejoin: bool, row: Option<&LinkRow>) -> Result<Effect, Refusal>
+#[tactic(auto, unfolding(zb_rules::specs::Chains::steps))]
+fn report_child(
+    network: &Network,
+    tables: &Tables,
+    child: Eui,
+    rejoin: bool,
+    row: Option<&LinkRow>,
+) -> Result<Effect, Refusal>
     ensures rule { decided result ≡ told
         (report_child network.now tables.now child.0 rejoin (option_map link_key (option_copied row.entry))) }
     ensures keeps { Keeps Event result }
@@ -43,19 +49,34 @@ fn report_child(network: &Network, tables: &Tables, child: Eui, rejoin: bool, ro
     match row {
         None => {
             if is_spent(tables, Layer::Nwk) {
-                return Err(Refusal::CounterSpent { place: Place::Event });
+                return Err(Refusal::CounterSpent {
+                    place: Place::Event,
+                });
             }
-            Ok(Effect::of_sending(Short(0), true, Body::Clear { control: 1, command }))
+            Ok(Effect::of_sending(
+                Short(0),
+                true,
+                Body::Clear {
+                    control: 1,
+                    command,
+                },
+            ))
         }
         Some(row) => {
             if is_any_spent(tables) {
-                return Err(Refusal::CounterSpent { place: Place::Event });
+                return Err(Refusal::CounterSpent {
+                    place: Place::Event,
+                });
             }
             let key = row.key;
             Ok(Effect::of_sending(
                 Short(0),
                 true,
-                Body::Secret { label: Label::Data, key, command },
+                Body::Secret {
+                    label: Label::Data,
+                    key,
+                    command,
+                },
             ))
         }
     }
@@ -66,18 +87,33 @@ fn report_child(network: &Network, tables: &Tables, child: Eui, rejoin: bool, ro
 ///
 /// # Errors
 /// No key without a usable active network key; wrong state in rejoining; a counter that the frame needs is spent.
-#[tactic(auto, unfolding(zb_model::specs::OwnEvents::child_of_router, zb_model::specs::Rules::found_or, zb_model::specs::Rules::unless))]
-pub fn child_of_router(network: &Network, tables: &Tables, child: Eui, rejoin: bool) -> Result<Effect, Refusal>
+#[tactic(auto, unfolding(zb_model::specs::OwnEvents::child_of_router, zb_rules::specs::Chains::steps))]
+pub fn child_of_router(
+    network: &Network,
+    tables: &Tables,
+    child: Eui,
+    rejoin: bool,
+) -> Result<Effect, Refusal>
     ensures rule { decided result ≡ told (child_of_router network.now tables.now child.0 rejoin) }
     ensures keeps { Keeps Event result }
 {
     if usable_active(tables).is_none() {
-        return Err(Refusal::NoKey { place: Place::Event });
+        return Err(Refusal::NoKey {
+            place: Place::Event,
+        });
     }
     if is_rejoining(tables.state()) {
-        return Err(Refusal::WrongState { place: Place::Event });
+        return Err(Refusal::WrongState {
+            place: Place::Event,
+        });
     }
-    report_child(network, tables, child, rejoin, tables.current(network.centre()))
+    report_child(
+        network,
+        tables,
+        child,
+        rejoin,
+        tables.current(network.centre()),
+    )
 }
 
 /// Answers whether the command is a Remove-Device in the form in which a router takes it.
@@ -95,8 +131,13 @@ fn is_remove(network: &Network, heard: &Heard, target: Eui) -> bool
 /// # Errors
 /// Policy unless this is a router, and the command is sealed for data, from the centre, about neither of the two; not
 /// a member where the target isn't declared; the NWK counter is spent.
-#[tactic(auto, unfolding(zb_model::specs::Commands::take_remove, zb_model::specs::Rules::unless))]
-pub fn take_remove(network: &Network, tables: &Tables, heard: &Heard, target: Eui) -> Result<Effect, Refusal>
+#[tactic(auto, unfolding(zb_model::specs::Commands::take_remove, zb_rules::specs::Chains::steps))]
+pub fn take_remove(
+    network: &Network,
+    tables: &Tables,
+    heard: &Heard,
+    target: Eui,
+) -> Result<Effect, Refusal>
     ensures rule { decided result ≡ told (take_remove network.now tables.now (heard_of heard.now) target.0) }
     ensures keeps { Keeps Aps result }
 {
@@ -119,8 +160,14 @@ pub fn take_remove(network: &Network, tables: &Tables, heard: &Heard, target: Eu
 /// # Errors
 /// Policy unless this is a router, and the command is in clear at APS, from the centre; not a member where the
 /// destination isn't declared or is this node.
-#[tactic(auto, unfolding(zb_model::specs::Commands::take_tunnel, zb_model::specs::Rules::unless))]
-pub fn take_tunnel(network: &Network, tables: &Tables, heard: &Heard, destination: Eui, inner: &Frame) -> Result<Effect, Refusal>
+#[tactic(auto, unfolding(zb_model::specs::Commands::take_tunnel, zb_rules::specs::Chains::steps))]
+pub fn take_tunnel(
+    network: &Network,
+    tables: &Tables,
+    heard: &Heard,
+    destination: Eui,
+    inner: &Frame,
+) -> Result<Effect, Refusal>
     requires room { length inner.now.items ≤ relayed_room }
     ensures rule { decided result ≡ told
         (take_tunnel network.now tables.now (heard_of heard.now) destination.0 inner.now.items) }
@@ -132,5 +179,11 @@ pub fn take_tunnel(network: &Network, tables: &Tables, heard: &Heard, destinatio
     if !network.is_declared(destination) || destination == network.eui() {
         return Err(Refusal::NotMember { place: Place::Aps });
     }
-    Ok(Effect::of_sending(network.short_of(destination), false, Body::Relayed { bytes: frame_from(inner.as_slice()) }))
+    Ok(Effect::of_sending(
+        network.short_of(destination),
+        false,
+        Body::Relayed {
+            bytes: frame_from(inner.as_slice()),
+        },
+    ))
 }

@@ -27,22 +27,30 @@ fn is_confirmed(state: State) -> bool
 /// # Errors
 /// No key without a usable active network key or a current row of the centre; wrong state unless confirmed; a counter
 /// is spent.
-#[tactic(auto, unfolding(zb_model::specs::OwnEvents::ask, zb_model::specs::Rules::found_or, zb_model::specs::Rules::unless))]
+#[tactic(auto, unfolding(zb_model::specs::OwnEvents::ask, zb_rules::specs::Chains::steps))]
 pub fn ask(network: &Network, tables: &Tables, partner: Eui) -> Result<Effect, Refusal>
     ensures rule { decided result ≡ told (ask network.now tables.now partner.0) }
     ensures keeps { Keeps Event result }
 {
     if usable_active(tables).is_none() {
-        return Err(Refusal::NoKey { place: Place::Event });
+        return Err(Refusal::NoKey {
+            place: Place::Event,
+        });
     }
     match tables.current(network.centre()) {
-        None => Err(Refusal::NoKey { place: Place::Event }),
+        None => Err(Refusal::NoKey {
+            place: Place::Event,
+        }),
         Some(row) => {
             if !is_confirmed(tables.state()) {
-                return Err(Refusal::WrongState { place: Place::Event });
+                return Err(Refusal::WrongState {
+                    place: Place::Event,
+                });
             }
             if is_any_spent(tables) {
-                return Err(Refusal::CounterSpent { place: Place::Event });
+                return Err(Refusal::CounterSpent {
+                    place: Place::Event,
+                });
             }
             Ok(Effect::of_sending(
                 Short(0),
@@ -62,25 +70,42 @@ pub fn ask(network: &Network, tables: &Tables, partner: Eui) -> Result<Effect, R
 /// # Errors
 /// No key without a usable active network key or a live row of the partner; wrong state in rejoining; a counter is
 /// spent.
-#[tactic(auto, unfolding(zb_model::specs::OwnEvents::tell, zb_model::specs::Rules::found_or, zb_model::specs::Rules::unless))]
-pub fn tell(network: &Network, tables: &Tables, partner: Eui, bytes: Payload) -> Result<Effect, Refusal>
+#[tactic(auto, unfolding(zb_model::specs::OwnEvents::tell, zb_rules::specs::Chains::steps))]
+pub fn tell(
+    network: &Network,
+    tables: &Tables,
+    partner: Eui,
+    bytes: Payload,
+) -> Result<Effect, Refusal>
     ensures rule { decided result ≡ told (tell network.now tables.now partner.0 bytes.items) }
     ensures keeps { Keeps Event result }
 {
     if usable_active(tables).is_none() {
-        return Err(Refusal::NoKey { place: Place::Event });
+        return Err(Refusal::NoKey {
+            place: Place::Event,
+        });
     }
     match live_link(tables, partner) {
-        None => Err(Refusal::NoKey { place: Place::Event }),
+        None => Err(Refusal::NoKey {
+            place: Place::Event,
+        }),
         Some(row) => {
             if is_rejoining(tables.state()) {
-                return Err(Refusal::WrongState { place: Place::Event });
+                return Err(Refusal::WrongState {
+                    place: Place::Event,
+                });
             }
             if is_any_spent(tables) {
-                return Err(Refusal::CounterSpent { place: Place::Event });
+                return Err(Refusal::CounterSpent {
+                    place: Place::Event,
+                });
             }
             let key = row.key;
-            Ok(Effect::of_sending(network.short_of(partner), true, Body::Telling { key, bytes }))
+            Ok(Effect::of_sending(
+                network.short_of(partner),
+                true,
+                Body::Telling { key, bytes },
+            ))
         }
     }
 }

@@ -16,16 +16,20 @@ use zb_rules::Effect;
 use zb_send::Body;
 
 /// Asks for a link key of its own: Request-Key of type 4, sealed under the current row of the centre.
-#[tactic(auto, unfolding(zb_model::specs::OwnEvents::request_key, zb_model::specs::Rules::found_or, zb_model::specs::Rules::unless))]
+#[tactic(auto, unfolding(zb_model::specs::OwnEvents::request_key, zb_rules::specs::Chains::steps))]
 fn request_key(network: &Network, tables: &Tables) -> Result<Effect, Refusal>
     ensures rule { decided result ≡ told (request_key network.now tables.now) }
     ensures keeps { Keeps Event result }
 {
     match tables.current(network.centre()) {
-        None => Err(Refusal::NoKey { place: Place::Event }),
+        None => Err(Refusal::NoKey {
+            place: Place::Event,
+        }),
         Some(row) => {
             if is_any_spent(tables) {
-                return Err(Refusal::CounterSpent { place: Place::Event });
+                return Err(Refusal::CounterSpent {
+                    place: Place::Event,
+                });
             }
             Ok(Effect::of_sending(
                 Short(0),
@@ -41,16 +45,20 @@ fn request_key(network: &Network, tables: &Tables) -> Result<Effect, Refusal>
 }
 
 /// Proves that it holds the offered key: Verify-Key with the hash of that key, in clear at APS.
-#[tactic(auto, unfolding(zb_model::specs::OwnEvents::verify_key, zb_model::specs::Rules::found_or, zb_model::specs::Rules::unless, zb_model_real::specs::Real::real))]
+#[tactic(auto, unfolding(zb_model::specs::OwnEvents::verify_key, zb_rules::specs::Chains::steps_with_tools))]
 fn verify_key(network: &Network, tables: &Tables) -> Result<Effect, Refusal>
     ensures rule { decided result ≡ told (verify_key real network.now tables.now) }
     ensures keeps { Keeps Event result }
 {
     match tables.offered(network.centre()) {
-        None => Err(Refusal::NoKey { place: Place::Event }),
+        None => Err(Refusal::NoKey {
+            place: Place::Event,
+        }),
         Some(row) => {
             if is_spent(tables, Layer::Nwk) {
-                return Err(Refusal::CounterSpent { place: Place::Event });
+                return Err(Refusal::CounterSpent {
+                    place: Place::Event,
+                });
             }
             Ok(Effect::of_sending(
                 Short(0),
@@ -74,19 +82,23 @@ fn verify_key(network: &Network, tables: &Tables) -> Result<Effect, Refusal>
 /// # Errors
 /// No key without a usable active network key, or in joined without a current row of the centre; wrong state in
 /// confirmed and rejoining; a counter that the frame needs is spent.
-#[tactic(auto, unfolding(zb_model::specs::OwnEvents::member_timer, zb_model::specs::Rules::found_or))]
+#[tactic(auto, unfolding(zb_model::specs::OwnEvents::member_timer, zb_rules::specs::Chains::steps))]
 pub fn member_timer(network: &Network, tables: &Tables) -> Result<Effect, Refusal>
     ensures rule { decided result ≡ told (member_timer real network.now tables.now) }
     ensures keeps { Keeps Event result }
 {
     if usable_active(tables).is_none() {
-        return Err(Refusal::NoKey { place: Place::Event });
+        return Err(Refusal::NoKey {
+            place: Place::Event,
+        });
     }
     match tables.state() {
         State::Joined => request_key(network, tables),
         State::Offered => verify_key(network, tables),
         State::Fresh | State::Knocked | State::Confirmed | State::Rejoining | State::Gone => {
-            Err(Refusal::WrongState { place: Place::Event })
+            Err(Refusal::WrongState {
+                place: Place::Event,
+            })
         }
     }
 }

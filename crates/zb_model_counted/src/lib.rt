@@ -45,5 +45,5 @@ pub fn a_floor_is_at_most_one_block_above_its_counter()
 pub fn floors_of_an_answer_are_for_what_it_accepts()
     ensures { (tools : Tools) → Opens tools → (c : Setting) (h : List Line) (n : ℕ) (task : Task)
         → AllByRecursion (FloorOf c.me.in_block (answer tools c (state_of h n) task).accepts)
-            (answer tools c (state_of h n) task).edits }
+        (answer tools c (state_of h n) task).edits }
 {}

@@ -33,8 +33,8 @@ impl Model for Network {
     ghost Value = { Setting };
 
     ghost view = { λ network. record {
-        me = station network.out_block network.in_block network.me;
-        stations = map known network.peers.items;
+      me = station network.out_block network.in_block network.me;
+      stations = map known network.peers.items;
     } };
 
     ghost invariant = { λ network. (network.centre.0 ≡ centre_of (map known network.peers.items))

@@ -24,19 +24,25 @@ pub fn is_rejoining(state: State) -> bool
 ///
 /// # Errors
 /// No key without a usable active network key; wrong state in rejoining; the NWK counter is spent.
-#[tactic(auto, unfolding(zb_model::specs::OwnEvents::say, zb_model::specs::Rules::found_or, zb_model::specs::Rules::unless))]
+#[tactic(auto, unfolding(zb_model::specs::OwnEvents::say, crate::specs::Chains::steps))]
 pub fn say(tables: &Tables, to: Short, bytes: Payload) -> Result<Effect, Refusal>
     ensures rule { decided result ≡ told (say tables.now to.0 bytes.items) }
     ensures keeps { Keeps Event result }
 {
     if usable_active(tables).is_none() {
-        return Err(Refusal::NoKey { place: Place::Event });
+        return Err(Refusal::NoKey {
+            place: Place::Event,
+        });
     }
     if is_rejoining(tables.state()) {
-        return Err(Refusal::WrongState { place: Place::Event });
+        return Err(Refusal::WrongState {
+            place: Place::Event,
+        });
     }
     if is_spent(tables, Layer::Nwk) {
-        return Err(Refusal::CounterSpent { place: Place::Event });
+        return Err(Refusal::CounterSpent {
+            place: Place::Event,
+        });
     }
     Ok(Effect::of_sending(to, true, Body::Saying { bytes }))
 }
