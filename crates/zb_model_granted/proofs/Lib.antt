@@ -5,3 +5,4 @@ pub mod Drawn
 pub mod Standing
 pub mod NoDraws
 pub mod Senders
+pub mod FrameLayers
