@@ -1,0 +1,9 @@
+//! The core of the trust centre: what it does at each event, for a host that stores first.
+#![tactic(auto)]
+
+mod centre;
+mod event;
+mod planning;
+
+pub use centre::Centre;
+pub use event::CentreEvent;

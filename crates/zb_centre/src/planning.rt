@@ -1,0 +1,86 @@
+//! The plan of the trust centre for each of its events.
+ghost use Rattle.std.specs.Prelude.{◌≡◌, true};
+ghost use Rattle.zb_base.specs.declared.place.Place.TheVariants.{Event};
+ghost use Rattle.zb_centre.specs.Tasks.{task_of};
+ghost use Rattle.zb_model.specs.Answer.{answer};
+ghost use Rattle.zb_model.specs.OwnEvents.{own_at_centre};
+ghost use Rattle.zb_model.specs.State.{is_centre};
+ghost use Rattle.zb_model_real.specs.Real.{real};
+ghost use Rattle.zb_plan.specs.Answers.{IsAnswer};
+ghost use Rattle.zb_rules.specs.Outcomes.{Keeps, decided, told};
+
+use crate::event::CentreEvent;
+use zb_base::Place;
+use zb_centre_rules::{
+    again, centre_timer, child_of_centre, provision, remove_device, roll, share, switch_over,
+};
+use zb_core::NodeCore;
+use zb_delivery::plan_received;
+use zb_host::{Outcome, Plan};
+use zb_keys::Tables;
+use zb_network::Network;
+use zb_node_types::Refusal;
+use zb_plan::plan_own;
+use zb_rules::{Effect, say};
+use zb_seal::{KeyMemo, Term};
+use zb_send::Payload;
+
+// Copies application data.
+fn copied(bytes: &Payload) -> Payload
+    ensures { result.items ≡ bytes.now.items }
+{
+    let mut copy = Payload::new();
+    let _ = copy.try_extend_from_slice(bytes.as_slice());
+    copy
+}
+
+// Decides an event of the centre's own by its rule. A delivery is none.
+fn decide(network: &Network, tables: &Tables, event: &CentreEvent) -> Result<Effect, Refusal>
+    ensures rule { decided result ≡ told (own_at_centre network.now tables.now (task_of event.now)) }
+    ensures keeps { Keeps Event result }
+{
+    match event {
+        CentreEvent::Provision { device, key } => provision(tables, *device, key),
+        CentreEvent::Remove { device, via } => remove_device(network, tables, *device, *via),
+        CentreEvent::Roll { draw } => roll(tables, *draw),
+        CentreEvent::Switch => switch_over(tables),
+        CentreEvent::Again { device } => again(tables, *device),
+        CentreEvent::Child { device, .. } => child_of_centre(network, tables, *device),
+        CentreEvent::Deliver { .. } => Err(Refusal::Policy {
+            place: Place::Event,
+        }),
+        CentreEvent::Timer => centre_timer(network, tables),
+        CentreEvent::Say { to, bytes } => say(tables, *to, copied(bytes)),
+        CentreEvent::Share { device, partner } => share(network, tables, *device, *partner),
+    }
+}
+
+// Plans an event from what the centre knows of its network, its tables and its base keys.
+fn plan_event(
+    network: &Network,
+    tables: &Tables,
+    memo: &KeyMemo,
+    event: &CentreEvent,
+) -> Plan<Outcome<Term, Refusal>>
+    requires { is_centre network.now.me.role ≡ true }
+    ensures { IsAnswer result (answer real network.now tables.now (task_of event.now)) }
+{
+    match event {
+        CentreEvent::Deliver { bytes, draw } => plan_received(
+            network,
+            tables,
+            memo,
+            bytes.as_slice(),
+            *draw,
+        ),
+        _ => plan_own(network, tables, memo, decide(network, tables, event)),
+    }
+}
+
+// Plans an event of the trust centre.
+pub(crate) fn plan_centre(node: &NodeCore, event: &CentreEvent) -> Plan<Outcome<Term, Refusal>>
+    requires { is_centre node.now.setting.me.role ≡ true }
+    ensures { IsAnswer result (answer real node.now.setting node.now.tables (task_of event.now)) }
+{
+    plan_event(node.network(), node.tables(), node.memo(), event)
+}
