@@ -1,6 +1,7 @@
 -- A core that counts what it sealed: its plans, its record and its entries.
 use Rattle.std.specs.Prelude.{ℕ, ◌+◌, ◌%◌, ◌≡◌, ◌==◌, ◌||◌, List, [], ◌∷◌, length, get_or, Option, Some, None, not, min, nat_lt, if◌then◌else◌}
 use Rattle.zb_base.specs.declared.label.Layer.TheVariants.{Nwk}
+use Rattle.zb_base.specs.declared.node.Config.{Config}
 use Rattle.zb_node_types.specs.declared.change.Change.{Change}
 use Rattle.zb_node_types.specs.declared.change.Change.TheVariants.{Reserve}
 use Rattle.zb_host.specs.declared.plan.Plan.{Plan}
@@ -67,3 +68,10 @@ restored_from None r entries = counted (get_or r 2 0) 3 entries
 
 abbrev pub restored : List ℕ → List ℕ → Restored
 restored r entries = restored_from (fault_in r) r entries
+
+-- the core with which it boots: that of the bytes, all of whose reserved numbers count as used, with the block of its
+-- configuration
+pub record IsBooted (config : Config) (r entries : List ℕ) (c : Tally) : Type 0 where
+  pub given : restored r entries ≡ gives (recorded c)
+  pub next : c.next ≡ c.limit
+  pub block : c.block ≡ min config.out_block 255

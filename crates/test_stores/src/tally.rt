@@ -4,7 +4,7 @@ ghost use Rattle.zb_base.specs.declared.label.Layer.TheVariants.{Nwk as nwk};
 ghost use Rattle.zb_node_types.specs.declared.change.Change.TheVariants.{Reserve as reserve};
 ghost use Rattle.zb_store.specs.Sizes.{payloads_room};
 ghost use Rattle.zb_host.specs.Plans.{gives, bad};
-ghost use Rattle.test_stores.specs.Tallies.{IsPlan, IsAfter, planned, sealed, number_of, entry, recorded, fault_in, counted, restored, spelled};
+ghost use Rattle.test_stores.specs.Tallies.{IsPlan, IsAfter, IsBooted, planned, sealed, number_of, entry, recorded, fault_in, counted, restored, spelled};
 ghost use Rattle.test_stores.specs.TallyLaws.{tally_adds, tally_keeps, tally_newest, tally_idle, tally_short};
 
 use std::alloc::Global;
@@ -46,6 +46,10 @@ impl Core for Tally {
     ghost payload = { entry };
 
     ghost restored = { restored };
+
+    ghost is_of_role = { λ config. Unit {0} };
+
+    ghost is_booted = { IsBooted };
 
     fn plan(&self, event: &TallyEvent) -> Plan<Option<u8>> {
         match event {

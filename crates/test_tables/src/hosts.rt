@@ -1,6 +1,8 @@
 //! The host of a sealing centre: crashes at each device call, records of the first version, and bad disks.
 ghost use Rattle.std.specs.Prelude.{◌≤◌};
 ghost use Rattle.zb_base.specs.Config.{IsConfig};
+ghost use Rattle.zb_model.specs.Data.{Centre};
+ghost use Rattle.zb_stored_tables.specs.Cores.{IsOfRole};
 
 use crate::sealer::{Sealer, SealerEvent};
 use arrayvec::ArrayVec;
@@ -33,10 +35,12 @@ const LIMIT: usize = 34;
 const RESERVED: [u8; 7] = [1, 1, 0, 16, 0, 0, 0];
 
 // A network of one centre, which reserves so many counters at once.
+#[tactic(auto, unfolding(zb_network::specs::Settings::setting_for))]
 fn alone(block: u32) -> Config
     requires least { 1 ≤ block }
     requires most { block ≤ 65536 }
-    ensures { IsConfig result }
+    ensures config { IsConfig result }
+    ensures role { IsOfRole Centre result }
 {
     let mut peers = ArrayVec::new();
     peers.push(Peer {
@@ -109,8 +113,11 @@ fn seal<D: Disk>(
     disk: &mut D,
 ) -> Result<Option<u32>, HostFault> {
     assert!(rt; host.is_up());
-    let (_, counter) = host.handle(disk, &SealerEvent::Seal)?;
-    Ok(counter)
+    let (_, seal) = host.handle(disk, &SealerEvent::Seal)?;
+    match seal {
+        Some(seal) => Ok(Some(seal.counter)),
+        None => Ok(None),
+    }
 }
 
 // Makes a store of a centre that has sealed nothing, boots, and seals 40 times, each time with a reserve, or until the

@@ -1,24 +1,16 @@
-//! Keys that come again, find no room or are refused, in tables from records.
+//! What a node is declared with, in its first record, and a network key that comes again.
 
-use crate::worked::FULL;
 use std::test::Fail;
-use zb_base::{Eui, Key, Role};
-use zb_keys::Tables;
-use zb_node_types::{Changes, KeyError};
-use zb_record::Version;
-
-// Whether a call tells no change.
-fn tells_nothing(answer: Result<Changes, KeyError>) -> bool {
-    match answer {
-        Ok(changes) => changes.as_slice().is_empty(),
-        Err(_) => false,
-    }
-}
+use zb_base::{Key, Role};
+use zb_keys::{Declaration, HeldNetwork, Tables};
+use zb_record::{RECORD_ROOM, Version};
+use zb_rows::{activates, dropped_place, has_net, live_of};
 
 #[test]
 fn network_keys_that_come_again(rt: HostRuntime) -> Result<(), Fail> {
     let old = Key([0xD0; 16]);
     let mut tables = Tables::new(rt.alloc(), Role::Device)?;
+    assert!(rt; activates(&tables));
     // The first key comes, becomes active and starts.
     let mut payload = [0; 57];
     payload[..2].copy_from_slice(&[3, 5]);
@@ -28,7 +20,8 @@ fn network_keys_that_come_again(rt: HostRuntime) -> Result<(), Fail> {
     payload[36] = 0x0E;
     payload[37..53].fill(0xD0);
     assert!(rt; tables.redo(Version::Third, &payload).is_ok());
-    assert!(rt; tells_nothing(tables.install_net(&old, 0)));
+    assert!(rt; has_net(&tables, &old) && !activates(&tables));
+    assert!(rt; dropped_place(&tables, &old).is_none());
     // The second does, and the third drops the first.
     payload[2..18].fill(0xD1);
     payload[18] = 1;
@@ -42,51 +35,33 @@ fn network_keys_that_come_again(rt: HostRuntime) -> Result<(), Fail> {
     third[19..35].fill(0xD2);
     third[35] = 2;
     assert!(rt; tables.redo(Version::Third, &third).is_ok());
-    assert!(rt; tables.install_net(&old, 5).err() == Some(KeyError::KeyOld { place: 0 }));
+    assert!(rt; dropped_place(&tables, &old) == Some(0));
+    assert!(rt; live_of(&tables, 0).is_none() && live_of(&tables, 2).is_some());
     Ok(())
 }
 
-#[test]
-fn no_room_for_a_network_key(rt: HostRuntime) -> Result<(), Fail> {
-    // A device with 256 network keys, which are dropped.
-    let mut record = Vec::new(rt.alloc());
-    record.extend_from_slice(&[3, 2, 0, 0, 0, 0, 0, 0, 0, 0, 0, 0, 0, 1, 0xFF, 0xFF])?;
-    for i in 0..256u32 {
-        record.extend_from_slice(&[i as u8; 16])?;
-        record.extend_from_slice(&[0; 6])?;
-    }
-    record.extend_from_slice(&[0; 4])?;
-    let tables = Tables::from_record(rt.alloc(), &record)?;
-    let mut new = [0xD0; 16];
-    new[0] = 0;
-    assert!(rt; tables.install_net(&Key(new), 0).err() == Some(KeyError::KeysFull));
-    Ok(())
-}
+// The record, from outside, of a centre with a network key and its first block of four counters.
+const CENTRE: [u8; 43] = [
+    0x03, 0x00, 0x00, 0x00, 0x00, 0x00, 0x00, 0x00, 0x00, 0x00, 0x00, 0x00, 0x01, 0x00, 0x00, 0x00,
+    0x00, 0x01, 0x02, 0x03, 0x04, 0x05, 0x06, 0x07, 0x08, 0x09, 0x0A, 0x0B, 0x0C, 0x0D, 0x0E, 0x0F,
+    0x00, 0x03, 0x04, 0x00, 0x00, 0x00, 0x00, 0x00, 0x00, 0x00, 0x00,
+];
 
 #[test]
-fn no_room_for_a_link_key(rt: HostRuntime) -> Result<(), Fail> {
-    // A device with 64 verified link keys, each with a partner of its own.
-    let mut record = Vec::new(rt.alloc());
-    record.extend_from_slice(&[3, 2, 0, 0, 0, 0, 0, 0, 0, 0, 0, 0, 0, 0, 0xFF, 0xFF, 64, 0])?;
-    for i in 0..64u32 {
-        record.extend_from_slice(&[i as u8, 1, 0, 0, 0, 0, 0, 0])?;
-        record.extend_from_slice(&[i as u8; 16])?;
-        record.extend_from_slice(&[2, 1, 0, 0, 0, 0])?;
-    }
-    record.extend_from_slice(&[0; 2])?;
-    let tables = Tables::from_record(rt.alloc(), &record)?;
-    let new = Key([0xD0; 16]);
-    assert!(rt; tables.offer(Eui(0x200), &new).err() == Some(KeyError::RowsFull));
-    Ok(())
-}
-
-#[test]
-fn refused_calls(rt: HostRuntime) -> Result<(), Fail> {
-    let tables = Tables::from_record(rt.alloc(), &FULL)?;
-    let taken = tables.provision(Eui(0x14), &Key([0xB1; 16]));
-    assert!(rt; taken.err() == Some(KeyError::KeyInUse { partner: Eui(0x11) }));
-    assert!(rt; tables.switch(9).err() == Some(KeyError::NoRow));
-    let verified = tables.verify(Eui(0x12), &[0; 16]);
-    assert!(rt; verified.err() == Some(KeyError::WrongHash));
+fn declared_centre_reserves_its_first_block(rt: HostRuntime) -> Result<(), Fail> {
+    let key = Key([0, 1, 2, 3, 4, 5, 6, 7, 8, 9, 10, 11, 12, 13, 14, 15]);
+    let declaration = Declaration {
+        role: Role::Centre,
+        network: Some(HeldNetwork { key, sequence: 0 }),
+        code: None,
+        nwk: 0,
+        aps: 0,
+    };
+    let mut tables = Tables::from_declaration(rt.alloc(), &declaration)?;
+    assert!(rt; tables.redo(Version::Third, &[1, 1, 0, 4, 0, 0, 0]).is_ok());
+    let mut room = Vec::new(rt.alloc());
+    room.resize(RECORD_ROOM, 0)?;
+    let len = tables.record_bytes(&mut room) as usize;
+    assert!(rt; room.get(..len) == Some(&CENTRE[..]));
     Ok(())
 }

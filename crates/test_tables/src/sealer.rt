@@ -1,20 +1,23 @@
 //! A core over tables: a centre that seals under its active network key.
-ghost use Rattle.std.specs.Prelude.{◌≡◌, ◌≤◌, ◌+◌, min, if◌then◌else◌, [], ◌∷◌, length, Some, None, IfOk, nat_lt};
-ghost use Rattle.zb_base.specs.declared.label.Layer.TheVariants.{Nwk as nwk};
+ghost use Rattle.std.specs.Prelude.{◌≡◌, option_map};
+ghost use Rattle.std.specs.Option.{option_copied};
 ghost use Rattle.zb_node_types.specs.Changes.{edits};
-ghost use Rattle.zb_node_types.specs.declared.change.Change.TheVariants.{Reserve as reserve};
-ghost use Rattle.zb_model.specs.Data.{Centre, Nwk};
+ghost use Rattle.zb_model.specs.Data.{Centre};
 ghost use Rattle.zb_model.specs.Record.{payload, record_of};
-ghost use Rattle.zb_model.specs.State.{greatest_counter, next_counter, stored_limit};
+ghost use Rattle.zb_record.specs.RowViews.{net_key};
+ghost use Rattle.zb_stored_tables.specs.Cores.{IsBooted, IsOfRole};
 ghost use Rattle.zb_stored_tables.specs.Stored.{restored};
-ghost use Rattle.test_tables.specs.Sealers.{IsPlan, IsAfter, Sealing, can_seal, planned, sealed};
-ghost use Rattle.test_tables.specs.SealerLaws.{sealer_adds, sealer_keeps, sealer_newest, sealer_idle, sealer_short};
+ghost use Rattle.zb_stored_tables.proofs.CoreValues.{value_newest};
+ghost use Rattle.test_tables.specs.Sealers.{IsAfter, IsPlan, planned, sealed, sealing_row, term};
+ghost use Rattle.test_tables.specs.SealerLaws.{sealer_adds, sealer_keeps, sealer_idle, sealer_short};
 
 use std::alloc::Global;
 use std::marker::Model;
-use zb_base::{Config, Layer, OrMemory, Role};
+use zb_base::{Config, Eui, Key, Layer, OrMemory, Role};
 use zb_host::{Core, Plan};
+use zb_network::Network;
 use zb_node_types::{Change, Changes, KeyError};
+use zb_record::NetRow;
 use zb_stored_tables::{StoredTables, change_bytes, hold_ranges};
 
 /// Says what happens to a sealing centre.
@@ -26,30 +29,40 @@ pub enum SealerEvent {
     Seal,
 }
 
+/// Tells of a seal the key, the node and the counter.
+#[derive(Clone, Copy, Debug, PartialEq, Eq)]
+pub struct Seal {
+    /// The network key.
+    pub key: Key,
+    /// Who sealed.
+    pub source: Eui,
+    /// The counter that it used.
+    pub counter: u32,
+}
+
 /// Seals as a centre under its active network key, and does nothing else.
 #[derive(Debug, Drop)]
 pub struct Sealer {
     tables: StoredTables,
-    // How many counters it reserves at once.
-    block: u32,
+    network: Network,
 }
 
 impl Model for Sealer {
-    ghost use Rattle.std.specs.Prelude.{◌≡◌, ◌≤◌};
+    ghost use Rattle.std.specs.Prelude.{◌≡◌};
     ghost use Rattle.zb_model.specs.Data.{Centre};
-    ghost use Rattle.test_tables.specs.Sealers.{Sealing};
+    ghost use Rattle.zb_stored_tables.specs.Cores.{CoreValue};
 
-    ghost Value = { Sealing };
+    ghost Value = { CoreValue };
 
-    ghost view = { λ c. record { tables = c.tables; block = c.block } };
+    ghost view = { λ c. record { setting = c.network; tables = c.tables } };
 
-    ghost invariant = { λ c. (c.tables.role ≡ Centre) × (1 ≤ c.block) };
+    ghost invariant = { λ c. (c.tables.role ≡ Centre) × (c.network.me.role ≡ Centre) };
 }
 
 impl Core for Sealer {
     type Event = SealerEvent;
 
-    type Out = Option<u32>;
+    type Out = Option<Seal>;
 
     ghost recorded = { λ c. record_of c.tables };
 
@@ -61,17 +74,21 @@ impl Core for Sealer {
 
     ghost restored = { restored Centre };
 
-    fn plan(&self, event: &SealerEvent) -> Plan<Option<u32>> {
+    ghost is_of_role = { IsOfRole Centre };
+
+    ghost is_booted = { IsBooted Centre };
+
+    fn plan(&self, event: &SealerEvent) -> Plan<Option<Seal>> {
         match event {
             SealerEvent::Rest => self.rest(),
             SealerEvent::Seal => self.seal(),
         }
     }
 
-    fn apply(&mut self, plan: &Plan<Option<u32>>) {
+    fn apply(&mut self, plan: &Plan<Option<Seal>>) {
         self.tables.apply(&plan.changes);
-        if plan.out.is_some() {
-            self.tables.sealed(Layer::Nwk);
+        if let Some(seal) = plan.out {
+            self.tables.sealed_under(Layer::Nwk, &seal.key);
         }
     }
 
@@ -91,10 +108,8 @@ impl Core for Sealer {
         room: &mut [u8],
     ) -> Result<Sealer, OrMemory<KeyError>> {
         let tables = StoredTables::restore(alloc, Role::Centre, content, payloads)?;
-        Ok(Sealer {
-            tables,
-            block: config.out_block,
-        })
+        let network = Network::new(config);
+        Ok(Sealer { tables, network })
     }
 
     ghost short = { sealer_short };
@@ -103,7 +118,7 @@ impl Core for Sealer {
 
     ghost keeps = { sealer_keeps };
 
-    ghost newest = { sealer_newest };
+    ghost newest = { value_newest };
 
     ghost idle = { sealer_idle };
 }
@@ -117,7 +132,7 @@ impl Sealer {
     }
 
     // The plan of no change.
-    fn rest(&self) -> Plan<Option<u32>>
+    fn rest(&self) -> Plan<Option<Seal>>
         ensures { IsPlan self.now SealerEvent.Rest result }
     {
         self.tables.keep_rules();
@@ -128,7 +143,7 @@ impl Sealer {
     }
 
     // The plan of a seal.
-    fn seal(&self) -> Plan<Option<u32>>
+    fn seal(&self) -> Plan<Option<Seal>>
         ensures { IsPlan self.now SealerEvent.Seal result }
     {
         self.tables.keep_rules();
@@ -140,14 +155,27 @@ impl Sealer {
         }
     }
 
-    // The counter with which it seals, if it can.
-    fn next(&self) -> Option<u32>
-        ensures { result ≡ sealed self.now SealerEvent.Seal }
+    // The row under which it seals.
+    fn row(&self) -> Option<&NetRow>
+        ensures { option_map net_key (option_copied result) ≡ sealing_row self.now.tables }
     {
         let tables = self.tables.tables();
-        let _row = tables.active_row()?;
-        let next = tables.outgoing(Layer::Nwk, self.block).next;
-        if next == u32::MAX { None } else { Some(next) }
+        if tables.outgoing(Layer::Nwk, 1).next == u32::MAX {
+            return None;
+        }
+        tables.active_row()
+    }
+
+    // What it seals, if it can.
+    fn next(&self) -> Option<Seal>
+        ensures { option_map term result ≡ sealed self.now SealerEvent.Seal }
+    {
+        let row = self.row()?;
+        Some(Seal {
+            key: row.key,
+            source: self.network.eui(),
+            counter: row.next,
+        })
     }
 
     // Reserves a block where the next counter isn't reserved.
@@ -155,12 +183,11 @@ impl Sealer {
         ensures { result.items ≡ planned self.now SealerEvent.Seal }
     {
         let mut changes = Changes::new();
-        if let Some(next) = self.next() {
-            let limit = self.tables.tables().outgoing(Layer::Nwk, self.block).limit;
-            if next >= limit {
+        if let Some(row) = self.row() {
+            if row.next >= row.limit {
                 changes.push(Change::Reserve {
                     layer: Layer::Nwk,
-                    limit: next.saturating_add(self.block),
+                    limit: row.next.saturating_add(self.network.out_block()),
                 });
             }
         }

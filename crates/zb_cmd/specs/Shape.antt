@@ -1,5 +1,5 @@
 -- Which values are commands, and the ranges of their fields.
-use Rattle.std.specs.Prelude.{◌≡◌, ℕ, ◌^◌, ◌<◌, ◌≤◌, Bool, true, ◌&&◌, nat_le, List, length, slice_index}
+use Rattle.std.specs.Prelude.{◌≡◌, ℕ, ◌^◌, ◌<◌, ◌≤◌, Bool, true, false, ◌&&◌, nat_le, List, length, slice_index}
 use Rattle.zb_cursor.specs.Spelling.{bit}
 use Rattle.zb_cmd.specs.declared.command.Command.{Command}
 use Rattle.zb_cmd.specs.declared.command.Command.TheVariants.{TransportNetwork, TransportApplication, TransportLink, Update, Remove, RequestApplication, RequestLink, Switch, Tunnel, Verify, Confirm}
@@ -19,6 +19,14 @@ IsCommand _ = Unit {0}
 abbrev pub IsSmall : Command → Type 0
 IsSmall (Tunnel destination inner) = length inner.items ≤ 118
 IsSmall _ = Unit {0}
+
+abbrev pub is_tunnel : Command → Bool
+is_tunnel (Tunnel destination inner) = true
+is_tunnel _ = false
+
+-- The bytes of the longest command that is no Tunnel: a Transport-Key of a network key.
+abbrev pub most_bytes : ℕ
+most_bytes = 35
 
 abbrev pub InRange : Command → Type 0
 InRange (TransportNetwork k sequence destination source) = (length k.0 ≡ 16) × (sequence < 2 ^ 8) × (destination.0 < 2 ^ 64) × (source.0 < 2 ^ 64)

@@ -1,10 +1,10 @@
 //! The commands of the APS security services: the value, the reader of bytes and the writer.
-ghost use Rattle.std.specs.Prelude.{◌≡◌, ◌≢◌, ◌≤◌, ◌<◌, ◌^◌, ◌∷◌, ◌++◌, [], length, IfOk, OnErr, Ok, Err, IsTrue, ◌↔◌, true};
+ghost use Rattle.std.specs.Prelude.{◌≡◌, ◌≢◌, ◌≤◌, ◌<◌, ◌^◌, ◌∷◌, ◌++◌, [], length, IfOk, OnErr, Ok, Err, IsTrue, ◌↔◌, true, false};
 ghost use Rattle.zb_cursor.specs.Spelling.{byte, short, eui, key};
 ghost use Rattle.zb_cursor.specs.Reading.{Gives};
 ghost use Rattle.zb_cursor.specs.Writing.{Appends};
 ghost use Rattle.zb_cmd.specs.Spelling.{command};
-ghost use Rattle.zb_cmd.specs.Shape.{InRange, IsCommand, IsSmall};
+ghost use Rattle.zb_cmd.specs.Shape.{InRange, IsCommand, IsSmall, is_tunnel, most_bytes};
 ghost use Rattle.zb_cmd.specs.declared.fault.CmdError.{CmdError};
 ghost use Rattle.zb_cmd.specs.declared.command.Command.{Command};
 ghost use Rattle.zb_cmd.specs.Shape.{Spells};
@@ -307,6 +307,39 @@ fn put_command(out: &mut Frame, value: &Command) -> Result<(), TooLong>
     Ok(())
 }
 
+// That a command but a Tunnel has at most 35 bytes, for what is said of it.
+fn known_length(value: &Command)
+    ensures { is_tunnel value.now ≡ false → length (command value.now) ≤ most_bytes }
+{
+    match value {
+        Command::TransportNetwork { key, .. } => known_key(key),
+        Command::TransportApplication { key, .. } => known_key(key),
+        Command::TransportLink { key, .. } => known_key(key),
+        Command::Update { .. } => {}
+        Command::Remove { .. } => {}
+        Command::RequestApplication { .. } => {}
+        Command::RequestLink => {}
+        Command::Switch { .. } => {}
+        Command::Tunnel { .. } => {}
+        Command::Verify { hash, .. } => known_hash(hash),
+        Command::Confirm { .. } => {}
+    }
+}
+
+// That a key has 16 bytes, for what is said of it.
+fn known_key(key: &Key)
+    ensures { length key.now.0 ≡ 16 }
+{
+    let _bytes = key.0;
+}
+
+// That a hash has 16 bytes, for what is said of it.
+fn known_hash(hash: &[u8; 16])
+    ensures { length hash.now ≡ 16 }
+{
+    let _bytes = *hash;
+}
+
 /// Writes the one spelling of a command. Requires that `inner_ok` takes the frame in a Tunnel.
 ///
 /// # Errors
@@ -317,7 +350,9 @@ pub fn write_command(value: &Command) -> Result<Frame, TooLong>
     ensures text { IfOk result (λ bytes. bytes.items ≡ command value.now) }
     ensures fits { IfOk result (λ bytes. length (command value.now) ≤ 127) }
     ensures long { OnErr result (127 < length (command value.now)) }
+    ensures short { is_tunnel value.now ≡ false → length (command value.now) ≤ most_bytes }
 {
+    known_length(value);
     let mut out = ArrayVec::new();
     put_command(&mut out, value)?;
     Ok(out)

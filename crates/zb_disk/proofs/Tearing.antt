@@ -2,11 +2,11 @@
 use Rattle.std.proofs.Common.{◌≡◌, ◌⊎◌, inl, inr, ⊎_elim, ℕ, zero, suc, ◌+◌, ◌-◌, ◌%◌, ◌≤◌, ◌<◌, List, [], ◌∷◌, ◌++◌, length, get_or, set, take, drop, replicate, Bool, true, false, nat_lt, if◌then◌else◌, refl, sym, ◌∙◌, ap, arith, length-set, get_or-set_same, get_or-set_other, append_assoc}
 use Rattle.std.proofs.lemmas.List.{ext_get_or, drop_more, drop-set-lt, take-set-le, take_more_set, take_more, set_split, take-append-le, length-take-le, get_or-take, get_or-drop, drop-drop}
 use Rattle.std.proofs.lemmas.Bool.{false≢true, cases_lt, cases_eq, cases_Bool, lt-ltb}
-use Rattle.zb_disk.specs.View.{Torn, IsUnsynced, overwrite}
+use Rattle.zb_disk.specs.View.{Torn, IsUnsynced, Only, overwrite}
 use Rattle.zb_disk.specs.Memory.{Medium, IsImage, tear, torn_by, settled, synced, powered, is_stopped, memory_view}
 use Rattle.zb_disk.specs.declared.memory.Arming.TheVariants.{Unarmed}
 use Rattle.zb_disk.specs.MemoryLaws.{image_seen}
-use Rattle.zb_disk.proofs.Images.{torn_stands}
+use Rattle.zb_disk.proofs.Images.{torn_stands, one_image, lowered}
 
 pub length-tear : (p : List ℕ) (phase : ℕ) (bytes : List ℕ) (written : List Bool) → length (tear p phase bytes written) ≡ length bytes
 length-tear p phase [] written = refl
@@ -187,3 +187,8 @@ unfolding synced powered
 powered_off m bytes stopped is =
     ap (λ (l : List ℕ). let n : Medium = record m { bytes = l; written = replicate (length m.written) false; grown = 0; arming = Unarmed } in n) is
     ∙ ap (λ (b : Bool). let n : Medium = record m { bytes = if b then torn_by m.torn m.bytes m.written else m.bytes; written = replicate (length m.written) false; grown = 0; arming = if b then Unarmed else m.arming } in n) (sym stopped)
+
+-- and then what reads is the one image
+pub only_powered : (m : Medium) → Only (powered m).bytes (memory_view (powered m)).images
+unfolding powered
+only_powered m = one_image (settled m) (replicate (length m.written) false) (lowered (length m.written))

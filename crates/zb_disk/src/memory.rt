@@ -1,6 +1,6 @@
 //! A disk in memory, whose calls can be made to fail and whose writes can be torn.
 ghost use Rattle.std.specs.Prelude.{OnOk, if◌then◌else◌, ◌-◌, replicate, ◌≡◌, ◌+◌, ◌≤◌, ◌<◌, ◌++◌, [], ◌∷◌, ℕ, length, take, IfOk, IsTrue, slice_index, vec_len, vec_capacity};
-ghost use Rattle.zb_disk.specs.View.{overwrite, window, IsUnsynced};
+ghost use Rattle.zb_disk.specs.View.{overwrite, window, Only, IsUnsynced};
 ghost use Rattle.zb_base.specs.Outside.{risen};
 ghost use Rattle.zb_disk.specs.Calls.{IsRead, IsWrite, IsSync};
 ghost use Rattle.zb_disk.specs.Memory.{Medium, refuses, after_call, is_stopped, armed, tear, torn_by, counted, stored, synced, after_read, after_write, after_sync, powered, fresh, memory_tells, memory_view};
@@ -180,6 +180,7 @@ impl MemDisk {
     pub fn power_on(&mut self)
         ensures after { self.new ≡ powered self.old }
         ensures one_of_the_images { (memory_view self.old).images self.new.bytes }
+        ensures only { Only self.new.bytes (memory_view self.new).images }
 
         // Where exactly one byte is unsynced, it becomes the first of `torn`.
         ensures one_byte { (at : ℕ) → IsUnsynced at 1 (memory_view self.old) → at < length self.old.bytes

@@ -2,8 +2,9 @@
 use Rattle.std.proofs.Common.{◌≡◌, ◌&&◌, List, ℕ, Bool, true, false, if◌then◌else◌}
 use Rattle.zb_disk.specs.View.{Telling, View}
 use Rattle.zb_store.specs.Layout.{Standing, IsWhole}
+use Rattle.zb_store.specs.Steps.{StoppedWithin}
 use Rattle.zb_store.specs.Store.{AppendStop, PutStop, appended, replaced}
-use Rattle.zb_host.specs.Hosts.{Restoring, Gives, AnswersOn, next_standing, CommitStop}
+use Rattle.zb_host.specs.Hosts.{Restoring, Gives, AnswersOn, next_standing, commit_calls, CommitStop}
 use Rattle.zb_host.proofs.Lives.{same_standing, same_record}
 
 pub stands_then : (tells : Telling) (whole b : Bool) (s : Standing) (content payload bytes : List ℕ) (old new : View)
@@ -12,6 +13,12 @@ pub stands_then : (tells : Telling) (whole b : Bool) (s : Standing) (content pay
     → CommitStop tells whole s content payload old new → IsWhole (if b then next_standing whole s content payload else s) bytes
 stands_then tells true b s content payload bytes old new append put stop = put stop
 stands_then tells false b s content payload bytes old new append put stop = append stop
+
+pub within_then : (tells : Telling) (whole : Bool) (s : Standing) (content payload : List ℕ) (old new : View)
+    → (AppendStop tells s payload old new → StoppedWithin tells 4 old new) → (PutStop tells s content old new → StoppedWithin tells 6 old new)
+    → CommitStop tells whole s content payload old new → StoppedWithin tells (commit_calls whole) old new
+within_then tells true s content payload old new append put stop = put stop
+within_then tells false s content payload old new append put stop = append stop
 
 pub gates_then : (tells : Telling) (whole b both : Bool) (s : Standing) (content payload : List ℕ) (old new : View)
     → (AppendStop tells s payload old new → both ≡ false) → (PutStop tells s content old new → both ≡ b)

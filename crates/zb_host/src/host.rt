@@ -4,7 +4,8 @@ ghost use Rattle.zb_base.specs.Config.{IsConfig};
 ghost use Rattle.zb_disk.specs.View.{IsStill};
 ghost use Rattle.zb_store.specs.Layout.{Standing, stands};
 ghost use Rattle.zb_store.specs.Steps.{WentThrough};
-ghost use Rattle.zb_store.specs.Store.{place_of, AllWhole, WasThere, open_calls, OpenStop};
+ghost use Rattle.std.specs.List.{concat};
+ghost use Rattle.zb_store.specs.Store.{IsHeld, AllWhole, open_calls, OpenStop};
 ghost use Rattle.zb_host.specs.declared.plan.Plan.{Plan as plan};
 ghost use Rattle.zb_host.specs.Hosts.{IsCurrent, writes_whole, commit_calls, HasStopped, IsWorn};
 ghost use Rattle.zb_host.specs.HostFaults.{IsHandleFault, host_fault};
@@ -82,6 +83,9 @@ impl<C: Core> Host<C> {
             → HasStopped D.tells C.restored (writes_whole self.old) s
             (C.recorded self.new.core) (C.payload changes.items) (D.state disk.old) (D.state disk.new)) }
 
+        // An event for which the disk failed had changes.
+        ensures changed { IfErr result (λ e. (changes : _) → e ≡ HostFault.Disk changes → changes.items ≢ []) }
+
         // After a commit the next one is an entry, unless no entry more fits. Where the whole record would need one
         // generation more than there are, nothing is stored, and the disk is left as it was.
         ensures entry_next { IfOk result (λ r. r.0.items ≢ [] → self.new.whole ≡ false) }
@@ -119,17 +123,33 @@ impl<C: Core> Host<C> {
 
     /// Makes the host of the node whose record and entries stand on the disk.
     ///
-    /// It makes the device calls of `Store::open`: one, or three where the gates of both slots are open.
+    /// It makes the device calls of `Store::open`: one, or three where the gates of both slots are open. Requires a
+    /// configuration of a node of the core's role.
     ///
     /// Errors: `Disk`; `NoMemory`; `NoRecord`; `BadRecord`, with the place of the fault.
     pub fn boot<D: Disk>(alloc: Global, config: &Config, disk: &mut D) -> Result<Host<C>, HostFault>
         requires config { IsConfig config.now }
+        requires role { C.is_of_role config.now }
 
         // Its core is that of the record and the entries that the disk as it reads stands for, and then every image
         // stands for them. Each image at each moment stands for what one at entry stood for.
         ensures step { IsBooted (words_of D.tells D.state C.restored C.recorded C.payload) disk.old result disk.new }
         ensures through { OnOk result (IsTrue D.tells.content
             → WentThrough D.tells (open_calls (D.state disk.old).seen) (D.state disk.old) (D.state disk.new)) }
+
+        // It is the core with which a node of this configuration boots on them.
+        ensures core { IfOk result (λ h. IsTrue D.tells.content → (s : Standing)
+            → stands (D.state disk.old).seen ≡ Some s
+            → C.is_booted config.now s.content (concat s.payloads) h.core) }
+
+        // Where no slot stands open the disk is left as it was. Where what stands gives no core the calls are made.
+        ensures no_record { IfErr result (λ e. e ≡ HostFault.NoRecord
+            → IsStill (D.state disk.old) (D.state disk.new)) }
+        ensures bad_record { IfErr result (λ e. (at : ℕ) → e ≡ HostFault.BadRecord at → IsTrue D.tells.content
+            → WentThrough D.tells (open_calls (D.state disk.old).seen) (D.state disk.old) (D.state disk.new)) }
+        ensures bad_record_held { IfErr result (λ e. (at : ℕ) → e ≡ HostFault.BadRecord at
+            → AllWhole (D.state disk.old) → IsTrue D.tells.content
+            → (s : Standing) → stands (D.state disk.old).seen ≡ Some s → IsHeld s (D.state disk.new)) }
         ensures stopped { IfErr result (λ e. (changes : _) → e ≡ HostFault.Disk changes → AllWhole (D.state disk.old)
             → IsTrue D.tells.content → IsTrue D.tells.steady
             → (s : Standing) → stands (D.state disk.old).seen ≡ Some s

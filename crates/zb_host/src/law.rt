@@ -1,17 +1,17 @@
 //! What a node keeps over calls, crashes and boots. Each function here says laws and does nothing.
 ghost use Rattle.std.specs.Prelude.{◌≡◌, ◌&&◌, if◌then◌else◌, List, ℕ, Bool, None, IsTrue};
-ghost use Rattle.zb_disk.specs.declared.memory.Arming.TheVariants.{Stop, Fail};
+ghost use Rattle.zb_disk.specs.declared.memory.Arming.TheVariants.{Unarmed, Stop, Fail};
 ghost use Rattle.zb_disk.specs.Memory.{Medium, powered, memory_tells, memory_view};
-ghost use Rattle.zb_store.specs.Layout.{Standing};
-ghost use Rattle.zb_store.specs.Power.{stop_commits, failure_commits, stop_opens_both, failure_opens_both};
+ghost use Rattle.zb_store.specs.Layout.{Standing, IsWhole};
+ghost use Rattle.zb_store.specs.Power.{stop_commits, failure_commits, stop_opens_both, failure_opens_both, StopFell, FailureFell};
 ghost use Rattle.zb_store.specs.Store.{AllWhole, both_gates_open};
-ghost use Rattle.zb_host.specs.Hosts.{Restoring, Gives, next_standing, CommitStop, AnswersOn};
+ghost use Rattle.zb_host.specs.Hosts.{Restoring, Gives, next_standing, commit_calls, CommitStop, AnswersOn};
 ghost use Rattle.zb_host.specs.Calls.{words_of};
 ghost use Rattle.zb_host.specs.Lives.{Step, AreSteps, EachBootGoesOn};
 
 use crate::Core;
 use zb_disk::Disk;
-use zb_store::stopped_commits;
+use zb_store::{armed_runs, stopped_commits, stopped_runs};
 
 /// Says that over any list of calls and crashes each boot goes on from the boot before it.
 ///
@@ -57,4 +57,35 @@ pub fn stopped_events()
         → both_gates_open (powered new).bytes ≡ (whole && failure_opens_both call) }
 {
     stopped_commits();
+}
+
+/// Says what stands after an event whose commit an armed stop or failure ended, and on which call it fell.
+///
+/// It also says how many calls were made, whether the disk is off since then, and that no commit ends so where nothing
+/// is armed. A commit that went through is behind a stop or failure that didn't fall (`zb_store::armed_runs`).
+///
+/// The premise is the clause `stopped` of `handle`.
+pub fn fallen_events()
+    ensures stopped { (whole : Bool) (s : Standing) (content payload : List ℕ) (old new : Medium) (calls : ℕ)
+        → CommitStop memory_tells whole s content payload (memory_view old) (memory_view new)
+        → old.arming ≡ Stop calls
+        → IsWhole (if stop_commits calls old.torn then next_standing whole s content payload else s)
+        (powered new).bytes }
+    ensures failed { (whole : Bool) (s : Standing) (content payload : List ℕ) (old new : Medium) (call : ℕ)
+        → CommitStop memory_tells whole s content payload (memory_view old) (memory_view new)
+        → old.arming ≡ Fail call
+        → IsWhole (if failure_commits call then next_standing whole s content payload else s) (powered new).bytes }
+    ensures stop_falls { (whole : Bool) (s : Standing) (content payload : List ℕ) (old new : Medium) (calls : ℕ)
+        → CommitStop memory_tells whole s content payload (memory_view old) (memory_view new)
+        → old.arming ≡ Stop calls → StopFell calls (commit_calls whole) old new }
+    ensures failure_falls { (whole : Bool) (s : Standing) (content payload : List ℕ) (old new : Medium) (call : ℕ)
+        → CommitStop memory_tells whole s content payload (memory_view old) (memory_view new)
+        → old.arming ≡ Fail call → FailureFell call (commit_calls whole) old new }
+    ensures none_falls { (whole : Bool) (s : Standing) (content payload : List ℕ) (old new : Medium)
+        → CommitStop memory_tells whole s content payload (memory_view old) (memory_view new)
+        → old.arming ≡ Unarmed → ⊥ }
+{
+    stopped_commits();
+    stopped_runs();
+    armed_runs();
 }

@@ -10,6 +10,6 @@ mod plan;
 
 pub use crate::fault::HostFault;
 pub use crate::host::Host;
-pub use crate::law::{each_boot_goes_on, stopped_events};
+pub use crate::law::{each_boot_goes_on, fallen_events, stopped_events};
 pub use crate::outcome::Outcome;
 pub use crate::plan::{Core, Plan};

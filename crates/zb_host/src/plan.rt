@@ -2,6 +2,7 @@
 ghost use Rattle.std.specs.Prelude.{◌≡◌, ◌≢◌, ◌≤◌, ◌++◌, List, [], ℕ, length, take, get_or, IfOk, IfErr};
 ghost use Rattle.zb_node_types.specs.declared.change.Change.{Change as change};
 ghost use Rattle.zb_base.specs.Config.{IsConfig};
+ghost use Rattle.zb_base.specs.declared.node.Config.{Config as configuration};
 ghost use Rattle.zb_store.specs.Sizes.{record_room, payload_room, payloads_room};
 ghost use Rattle.zb_host.specs.Plans.{Restored, gives, IsRestoreFault};
 
@@ -47,6 +48,14 @@ pub trait Core: Drop {
     /// The record of the core that a record and the payloads behind it give.
     ghost restored: { List ℕ → List ℕ → Restored };
 
+    /// The configurations of such a node: those in which it is of the core's role.
+    ghost is_of_role: { configuration → Type 0 };
+
+    /// The core with which a node boots: that of a record and the payloads behind it, one after the other, in a
+    /// configuration. It says what of the core a record doesn't have: the next counters, and what it was configured
+    /// with.
+    ghost is_booted: { configuration → List ℕ → List ℕ → Self → Type 0 };
+
     /// Plans an event; changes nothing.
     fn plan(&self, event: &Self::Event) -> Plan<Self::Out>
         ensures { is_plan self.now event.now result };
@@ -71,8 +80,8 @@ pub trait Core: Drop {
         ensures len { result ≡ length (payload changes.now.items) }
         ensures bytes { take result into.new ≡ payload changes.now.items };
 
-    /// Makes the core of a node from a record and the payloads behind it, one after the other. Requires no more bytes
-    /// than a store has of them, and room for a record.
+    /// Makes the core of a node from a record and the payloads behind it, one after the other. Requires a configuration
+    /// of such a node, no more bytes than a store has of them, and room for a record.
     ///
     /// Errors: `BadRecord`, with the place of the fault; want of memory.
     fn restore(
@@ -83,10 +92,12 @@ pub trait Core: Drop {
         room: &mut [u8],
     ) -> Result<Self, OrMemory<KeyError>>
         requires config { IsConfig config.now }
+        requires role { is_of_role config.now }
         requires record_size { length content.now ≤ record_room }
         requires payloads_size { length payloads.now ≤ payloads_room }
         requires room { record_room ≤ length room.old }
         ensures core { IfOk result (λ c. restored content.now payloads.now ≡ gives (recorded c)) }
+        ensures booted { IfOk result (λ c. is_booted config.now content.now payloads.now c) }
         ensures fault { IfErr result (IsRestoreFault (restored content.now payloads.now)) };
 
     /// The payload of a plan's changes fits an entry.

@@ -2,7 +2,7 @@
 use Rattle.std.proofs.Common.{◌≡◌, List, [], ◌∷◌, map, length, refl, sym, ap, ◌∙◌, Bool, true, false, if◌then◌else◌, subst}
 use Rattle.std.specs.Vec.{with_items}
 use Rattle.std.proofs.lemmas.List.{with_items_is}
-use Rattle.zb_model.specs.State.{NetKey, LinkKey, shown_net, booted_floor, booted_net, booted_link}
+use Rattle.zb_model.specs.State.{NetKey, shown_net, booted_floor, booted_net, booted_link}
 use Rattle.zb_model.specs.Fits.{keeps_rules}
 use Rattle.zb_keys.specs.declared.contents.Contents.{Contents}
 use Rattle.zb_record.specs.declared.net_row.NetRow.{NetRow}

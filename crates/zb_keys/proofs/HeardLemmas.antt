@@ -1,21 +1,20 @@
 -- What seals and accepted frames do to the contents of tables.
-use Rattle.std.proofs.Common.{◌≡◌, ℕ, ◌+◌, ◌<◌, List, [], map, length, refl, sym, ap, ◌∙◌, Bool, true, false, if◌then◌else◌, subst, Some}
+use Rattle.std.proofs.Common.{◌≡◌, ℕ, ◌+◌, List, [], map, length, refl, sym, ap, ◌∙◌, Bool, true, false, if◌then◌else◌, subst, Some, None}
 use Rattle.std.specs.Prelude.{nat_lt}
 use Rattle.std.specs.Vec.{with_items}
 use Rattle.std.proofs.lemmas.List.{with_items_is}
 use borrow.Author.Tests.{lt-ltb}
-use Rattle.zb_model.specs.Data.{Bytes, Nwk}
-use Rattle.zb_model.specs.State.{NodeState, NetKey, LinkKey, same_key, at_net, at_link, is_link, shown_net, next_at, net_kept, link_kept, after_counting, of_active, next_counter, stored_limit, active_row}
-use Rattle.zb_model.specs.Fits.{keeps_rules, keys_differ, all_apart}
+use Rattle.zb_model.specs.Data.{Bytes, Layer, Nwk, Aps, Term}
+use Rattle.zb_model.specs.State.{greatest_counter, NodeState, NetKey, LinkKey, same_key, at_net, at_link, is_link, shown_net, next_at, net_kept, link_kept, after_sealing}
+use Rattle.zb_model.specs.Fits.{keeps_rules}
 use Rattle.zb_keys.specs.declared.contents.Contents.{Contents}
 use Rattle.zb_record.specs.declared.net_row.NetRow.{NetRow}
 use Rattle.zb_record.specs.declared.link_row.LinkRow.{LinkRow}
 use Rattle.zb_record.specs.RowViews.{net_key, link_key}
-use Rattle.zb_record.specs.Senders.{counted_row}
+use Rattle.zb_keys.specs.Reading.{next_under, behind_next, IsNext}
 use Rattle.zb_keys.specs.Tables.{state_of, IsSound, Forgets}
 use Rattle.zb_keys.proofs.ShownLemmas.{shown_at}
-use Rattle.zb_keys.proofs.StateLemmas.{both, rules_of}
-use Rattle.zb_keys.proofs.RuleLemmas.{Mild, mild_at, kept_by_map, kept_by_links, at_net_found}
+use Rattle.zb_keys.proofs.RuleLemmas.{Mild, mild_at, kept_by_map, kept_by_links}
 
 -- network rows that are changed where nothing of the rules is told
 pub sound_nets : (a : Contents) (rows : List NetRow) (key : Bytes) (f : NetKey → NetKey) → Mild f → ((r : NetKey) → shown_net r ≡ r → shown_net (f r) ≡ f r)
@@ -33,13 +32,6 @@ sound_nets a rows key f mild shows long is sound =
 
 pub state_nets : (a : Contents) (rows : List NetRow) (nets : List NetKey) → length rows ≡ a.nets.len → map net_key rows ≡ nets → state_of (record a { nets = with_items a.nets rows }) ≡ record (state_of a) { nets = nets }
 state_nets a rows nets long is = ap (λ l. record (state_of a) { nets = map net_key l }) (with_items_is a.nets rows long) ∙ ap (λ l. record (state_of a) { nets = l }) is
-
-pub counted_shows : (r : NetKey) → shown_net r ≡ r → shown_net (counted_row r) ≡ counted_row r
-counted_shows r same = at_test (nat_lt r.next r.limit)
-  where
-    at_test : (b : Bool) → shown_net (if b then next_at (r.next + 1) r else r) ≡ (if b then next_at (r.next + 1) r else r)
-    at_test true = ap (next_at (r.next + 1)) same
-    at_test false = same
 
 pub heard_shows : (sender kept : ℕ) (r : NetKey) → shown_net r ≡ r → shown_net (net_kept sender kept r) ≡ net_kept sender kept r
 heard_shows sender kept r same = by_live r.live refl
@@ -69,11 +61,31 @@ link_heard a rows partner key kept long is sound =
 pub state_links : (a : Contents) (rows : List LinkRow) (links : List LinkKey) → length rows ≡ a.links.len → map link_key rows ≡ links → state_of (record a { links = with_items a.links rows }) ≡ record (state_of a) { links = links }
 state_links a rows links long is = ap (λ l. record (state_of a) { links = map link_key l }) (with_items_is a.links rows long) ∙ ap (λ l. record (state_of a) { links = l }) is
 
--- the counter of the active key is reserved, so counting it is counting the row
-pub counted_nets : (s : NodeState) (key : Bytes) → s.active ≡ Some key → keeps_rules s ≡ true → next_counter Nwk s < stored_limit Nwk s → record s { nets = at_net key counted_row s.nets } ≡ after_counting Nwk s
-unfolding after_counting next_counter stored_limit active_row keys_differ
-counted_nets s key active kept reserved =
-    let apart = (both (all_apart (λ (a b : NetKey). same_key a.key b.key) s.nets) _ (rules_of s kept).keys).0 in
-    let nets : at_net key counted_row s.nets ≡ at_net key (λ (r : NetKey). next_at (r.next + 1) r) s.nets =
-    at_net_found key counted_row (λ (r : NetKey). next_at (r.next + 1) r) s.nets apart (λ r found. let lt : r.next < r.limit = rw (active, found) at reserved in let t : nat_lt r.next r.limit ≡ true = lt-ltb _ _ lt in rw t refl) in
-    ap (λ l. record s { nets = l }) (nets ∙ ap (λ a. of_active (λ (r : NetKey). next_at (r.next + 1) r) a s.nets) (sym active))
+-- a term was sealed with the next counter of its base key
+pub next_is_mild : (next : ℕ) → Mild (next_at next)
+next_is_mild next = record { key = λ r. refl; live = λ r. refl; limit = λ r e. e; floors = λ r e. e }
+
+pub next_shows : (next : ℕ) (r : NetKey) → shown_net r ≡ r → shown_net (next_at next r) ≡ next_at next r
+next_shows next r same = ap (next_at next) same
+
+pub behind_is : (layer : Layer) (key : Bytes) (s : NodeState) (t : Term) → IsNext layer key s t → behind_next (next_under layer key s) ≡ Some (t.counter + 1)
+behind_is layer key s t so =
+    let lt : nat_lt t.counter greatest_counter ≡ true = lt-ltb _ _ so.below_last in
+    ap behind_next so.counter_is ∙ rw lt refl
+
+pub sealed_nwk : (key : Bytes) (s : NodeState) (t : Term) (next : ℕ) → IsNext Nwk key s t → Some next ≡ behind_next (next_under Nwk key s) → record s { nets = at_net key (next_at next) s.nets } ≡ after_sealing t s
+unfolding after_sealing
+sealed_nwk key s t next so is =
+    let both_ : Some next ≡ Some (t.counter + 1) = is ∙ behind_is Nwk key s t so in
+    let same : next ≡ t.counter + 1 = cc in
+    rw (so.layer_is, so.base_is, same) refl
+
+pub sealed_aps : (key : Bytes) (s : NodeState) (t : Term) (next : ℕ) → IsNext Aps key s t → Some next ≡ behind_next (Some s.aps_next) → record s { aps_next = next } ≡ after_sealing t s
+unfolding after_sealing
+sealed_aps key s t next so is =
+    let both_ : Some next ≡ Some (t.counter + 1) = is ∙ behind_is Aps key s t so in
+    let same : next ≡ t.counter + 1 = cc in
+    rw (so.layer_is, same) refl
+
+pub sealed_none : (layer : Layer) (key : Bytes) (s : NodeState) (t : Term) → IsNext layer key s t → None ≡ behind_next (next_under layer key s) → s ≡ after_sealing t s
+sealed_none layer key s t so is = let clash : None ≡ Some (t.counter + 1) = is ∙ behind_is layer key s t so in absurd (cc)

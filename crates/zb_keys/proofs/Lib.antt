@@ -6,9 +6,9 @@ pub mod ApplyLemmas
 pub mod FindLemmas
 pub mod HeardLemmas
 pub mod ReadLemmas
-pub mod PlanLemmas
 pub mod RecordLemmas
 pub mod FittingLemmas
 pub mod RestoreLemmas
 pub mod BootLemmas
 mod FirstLemmas
+mod DeclarationLemmas

@@ -1,27 +1,22 @@
 -- What readers find in the contents of tables.
-use Rattle.std.proofs.Common.{◌≡◌, ℕ, ◌+◌, ◌<◌, ◌≤◌, [], map, length, sym, ap, ◌∙◌, arith, Bool, true, Option, Some, None}
-use Rattle.std.specs.Prelude.{find, position, option_map, nat_eq, nat_le}
+use Rattle.std.proofs.Common.{◌≡◌, ℕ, ◌≤◌, [], map, length, sym, ap, ◌∙◌, true, Option, Some, None}
+use Rattle.std.specs.Prelude.{find, option_map, nat_eq, nat_le}
 use Rattle.zb_base.specs.declared.key.Key.{Key}
 use Rattle.zb_counter.specs.declared.sending.Outgoing.{Outgoing}
 use Rattle.zb_model.specs.Data.{Nwk}
 use Rattle.zb_model.specs.State as model
-use Rattle.zb_model.specs.State.{NodeState, NetKey, same_key, after_counting, active_row, net_of_active, next_counter, stored_limit, with_declared, declared_at, sender_floor, floor_of_sender}
+use Rattle.zb_model.specs.State.{NodeState, NetKey, same_key, active_row, net_of_active, next_counter, stored_limit, with_declared, declared_at, sender_floor, floor_of_sender, last_where, newest}
 use Rattle.zb_model.specs.Fits.{keeps_rules, rows_have_room, keys_differ, at_most_two_live, active_is_live, partners_agree, links_are_marked, floors_are_kept, limits_are_started, role_is_kept, pairs_are_kept}
 use Rattle.zb_keys.specs.declared.contents.Contents.{Contents}
 use Rattle.zb_record.specs.declared.net_row.NetRow.{NetRow}
 use Rattle.zb_record.specs.declared.net_row.SenderFloor.{SenderFloor}
 use Rattle.zb_record.specs.RowViews.{net_key, heard_floor}
-use Rattle.zb_keys.specs.Reading.{outgoing_of, place_of_key}
+use Rattle.zb_keys.specs.Reading.{outgoing_of}
 use Rattle.zb_keys.specs.Tables.{state_of, IsSound}
 use Rattle.zb_record.specs.Headings.{active_bytes}
-use Rattle.std.proofs.lemmas.List.{length-map}
 use borrow.Author.Tests.{leb-true}
-use Rattle.zb_keys.proofs.FindLemmas.{find_map, position_map, position_below}
+use Rattle.zb_keys.proofs.FindLemmas.{find_map, last_map}
 use Rattle.zb_keys.proofs.StateLemmas.{both, rules_of}
-
-pub counted_none : (s : NodeState) → s.active ≡ None → s ≡ after_counting Nwk s
-unfolding after_counting
-counted_none s none = ap (λ a. record s { nets = model.of_active (λ (r : NetKey). model.next_at (r.next + 1) r) a s.nets }) (sym none)
 
 pub active_found : (a : Contents) (key : Key) (row : Option NetRow) → a.active ≡ Some key → row ≡ find (λ (r : NetRow). same_key (net_key r).key key.0) a.nets.items → option_map net_key row ≡ active_row (state_of a)
 unfolding active_row
@@ -69,16 +64,10 @@ pub declared_state : (s : NodeState) (n : ℕ) → s.nets ≡ [] → record s { 
 unfolding with_declared
 declared_state s n none = ap (λ l. record s { declared = n; nets = l }) (none ∙ sym (ap (map (declared_at n)) none))
 
-pub place_found : (a : Contents) (key : Key) (place : Option ℕ) → a.active ≡ Some key → place ≡ position (λ (r : NetRow). same_key (net_key r).key key.0) a.nets.items → place ≡ place_of_key (state_of a).active (state_of a).nets
-place_found a key place is found =
-    found ∙ sym (position_map (λ (r : NetKey). same_key r.key key.0) net_key a.nets.items) ∙ ap (λ k. place_of_key k (map net_key a.nets.items)) (sym (ap active_bytes is))
-
-pub place_none : (a : Contents) → a.active ≡ None → None ≡ place_of_key (state_of a).active (state_of a).nets
-place_none a none = ap (λ k. place_of_key k (map net_key a.nets.items)) (sym (ap active_bytes none))
-
 pub few_nets : (s : NodeState) → keeps_rules s ≡ true → length s.nets ≤ 256
 unfolding rows_have_room
 few_nets s kept = leb-true (length s.nets) 256 (both (nat_le (length s.nets) 256) _ (rules_of s kept).room).0
 
-pub place_fits : (a : Contents) (p : NetRow → Bool) (place : ℕ) → IsSound a → Some place ≡ position p a.nets.items → place < 4294967296
-place_fits a p place sound found = let below : place < length a.nets.items = position_below p a.nets.items place (sym found) in omega (arith, few_nets (state_of a) sound.rules, length-map a.nets.items net_key)
+pub newest_is : (a : Contents) (o : Option NetRow) → o ≡ last_where (λ (r : NetRow). (net_key r).live) a.nets.items → option_map net_key o ≡ newest (state_of a)
+unfolding newest
+newest_is a o found = ap (option_map net_key) found ∙ sym (last_map (λ (r : NetKey). r.live) net_key a.nets.items)

@@ -1,5 +1,5 @@
 -- What tables keep is what a record is written of.
-use Rattle.std.proofs.Common.{◌≡◌, ℕ, ◌≤◌, List, length, map, refl, ap, arith, sym, subst}
+use Rattle.std.proofs.Common.{◌≡◌, ◌≤◌, List, length, refl, ap, arith}
 use Rattle.std.specs.Prelude.{filter}
 use Rattle.std.proofs.lemmas.List.{length-map}
 use borrow.Author.Tests.{leb-true}

@@ -1,17 +1,14 @@
 -- The rules for records stand where rows change only in what they do not speak of.
-use Rattle.std.proofs.Common.{◌≡◌, ℕ, ◌+◌, List, [], ◌∷◌, length, map, filter, refl, sym, ap, ◌∙◌, Bool, true, false, not, if◌then◌else◌, ◌&&◌, ◌||◌, Option, Some, None}
+use Rattle.std.proofs.Common.{◌≡◌, ℕ, List, [], ◌∷◌, length, map, filter, refl, ap, ◌∙◌, Bool, true, false, not, if◌then◌else◌, ◌&&◌, ◌||◌, Option, Some, None}
 use Rattle.std.specs.Prelude.{find, nat_le, nat_lt, nat_eq}
 use Rattle.std.specs.List.{list_any, list_all}
 use Rattle.std.proofs.lemmas.List.{length-map}
 use Rattle.zb_model.specs.Data.{Bytes, Role, Move, Draw, DropNet, DropLink, Install, Active, Row, Pair, Became, Live, Removed, Roll, Told, Untold, Edit, Reserve, Floor, Start, Moved}
-use Rattle.zb_model.specs.State.{NodeState, SenderFloor, NetKey, LinkKey, booted_floor, booted_net, same_key, live_nets, shown, applied, at_net, next_at, net_kept, floor_kept, is_centre, is_provisional, is_unverified}
+use Rattle.zb_model.specs.State.{NodeState, SenderFloor, NetKey, LinkKey, booted_floor, booted_net, same_key, live_nets, shown, applied, net_kept, floor_kept, is_centre, is_provisional, is_unverified}
 use Rattle.zb_model.specs.Fits.{keeps_rules, rows_have_room, keys_differ, at_most_two_live, active_is_live, partners_agree, links_are_marked, floors_are_kept, limits_are_started, role_is_kept, pairs_are_kept, senders_ascend, most_senders, row_is_live, all_apart, like_rows, same_bool, most_links, fits, may_change}
-use Rattle.std.proofs.lemmas.Bool.{not-true}
 use Rattle.std.proofs.lemmas.List.Folds.{list_all-map}
-use Rattle.zb_model_fits.proofs.Tests.{neither, any_same}
-use Rattle.zb_model_fits.proofs.Parts.{same_key_is, same_key_sym}
+use Rattle.zb_model_fits.proofs.Tests.{any_same}
 use Rattle.zb_model_fits.proofs.Shown.{rules_shown}
-use Rattle.zb_record.specs.Senders.{counted_row}
 use Rattle.zb_keys.proofs.Mapping.{list_any-map}
 use Rattle.zb_keys.proofs.ShownLemmas.{filter-map}
 use Rattle.zb_keys.proofs.StateLemmas.{both, rules_of, rules_back}
@@ -134,30 +131,6 @@ mild_at key f mild = record {
     floors_of true r e = mild.floors r e
     floors_of false r e = e
 
-pub counted_is_mild : Mild counted_row
-counted_is_mild = record {
-  key = λ r. key_of (nat_lt r.next r.limit) r;
-  live = λ r. live_of (nat_lt r.next r.limit) r;
-  limit = λ r e. limit_of (nat_lt r.next r.limit) r e;
-  floors = λ r e. floors_of (nat_lt r.next r.limit) r e;
-}
-  where
-    key_of : (b : Bool) (r : NetKey) → (if b then next_at (r.next + 1) r else r).key ≡ r.key
-    key_of true r = refl
-    key_of false r = refl
-
-    live_of : (b : Bool) (r : NetKey) → (if b then next_at (r.next + 1) r else r).live ≡ r.live
-    live_of true r = refl
-    live_of false r = refl
-
-    limit_of : (b : Bool) (r : NetKey) → limit_rule r ≡ true → limit_rule (if b then next_at (r.next + 1) r else r) ≡ true
-    limit_of true r e = e
-    limit_of false r e = e
-
-    floors_of : (b : Bool) (r : NetKey) → floors_rule r ≡ true → floors_rule (if b then next_at (r.next + 1) r else r) ≡ true
-    floors_of true r e = e
-    floors_of false r e = e
-
 abbrev kept_at : ℕ → ℕ → SenderFloor → SenderFloor
 kept_at sender kept f = if nat_eq f.sender sender then record f { kept = kept } else f
 
@@ -258,29 +231,3 @@ kept_by_links g each s kept =
       role_kept = r.role_kept;
       pairs_kept = r.pairs_kept;
     })
-
--- only one row has a key
-none_at : (key : Bytes) (f : NetKey → NetKey) (nets : List NetKey) → list_any (λ (r : NetKey). same_key r.key key) nets ≡ false → at_net key f nets ≡ nets
-none_at key f [] none = refl
-none_at key f (r ∷ rs) none =
-    let parts = neither (same_key r.key key) (list_any (λ (x : NetKey). same_key x.key key) rs) none in
-    ap (λ b. (if b then f r else r) ∷ at_net key f rs) parts.0 ∙ ap (λ l. r ∷ l) (none_at key f rs parts.1)
-
-pub at_net_found : (key : Bytes) (f g : NetKey → NetKey) (nets : List NetKey) → all_apart (λ (a b : NetKey). same_key a.key b.key) nets ≡ true
-    → ((r : NetKey) → find (λ (x : NetKey). same_key x.key key) nets ≡ Some r → f r ≡ g r) → at_net key f nets ≡ at_net key g nets
-at_net_found key f g [] apart each = refl
-at_net_found key f g (r ∷ rs) apart each =
-    let parts = both (not (list_any (λ (x : NetKey). same_key r.key x.key) rs)) (all_apart (λ (a b : NetKey). same_key a.key b.key) rs) apart in
-    at_test (same_key r.key key) refl parts.0 (λ e. at_net_found key f g rs parts.1 e) each
-  where
-    at_test : (b : Bool) → same_key r.key key ≡ b → not (list_any (λ (x : NetKey). same_key r.key x.key) rs) ≡ true
-        → (((x : NetKey) → find (λ (y : NetKey). same_key y.key key) rs ≡ Some x → f x ≡ g x) → at_net key f rs ≡ at_net key g rs)
-        → ((x : NetKey) → (if same_key r.key key then Some r else find (λ (y : NetKey). same_key y.key key) rs) ≡ Some x → f x ≡ g x)
-        → (if same_key r.key key then f r else r) ∷ at_net key f rs ≡ (if same_key r.key key then g r else r) ∷ at_net key g rs
-    at_test true is alone later each =
-        let here : f r ≡ g r = each r (rw is refl) in
-        let none : list_any (λ (x : NetKey). same_key x.key key) rs ≡ false =
-        any_same (λ (x : NetKey). same_key x.key key) (λ (x : NetKey). same_key r.key x.key) (λ x. same_key_sym x.key key ∙ ap (λ k. same_key k x.key) (sym (same_key_is r.key key is))) rs ∙ not-true _ alone in
-        rw is (ap (λ x. x ∷ at_net key f rs) here ∙ ap (λ l. g r ∷ l) (none_at key f rs none ∙ sym (none_at key g rs none)))
-    at_test false is alone later each =
-        rw is (ap (λ l. r ∷ l) (later (λ x e. each x (rw is e))))

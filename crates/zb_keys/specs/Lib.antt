@@ -1,3 +1,3 @@
 pub mod Tables
 pub mod Reading
-pub mod Planning
+pub mod Declarations

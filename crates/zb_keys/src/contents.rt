@@ -1,24 +1,23 @@
 //! What the tables of a node hold, and how one change changes it.
 ghost use Rattle.std.specs.Option.{option_copied};
-ghost use Rattle.std.specs.Prelude.{◌≡◌, ◌<◌, ◌≤◌, ◌-◌, ◌^◌, option_map, [], ◌∷◌, ◌++◌, true, false, length, vec_capacity, vec_len, All, map};
+ghost use Rattle.std.specs.Prelude.{ℕ, List, Some, ◌≡◌, ◌<◌, ◌≤◌, ◌-◌, ◌^◌, option_map, [], ◌∷◌, ◌++◌, true, false, length, vec_capacity, vec_len, All};
 ghost use Rattle.zb_node_types.specs.Changes.{model_layer, model_attribute, model_state, edit, is_sending};
-ghost use Rattle.zb_record.specs.RowViews.{net_key, link_key};
+ghost use Rattle.zb_record.specs.RowViews.{net_key};
 ghost use Rattle.zb_record.specs.Senders.{HasRoom, live_floor};
-ghost use Rattle.zb_keys.specs.Reading.{outgoing_of, place_of_key};
+ghost use Rattle.zb_keys.specs.Reading.{outgoing_of, next_under, behind_next, IsNext};
 ghost use Rattle.zb_keys.specs.Tables.{state_of, with_row, Becomes, IsSound, Forgets};
-ghost use Rattle.zb_model.specs.Data.{Nwk, Aps, Reserve, Floor, Start, Moved, DropNet, DropLink, Install, Active, Row, Pair as Paired, Became, Live, Removed, Roll, Told, Untold};
-ghost use Rattle.zb_model.specs.State.{applied, shown, at_net, next_counter, stored_limit, active_row, after_counting, after_hearing, with_declared, current, offered};
+ghost use Rattle.zb_model.specs.Data.{Term, Nwk, Aps, Reserve, Floor, Start, Moved, DropNet, DropLink, Install, Active, Row, Pair as Paired, Became, Live, Removed, Roll, Told, Untold};
+ghost use Rattle.zb_model.specs.State.{applied, shown, at_net, next_counter, stored_limit, active_row, after_hearing, after_sealing, last_where, newest, with_declared};
 ghost use Rattle.zb_model.specs.Fits.{keeps_rules};
 
 use zb_base::{Attribute, Eui, Key, Layer, Role, Rollover, State};
 use zb_counter::Outgoing;
 use zb_node_types::Change;
 use zb_record::link_row::{
-    current_row, drop_link, has_row, has_told, hear_link, offered_row, revive_link, store_link,
-    tell_links, untell_links,
+    drop_link, has_row, has_told, hear_link, revive_link, store_link, tell_links, untell_links,
 };
 use zb_record::net_row::{
-    count_net, drop_net, has_key, hear_net, key_place, key_row, reserve_net, start_net, store_net,
+    drop_net, has_key, hear_net, key_row, reserve_net, set_net_next, start_net, store_net,
 };
 use zb_record::pair_row::{drop_pairs, has_pair};
 use zb_record::{LinkRow, NetRow, Pair};
@@ -52,20 +51,11 @@ impl Contents {
         }
     }
 
-    /// Answers the current row of a partner.
-    #[tactic(auto, unfolding(zb_model::specs::State::current), using(crate::proofs::FindLemmas::find_map))]
-    pub(crate) fn current(&self, partner: Eui) -> Option<&LinkRow>
-        ensures { option_map link_key (option_copied result) ≡ current (state_of self.now) partner.0 }
+    /// Answers the newest network key in use.
+    pub(crate) fn newest(&self) -> Option<&NetRow>
+        ensures { option_map net_key (option_copied result) ≡ newest (state_of self.now) }
     {
-        current_row(self.links.as_slice(), partner)
-    }
-
-    /// Answers the offered row of a partner.
-    #[tactic(auto, unfolding(zb_model::specs::State::offered), using(crate::proofs::FindLemmas::find_map))]
-    pub(crate) fn offered(&self, partner: Eui) -> Option<&LinkRow>
-        ensures { option_map link_key (option_copied result) ≡ offered (state_of self.now) partner.0 }
-    {
-        offered_row(self.links.as_slice(), partner)
+        newest_live(self.nets.as_slice())
     }
 
     /// Answers the outgoing counter of a layer.
@@ -118,57 +108,67 @@ impl Contents {
         self.declared = start;
     }
 
-    /// Answers the place of the active network key among the rows.
-    pub(crate) fn active_place(&self) -> Option<u32>
-        requires { IsSound self.now }
-        ensures { result ≡ place_of_key (state_of self.now).active (state_of self.now).nets }
-    {
-        match &self.active {
-            Some(key) => match key_place(self.nets.as_slice(), key) {
-                Some(place) => Some(place as u32),
-                None => None,
-            },
-            None => None,
-        }
-    }
-
-    /// Uses the next outgoing counter of a layer, which is reserved.
-    pub(crate) fn count(&mut self, layer: Layer)
+    /// Goes on behind a term that was sealed under a key of a layer with its next counter.
+    pub(crate) fn seal(&mut self, layer: Layer, key: &Key)
         requires sound { IsSound self.old }
-        requires reserved { next_counter (model_layer layer) (state_of self.old) < stored_limit (model_layer layer)
-            (state_of self.old) }
-        ensures state { state_of self.new ≡ after_counting (model_layer layer) (state_of self.old) }
+        ensures state { (t : Term) → IsNext (model_layer layer) key.now.0 (state_of self.old) t
+            → state_of self.new ≡ after_sealing t (state_of self.old) }
         ensures sound { IsSound self.new }
     {
         match layer {
-            Layer::Nwk => self.count_nwk(),
-            Layer::Aps => self.count_aps(),
+            Layer::Nwk => self.seal_nwk(key),
+            Layer::Aps => self.seal_aps(),
         }
     }
 
-    /// Uses the next outgoing counter of the active network key.
-    fn count_nwk(&mut self)
+    /// Goes on behind a term that was sealed under a network key.
+    fn seal_nwk(&mut self, key: &Key)
         requires sound { IsSound self.old }
-        requires reserved { next_counter Nwk (state_of self.old) < stored_limit Nwk (state_of self.old) }
-        ensures state { state_of self.new ≡ after_counting Nwk (state_of self.old) }
+        ensures state { (t : Term) → IsNext Nwk key.now.0 (state_of self.old) t
+            → state_of self.new ≡ after_sealing t (state_of self.old) }
         ensures sound { IsSound self.new }
     {
-        match self.active {
-            Some(key) => count_net(&mut self.nets, &key),
+        match self.behind_next(key) {
+            Some(next) => set_net_next(&mut self.nets, key, next),
             None => {}
         }
     }
 
-    /// Uses the next outgoing counter of the application support layer.
-    #[tactic(auto, unfolding(zb_model::specs::State::next_counter, zb_model::specs::State::stored_limit, zb_model::specs::State::after_counting))]
-    fn count_aps(&mut self)
+    /// Answers the counter behind the next one of a network key, unless that is the greatest.
+    fn behind_next(&self, key: &Key) -> Option<u32>
+        ensures { result ≡ behind_next (next_under Nwk key.now.0 (state_of self.now)) }
+    {
+        match self.net_row(key) {
+            Some(row) => behind(row.next),
+            None => None,
+        }
+    }
+
+    /// Goes on behind a term that was sealed at the application support layer.
+    fn seal_aps(&mut self)
         requires sound { IsSound self.old }
-        requires reserved { next_counter Aps (state_of self.old) < stored_limit Aps (state_of self.old) }
-        ensures state { state_of self.new ≡ after_counting Aps (state_of self.old) }
+        ensures state { (key : List ℕ) (t : Term) → IsNext Aps key (state_of self.old) t
+            → state_of self.new ≡ after_sealing t (state_of self.old) }
         ensures sound { IsSound self.new }
     {
-        let _limit = self.aps_limit;
-        self.aps_next += 1;
+        match behind(self.aps_next) {
+            Some(next) => self.aps_next = next,
+            None => {}
+        }
+    }
+
+    /// Keeps what was accepted of a sender under a key of a layer.
+    pub(crate) fn hear(&mut self, layer: Layer, key: &Key, sender: Eui, counter: u32)
+        requires sound { IsSound self.old }
+        requires below_last { counter < 2 ^ 32 - 1 }
+        ensures state { state_of self.new
+            ≡ after_hearing (model_layer layer) key.now.0 sender.0 counter (state_of self.old) }
+        ensures sound { IsSound self.new }
+    {
+        match layer {
+            Layer::Nwk => self.hear_nwk(key, sender, counter),
+            Layer::Aps => self.hear_aps(key, sender, counter),
+        }
     }
 
     /// Keeps what was accepted of a sender under a network key.
@@ -411,6 +411,24 @@ impl Contents {
         if rollover == Rollover::Sending {
             untell_links(&mut self.links);
         }
+    }
+}
+
+/// Answers the newest of these network keys that is in use.
+fn newest_live(rows: &[NetRow]) -> Option<&NetRow>
+    ensures { option_copied result ≡ last_where (λ r. (net_key r).live) rows.now }
+{
+    rows.iter().rev().find(|row| row.live)
+}
+
+/// Answers the counter behind another one, unless that is the greatest.
+fn behind(counter: u32) -> Option<u32>
+    ensures { result ≡ behind_next (Some counter) }
+{
+    if counter < u32::MAX {
+        Some(counter + 1)
+    } else {
+        None
     }
 }
 

@@ -1,17 +1,17 @@
 //! Whether a change that is read from a disk fits: it may be made, and the rules for records stand after it.
-ghost use Rattle.std.specs.Prelude.{◌≡◌, ◌≤◌, ◌&&◌, ◌||◌, not, map, option_map, find, is_none, is_some, length, nat_eq, nat_le, nat_lt};
+ghost use Rattle.std.specs.Prelude.{◌≡◌, ◌&&◌, ◌||◌, not, filter, option_map, find, is_none, is_some, length, nat_eq, nat_le, nat_lt};
 ghost use Rattle.std.specs.List.{list_any};
 ghost use Rattle.std.specs.Option.{option_copied};
 ghost use Rattle.zb_node_types.specs.Changes.{edit, is_sending, model_state, model_layer, model_attribute};
 ghost use Rattle.zb_model_fits.specs.Fitting.{leaves_rules, move_leaves, floor_has_room, is_rival, key_is_used};
 ghost use Rattle.zb_record.specs.RowViews.{net_key, link_key, heard_floor};
 ghost use Rattle.zb_keys.specs.Tables.{state_of, IsSound};
+ghost use Rattle.zb_record.specs.Headings.{active_bytes};
 ghost use Rattle.zb_model.specs.Data.{Reserve, Floor, Row};
 ghost use Rattle.zb_model.specs.Fits.{fits, may_change, live_net, live_link, row_is_live, net_stored, net_limit, link_stored, is_fresh, most_nets, most_links, most_pairs, most_senders};
-ghost use Rattle.zb_model.specs.State.{active_row, has_link, is_centre, is_link, is_live, live_nets, net_of, pair_of, same_key};
+ghost use Rattle.zb_model.specs.State.{active_row, has_link, is_active_key, is_centre, is_link, is_live, live_nets, net_of, pair_of, same_key};
 
 use crate::contents::Contents;
-use crate::planning::{count_live, is_key};
 use crate::reading::floor_of;
 use zb_base::{Attribute, Eui, Key, Layer, Role, Rollover, State};
 use zb_node_types::Change;
@@ -108,7 +108,7 @@ impl Contents {
 
     /// The row of a network key.
     #[tactic(auto, using(crate::proofs::FindLemmas::find_map))]
-    fn net_row(&self, key: &Key) -> Option<&NetRow>
+    pub(crate) fn net_row(&self, key: &Key) -> Option<&NetRow>
         ensures { option_map net_key (option_copied result) ≡ net_of key.now.0 (state_of self.now) }
     {
         key_row(self.nets.as_slice(), key)
@@ -252,6 +252,14 @@ impl Contents {
         self.may_hold(partner, key) && !self.has_rival(partner, key, attribute)
     }
 
+    /// Whether a link key has a row, in use or dropped.
+    #[tactic(auto, using(crate::proofs::Mapping::any_map))]
+    fn has_link(&self, partner: Eui, key: &Key) -> bool
+        ensures { result ≡ has_link partner.0 key.now.0 (state_of self.now).links }
+    {
+        has_row(self.links.as_slice(), partner, key)
+    }
+
     /// Whether a link key has a row or room for one.
     fn may_hold(&self, partner: Eui, key: &Key) -> bool
         ensures { result ≡ (has_link partner.0 key.now.0 (state_of self.now).links
@@ -313,6 +321,29 @@ impl Contents {
         ensures { result ≡ (not (is_sending rollover) || is_centre (state_of self.now).role) }
     {
         matches!(rollover, Rollover::Idle) || self.is_centre()
+    }
+}
+
+/// How many network keys are in use.
+fn count_live(rows: &[NetRow]) -> usize
+    ensures { result ≡ length (filter (λ r. (net_key r).live) rows.now) }
+{
+    let mut count = 0;
+    for row in rows {
+        if row.live {
+            count += 1;
+        }
+    }
+    count
+}
+
+/// Whether that key is the active one.
+fn is_key(active: &Option<Key>, key: &Key) -> bool
+    ensures { result ≡ is_active_key (active_bytes active.now) key.now.0 }
+{
+    match active {
+        Some(active) => *active == *key,
+        None => false,
     }
 }
 

@@ -3,18 +3,17 @@
 #![tactic(auto)]
 
 mod boot;
-mod calls;
 mod contents;
+mod declaration;
 mod first;
 mod fitting;
-mod link_planning;
-mod planning;
 mod reading;
 mod record;
 mod redo;
 mod restore;
 mod tables;
 
-pub use planning::add;
+pub use declaration::{Declaration, HeldCode, HeldNetwork, start_lines_give_the_first_state};
+pub use reading::floor_of;
 pub use tables::Tables;
 pub use zb_record::{LinkRow, NetRow, Pair, SenderFloor};

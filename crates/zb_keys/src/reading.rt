@@ -1,21 +1,22 @@
 //! The readers of tables, and what seals and accepted frames do to them.
-ghost use Rattle.std.specs.Prelude.{◌≡◌, ◌<◌, ◌-◌, ◌^◌, [], Some, find, map, nat_eq, option_map, slice_get};
+ghost use Rattle.std.specs.Prelude.{◌≡◌, ◌<◌, ◌-◌, ◌^◌, [], Some, find, map, nat_eq, option_map};
 ghost use Rattle.std.specs.Option.{option_copied};
 ghost use Rattle.zb_node_types.specs.Changes.{model_role, model_layer, model_state, is_sending};
 ghost use Rattle.zb_record.specs.RowViews.{heard_floor, net_key, link_key, pair_key};
-ghost use Rattle.zb_keys.specs.Reading.{place_of_key, outgoing_of, floor_at, floor_of_row, sender_at, heard_under, heard_from};
-ghost use Rattle.zb_model.specs.Data.{Nwk};
-ghost use Rattle.zb_model.specs.State.{next_counter, stored_limit, after_counting, with_declared, current, offered, pair_of, active_row, newest};
+ghost use Rattle.zb_keys.specs.Reading.{IsNext, outgoing_of, floor_of_row};
+ghost use Rattle.zb_model.specs.Data.{Nwk, Term};
+ghost use Rattle.zb_model.specs.State.{after_hearing, after_sealing, with_declared, current, offered, pair_of, active_row, newest};
 
 use crate::Tables;
 use zb_base::{Eui, Key, Layer, Role, Rollover, State};
 use zb_counter::{Floor, Outgoing};
+use zb_record::link_row::{current_row, offered_row};
 use zb_record::pair_row::pair_row;
 use zb_record::{LinkRow, NetRow, Pair, SenderFloor};
 
 /// Answers the floor of a sender under a network key: 0 and 0 where none was stored.
 #[tactic(auto, unfolding(zb_model::specs::State::sender_floor), using(crate::proofs::FindLemmas::find_map))]
-pub(crate) fn floor_of(row: &NetRow, sender: Eui) -> Floor
+pub fn floor_of(row: &NetRow, sender: Eui) -> Floor
     ensures { result ≡ floor_of_row sender.0 (Some (net_key row.now)) }
 {
     match stored_floor(row.floors.as_slice(), sender) {
@@ -91,13 +92,6 @@ impl Tables {
         self.contents.active
     }
 
-    /// Answers the place of the active network key among the rows.
-    pub fn active(&self) -> Option<u32>
-        ensures { result ≡ place_of_key self.now.active self.now.nets }
-    {
-        self.contents.active_place()
-    }
-
     /// Answers the row of the active network key.
     pub fn active_row(&self) -> Option<&NetRow>
         ensures { option_map net_key (option_copied result) ≡ active_row self.now }
@@ -112,43 +106,20 @@ impl Tables {
         self.contents.newest()
     }
 
-    /// Answers the floor of a sender under the network key at a place: 0 and 0 where none was stored.
-    pub fn floor(&self, place: u32, sender: Eui) -> Floor
-        ensures { result ≡ floor_at self.now place sender.0 }
-    {
-        match self.contents.nets.get(place as usize) {
-            Some(row) => floor_of(row, sender),
-            None => Floor { kept: 0, stored: 0 },
-        }
-    }
-
-    /// Answers the sender of a number among those with a stored floor under a network key.
-    ///
-    /// The key is the one at a place; the numbers go from 0, by ascending address.
-    pub fn sender(&self, place: u32, at: u32) -> Option<Eui>
-        ensures { option_map (λ e. e.0) result ≡ sender_at self.now place at }
-    {
-        match self.contents.nets.get(place as usize) {
-            Some(row) => match row.floors.as_slice().get(at as usize) {
-                Some(floor) => Some(floor.sender),
-                None => None,
-            },
-            None => None,
-        }
-    }
-
     /// Answers the current row of a partner: its link key in use that isn't only offered.
+    #[tactic(auto, unfolding(zb_model::specs::State::current), using(crate::proofs::FindLemmas::find_map))]
     pub fn current(&self, partner: Eui) -> Option<&LinkRow>
         ensures { option_map link_key (option_copied result) ≡ current self.now partner.0 }
     {
-        self.contents.current(partner)
+        current_row(self.contents.links.as_slice(), partner)
     }
 
     /// Answers the offered row of a partner: its unverified link key in use.
+    #[tactic(auto, unfolding(zb_model::specs::State::offered), using(crate::proofs::FindLemmas::find_map))]
     pub fn offered(&self, partner: Eui) -> Option<&LinkRow>
         ensures { option_map link_key (option_copied result) ≡ offered self.now partner.0 }
     {
-        self.contents.offered(partner)
+        offered_row(self.contents.links.as_slice(), partner)
     }
 
     /// Answers the outgoing counter of a layer, which is reserved in blocks of that size.
@@ -160,37 +131,24 @@ impl Tables {
         self.contents.outgoing(layer, block)
     }
 
-    /// Uses the next outgoing counter of a layer.
+    /// Goes on behind a term that was sealed under a base key of a layer.
     ///
-    /// Requires one that is reserved.
-    pub fn sealed(&mut self, layer: Layer)
-        requires { next_counter (model_layer layer) self.old < stored_limit (model_layer layer) self.old }
-        ensures { self.new ≡ after_counting (model_layer layer) self.old }
+    /// Its counter is the next one: at NWK that of the key's row, whether it is the active one or not, at APS the
+    /// node's own.
+    pub fn sealed_under(&mut self, layer: Layer, key: &Key)
+        ensures { (t : Term) → IsNext (model_layer layer) key.now.0 self.old t → self.new ≡ after_sealing t self.old }
     {
-        self.contents.count(layer);
+        self.contents.seal(layer, key);
     }
 
-    /// Keeps what was accepted of a sender under the network key at a place. A dropped key keeps nothing.
-    pub fn accepted_net(&mut self, place: u32, sender: Eui, counter: u32)
+    /// Keeps what was accepted of a sender under a base key of a layer.
+    ///
+    /// At APS the sender is the partner. A dropped network key keeps nothing.
+    pub fn heard(&mut self, layer: Layer, key: &Key, sender: Eui, counter: u32)
         requires { counter < 2 ^ 32 - 1 }
-        ensures { self.new ≡ heard_under (slice_get self.old.nets place) sender.0 counter self.old }
+        ensures { self.new ≡ after_hearing (model_layer layer) key.now.0 sender.0 counter self.old }
     {
-        if let Some(row) = self.contents.nets.get(place as usize) {
-            let key = row.key;
-            self.contents.hear_nwk(&key, sender, counter);
-        }
-    }
-
-    /// Keeps what was accepted under the link key at a place, a dropped one too.
-    pub fn accepted_link(&mut self, place: u32, counter: u32)
-        requires { counter < 2 ^ 32 - 1 }
-        ensures { self.new ≡ heard_from (slice_get self.old.links place) counter self.old }
-    {
-        if let Some(row) = self.contents.links.get(place as usize) {
-            let key = row.key;
-            let partner = row.partner;
-            self.contents.hear_aps(&key, partner, counter);
-        }
+        self.contents.hear(layer, key, sender, counter);
     }
 
     /// Sets the outgoing NWK counter of the start.
@@ -209,15 +167,5 @@ impl Tables {
         ensures { option_map pair_key (option_copied result) ≡ pair_of self.now a.0 b.0 }
     {
         pair_row(self.contents.pairs.as_slice(), a, b)
-    }
-
-    /// Answers the key of two devices.
-    pub fn pair_key(&self, a: Eui, b: Eui) -> Option<Key>
-        ensures { option_map (λ k. k.0) result ≡ option_map (λ p. p.key) (pair_of self.now a.0 b.0) }
-    {
-        match self.pair_between(a, b) {
-            Some(pair) => Some(pair.key),
-            None => None,
-        }
     }
 }

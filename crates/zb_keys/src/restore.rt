@@ -1,5 +1,5 @@
 //! Tables from a record.
-ghost use Rattle.std.specs.Prelude.{◌≡◌, ◌≢◌, ◌≤◌, ◌⊎◌, ℕ, Err, Ok, IfOk, IfErr, length, map, vec_capacity};
+ghost use Rattle.std.specs.Prelude.{◌≡◌, ◌≤◌, Err, Ok, IfOk, IfErr, length, map, vec_capacity};
 ghost use Rattle.zb_base.specs.declared.fault.OrMemory.TheVariants.{Fault, NoMemory as lacks};
 ghost use Rattle.zb_node_types.specs.Changes.{model_role};
 ghost use Rattle.zb_node_types.specs.declared.fault.KeyError.TheVariants.{BadRecord};

@@ -5,7 +5,6 @@ use std::marker::Model;
 use zb_base::{NoMemory, Role, Rollover, State};
 use zb_node_types::Changes;
 use zb_record::link_row::link_room;
-use zb_record::{LinkRow, NetRow, Pair};
 
 /// Holds what a node keeps: its network keys with their floors, its link keys and its counters.
 ///

@@ -27,6 +27,8 @@ nwk_command c term (Leave options) = comes_to (term ∷ []) AtNwk (take_leave c 
 nwk_command c term Other = stopped_at (term ∷ []) AtNwk Policy
 nwk_command c term NoCommand = stopped_at (term ∷ []) AtNwk Malformed
 
+-- the source of the NWK term. The number in place of none decides nothing: only a command that is sealed at APS passes
+-- without NWK security.
 abbrev pub source_or : ℕ → Option Term → ℕ
 source_or other None = other
 source_or other (Some t) = t.source
@@ -137,6 +139,7 @@ secured_out tools c to nwk row part = let t = nwk_term part.control to c.me.shor
 abbrev pub plain_out : Setting → ℕ → Part → Outgoing
 plain_out c to part = record { seals = part.seals; frame = Some (nwk_header plain_frame to c.me.short 0 ++ part.bytes) }
 
+-- A secured frame without an active row is none. That decides nothing: `may_seal` asked for the row before.
 abbrev pub framed : Tools → Setting → ℕ → ℕ → Bool → Option NetKey → Part → Outgoing
 framed tools c to nwk false row part = plain_out c to part
 framed tools c to nwk true None part = nothing_out

@@ -172,7 +172,8 @@ seals_of d _ = []
 abbrev pub HasTerm : List Term → Term → Type 0
 HasTerm terms t = Any (λ u. u ≡ t) terms
 
--- `h` are the lines up to the removal, `since` those after it and before this one.
+-- `h` are the lines up to the removal, `since` those after it and before this one. So a term counts that the device sealed between
+-- its removal and this acceptance; what it seals later is on no air yet.
 abbrev pub RefusesLine : Tools → ℕ → List Line → List Line → Line → Type 0
 RefusesLine tools d h since (Accept e n t) =
     t.layer ≡ Nwk → HoldsNoneKnown tools (before_group e (h ++ since)) n

@@ -132,6 +132,7 @@ take_confirm c s m status kind destination =
     && (nat_eq status 0 && (nat_eq kind 4 && nat_eq destination c.me.eui)))))) Policy (
     unless (in_rejoining s.state) WrongState (
     unless (not (row_is m.row (offered s (centre_of c.stations)))) WrongState (
+    -- decides nothing: the row that opened the command is the offered one, so there is one
     found_or (offered s (centre_of c.stations)) WrongState (λ row.
     Does (drop_row (current s (centre_of c.stations)) ++ (Row row.partner row.key Verified ∷ Became Confirmed ∷ [])) None))))
 
@@ -156,6 +157,7 @@ take_tunnel c s m destination inner =
 -- Taken by the centre
 
 -- Update-Device: a router reports a child that joins (1) or rejoins (3); the network key goes to it through a Tunnel
+-- the number in place of no source decides nothing: the centre takes no frame without NWK security
 abbrev pub eui_of : Option ℕ → ℕ
 eui_of None = 18446744073709551616
 eui_of (Some eui) = eui
@@ -192,6 +194,7 @@ answer_request c s device draw row None =
 unfoldable pub take_request : Setting → NodeState → Heard → Option Bytes → Outcome
 take_request c s m draw =
     unless (not (is_centre c.me.role && under_current s m)) Policy (
+    -- decides nothing: the row that opened the request is the current one, so there is one
     found_or (current s m.sender) Policy (λ row.
     answer_request c s m.sender draw row (offered s m.sender)))
 
@@ -221,6 +224,7 @@ take_app_request c s m draw partner =
     unless (not (is_centre c.me.role && (under_current s m && not (nat_eq partner m.sender || nat_eq partner c.me.eui)))) Policy (
     unless (not (is_live s partner)) NotMember (
     unless (not (is_verified_row (current s m.sender) && is_verified_row (current s partner))) WrongState (
+    -- decides nothing: the current row was verified above, so there is one
     found_or (current s m.sender) Policy (λ row.
     answer_pair c s m.sender partner draw row (pair_of s m.sender partner)))))
 
@@ -247,6 +251,7 @@ take_verify tools c s m kind device hash =
     unless (not (is_live s device)) NotMember (
     unless (is_none (offered s device) && is_none (verified_current s device)) WrongState (
     unless (both_spent s) CounterSpent (
+    -- neither refusal of `found_or` decides: a row of which the proof is is there
     choose (proves tools hash (offered s device))
     (found_or (offered s device) WrongHash (λ row.
     send_confirm c device row.key (drop_row (current s device) ++ (Row device row.key Verified ∷ []))))

@@ -61,6 +61,7 @@ judge_net tools c s bytes aux =
     need (tools.open_nwk bytes row.key) AtNwk BadMic (λ term.
     reject (not (is_declared c aux.source)) AtNwk NotMember (
     reject (is_centre c.me.role && (is_known s aux.source && not (is_live s aux.source))) AtNwk NotMember (
+    -- decides nothing in a run: at most 64 nodes are declared
     reject (senders_full aux.source aux.counter row) AtNwk RowsFull (
     Good term)))))))
 

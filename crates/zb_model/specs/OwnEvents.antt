@@ -41,6 +41,7 @@ request_key c s =
 -- timer, offered: the offered key is proved (Verify-Key)
 unfoldable pub verify_key : Tools → Setting → NodeState → Outcome
 verify_key tools c s =
+    -- decides nothing in a run: a node in Offered has an offered row
     found_or (offered s (centre_of c.stations)) NoKey (λ row.
     unless (spent Nwk s) CounterSpent (
     Does [] (sends 0 true (Clear clear_command (VerifyKey 4 c.me.eui (verify_hash tools row.key))))))
@@ -127,6 +128,7 @@ centre_timer c s =
     found_or (active_row s) NoKey (λ net.
     unless (not s.sending) WrongState (
     found_or (next_member s) WrongState (λ device.
+    -- neither decides in a run: the active row is live, so there is a newest; and each live device has a current row
     found_or (newest s) NoKey (λ new.
     found_or (current s device) WrongState (λ row.
     unless (both_spent s) CounterSpent (
@@ -177,6 +179,7 @@ switch_over s =
     unless (is_unfinished s) WrongState (
     unless (spent Nwk s) CounterSpent (
     choose s.sending
+    -- decides nothing in a run: the active row is live, so there is a newest
     (found_or (newest s) NoKey (λ new. switch_to new (Active new.key ∷ Roll false ∷ [])))
     (switch_to net []))))
 
@@ -193,11 +196,13 @@ share c s device partner =
     found_or (active_row s) NoKey (λ net.
     unless (not (is_live s device && is_live s partner)) NotMember (
     found_or (pair_of s device partner) WrongState (λ pair.
+    -- decides nothing in a run: each live device has a current row
     found_or (current s device) NotMember (λ row.
     unless (both_spent s) CounterSpent (
     Does [] (sends (short_of c device) true (Secret ForLoad row.key (TransportApp pair.key partner 0))))))))
 
--- The rule of each event of a node's own; an event that isn't for a node of its part is refused.
+-- The rule of each event of a node's own; an event that isn't for a node of its role is refused. That decides nothing in a
+-- run: a schedule has none.
 
 abbrev pub own_at_centre : Setting → NodeState → Task → Outcome
 own_at_centre c s (SayTo to bytes) = say s to bytes

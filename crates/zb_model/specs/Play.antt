@@ -211,7 +211,7 @@ boot_step disks number n =
 abbrev pub refused_step : List Disk → ℕ → ℕ → Reason → Step
 refused_step disks number n reason = record { lines = Refuse number n AtEvent reason ∷ []; disks = disks }
 
--- the setting of a node: itself and the declared nodes
+-- A station in place of a node that isn't declared. It decides nothing in a run: a schedule's events are of declared nodes.
 abbrev pub no_station : Station
 no_station = record { name = []; eui = Rattle.zb_model.specs.Data.nobody; short = 0xffff; role = Rattle.zb_model.specs.Data.Role.Device; out_block = 0; in_block = 0 }
 

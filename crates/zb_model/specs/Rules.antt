@@ -66,7 +66,8 @@ station_of stations eui = find (λ (p : Station). nat_eq p.eui eui) stations
 unfoldable pub station_at : List Station → ℕ → Option Station
 station_at stations short = find (λ (p : Station). nat_eq p.short short) stations
 
--- no node has this short address in place of a node that isn't declared; no rule sends to it
+-- The EUI or short address of a node that isn't declared, where a number must stand: no node has it. It decides nothing in a
+-- run: each schedule has a centre, and what rules send is for declared nodes.
 abbrev pub eui_or : ℕ → Option Station → ℕ
 eui_or other None = other
 eui_or other (Some p) = p.eui
@@ -133,7 +134,8 @@ links_full s = nat_le (most_links s.role) (length s.links)
 abbrev pub pairs_full : NodeState → Bool
 pairs_full s = nat_le most_pairs (length s.pairs)
 
--- the next key of the supply, unless a row of the node has it already (a schedule never draws such a key)
+-- The next key of the supply, unless a row of the node has it already. That test decides nothing in a run: no row of the
+-- centre has a key that is still to be drawn.
 abbrev pub unless_held : NodeState → Option Bytes → Option Bytes
 unless_held s None = None
 unless_held s (Some key) = if has_net key s.nets || list_any (λ (r : LinkKey). same_key r.key key) s.links then None else Some key

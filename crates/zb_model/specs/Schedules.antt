@@ -1,9 +1,10 @@
 -- What every schedule keeps that is read from a text: the premises of the laws about runs.
-use Rattle.std.specs.Prelude.{ℕ, ◌≡◌, ◌<◌, ◌≤◌, ◌^◌, true, is_some, ⊤}
+use Rattle.std.specs.Prelude.{ℕ, ◌≡◌, ◌<◌, ◌≤◌, ◌^◌, Bool, true, false, not, length, is_some, ⊤}
 use Rattle.std.specs.List.{AllByRecursion}
-use Rattle.zb_model.specs.State.{greatest_counter}
+use Rattle.zb_model.specs.Data.{Task, SayTo, TellTo, DoKnock, DoRejoin, DoTimer, AskFor, HasChild, Received}
+use Rattle.zb_model.specs.State.{greatest_counter, is_centre}
 use Rattle.zb_model.specs.Rules.{station_of}
-use Rattle.zb_model.specs.Play.{Schedule, Node, Event, Own, RollOver, Deliver, Reset, PowerOn, ShowRecord, ArmStop, ArmFail, stations}
+use Rattle.zb_model.specs.Play.{Schedule, Node, Event, Own, RollOver, Deliver, Reset, PowerOn, ShowRecord, ArmStop, ArmFail, setting_of, stations}
 
 -- a declared node: its EUI has 64 bits, its blocks aren't empty, and its stored limits at the start are counters
 pub record IsMember (m : Node) : Type 0 where
@@ -28,6 +29,32 @@ NamesNode w (ArmStop n calls torn) = Names w n
 NamesNode w (ArmFail n call) = Names w n
 NamesNode w _ = ⊤
 
+-- calls of a disk are counted from 1, so the one that fails is at least the first
+abbrev pub CountsCalls : Event → Type 0
+CountsCalls (ArmFail n call) = 1 ≤ call
+CountsCalls _ = ⊤
+
+-- Whether an event of a node's own is for its role: the centre's are `provision`, `remove`, `roll`, `switch`, `again` and
+-- `share`, those of routers and devices `knock`, `rejoin`, `ask` and `tell`; `say`, `timer` and `child` are of both.
+abbrev pub is_for_role : Bool → Task → Bool
+is_for_role centre (SayTo to bytes) = true
+is_for_role centre DoTimer = true
+is_for_role centre (HasChild child rejoin) = true
+is_for_role centre DoKnock = not centre
+is_for_role centre DoRejoin = not centre
+is_for_role centre (AskFor partner) = not centre
+is_for_role centre (TellTo partner bytes) = not centre
+is_for_role centre (Received bytes draw) = false
+is_for_role centre _ = centre
+
+abbrev pub SuitsRole : Schedule → Event → Type 0
+SuitsRole w (Own n task) = is_for_role (is_centre (setting_of w n).me.role) task ≡ true
+SuitsRole w (RollOver n) = is_centre (setting_of w n).me.role ≡ true
+SuitsRole w _ = ⊤
+
 pub record IsSchedule (w : Schedule) : Type 0 where
+  pub few_nodes : length w.nodes ≤ 64
   pub nodes : AllByRecursion IsMember w.nodes
   pub events : AllByRecursion (NamesNode w) w.events
+  pub roles : AllByRecursion (SuitsRole w) w.events
+  pub calls : AllByRecursion CountsCalls w.events

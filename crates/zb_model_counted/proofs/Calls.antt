@@ -1,5 +1,5 @@
 -- What the lines of an answer call for: of its seals the reserves, of its accepted terms the floors, of its moves the starts.
-use Rattle.std.proofs.Common.{◌≡◌, ℕ, ◌+◌, min, Bool, true, false, cond, ◌&&◌, List, [], ◌∷◌, ◌++◌, map, filter, Option, Some, None, option_map, option_to_list, nat_eq, nat_le, flat_map, refl, sym, ap, ◌∙◌}
+use Rattle.std.proofs.Common.{◌≡◌, ℕ, ◌+◌, min, Bool, true, false, cond, ◌&&◌, List, [], ◌∷◌, ◌++◌, map, filter, Option, Some, None, option_map, option_to_list, is_some, nat_eq, nat_le, flat_map, refl, sym, ap, ◌∙◌}
 use Rattle.std.proofs.lemmas.Bool.{false≢true}
 use Rattle.std.specs.List.{AllByRecursion}
 use Rattle.zb_model.specs.Data.{Bytes, Layer, Nwk, Aps, Term, Edit, Reserve, Floor, Start, Moved, Move, Draw, DropNet, DropLink, Install, Active, Row, Pair, Became, Live, Removed, Roll, Told, Untold}
@@ -7,7 +7,7 @@ use Rattle.zb_model.specs.Lines.{Line, Changed, Accept, Seal}
 use Rattle.zb_model.specs.State.{greatest_counter, NetKey, NodeState, at_net, has_net, new_net, dropped_net, active_row, next_counter, stored_limit, same_layer}
 use Rattle.zb_model.specs.Tools.{Tools}
 use Rattle.zb_model.specs.Rules.{Body, Saying, Clear, Secret, Tunnelled, Telling, Leaving, Relayed, Sending, Setting}
-use Rattle.zb_model.specs.Answer.{Counting, has_aps_seal, seals_at, part_of, framed, sent, may_seal, out_of, nothing_out, row_is_started, reserve_of, stored_floor, floor_for, floor_of, start_edit, move_edits, changes, is_started_key, activated, start_for}
+use Rattle.zb_model.specs.Answer.{Counting, has_aps_seal, seals_at, part_of, framed, sent, may_seal, out_of, nothing_out, reserve_of, stored_floor, floor_for, floor_of, start_edit, move_edits, changes, is_started_key, activated, start_for}
 use Rattle.zb_model.specs.Readings.{state_of}
 use Rattle.zb_model.specs.Play.{Schedule, setting_of}
 use Rattle.zb_model_laws.proofs.Basics.{append-nil', flat_map-append}
@@ -48,14 +48,11 @@ abbrev sealed_at_layer : Layer → Bool → Body → Bool
 sealed_at_layer Nwk secured body = secured
 sealed_at_layer Aps secured body = has_aps_seal body
 
-no-row : row_is_started None ≡ true → ⊥
-no-row e = false≢true e
-
-framed-calls : (layer : Layer) (due : List Line) (tools : Tools) (c : Setting) (to nwk aps : ℕ) (secured : Bool) (row : Option NetKey) (body : Body) → (secured ≡ true → row_is_started row ≡ true)
+framed-calls : (layer : Layer) (due : List Line) (tools : Tools) (c : Setting) (to nwk aps : ℕ) (secured : Bool) (row : Option NetKey) (body : Body) → (secured ≡ true → is_some row ≡ true)
     → flat_map (Calls layer due) (framed tools c to nwk secured row (part_of tools c.me.eui to nwk aps body)).seals ≡ cond (sealed_at_layer layer secured body) due []
 framed-calls Nwk due tools c to nwk aps false row body k = body-calls-net due tools c.me.eui to nwk aps body
 framed-calls Aps due tools c to nwk aps false row body k = body-calls-aps due tools c.me.eui to nwk aps body
-framed-calls layer due tools c to nwk aps true None body k = absurd (no-row (k refl))
+framed-calls layer due tools c to nwk aps true None body k = absurd (false≢true (k refl))
 framed-calls Nwk due tools c to nwk aps true (Some r) body k =
     flat_map-append (Calls Nwk due) (part_of tools c.me.eui to nwk aps body).seals _
     ∙ ap (λ l. l ++ (due ++ [])) (body-calls-net due tools c.me.eui to nwk aps body)
@@ -65,7 +62,7 @@ framed-calls Aps due tools c to nwk aps true (Some r) body k =
     ∙ append-nil' (flat_map (Calls Aps due) (part_of tools c.me.eui to nwk aps body).seals)
     ∙ body-calls-aps due tools c.me.eui to nwk aps body
 
-sent-calls : (layer : Layer) (due : List Line) (tools : Tools) (c : Setting) (s : NodeState) (k : Counting) (send : Option Sending) → (seals_at Nwk send ≡ true → row_is_started (active_row s) ≡ true)
+sent-calls : (layer : Layer) (due : List Line) (tools : Tools) (c : Setting) (s : NodeState) (k : Counting) (send : Option Sending) → (seals_at Nwk send ≡ true → is_some (active_row s) ≡ true)
     → flat_map (Calls layer due) (sent tools c s k send).seals ≡ cond (seals_at layer send) due []
 sent-calls Nwk due tools c s k None g = refl
 sent-calls Aps due tools c s k None g = refl
@@ -75,7 +72,7 @@ sent-calls Aps due tools c s k (Some send) g = framed-calls Aps due tools c send
 out-calls : (layer : Layer) (due : List Line) (tools : Tools) (c : Setting) (s : NodeState) (k : Counting) (send : Option Sending) (b : Bool) → may_seal s send ≡ b
     → flat_map (Calls layer due) (cond b (sent tools c s k send) nothing_out).seals ≡ cond (seals_at layer send && b) due []
 out-calls layer due tools c s k send true e =
-    sent-calls layer due tools c s k send (λ a. (may-seal s send e).started a) ∙ ap (λ b. cond b due []) (sym (and-true (seals_at layer send)))
+    sent-calls layer due tools c s k send (λ a. (may-seal s send e).active a) ∙ ap (λ b. cond b due []) (sym (and-true (seals_at layer send)))
   where
     and-true : (a : Bool) → (a && true) ≡ a
     and-true true = refl

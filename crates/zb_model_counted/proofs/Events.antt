@@ -1,5 +1,5 @@
 -- Each event of a run: its group is counted, and a group that is counted is the run's.
-use Rattle.std.proofs.Common.{◌≡◌, ℕ, ◌+◌, Bool, true, false, cond, ◌||◌, List, [], ◌∷◌, ◌++◌, map, filter, find, length, Option, Some, None, nat_eq, flat_map, refl, sym, ap, ◌∙◌, subst}
+use Rattle.std.proofs.Common.{◌≡◌, ℕ, ◌+◌, Bool, true, false, cond, ◌||◌, List, [], ◌∷◌, ◌++◌, map, filter, find, length, Option, Some, None, nat_eq, flat_map, refl, sym, ap, ◌∙◌, subst, append_assoc}
 use Rattle.std.specs.List.{AllByRecursion}
 use Rattle.zb_model.specs.Data.{Bytes, Layer, Nwk, Aps, Term, Edit, Place, Reason, Down, NoFrame, WrongState, Task, Received, DoRoll}
 use Rattle.zb_model.specs.Lines.{Line, Declared, GivenNet, GivenLink, Counter, Changed, Accept, Seal, Forge, Send, DownReset, Boot}
@@ -11,7 +11,7 @@ use Rattle.zb_model.specs.Readings.{state_of, after, speaker, is_up, air}
 use Rattle.zb_model.specs.Play.{Schedule, Node, Event, Own, RollOver, Deliver, Reset, PowerOn, ShowRecord, ArmStop, ArmFail, InjectBytes, ForgeNet, ForgeNetAps, ForgeOpen, Step, Disk, Armed, NotArmed, StopAfter, FailAt, Calls, BootCalls, stations, setting_of, net_line, link_line, limit_line, start, disk_of, with_disk, falls, stands, calls_for, leaves_both, commit_lines, refuse_lines, send_lines, stored_lines, told_lines, group_of, cut_of, fallen_line, answer_step, boot_step, refused_step, task_step, deliver_step, frame_at, supply, forged_net, forged_both, forged_open, step_by, step}
 use Rattle.zb_model.specs.Claims.{Each}
 use Rattle.zb_model_laws.specs.Opening.{Opens}
-use Rattle.zb_model_laws.proofs.Basics.{state-snoc, each-append}
+use Rattle.zb_model_laws.proofs.Basics.{append-nil', state-snoc, each-append}
 use Rattle.zb_model_laws.proofs.Nets.{at_key}
 use Rattle.zb_model_laws.proofs.FreshLines.{all-append, heard-keeps}
 use Rattle.zb_model_laws.proofs.Sound.{sound}
@@ -20,13 +20,10 @@ use Rattle.zb_model_counted.specs.Counted.{IsCounted, answered_with, whole_group
 use Rattle.zb_model_counted.proofs.Shown.{MovesFit, Shown, Fits, plan-fits}
 use Rattle.zb_model_counted.proofs.Calls.{filter-fits}
 use Rattle.zb_model_counted.proofs.Same.{group-counted, answer-same}
-use Rattle.zb_model_counted.proofs.Started.{started, declared-row, StartFits, LineStarts, Bridged, bridged-lines, Quiet, quiet-lines, edit-lines, edits-start}
+use Rattle.zb_model_counted.proofs.Started.{started, declared-row, StartFits, LineStarts, Bridged, bridged-lines, Quiet, quiet-lines, edit-lines, edits-start, ActiveStarted, grown-new, has-map}
+use Rattle.zb_model_counted.proofs.ActiveRows.{AllActive, moves-fit, active-step, one-active}
 
 -- What the rules keep, of an outcome
-
-moves-fit : (s : NodeState) (o : Outcome) → Fits s o → MovesFit s.nets (filter (changes s) (moves_of o))
-moves-fit s (Stop reason) f = tt
-moves-fit s (Does moves send) f = filter-fits s s.nets moves f.0
 
 shown-fits : (s : NodeState) (o : Outcome) → Fits s o → Shown (sending_of o)
 shown-fits s (Stop reason) f = tt
@@ -219,10 +216,10 @@ some-goes : (h : List Line) (b : Bool) (ls : List Line) → Go h ls → Go h (co
 some-goes h true ls g = g
 some-goes h false ls g = tt
 
-answer-edits : (tools : Tools) (w : Schedule) (h : List Line) (number n : ℕ) (task : Task) → Go h (map (Changed number n) (answer_by tools (setting_of w n) (state_of h n) (taken tools w h n task) (plan_of tools (setting_of w n) (state_of h n) task)).edits)
+answer-edits : (tools : Tools) (w : Schedule) (h : List Line) (number n : ℕ) (task : Task) → ActiveStarted (state_of h n) → Go h (map (Changed number n) (answer_by tools (setting_of w n) (state_of h n) (taken tools w h n task) (plan_of tools (setting_of w n) (state_of h n) task)).edits)
 unfolding answer_by taken counting_of
-answer-edits tools w h number n task =
-    edit-lines number n h _ (edits-start number n (setting_of w n) (state_of h n) _ (plan_of tools (setting_of w n) (state_of h n) task) refl (moves-fit (state_of h n) (plan_of tools (setting_of w n) (state_of h n) task).outcome (plan-fits tools (setting_of w n) (state_of h n) task)))
+answer-edits tools w h number n task active =
+    edit-lines number n h _ (edits-start number n (state_of h n) _ (plan_of tools (setting_of w n) (state_of h n) task) active (moves-fit (state_of h n) (plan_of tools (setting_of w n) (state_of h n) task).outcome (plan-fits tools (setting_of w n) (state_of h n) task)))
 
 stored-goes : (h : List Line) (number n : ℕ) (a : Answer) → Go h (map (Changed number n) a.edits) → Go h (stored_lines number n a)
 unfolding stored_lines
@@ -249,15 +246,15 @@ refused-goes : (h : List Line) (disks : List Disk) (number n : ℕ) (reason : Re
 unfolding StartFits
 refused-goes h disks number n reason = (tt, tt)
 
-task-goes : (tools : Tools) (w : Schedule) (h : List Line) (disks : List Disk) (number n : ℕ) (task : Task) → Go h (task_step tools counting_of w h disks number n task).lines
+task-goes : (tools : Tools) (w : Schedule) (h : List Line) (disks : List Disk) (number n : ℕ) (task : Task) → ActiveStarted (state_of h n) → Go h (task_step tools counting_of w h disks number n task).lines
 unfolding task_step taken
-task-goes tools w h disks number n task =
+task-goes tools w h disks number n task active =
     either-goes h (is_up h n) (answer_step h disks number n (answer_by tools (setting_of w n) (state_of h n) (counting_of (setting_of w n) (state_of h n) (plan_of tools (setting_of w n) (state_of h n) task)) (plan_of tools (setting_of w n) (state_of h n) task))) (refused_step disks number n Down)
-    (answer-goes h disks number n (answer_by tools (setting_of w n) (state_of h n) (counting_of (setting_of w n) (state_of h n) (plan_of tools (setting_of w n) (state_of h n) task)) (plan_of tools (setting_of w n) (state_of h n) task)) (answer-edits tools w h number n task)) (refused-goes h disks number n Down)
+    (answer-goes h disks number n (answer_by tools (setting_of w n) (state_of h n) (counting_of (setting_of w n) (state_of h n) (plan_of tools (setting_of w n) (state_of h n) task)) (plan_of tools (setting_of w n) (state_of h n) task)) (answer-edits tools w h number n task active)) (refused-goes h disks number n Down)
 
-deliver-goes : (tools : Tools) (w : Schedule) (h : List Line) (disks : List Disk) (number n : ℕ) (o : Option Bytes) → Go h (deliver_step tools counting_of w h disks number n o).lines
-deliver-goes tools w h disks number n None = refused-goes h disks number n (cond (is_up h n) NoFrame Down)
-deliver-goes tools w h disks number n (Some bytes) = task-goes tools w h disks number n (Received bytes (supply w h))
+deliver-goes : (tools : Tools) (w : Schedule) (h : List Line) (disks : List Disk) (number n : ℕ) (o : Option Bytes) → ActiveStarted (state_of h n) → Go h (deliver_step tools counting_of w h disks number n o).lines
+deliver-goes tools w h disks number n None active = refused-goes h disks number n (cond (is_up h n) NoFrame Down)
+deliver-goes tools w h disks number n (Some bytes) active = task-goes tools w h disks number n (Received bytes (supply w h)) active
 
 boot-goes : (h : List Line) (disks : List Disk) (number n : ℕ) → Go h (boot_step disks number n).lines
 unfolding Quiet
@@ -267,23 +264,31 @@ boot-goes h disks number n =
     (record { lines = Boot number n ∷ []; disks = with_disk disks n (record { armed = (disk_of disks n).armed; both_open = false }) })
     (quiet-lines h (fallen_line (disk_of disks n).armed number n) (fallen-quiet (disk_of disks n).armed number n)) (quiet-lines h (Boot number n ∷ []) (tt, tt))
 
-event-goes : (tools : Tools) (w : Schedule) (h : List Line) (disks : List Disk) (number : ℕ) (event : Event) → Go h (step tools w h disks number event).lines
+event-goes : (tools : Tools) (w : Schedule) (h : List Line) (disks : List Disk) (number : ℕ) (event : Event) → AllActive h → Go h (step tools w h disks number event).lines
 unfolding step step_by forged_net forged_both forged_open StartFits
-event-goes tools w h disks number (Own n task) = task-goes tools w h disks number n task
-event-goes tools w h disks number (RollOver n) = task-goes tools w h disks number n (DoRoll (supply w h))
-event-goes tools w h disks number (Deliver frame n) = deliver-goes tools w h disks number n (frame_at h frame)
-event-goes tools w h disks number (Reset n) = either-goes h (is_up h n) (record { lines = DownReset number n ∷ []; disks = disks }) (refused_step disks number n Down) (tt, tt) (tt, tt)
-event-goes tools w h disks number (PowerOn n) = either-goes h (is_up h n) (refused_step disks number n WrongState) (boot_step disks number n) (tt, tt) (boot-goes h disks number n)
-event-goes tools w h disks number (ShowRecord n) = (tt, tt)
-event-goes tools w h disks number (ArmStop n calls torn) = tt
-event-goes tools w h disks number (ArmFail n call) = tt
-event-goes tools w h disks number (InjectBytes bytes) = (tt, tt)
-event-goes tools w h disks number (ForgeNet to from source key sequence counter content) = (tt, (tt, tt))
-event-goes tools w h disks number (ForgeNetAps to from source key sequence counter label base aps_counter command) = (tt, (tt, (tt, tt)))
-event-goes tools w h disks number (ForgeOpen to from source label base aps_counter command) = (tt, (tt, tt))
+event-goes tools w h disks number (Own n task) active = task-goes tools w h disks number n task (active n)
+event-goes tools w h disks number (RollOver n) active = task-goes tools w h disks number n (DoRoll (supply w h)) (active n)
+event-goes tools w h disks number (Deliver frame n) active = deliver-goes tools w h disks number n (frame_at h frame) (active n)
+event-goes tools w h disks number (Reset n) active = either-goes h (is_up h n) (record { lines = DownReset number n ∷ []; disks = disks }) (refused_step disks number n Down) (tt, tt) (tt, tt)
+event-goes tools w h disks number (PowerOn n) active = either-goes h (is_up h n) (refused_step disks number n WrongState) (boot_step disks number n) (tt, tt) (boot-goes h disks number n)
+event-goes tools w h disks number (ShowRecord n) active = (tt, tt)
+event-goes tools w h disks number (ArmStop n calls torn) active = tt
+event-goes tools w h disks number (ArmFail n call) active = tt
+event-goes tools w h disks number (InjectBytes bytes) active = (tt, tt)
+event-goes tools w h disks number (ForgeNet to from source key sequence counter content) active = (tt, (tt, tt))
+event-goes tools w h disks number (ForgeNetAps to from source key sequence counter label base aps_counter command) active = (tt, (tt, (tt, tt)))
+event-goes tools w h disks number (ForgeOpen to from source label base aps_counter command) active = (tt, (tt, tt))
 
-pub event-bridged : (tools : Tools) (w : Schedule) (h : List Line) (disks : List Disk) (number : ℕ) (event : Event) → Bridged h → Bridged (h ++ (step tools w h disks number event).lines)
-event-bridged tools w h disks number event bridged = bridged-lines h (step tools w h disks number event).lines (event-goes tools w h disks number event) bridged
+-- what lines say of started keys, and each active row has started
+pub record Grounded (h : List Line) : Type 0 where
+  pub bridged : Bridged h
+  pub active : AllActive h
+
+pub event-grounded : (tools : Tools) (w : Schedule) (h : List Line) (disks : List Disk) (number : ℕ) (event : Event) → Grounded h → Grounded (h ++ (step tools w h disks number event).lines)
+event-grounded tools w h disks number event g = record {
+  bridged = bridged-lines h (step tools w h disks number event).lines (event-goes tools w h disks number event g.active) g.bridged;
+  active = active-step tools w h disks number event g.active;
+}
 
 -- The start lines
 
@@ -378,5 +383,45 @@ no-lines : Bridged []
 unfolding state_of has_started
 no-lines n key = refl
 
-pub start-bridged : (w : Schedule) → Bridged (start w)
+-- each active key has a row
+
+abbrev StartState : NodeState → Type 0
+StartState s = AllStarted s.nets × ((a : Bytes) → s.active ≡ Some a → has_net a s.nets ≡ true)
+
+start-row : (l : Line) (s : NodeState) → IsStart l → StartState s → StartState (after l s)
+unfolding after with_given_net with_given_link with_declared IsStart
+start-row (Declared p) s i a = a
+start-row (GivenNet n k q) s i a = (
+  grow-started (has_net k s.nets) (given_net s.declared k q) s.nets refl a.0,
+  λ j e. subst (λ x. has_net x (cond (has_net k s.nets) s.nets (s.nets ++ given_net s.declared k q ∷ [])) ≡ true) (one-active k j e) (grown-new (has_net k s.nets) (given_net s.declared k q) s.nets refl),
+)
+start-row (GivenLink n p k) s i a = a
+start-row (Counter n Nwk v) s i a = (map-started (declared_at v) (declared-row v).start s.nets a.0, λ j e. has-map (declared_at v) (declared-row v).key j s.nets ∙ a.1 j e)
+start-row (Counter n Aps v) s i a = a
+start-row _ s i a = absurd i
+
+start-rows : (h ls : List Line) → AllByRecursion IsStart ls → ((n : ℕ) → StartState (state_of h n)) → (n : ℕ) → StartState (state_of (h ++ ls) n)
+start-rows h [] a j n = subst (λ x. StartState (state_of x n)) (sym (append-nil' h)) (j n)
+start-rows h (l ∷ ls) a j n =
+    subst (λ x. StartState (state_of x n)) (append_assoc h (l ∷ []) ls)
+    (start-rows (h ++ l ∷ []) ls a.1 (λ m. subst StartState (sym (state-snoc h l m)) (heard-keeps StartState m l (state_of h m) (λ e. start-row l (state_of h m) a.0 (j m)) (j m))) n)
+
+no-state : (n : ℕ) → StartState (state_of [] n)
+unfolding state_of
+no-state n = (tt, λ a e. absurd (no-active a e))
+  where
+    is-none : Option Bytes → Type 0
+    is-none None = Unit {0}
+    is-none (Some a) = ⊥
+
+    no-active : (a : Bytes) → None ≡ Some a → ⊥
+    no-active a e = subst is-none e tt
+
+start-active : (w : Schedule) → AllActive (start w)
+start-active w n a e = has-started (state_of (start w) n).nets (start-rows [] (start w) (start-are w) no-state n).0 a ((start-rows [] (start w) (start-are w) no-state n).1 a e)
+
+start-bridged : (w : Schedule) → Bridged (start w)
 start-bridged w = bridged-lines [] (start w) (starts-fit [] (start w) (start-are w) no-rows) no-lines
+
+pub start-grounded : (w : Schedule) → Grounded (start w)
+start-grounded w = record { bridged = start-bridged w; active = start-active w }

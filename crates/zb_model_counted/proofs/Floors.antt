@@ -6,8 +6,8 @@ use Rattle.zb_model.specs.Data.{Bytes, Layer, Nwk, Aps, Term, Move, Active, Edit
 use Rattle.zb_model.specs.Lines.{Line, Declared, GivenNet, GivenLink, Counter, Changed, Accept, Seal, Stopped, DownReset, DownDisk, Boot}
 use Rattle.zb_model.specs.State.{greatest_counter, NodeState}
 use Rattle.zb_model.specs.Tools.{Tools}
-use Rattle.zb_model.specs.Rules.{Plan}
-use Rattle.zb_model.specs.Answer.{Answer, Counting, answer_by, plan_of, counting_of, edits_of, reserve_edit, floor_edit, start_edit, move_edits, changes, moves_of, stored_floor, floor_for}
+use Rattle.zb_model.specs.Rules.{Plan, Setting}
+use Rattle.zb_model.specs.Answer.{Answer, Counting, answer_by, plan_of, counting_of, edits_of, reserve_edit, floor_edit, start_edit, move_edits, changes, moves_of, stored_floor, floor_for, answer}
 use Rattle.zb_model.specs.Readings.{state_of, is_up, air}
 use Rattle.zb_model.specs.Play.{Schedule, Event, Own, RollOver, Deliver, Reset, PowerOn, ShowRecord, ArmStop, ArmFail, InjectBytes, ForgeNet, ForgeNetAps, ForgeOpen, Step, Disk, Armed, NotArmed, StopAfter, FailAt, Calls, BootCalls, setting_of, start, disk_of, with_disk, falls, stands, calls_for, leaves_both, commit_lines, refuse_lines, send_lines, stored_lines, told_lines, group_of, cut_of, fallen_line, answer_step, boot_step, refused_step, task_step, deliver_step, frame_at, supply, forged_net, forged_both, forged_open, step_by, step, groups}
 use Rattle.zb_model.specs.Transcript.{run_lines, transcript, end_line}
@@ -15,7 +15,7 @@ use Rattle.zb_model_laws.specs.Opening.{Opens}
 use Rattle.zb_model_laws.proofs.FreshLines.{all-append, all-map}
 use Rattle.zb_model_laws.proofs.Judged.{AcceptsFit, plan-accepts}
 use Rattle.zb_model_laws.proofs.Sound.{sound}
-use Rattle.zb_model_counted.specs.Floors.{IsFor, FloorLine, FloorsAreFor}
+use Rattle.zb_model_counted.specs.Floors.{IsFor, FloorLine, FloorsAreFor, IsOfTerm, FloorOf}
 use Rattle.zb_model_counted.proofs.Calls.{floor_list, own_floors, floors-own}
 use Rattle.zb_model_counted.proofs.Events.{IsStart, start-are}
 
@@ -285,3 +285,54 @@ floors-are-for tools opens w =
 
     last : Line
     last = end_line tools (length w.events) (start w ++ gs)
+
+-- The floors of an answer
+
+later-of : (block : ℕ) (t : Term) (ts : List Term) (e : Edit) → FloorOf block ts e → FloorOf block (t ∷ ts) e
+later-of block t ts (Floor layer base source value) a = any-later (IsOfTerm block layer base source value) t ts a
+later-of block t ts _ a = tt
+
+reserve-of : (block : ℕ) (ts : List Term) (layer : Layer) (o : Option ℕ) → AllByRecursion (FloorOf block ts) (option_to_list (option_map (Reserve layer) o))
+reserve-of block ts layer None = tt
+reserve-of block ts layer (Some v) = (tt, tt)
+
+start-of : (block : ℕ) (ts : List Term) (key : Bytes) (o : Option ℕ) → AllByRecursion (FloorOf block ts) (start_edit key o)
+start-of block ts key None = tt
+start-of block ts key (Some v) = (tt, tt)
+
+move-of : (block : ℕ) (ts : List Term) (k : Counting) (m : Move) → AllByRecursion (FloorOf block ts) (move_edits k m)
+move-of block ts k (Active key) = (tt, start-of block ts key k.start)
+move-of block ts k _ = (tt, tt)
+
+moves-of : (block : ℕ) (ts : List Term) (k : Counting) (ms : List Move) → AllByRecursion (FloorOf block ts) (flat_map (move_edits k) ms)
+moves-of block ts k [] = tt
+moves-of block ts k (m ∷ ms) = all-append (FloorOf block ts) (move_edits k m) (flat_map (move_edits k) ms) (move-of block ts k m) (moves-of block ts k ms)
+
+floor-of : (block : ℕ) (t : Term) (ts : List Term) (b : Bool) → AllByRecursion (FloorOf block (t ∷ ts)) (floor_list t (cond b (Some (min (t.counter + block) greatest_counter)) None))
+floor-of block t ts false = tt
+floor-of block t ts true = (any-first (IsOfTerm block t.layer t.base t.source (min (t.counter + block) greatest_counter)) t ts (refl, refl, refl, omega arith), tt)
+
+floors-of : (c : Setting) (s : NodeState) (ts : List Term) → AllByRecursion (FloorOf c.me.in_block ts) (own_floors c s ts)
+floors-of c s [] = tt
+floors-of c s (t ∷ ts) =
+    all-append (FloorOf c.me.in_block (t ∷ ts)) (floor_list t (floor_for c s t)) (own_floors c s ts) (floor-of c.me.in_block t ts (nat_le (stored_floor t s) t.counter))
+    (all-map (FloorOf c.me.in_block ts) (FloorOf c.me.in_block (t ∷ ts)) (later-of c.me.in_block t ts) (own_floors c s ts) (floors-of c s ts))
+
+plan-floors : (c : Setting) (s : NodeState) (p : Plan) → AcceptsFit s p.accepts → AllByRecursion (FloorOf c.me.in_block p.accepts) (edits_of s (counting_of c s p) p)
+unfolding edits_of counting_of
+plan-floors c s p f =
+    all-append E (reserve_edit k Nwk ++ reserve_edit k Aps) (flat_map (floor_edit k) p.accepts ++ flat_map (move_edits k) (filter (changes s) (moves_of p.outcome)))
+    (all-append E (reserve_edit k Nwk) (reserve_edit k Aps) (reserve-of c.me.in_block p.accepts Nwk (k.reserve Nwk)) (reserve-of c.me.in_block p.accepts Aps (k.reserve Aps)))
+    (all-append E (flat_map (floor_edit k) p.accepts) (flat_map (move_edits k) (filter (changes s) (moves_of p.outcome)))
+    (subst (λ es. AllByRecursion E es) (sym (floors-own c s s p.accepts f)) (floors-of c s p.accepts))
+    (moves-of c.me.in_block p.accepts k (filter (changes s) (moves_of p.outcome))))
+  where
+    k : Counting
+    k = counting_of c s p
+
+    E : Edit → Type 0
+    E = FloorOf c.me.in_block p.accepts
+
+pub answer-floors : (tools : Tools) → Opens tools → (c : Setting) (h : List Line) (n : ℕ) (task : Task) → AllByRecursion (FloorOf c.me.in_block (answer tools c (state_of h n) task).accepts) (answer tools c (state_of h n) task).edits
+unfolding answer answer_by
+answer-floors tools opens c h n task = plan-floors c (state_of h n) (plan_of tools c (state_of h n) task) (plan-accepts tools opens c (state_of h n) (sound h n) task)

@@ -2,7 +2,8 @@ mod Shown
 mod Sections
 mod Calls
 mod Same
-mod Started
-mod Events
+pub mod Started
+pub mod ActiveRows
+pub mod Events
 pub mod Unique
 pub mod Floors

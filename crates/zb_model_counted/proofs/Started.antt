@@ -5,14 +5,14 @@ use Rattle.std.specs.List.{AllByRecursion, list_any}
 use Rattle.zb_model.specs.Data.{Bytes, Layer, Nwk, Aps, Term, Edit, Reserve, Floor, Start, Moved, Move, Draw, DropNet, DropLink, Install, Active, Row, Pair, Became, Live, Removed, Roll, Told, Untold}
 use Rattle.zb_model.specs.Lines.{Line, Declared, GivenNet, GivenLink, Counter, Changed, Commit, Accept, Refuse, Seal, Forge, Send, Inject, Stopped, DownReset, DownDisk, Boot, Dump, End}
 use Rattle.zb_model.specs.State.{NetKey, NodeState, same_key, has_net, at_net, of_active, net_of_active, active_row, new_net, given_net, reserved, started_at, dropped_net, net_floor, net_kept, next_at, booted_net, declared_at, applied, moved, applied_all, after_sealing, sealed_at, after_boot, after_hearing, after_accepting, with_given_net, with_given_link, with_declared}
-use Rattle.zb_model.specs.Rules.{Sending, Plan, Setting}
-use Rattle.zb_model.specs.Answer.{Answer, Counting, row_is_started, is_started_key, seals_at, may_seal, reserve_of, reserve_edit, floor_edit, start_edit, edits_of}
+use Rattle.zb_model.specs.Rules.{Plan}
+use Rattle.zb_model.specs.Answer.{Answer, Counting, row_is_started, is_started_key, reserve_edit, floor_edit, start_edit, edits_of}
 use Rattle.zb_model.specs.Readings.{state_of, heard_line, after, speaker}
 use Rattle.zb_model.specs.Claims.{Each}
 use Rattle.zb_model_laws.proofs.Basics.{same_key-eq, same_key-refl, find-map, append-nil', state-snoc}
 use Rattle.zb_model_laws.proofs.Nets.{at_key}
 use Rattle.zb_model_laws.proofs.Counters.{found-key, none-some}
-use Rattle.zb_model_laws.proofs.Groups.{changed-line, may-seal}
+use Rattle.zb_model_laws.proofs.Groups.{changed-line}
 use Rattle.zb_model_counted.specs.Counted.{starts_key, has_started}
 use Rattle.zb_model_counted.proofs.Shown.{NoActive, MovesFit}
 use Rattle.zb_model_counted.proofs.Sections.{IsFloor, are-floors, kept_moves, reserve_list}
@@ -32,7 +32,7 @@ or-no : (a b : Bool) → b ≡ false → a ≡ (a || b)
 or-no a true e = absurd (false≢true (sym e))
 or-no a false e = or-nothing a
 
-or-yes : (a b : Bool) → b ≡ true → true ≡ (a || b)
+pub or-yes : (a b : Bool) → b ≡ true → true ≡ (a || b)
 or-yes true b e = refl
 or-yes false true e = refl
 or-yes false false e = absurd (false≢true e)
@@ -54,7 +54,7 @@ row-map : (f : NetKey → NetKey) → KeepsRow f → (o : Option NetKey) → row
 row-map f k None = refl
 row-map f k (Some r) = k.start r
 
-started-map : (f : NetKey → NetKey) → KeepsRow f → (key : Bytes) (nets : List NetKey) → started key (map f nets) ≡ started key nets
+pub started-map : (f : NetKey → NetKey) → KeepsRow f → (key : Bytes) (nets : List NetKey) → started key (map f nets) ≡ started key nets
 started-map f k key nets = ap row_is_started (find-map (at_key key) f (λ r. ap (λ x. same_key x key) (k.key r)) nets) ∙ row-map f k (find (at_key key) nets)
 
 only-row : (f : NetKey → NetKey) (test : NetKey → Bool) → KeepsRow f → KeepsRow (λ r. cond (test r) (f r) r)
@@ -68,7 +68,7 @@ only-row f test k = record { key = λ r. key_ (test r) r; start = λ r. start_ (
     start_ true r = k.start r
     start_ false r = refl
 
-started-at : (f : NetKey → NetKey) → KeepsRow f → (key other : Bytes) (nets : List NetKey) → started key (at_net other f nets) ≡ started key nets
+pub started-at : (f : NetKey → NetKey) → KeepsRow f → (key other : Bytes) (nets : List NetKey) → started key (at_net other f nets) ≡ started key nets
 started-at f k key other nets = started-map (λ r. cond (same_key r.key other) (f r) r) (only-row f (λ r. same_key r.key other) k) key nets
 
 -- one row more, not started
@@ -130,7 +130,7 @@ again-row f k a key nets s (Some r) e = by-test (same_key r.key a) refl
     by-test true b = k r ∙ sym (same b)
     by-test false b = refl
 
-key-cond : (f : NetKey → NetKey) → ((r : NetKey) → (f r).key ≡ r.key) → (b : Bool) (r : NetKey) → (cond b (f r) r).key ≡ r.key
+pub key-cond : (f : NetKey → NetKey) → ((r : NetKey) → (f r).key ≡ r.key) → (b : Bool) (r : NetKey) → (cond b (f r) r).key ≡ r.key
 key-cond f k true r = k r
 key-cond f k false r = refl
 
@@ -140,7 +140,7 @@ found-at f k a key nets = find-map (at_key key) (λ r. cond (same_key r.key a) (
 again-at : (v : ℕ) (a key : Bytes) (nets : List NetKey) → started a nets ≡ true → started key (at_net a (reserved v) nets) ≡ started key nets
 again-at v a key nets s = ap row_is_started (found-at (reserved v) (λ r. refl) a key nets) ∙ again-row (reserved v) (λ r. refl) a key nets s (find (at_key key) nets) refl
 
-reserve-same : (v : ℕ) (o : Option Bytes) (key : Bytes) (nets : List NetKey) → ((a : Bytes) → o ≡ Some a → started a nets ≡ true) → started key (of_active (reserved v) o nets) ≡ started key nets
+pub reserve-same : (v : ℕ) (o : Option Bytes) (key : Bytes) (nets : List NetKey) → ((a : Bytes) → o ≡ Some a → started a nets ≡ true) → started key (of_active (reserved v) o nets) ≡ started key nets
 reserve-same v None key nets k = refl
 reserve-same v (Some a) key nets k = again-at v a key nets (k a refl)
 
@@ -172,7 +172,7 @@ start-row f s k key nets h (Some r) e = by-test (same_key r.key k) refl
         apart true q b = absurd (false≢true (sym b ∙ ap (λ y. same_key y k) (same ∙ sym (same_key-eq k key q)) ∙ same_key-refl k))
         apart false q b = refl
 
-start-at : (v : ℕ) (k key : Bytes) (nets : List NetKey) → has_net k nets ≡ true → started key (at_net k (started_at v) nets) ≡ (started key nets || same_key k key)
+pub start-at : (v : ℕ) (k key : Bytes) (nets : List NetKey) → has_net k nets ≡ true → started key (at_net k (started_at v) nets) ≡ (started key nets || same_key k key)
 start-at v k key nets h = ap row_is_started (found-at (started_at v) (λ r. refl) k key nets) ∙ start-row (started_at v) (λ r. refl) k key nets h (find (at_key key) nets) refl
 
 -- What a line needs of its node's state
@@ -192,13 +192,13 @@ starting key (GivenNet n k q) = same_key k key
 starting key (Changed e n (Start k v)) = same_key k key
 starting key _ = false
 
-plain-row : (f : NetKey → NetKey) → ((r : NetKey) → (f r).key ≡ r.key) → ((r : NetKey) → (f r).started ≡ r.started) → KeepsRow f
+pub plain-row : (f : NetKey → NetKey) → ((r : NetKey) → (f r).key ≡ r.key) → ((r : NetKey) → (f r).started ≡ r.started) → KeepsRow f
 plain-row f k s = record { key = k; start = s }
 
 stays : (a b : Bool) → a ≡ b → a ≡ (b || false)
 stays a b e = e ∙ or-nothing b
 
-started-moved : (key : Bytes) (m : Move) (s : NodeState) → started key (moved m s).nets ≡ started key s.nets
+pub started-moved : (key : Bytes) (m : Move) (s : NodeState) → started key (moved m s).nets ≡ started key s.nets
 started-moved key (Draw k) s = refl
 started-moved key (DropNet k) s = started-at dropped_net (plain-row dropped_net (λ r. refl) (λ r. refl)) key k s.nets
 started-moved key (DropLink p k) s = refl
@@ -222,12 +222,12 @@ started-applied key number n (Floor Aps k p v) s f = or-nothing (started key s.n
 started-applied key number n (Start k v) s f = start-at v k key s.nets f
 started-applied key number n (Moved m) s f = stays _ (started key s.nets) (started-moved key m s)
 
-started-heard : (key : Bytes) (layer : Layer) (k : Bytes) (sender counter : ℕ) (s : NodeState) → started key (after_hearing layer k sender counter s).nets ≡ started key s.nets
+pub started-heard : (key : Bytes) (layer : Layer) (k : Bytes) (sender counter : ℕ) (s : NodeState) → started key (after_hearing layer k sender counter s).nets ≡ started key s.nets
 unfolding after_hearing
 started-heard key Nwk k sender counter s = started-at (net_kept sender (counter + 1)) (plain-row (net_kept sender (counter + 1)) (λ r. refl) (λ r. refl)) key k s.nets
 started-heard key Aps k sender counter s = refl
 
-started-sealed : (key : Bytes) (layer : Layer) (t : Term) (s : NodeState) → started key (sealed_at layer t s).nets ≡ started key s.nets
+pub started-sealed : (key : Bytes) (layer : Layer) (t : Term) (s : NodeState) → started key (sealed_at layer t s).nets ≡ started key s.nets
 started-sealed key Nwk t s = started-at (next_at (t.counter + 1)) (plain-row (next_at (t.counter + 1)) (λ r. refl) (λ r. refl)) key t.base s.nets
 started-sealed key Aps t s = refl
 
@@ -332,22 +332,14 @@ unfolding applied_all
 edits-append number n s [] ys f g = g
 edits-append number n s (x ∷ xs) ys f g = (f.0, edits-append number n (applied x s) xs ys f.1 g)
 
--- a reserve is of the active row, which has started
-started-active : (o : Option Bytes) (s : NodeState) → row_is_started (net_of_active o s) ≡ true → (a : Bytes) → o ≡ Some a → started a s.nets ≡ true
-started-active o s e a q = ap (λ x. row_is_started (net_of_active x s)) (sym q) ∙ e
+-- the active row has started
+abbrev pub ActiveStarted : NodeState → Type 0
+ActiveStarted s = (a : Bytes) → s.active ≡ Some a → started a s.nets ≡ true
 
-active-started : (s : NodeState) → row_is_started (active_row s) ≡ true → (a : Bytes) → s.active ≡ Some a → started a s.nets ≡ true
-unfolding active_row
-active-started s e a q = started-active s.active s e a q
-
-reserve-by : (number n : ℕ) (s : NodeState) (send : Option Sending) (v : ℕ) (e b : Bool) → (seals_at Nwk send && (may_seal s send && e)) ≡ b → EditsStart number n s (reserve_list Nwk (cond b (Some v) None))
+reserve-by : (number n : ℕ) (s : NodeState) (o : Option ℕ) → ActiveStarted s → EditsStart number n s (reserve_list Nwk o)
 unfolding StartFits
-reserve-by number n s send v e true q = (active-started s ((may-seal s send (and_parts (may_seal s send) e (and_parts (seals_at Nwk send) (may_seal s send && e) q).1).0).started (and_parts (seals_at Nwk send) (may_seal s send && e) q).0), tt)
-reserve-by number n s send v e false q = tt
-
-net-reserve : (number n : ℕ) (c : Setting) (s : NodeState) (send : Option Sending) → EditsStart number n s (reserve_list Nwk (reserve_of c s send Nwk))
-unfolding reserve_of
-net-reserve number n c s send = reserve-by number n s send _ _ _ refl
+reserve-by number n s (Some v) active = (active, tt)
+reserve-by number n s None active = tt
 
 aps-reserve : (number n : ℕ) (s : NodeState) (o : Option ℕ) → EditsStart number n s (reserve_list Aps o)
 unfolding StartFits
@@ -364,14 +356,14 @@ floors-start number n s (Moved m ∷ es) a = absurd a.0
 
 -- rows stay there
 
-abbrev Within : List NetKey → List NetKey → Type 0
+abbrev pub Within : List NetKey → List NetKey → Type 0
 Within xs ys = (k : Bytes) → has_net k xs ≡ true → has_net k ys ≡ true
 
-has-map : (f : NetKey → NetKey) → ((r : NetKey) → (f r).key ≡ r.key) → (k : Bytes) (nets : List NetKey) → has_net k (map f nets) ≡ has_net k nets
+pub has-map : (f : NetKey → NetKey) → ((r : NetKey) → (f r).key ≡ r.key) → (k : Bytes) (nets : List NetKey) → has_net k (map f nets) ≡ has_net k nets
 has-map f same k [] = refl
 has-map f same k (r ∷ rs) = ap (λ x. same_key x k || has_net k (map f rs)) (same r) ∙ ap (λ b. same_key r.key k || b) (has-map f same k rs)
 
-has-at : (f : NetKey → NetKey) → ((r : NetKey) → (f r).key ≡ r.key) → (a k : Bytes) (nets : List NetKey) → has_net k (at_net a f nets) ≡ has_net k nets
+pub has-at : (f : NetKey → NetKey) → ((r : NetKey) → (f r).key ≡ r.key) → (a k : Bytes) (nets : List NetKey) → has_net k (at_net a f nets) ≡ has_net k nets
 has-at f same a k nets = has-map (λ r. cond (same_key r.key a) (f r) r) (λ r. key-cond f same (same_key r.key a) r) k nets
 
 or-left : (a b : Bool) → a ≡ true → (a || b) ≡ true
@@ -402,7 +394,7 @@ grown-has : (b : Bool) (x : NetKey) (k : Bytes) (nets : List NetKey) → has_net
 grown-has true x k nets e = e
 grown-has false x k nets e = has-more k nets (x ∷ []) e
 
-grown-new : (b : Bool) (x : NetKey) (nets : List NetKey) → has_net x.key nets ≡ b → has_net x.key (cond b nets (nets ++ x ∷ [])) ≡ true
+pub grown-new : (b : Bool) (x : NetKey) (nets : List NetKey) → has_net x.key nets ≡ b → has_net x.key (cond b nets (nets ++ x ∷ [])) ≡ true
 grown-new true x nets e = e
 grown-new false x nets e = has-last x nets
 
@@ -437,19 +429,19 @@ unfolding StartFits
 start-then number n s key None rest h k = k s
 start-then number n s key (Some v) rest h k = (h, k (applied (Start key v) s))
 
-active-nets : (key : Bytes) (s : NodeState) → (applied (Moved (Active key)) s).nets ≡ s.nets
+pub active-nets : (key : Bytes) (s : NodeState) → (applied (Moved (Active key)) s).nets ≡ s.nets
 unfolding applied
 active-nets key s = refl
 
-same-nets : (nets : List NetKey) (m : Move) (s : NodeState) → (moved m s).nets ≡ s.nets → Within nets s.nets → Within nets (applied (Moved m) s).nets
+pub same-nets : (nets : List NetKey) (m : Move) (s : NodeState) → (moved m s).nets ≡ s.nets → Within nets s.nets → Within nets (applied (Moved m) s).nets
 unfolding applied
 same-nets nets m s e w = subst (λ x. Within nets x) (sym e) w
 
-install-nets : (nets : List NetKey) (key : Bytes) (q : ℕ) (s : NodeState) → Within nets s.nets → Within (cond (has_net key nets) nets (nets ++ new_net key q ∷ [])) (applied (Moved (Install key q)) s).nets
+pub install-nets : (nets : List NetKey) (key : Bytes) (q : ℕ) (s : NodeState) → Within nets s.nets → Within (cond (has_net key nets) nets (nets ++ new_net key q ∷ [])) (applied (Moved (Install key q)) s).nets
 unfolding applied
 install-nets nets key q s w = grown-within (has_net key nets) (has_net key s.nets) (new_net key q) nets s.nets refl w
 
-drop-nets : (nets : List NetKey) (key : Bytes) (s : NodeState) → Within nets s.nets → Within (at_net key dropped_net nets) (applied (Moved (DropNet key)) s).nets
+pub drop-nets : (nets : List NetKey) (key : Bytes) (s : NodeState) → Within nets s.nets → Within (at_net key dropped_net nets) (applied (Moved (DropNet key)) s).nets
 unfolding applied
 drop-nets nets key s w k h = has-at dropped_net (λ r. refl) key k s.nets ∙ w k (sym (has-at dropped_net (λ r. refl) key k nets) ∙ h)
 
@@ -482,22 +474,22 @@ not-move-has (Start key v) (inr q) k s = absurd q
 not-move-has (Moved m) (inl q) k s = absurd q
 not-move-has (Moved m) (inr q) k s = absurd q
 
-reserves-within : (es : List Edit) → AllByRecursion Rattle.zb_model_counted.proofs.Sections.IsReserve es → (s : NodeState) → Within s.nets (applied_all es s).nets
+pub reserves-within : (es : List Edit) → AllByRecursion Rattle.zb_model_counted.proofs.Sections.IsReserve es → (s : NodeState) → Within s.nets (applied_all es s).nets
 unfolding applied_all
 reserves-within [] a s k h = h
 reserves-within (e ∷ es) a s k h = reserves-within es a.1 (applied e s) k (not-move-has e (inl a.0) k s ∙ h)
 
-floors-within : (es : List Edit) → AllByRecursion IsFloor es → (s : NodeState) → Within s.nets (applied_all es s).nets
+pub floors-within : (es : List Edit) → AllByRecursion IsFloor es → (s : NodeState) → Within s.nets (applied_all es s).nets
 unfolding applied_all
 floors-within [] a s k h = h
 floors-within (e ∷ es) a s k h = floors-within es a.1 (applied e s) k (not-move-has e (inr a.0) k s ∙ h)
 
 -- the whole
-pub edits-start : (number n : ℕ) (c : Setting) (s : NodeState) (k : Counting) (p : Plan) → k.reserve Nwk ≡ reserve_of c s (Rattle.zb_model.specs.Answer.sending_of p.outcome) Nwk → MovesFit s.nets (kept_moves s p) → EditsStart number n s (edits_of s k p)
+pub edits-start : (number n : ℕ) (s : NodeState) (k : Counting) (p : Plan) → ActiveStarted s → MovesFit s.nets (kept_moves s p) → EditsStart number n s (edits_of s k p)
 unfolding edits_of
-edits-start number n c s k p e moves =
+edits-start number n s k p active moves =
     edits-append number n s first (second ++ edits_by k (kept_moves s p))
-    (edits-append number n s (reserve_edit k Nwk) (reserve_edit k Aps) (subst (λ o. EditsStart number n s (reserve_list Nwk o)) (sym e) (net-reserve number n c s (Rattle.zb_model.specs.Answer.sending_of p.outcome))) (aps-reserve number n (applied_all (reserve_edit k Nwk) s) (k.reserve Aps)))
+    (edits-append number n s (reserve_edit k Nwk) (reserve_edit k Aps) (reserve-by number n s (k.reserve Nwk) active) (aps-reserve number n (applied_all (reserve_edit k Nwk) s) (k.reserve Aps)))
     (edits-append number n (applied_all first s) second (edits_by k (kept_moves s p)) (floors-start number n (applied_all first s) second (are-floors k p.accepts))
     (moves-start number n k s.nets (applied_all second (applied_all first s)) (kept_moves s p) moves
     (λ j h. floors-within second (are-floors k p.accepts) (applied_all first s) j (reserves-within first (Rattle.zb_model_counted.proofs.Sections.are-reserves k) s j h))))

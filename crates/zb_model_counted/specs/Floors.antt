@@ -1,7 +1,7 @@
 -- The floors of whole runs, and the accepted terms for which they are stored.
 use Rattle.std.specs.Prelude.{ℕ, ◌≡◌, ◌≤◌, ◌+◌, List, [], ◌∷◌, ⊤}
 use Rattle.std.specs.List.{Any}
-use Rattle.zb_model.specs.Data.{Bytes, Layer, Floor}
+use Rattle.zb_model.specs.Data.{Bytes, Layer, Term, Edit, Floor}
 use Rattle.zb_model.specs.Lines.{Line, Changed, Accept, Stopped, DownDisk}
 use Rattle.zb_model.specs.Play.{Schedule, setting_of}
 
@@ -23,3 +23,12 @@ FloorLine w _ later = ⊤
 abbrev pub FloorsAreFor : Schedule → List Line → Type 0
 FloorsAreFor w [] = ⊤
 FloorsAreFor w (l ∷ ls) = FloorLine w l ls × FloorsAreFor w ls
+
+-- A floor that an answer stores is for a term that it accepts: of the floor's layer, base key and source, and the floor is at most
+-- a block above its counter.
+abbrev pub IsOfTerm : ℕ → Layer → Bytes → ℕ → ℕ → Term → Type 0
+IsOfTerm block layer base source value t = (t.layer ≡ layer) × (t.base ≡ base) × (t.source ≡ source) × (value ≤ t.counter + block)
+
+abbrev pub FloorOf : ℕ → List Term → Edit → Type 0
+FloorOf block accepts (Floor layer base source value) = Any (IsOfTerm block layer base source value) accepts
+FloorOf block accepts _ = ⊤

@@ -3,13 +3,18 @@
 //! words.
 #![tactic(auto)]
 
-ghost use Rattle.std.specs.Prelude.{◌≡◌, List};
+ghost use Rattle.std.specs.Prelude.{◌≡◌, ℕ, List};
+ghost use Rattle.std.specs.List.{AllByRecursion};
 ghost use Rattle.zb_model_counted.specs.Counted.{Counted};
-ghost use Rattle.zb_model_counted.specs.Floors.{FloorsAreFor};
+ghost use Rattle.zb_model_counted.specs.Floors.{FloorOf, FloorsAreFor};
 ghost use Rattle.zb_model_laws.specs.Opening.{Opens};
+ghost use Rattle.zb_model.specs.Answer.{answer};
 ghost use Rattle.zb_model.specs.Claims.{Lawful};
+ghost use Rattle.zb_model.specs.Data.{Task};
 ghost use Rattle.zb_model.specs.Lines.{Line};
 ghost use Rattle.zb_model.specs.Play.{Schedule};
+ghost use Rattle.zb_model.specs.Readings.{state_of};
+ghost use Rattle.zb_model.specs.Rules.{Setting};
 ghost use Rattle.zb_model.specs.Tools.{Tools};
 ghost use Rattle.zb_model.specs.Transcript.{transcript};
 
@@ -32,4 +37,13 @@ pub fn lawful_and_counted_lines_are_the_transcript()
 /// in its event, stands the accept line of that counter, or the stop or failure that cut the event short.
 pub fn a_floor_is_at_most_one_block_above_its_counter()
     ensures { (tools : Tools) → Opens tools → (w : Schedule) → FloorsAreFor w (transcript tools w) }
+{}
+
+/// Each floor that an answer stores is for a term that the answer accepts, of the floor's layer, base key and source, and
+/// is at most the node's incoming block above its counter. That holds where a stop or failure cuts the event too: the
+/// floor lines that stand then are those of the whole answer.
+pub fn floors_of_an_answer_are_for_what_it_accepts()
+    ensures { (tools : Tools) → Opens tools → (c : Setting) (h : List Line) (n : ℕ) (task : Task)
+        → AllByRecursion (FloorOf c.me.in_block (answer tools c (state_of h n) task).accepts)
+            (answer tools c (state_of h n) task).edits }
 {}

@@ -149,10 +149,10 @@ alike-kept v = record { partner = λ r. refl; key = λ r. refl; live = λ r. ref
 alike-booted : Alike booted_link
 alike-booted = record { partner = λ r. refl; key = λ r. refl; live = λ r. refl; attribute = λ r. refl }
 
-slot-eq : (p : ℕ) (k : Bytes) (r : LinkKey) → is_link p k r ≡ true → (r.partner ≡ p) × (r.key ≡ k)
+pub slot-eq : (p : ℕ) (k : Bytes) (r : LinkKey) → is_link p k r ≡ true → (r.partner ≡ p) × (r.key ≡ k)
 slot-eq p k r e = (eqb-true r.partner p (and_parts (nat_eq r.partner p) (same_key r.key k) e).0, same_key-eq r.key k (and_parts (nat_eq r.partner p) (same_key r.key k) e).1)
 
-eq-slot : (p : ℕ) (k : Bytes) (r : LinkKey) → r.partner ≡ p → r.key ≡ k → is_link p k r ≡ true
+pub eq-slot : (p : ℕ) (k : Bytes) (r : LinkKey) → r.partner ≡ p → r.key ≡ k → is_link p k r ≡ true
 eq-slot p k r e f = subst (λ j. (nat_eq r.partner p && same_key r.key j) ≡ true) f (subst (λ n. (nat_eq r.partner n && same_key r.key r.key) ≡ true) e (rw (nat_eq-refl r.partner) (same_key-refl r.key)))
 
 -- a drop: the row is dead, and others are others

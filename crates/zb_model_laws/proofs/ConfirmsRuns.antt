@@ -21,7 +21,7 @@ use Rattle.zb_model_laws.specs.Opening.{Opens}
 use Rattle.zb_model_laws.specs.Commanding.{OneCentre, IsConfirmOf, SpellsConfirm}
 use Rattle.zb_model_laws.proofs.Basics.{append-nil', each-append, flat_map-append}
 use Rattle.zb_model_laws.proofs.FreshLines.{all-append, all-map}
-use Rattle.zb_model_laws.proofs.Runs.{start-plain, IsStation, are-stations, found-is, FoundIs}
+use Rattle.zb_model_laws.proofs.Runs.{hidden-declared, start-plain, IsStation, are-stations, found-is, FoundIs}
 use Rattle.zb_model_laws.proofs.Groups.{NoSeal, stored-plain, accepts-plain, refuse-plain, send-plain}
 use Rattle.zb_model_laws.proofs.GroupSeals.{cut-plain, fallen-plain}
 use Rattle.zb_model_laws.proofs.Sound.{Sound, sound, link_test}
@@ -321,7 +321,7 @@ pub here : (w : Schedule) → IsSchedule w → OneCentre w → (n : ℕ) → Nam
 unfolding setting_of station_of
 here w i one n named = record {
   centre = here-by w n (station_of (stations w) n) named (found-is (λ (p : Station). is_centre p.role ≡ true → p.eui ≡ centre_of (stations w)) (λ (p : Station). nat_eq p.eui n) (stations w) one);
-  declared = λ d e. small-by d (station_of (stations w) d) e (found-is IsStation (λ (p : Station). nat_eq p.eui d) (stations w) (are-stations w.nodes i.nodes));
+  declared = λ d e. small-by d (station_of (stations w) d) (sym (hidden-declared w n d) ∙ e) (found-is IsStation (λ (p : Station). nat_eq p.eui d) (stations w) (are-stations w.nodes i.nodes));
 }
 
 -- the lines of the changes store what is confirmed

@@ -167,8 +167,16 @@ abbrev pub IfHolds : (NetKey → Type 0) → Option NetKey → Type 0
 IfHolds P None = Unit {0}
 IfHolds P (Some r) = P r
 
+-- and a row with a limit has started
 unfoldable pub Behind : NetKey → Type 0
-Behind r = r.next ≤ r.limit
+Behind r = (r.next ≤ r.limit) × (0 < r.limit → r.started ≡ true)
+
+none-below : 0 < 0 → ⊥
+none-below p = omega (arith, p)
+
+behind-new : (k : Bytes) (q : ℕ) → Behind (new_net k q)
+unfolding Behind
+behind-new k q = (le_refl 0, λ p. absurd (none-below p))
 
 pub record Commanded (s : NodeState) : Type 0 where
   pub nets : (key : Bytes) → IfHolds Behind (find (at_key key) s.nets)
@@ -212,7 +220,7 @@ unfolding Behind
 commanded-moved (Draw k) s o = o
 commanded-moved (DropNet k) s o = record { nets = if-at dropped_net k (λ r. refl) (λ r p. p) s.nets o.nets; aps = o.aps }
 commanded-moved (DropLink p k) s o = record { nets = o.nets; aps = o.aps }
-commanded-moved (Install k q) s o = record { nets = if-add (has_net k s.nets) (new_net k q) (le_refl 0) s.nets o.nets; aps = o.aps }
+commanded-moved (Install k q) s o = record { nets = if-add (has_net k s.nets) (new_net k q) (behind-new k q) s.nets o.nets; aps = o.aps }
 commanded-moved (Active k) s o = record { nets = o.nets; aps = o.aps }
 commanded-moved (Row p k t) s o = record { nets = o.nets; aps = o.aps }
 commanded-moved (Pair a b k) s o = record { nets = o.nets; aps = o.aps }
@@ -226,7 +234,7 @@ commanded-moved (Untold d) s o = record { nets = o.nets; aps = o.aps }
 if-active : (active : Option Bytes) (v : ℕ) (nets : List NetKey) → ((key : Bytes) → IfHolds Behind (find (at_key key) nets)) → (key : Bytes) → IfHolds Behind (find (at_key key) (of_active (reserved v) active nets))
 unfolding Behind
 if-active None v nets h key = h key
-if-active (Some a) v nets h key = if-at (reserved v) a (λ r. refl) (λ r p. omega (arith, p)) nets h key
+if-active (Some a) v nets h key = if-at (reserved v) a (λ r. refl) (λ r p. (omega (arith, p.0), λ q. refl)) nets h key
 
 pub commanded-applied : (e : Edit) (s : NodeState) → Commanded s → Commanded (applied e s)
 unfolding applied Behind
@@ -234,7 +242,7 @@ commanded-applied (Reserve Nwk v) s o = record { nets = if-active s.active v s.n
 commanded-applied (Reserve Aps v) s o = record { nets = o.nets; aps = omega (arith, o.aps) }
 commanded-applied (Floor Nwk k p v) s o = record { nets = if-at (net_floor p v) k (λ r. refl) (λ r p. p) s.nets o.nets; aps = o.aps }
 commanded-applied (Floor Aps k p v) s o = record { nets = o.nets; aps = o.aps }
-commanded-applied (Start k v) s o = record { nets = if-at (started_at v) k (λ r. refl) (λ r p. omega (arith, p)) s.nets o.nets; aps = o.aps }
+commanded-applied (Start k v) s o = record { nets = if-at (started_at v) k (λ r. refl) (λ r p. (omega (arith, p.0), λ q. refl)) s.nets o.nets; aps = o.aps }
 commanded-applied (Moved m) s o = commanded-moved m s o
 
 commanded-heard : (layer : Layer) (k : Bytes) (sender counter : ℕ) (s : NodeState) → Commanded s → Commanded (after_hearing layer k sender counter s)
@@ -261,7 +269,7 @@ if-moved c key base nets (Some r) e h q = by-test (same_key r.key base) refl
     limit g = omega (arith, g.2)
 
     by-test : (b : Bool) → same_key r.key base ≡ b → Behind (cond b (next_at (c + 1) r) r)
-    by-test true b = limit (there b)
+    by-test true b = (limit (there b), h.1)
     by-test false b = h
 
 commanded-sealed : (layer : Layer) (t : Term) (s : NodeState) → SealFitsAt layer t s → Commanded s → Commanded (sealed_at layer t s)
@@ -273,10 +281,10 @@ commanded-sealed Nwk t s m o = record {
 }
 commanded-sealed Aps t s m o = record { nets = o.nets; aps = omega (arith, m.2) }
 
-behind-declared : (v : ℕ) (b : Bool) (r : NetKey) → Behind r → Behind (cond b (record r { limit = max r.limit v; next = max r.next v }) r)
+behind-declared : (v : ℕ) (b : Bool) (r : NetKey) → r.started ≡ b → Behind r → Behind (cond b (record r { limit = max r.limit v; next = max r.next v }) r)
 unfolding Behind
-behind-declared v true r p = omega (arith, p)
-behind-declared v false r p = p
+behind-declared v true r e p = (omega (arith, p.0), λ q. e)
+behind-declared v false r e p = p
 
 key-declared : (v : ℕ) (b : Bool) (r : NetKey) → (cond b (record r { limit = max r.limit v; next = max r.next v }) r).key ≡ r.key
 key-declared v true r = refl
@@ -285,12 +293,12 @@ key-declared v false r = refl
 pub commanded-after : (l : Line) (s : NodeState) → StateFits l s → Commanded s → Commanded (after l s)
 unfolding after with_given_net with_given_link with_declared after_sealing after_boot Behind
 commanded-after (Declared p) s m o = record { nets = o.nets; aps = o.aps }
-commanded-after (GivenNet n k q) s m o = record { nets = if-add (has_net k s.nets) (given_net s.declared k q) (le_refl s.declared) s.nets o.nets; aps = o.aps }
+commanded-after (GivenNet n k q) s m o = record { nets = if-add (has_net k s.nets) (given_net s.declared k q) (le_refl s.declared, λ p. refl) s.nets o.nets; aps = o.aps }
 commanded-after (GivenLink n p k) s m o = record { nets = o.nets; aps = o.aps }
-commanded-after (Counter n Nwk v) s m o = record { nets = if-all (declared_at v) (λ r. key-declared v r.started r) (λ r p. behind-declared v r.started r p) s.nets o.nets; aps = o.aps }
+commanded-after (Counter n Nwk v) s m o = record { nets = if-all (declared_at v) (λ r. key-declared v r.started r) (λ r p. behind-declared v r.started r refl p) s.nets o.nets; aps = o.aps }
 commanded-after (Counter n Aps v) s m o = record { nets = o.nets; aps = omega (arith, o.aps) }
 commanded-after (Changed e n edit) s m o = commanded-applied edit s o
 commanded-after (Accept e n t) s m o = commanded-accepted t s o
 commanded-after (Seal e n t) s m o = commanded-sealed t.layer t s m.fits o
-commanded-after (Boot e n) s m o = record { nets = if-all booted_net (λ r. refl) (λ r p. le_refl r.limit) s.nets o.nets; aps = le_refl s.aps_limit }
+commanded-after (Boot e n) s m o = record { nets = if-all booted_net (λ r. refl) (λ r p. (le_refl r.limit, p.1)) s.nets o.nets; aps = le_refl s.aps_limit }
 commanded-after _ s m o = o

@@ -1,12 +1,12 @@
 -- The seals of a group fit: whatever a rule decides, the counters are those that come next, and they are stored before.
-use Rattle.std.proofs.Common.{◌≡◌, ℕ, ◌<◌, ◌≤◌, ◌+◌, min, Bool, true, false, cond, not, ◌&&◌, ◌||◌, List, [], ◌∷◌, ◌++◌, map, Option, Some, None, option_map, option_to_list, find, nat_eq, nat_le, refl, sym, ap, ◌∙◌, subst, arith, append_assoc, leb-false}
+use Rattle.std.proofs.Common.{◌≡◌, ℕ, ◌<◌, ◌≤◌, ◌+◌, min, Bool, true, false, cond, not, ◌&&◌, ◌||◌, List, [], ◌∷◌, ◌++◌, map, Option, Some, None, option_map, option_to_list, find, is_some, nat_eq, nat_le, refl, sym, ap, ◌∙◌, subst, arith, append_assoc, leb-false}
 use Rattle.std.proofs.lemmas.Bool.{and_parts, not-true, false≢true, eqb-false}
 use Rattle.std.specs.List.{AllByRecursion}
 use Rattle.zb_model.specs.Data.{Bytes, Layer, Nwk, Aps, Term, Move, Draw, DropNet, DropLink, Install, Active, Row, Pair, Became, Live, Removed, Roll, Told, Untold, Edit, Reserve, Floor, Start, Moved, Place, Reason}
 use Rattle.zb_model.specs.Lines.{Line, Changed, Accept, Seal}
 use Rattle.zb_model.specs.State.{greatest_counter, NetKey, NodeState, same_key, at_net, of_active, net_of_active, active_row, next_of, limit_of, next_counter, stored_limit, reserved, started_at, applied, applied_all, after_accepting, after_sealing, sealed_at}
 use Rattle.zb_model.specs.Rules.{Sending, Setting, spent}
-use Rattle.zb_model.specs.Answer.{Answer, seals_at, may_seal, row_is_started, reserve_of}
+use Rattle.zb_model.specs.Answer.{Answer, seals_at, may_seal, reserve_of}
 use Rattle.zb_model.specs.Readings.{state_of, heard_line, after, speaker}
 use Rattle.zb_model.specs.Play.{commit_lines, refuse_lines, send_lines, stored_lines}
 use Rattle.zb_model.specs.Claims.{Each}
@@ -150,9 +150,6 @@ ready-accepted s0 send t s r = record {
 some-is : {X : Type 0} (d x : X) (o : Option X) → o ≡ Some x → Rattle.std.specs.Prelude.unwrap_or o d ≡ x
 some-is d x o e = ap (λ p. Rattle.std.specs.Prelude.unwrap_or p d) e
 
-started-of : (r : NetKey) (o : Option NetKey) → o ≡ Some r → row_is_started o ≡ true → r.started ≡ true
-started-of r o e h = ap row_is_started (sym e) ∙ h
-
 next-is : (s : NodeState) (r : NetKey) → active_row s ≡ Some r → next_counter Nwk s ≡ r.next
 unfolding next_counter
 next-is s r e = ap (λ o. next_of s.declared o) e
@@ -177,12 +174,12 @@ unfolding Holds
 holds-some P o r e p = subst (λ x. Holds P x) (sym e) p
 
 -- the reserve makes room
-reserve-gives : (o : Option Bytes) (s : NodeState) (r : NetKey) (c v : ℕ) → net_of_active o s ≡ Some r → r.started ≡ true → r.next ≡ c → c < min v greatest_counter → On (Gives c) r.key (of_active (reserved v) o s.nets)
-reserve-gives None s r c v e started next room = absurd (Rattle.zb_model_laws.proofs.Counters.none-some r e)
-reserve-gives (Some key) s r c v e started next room =
+reserve-gives : (o : Option Bytes) (s : NodeState) (r : NetKey) (c v : ℕ) → net_of_active o s ≡ Some r → r.next ≡ c → c < min v greatest_counter → On (Gives c) r.key (of_active (reserved v) o s.nets)
+reserve-gives None s r c v e next room = absurd (Rattle.zb_model_laws.proofs.Counters.none-some r e)
+reserve-gives (Some key) s r c v e next room =
     subst (λ k. On (Gives c) k (at_net key (reserved v) s.nets)) (sym (same_key-eq r.key key (found-key key s.nets r e)))
-    (on-map-found (λ x. (x.started ≡ true) × (x.next ≡ c)) (Gives c) (reserved v) key s.nets (λ x. refl) (λ x p. (refl, p.1, omega (arith, room)))
-    (holds-some (λ x. (x.started ≡ true) × (x.next ≡ c)) (find (at_key key) s.nets) r e (started, next)))
+    (on-map-found (λ x. x.next ≡ c) (Gives c) (reserved v) key s.nets (λ x. refl) (λ x p. (refl, p, omega (arith, room)))
+    (holds-some (λ x. x.next ≡ c) (find (at_key key) s.nets) r e next))
 
 reserve-test : (a m e : Bool) (v : ℕ) → a ≡ true → m ≡ true → cond (a && (m && e)) (Some v) None ≡ cond e (Some v) None
 reserve-test true true e v p q = refl
@@ -192,17 +189,21 @@ reserve-test true false e v p q = absurd (false≢true q)
 abbrev pub reserve_list : Layer → Option ℕ → List Edit
 reserve_list layer o = option_to_list (option_map (Reserve layer) o)
 
-behind-found : (o : Option NetKey) (r : NetKey) → o ≡ Some r → IfHolds Behind o → r.next ≤ r.limit
+behind-found : (o : Option NetKey) (r : NetKey) → o ≡ Some r → IfHolds Behind o → (r.next ≤ r.limit) × (0 < r.limit → r.started ≡ true)
 unfolding Behind
 behind-found o r e h = subst (λ x. IfHolds Behind x) e h
 
-net-ready-by : (s : NodeState) (r : NetKey) (v : ℕ) (b : Bool) → nat_eq (next_counter Nwk s) (stored_limit Nwk s) ≡ b → active_row s ≡ Some r → r.started ≡ true → Commanded s → next_counter Nwk s < min v greatest_counter
+net-ready-by : (s : NodeState) (r : NetKey) (v : ℕ) (b : Bool) → nat_eq (next_counter Nwk s) (stored_limit Nwk s) ≡ b → active_row s ≡ Some r → Commanded s → next_counter Nwk s < min v greatest_counter
     → On (Gives (next_counter Nwk s)) r.key (applied_all (reserve_list Nwk (cond b (Some v) None)) s).nets
 unfolding applied_all applied active_row
-net-ready-by s r v true e found started o room = reserve-gives s.active s r (next_counter Nwk s) v found started (sym (next-is s r found)) room
-net-ready-by s r v false e found started o room =
-    holds-some (Gives (next_counter Nwk s)) (find (at_key r.key) s.nets) r (active-found s r found)
-    (started, sym (next-is s r found), omega (arith, behind-found (find (at_key r.key) s.nets) r (active-found s r found) (o.nets r.key), next-is s r found, limit-is s r found, eqb-false (next_counter Nwk s) (stored_limit Nwk s) e))
+net-ready-by s r v true e found o room = reserve-gives s.active s r (next_counter Nwk s) v found (sym (next-is s r found)) room
+net-ready-by s r v false e found o room = holds-some (Gives (next_counter Nwk s)) (find (at_key r.key) s.nets) r (active-found s r found) (behind.1 (omega (arith, below)), sym (next-is s r found), below)
+  where
+    behind : (r.next ≤ r.limit) × (0 < r.limit → r.started ≡ true)
+    behind = behind-found (find (at_key r.key) s.nets) r (active-found s r found) (o.nets r.key)
+
+    below : next_counter Nwk s < r.limit
+    below = omega (arith, behind.0, next-is s r found, limit-is s r found, eqb-false (next_counter Nwk s) (stored_limit Nwk s) e)
 
 aps-ready-by : (s0 s : NodeState) (v : ℕ) (b : Bool) → nat_eq (next_counter Aps s0) (stored_limit Aps s0) ≡ b → s.aps_next ≡ s0.aps_next → s.aps_limit ≡ s0.aps_limit → Commanded s0 → next_counter Aps s0 < min v greatest_counter
     → ApsGives (next_counter Aps s0) (applied_all (reserve_list Aps (cond b (Some v) None)) s)
@@ -232,7 +233,7 @@ aps-reserve-nets (Some v) s = refl
 
 -- what `may_seal` says
 pub record MaySeal (s : NodeState) (send : Option Sending) : Type 0 where
-  pub started : seals_at Nwk send ≡ true → row_is_started (active_row s) ≡ true
+  pub active : seals_at Nwk send ≡ true → is_some (active_row s) ≡ true
   pub net : seals_at Nwk send ≡ true → next_counter Nwk s < greatest_counter
   pub aps : seals_at Aps send ≡ true → next_counter Aps s < greatest_counter
 
@@ -247,13 +248,13 @@ unspent layer s h = leb-false greatest_counter (next_counter layer s) (not-true 
 pub may-seal : (s : NodeState) (send : Option Sending) → may_seal s send ≡ true → MaySeal s send
 unfolding may_seal
 may-seal s send h = record {
-  started = λ e. (and_parts (row_is_started (active_row s)) (not (spent Nwk s)) (when-sealed (seals_at Nwk send) (row_is_started (active_row s) && not (spent Nwk s)) (parts.0) e)).0;
-  net = λ e. unspent Nwk s ((and_parts (row_is_started (active_row s)) (not (spent Nwk s)) (when-sealed (seals_at Nwk send) (row_is_started (active_row s) && not (spent Nwk s)) (parts.0) e)).1);
+  active = λ e. (and_parts (is_some (active_row s)) (not (spent Nwk s)) (when-sealed (seals_at Nwk send) (is_some (active_row s) && not (spent Nwk s)) (parts.0) e)).0;
+  net = λ e. unspent Nwk s ((and_parts (is_some (active_row s)) (not (spent Nwk s)) (when-sealed (seals_at Nwk send) (is_some (active_row s) && not (spent Nwk s)) (parts.0) e)).1);
   aps = λ e. unspent Aps s (when-sealed (seals_at Aps send) (not (spent Aps s)) (parts.1) e);
 }
   where
-    parts : ((not (seals_at Nwk send) || (row_is_started (active_row s) && not (spent Nwk s))) ≡ true) × ((not (seals_at Aps send) || not (spent Aps s)) ≡ true)
-    parts = and_parts (not (seals_at Nwk send) || (row_is_started (active_row s) && not (spent Nwk s))) (not (seals_at Aps send) || not (spent Aps s)) h
+    parts : ((not (seals_at Nwk send) || (is_some (active_row s) && not (spent Nwk s))) ≡ true) × ((not (seals_at Aps send) || not (spent Aps s)) ≡ true)
+    parts = and_parts (not (seals_at Nwk send) || (is_some (active_row s) && not (spent Nwk s))) (not (seals_at Aps send) || not (spent Aps s)) h
 
 abbrev block_end : Setting → ℕ → ℕ
 block_end c n = min (n + c.me.out_block) greatest_counter
@@ -271,8 +272,7 @@ ready c s send block o m = record {
   net = λ a r found. subst (λ x. On (Gives (next_counter Nwk s)) r.key x.nets) (sym (applied-all-append first second s))
       (subst (λ x. On (Gives (next_counter Nwk s)) r.key x) (sym (aps-reserve-nets (reserve_of c s send Aps) (applied_all first s)))
       (subst (λ x. On (Gives (next_counter Nwk s)) r.key (applied_all (reserve_list Nwk x) s).nets) (sym (reserve-is c s send Nwk a m))
-      (net-ready-by s r (block_end c (next_counter Nwk s)) (nat_eq (next_counter Nwk s) (stored_limit Nwk s)) refl found
-      (started-of r (active_row s) found ((may-seal s send m).started a)) o (omega (arith, block, (may-seal s send m).net a)))));
+      (net-ready-by s r (block_end c (next_counter Nwk s)) (nat_eq (next_counter Nwk s) (stored_limit Nwk s)) refl found o (omega (arith, block, (may-seal s send m).net a)))));
   aps = λ a. subst (λ x. ApsGives (next_counter Aps s) x) (sym (applied-all-append first second s))
       (subst (λ x. ApsGives (next_counter Aps s) (applied_all (reserve_list Aps x) (applied_all first s))) (sym (reserve-is c s send Aps a m))
       (aps-ready-by s (applied_all first s) (block_end c (next_counter Aps s)) (nat_eq (next_counter Aps s) (stored_limit Aps s)) refl

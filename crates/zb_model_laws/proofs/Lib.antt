@@ -4,6 +4,7 @@ pub mod Counters
 pub mod FreshLines
 pub mod Groups
 pub mod GroupSeals
+pub mod EventStates
 pub mod Runs
 mod Finds
 mod FloorRows
@@ -19,20 +20,21 @@ mod Outsiders
 mod OutsiderRuns
 pub mod LawfulRuns
 mod CountedRuns
-mod LockoutDeeds
-mod ConfirmsLines
+pub mod LockoutDeeds
+pub mod ConfirmsLines
 pub mod ConfirmsRuns
 mod RecordLaws
 pub mod RecordBack
-mod GroupStates
-mod LockoutRows
-mod LockoutKept
+pub mod GroupStates
+pub mod LockoutRows
+pub mod LockoutKept
 mod LockoutSteps
-mod LockoutMoves
+pub mod LockoutMoves
 mod LockoutDevices
-mod LockoutGroups
+pub mod LockoutGroups
 mod LockoutRuns
 pub mod LockoutLaw
+pub mod CentreAlone
 mod SpentRules
 mod SpentRuns
 mod Within

@@ -1,5 +1,5 @@
 -- What the rules of the policy do with keys: what each changes and sends, one lemma a rule. All laws on keys stand on these.
-use Rattle.std.proofs.Common.{◌≡◌, ℕ, Bool, true, false, cond, not, ◌&&◌, ◌||◌, List, [], ◌∷◌, ◌++◌, map, filter, Option, Some, None, option_map, option_to_list, find, is_some, nat_eq, refl, sym, ap, ◌∙◌, subst, eqb-true, ◌⊎◌, inl, inr, ⊎_elim}
+use Rattle.std.proofs.Common.{◌≡◌, ℕ, Bool, true, false, cond, not, ◌&&◌, ◌||◌, List, [], ◌∷◌, ◌++◌, map, filter, Option, Some, None, option_map, option_to_list, find, is_some, nat_eq, refl, sym, ap, ◌∙◌, append_assoc, subst, eqb-true, ◌⊎◌, inl, inr, ⊎_elim}
 use Rattle.std.proofs.lemmas.Bool.{false≢true, and_parts}
 use Rattle.std.specs.List.{AllByRecursion, list_any}
 use Rattle.zb_model.specs.Data.{Bytes, Role, Centre, Router, Device, Nwk, Aps, Label, Attribute, Provisional, Unverified, Verified, State, Joined, Offered, Move, Draw, DropNet, DropLink, Install, Active, Row, Pair, Became, Live, Removed, Roll, Told, Untold, Command, TransportNet, TransportApp, TransportLink, UpdateDevice, RemoveDevice, RequestApp, RequestLink, SwitchKey, Tunnel, VerifyKey, ConfirmKey, Place, AtAps, Task, SayTo, TellTo, DoKnock, DoRejoin, DoTimer, AskFor, HasChild, DoProvision, DoRemove, DoRoll, DoSwitch, DoAgain, DoShare, Received, Term}
@@ -110,6 +110,9 @@ OfMember (Draw k) = ⊥
 OfMember (Pair a b k) = ⊥
 OfMember (Live d) = ⊥
 OfMember (Removed d) = ⊥
+OfMember (Roll b) = ⊥
+OfMember (Told d) = ⊥
+OfMember (Untold d) = ⊥
 OfMember _ = Unit {0}
 
 -- a change at the centre that brings no key: a link row that comes is there already, of a live device
@@ -132,11 +135,39 @@ IdleMove (Live d) = ⊥
 IdleMove (Removed d) = ⊥
 IdleMove _ = Unit {0}
 
+-- a change that leaves link rows and the state as they are, but for whether rows are told
+abbrev pub Still : Move → Type 0
+Still (DropLink p k) = ⊥
+Still (Row p k t) = ⊥
+Still (Became g) = ⊥
+Still _ = Unit {0}
+
+-- a change that doesn't set the state; one of the rows of a partner alone
+abbrev pub KeepsState : Move → Type 0
+KeepsState (Became g) = ⊥
+KeepsState _ = Unit {0}
+
+abbrev pub OnlyOf : ℕ → Move → Type 0
+OnlyOf q (DropLink p k) = p ≡ q
+OnlyOf q (Row p k t) = p ≡ q
+OnlyOf q (Became g) = ⊥
+OnlyOf q _ = Unit {0}
+
+-- What a router or device does to its link rows and its state: nothing; a state at the end, of which Offered has an offered
+-- row; another state than Offered, at the end; a key of the centre is taken in; rows of another partner.
+pub data MemberDeed (centre : ℕ) (s : NodeState) (moves : List Move) : Type 0 where
+  still : AllByRecursion Still moves → MemberDeed centre s moves
+  goes_on : (g : State) (before : List Move) → AllByRecursion Still before → (g ≡ Offered → is_some (offered s centre) ≡ true) → moves ≡ before ++ (Became g ∷ []) → MemberDeed centre s moves
+  leaves : (g : State) (before : List Move) → (g ≡ Offered → ⊥) → AllByRecursion KeepsState before → moves ≡ before ++ (Became g ∷ []) → MemberDeed centre s moves
+  takes : (k : Bytes) → Rattle.zb_model.specs.Commands.has_key k (offered s centre) ≡ false → moves ≡ drop_row (offered s centre) ++ (Row centre k Unverified ∷ Became Offered ∷ []) → MemberDeed centre s moves
+  shares : (p : ℕ) → (p ≡ centre → ⊥) → AllByRecursion (OnlyOf p) moves → MemberDeed centre s moves
+
 pub data Deed (c : Setting) (s : NodeState) (task : Task) (moves : List Move) : Type 0 where
-  member : is_centre c.me.role ≡ false → AllByRecursion OfMember moves → Deed c s task moves
+  member : is_centre c.me.role ≡ false → AllByRecursion OfMember moves → MemberDeed (centre_of c.stations) s moves → Deed c s task moves
   nothing : moves ≡ [] → Deed c s task moves
-  quiet : is_centre c.me.role ≡ true → AllByRecursion (Quiet s) moves → Deed c s task moves
-  rolls : is_centre c.me.role ≡ true → (k : Bytes) (q : ℕ) (drops : List Move) → IsNew s (draw_of task) k → AllByRecursion IdleMove drops
+  quiet : is_centre c.me.role ≡ true → AllByRecursion (Quiet s) moves → AllByRecursion Still moves → Deed c s task moves
+  verifies : is_centre c.me.role ≡ true → (p : ℕ) (row : LinkKey) → offered s p ≡ Some row → AllByRecursion (Quiet s) moves → moves ≡ drop_row (current s p) ++ (Row p row.key Verified ∷ []) → Deed c s task moves
+  rolls : is_centre c.me.role ≡ true → (k : Bytes) (q : ℕ) (drops : List Move) → IsNew s (draw_of task) k → AllByRecursion IdleMove drops → AllByRecursion Still drops
       → moves ≡ Draw k ∷ drops ++ (Install k q ∷ Roll true ∷ []) → Deed c s task moves
   offers : is_centre c.me.role ≡ true → (p : ℕ) (k : Bytes) → IsNew s (draw_of task) k → is_live s p ≡ true → moves ≡ Draw k ∷ Row p k Unverified ∷ [] → Deed c s task moves
   pairs : is_centre c.me.role ≡ true → (a b : ℕ) (k : Bytes) → IsNew s (draw_of task) k → is_live s a ≡ true → is_live s b ≡ true → moves ≡ Draw k ∷ Pair a b k ∷ [] → Deed c s task moves
@@ -175,8 +206,8 @@ only-sends c s task sending f = record { deed = nothing refl; send = f }
 does-nothing : (c : Setting) (s : NodeState) (task : Task) → Done c s task [] None
 does-nothing c s task = record { deed = nothing refl; send = tt }
 
-by-member : (c : Setting) (s : NodeState) (task : Task) (moves : List Move) → is_centre c.me.role ≡ false → AllByRecursion OfMember moves → Done c s task moves None
-by-member c s task moves m a = record { deed = member m a; send = tt }
+by-member : (c : Setting) (s : NodeState) (task : Task) (moves : List Move) → is_centre c.me.role ≡ false → AllByRecursion OfMember moves → MemberDeed (centre_of c.stations) s moves → Done c s task moves None
+by-member c s task moves m a d = record { deed = member m a d; send = tt }
 
 -- Tests
 
@@ -283,13 +314,41 @@ others-of-member : (s : NodeState) (rows : List LinkKey) (more : List Move) → 
 others-of-member s [] more a = a
 others-of-member s (r ∷ rs) more a = (tt, others-of-member s rs more a)
 
+-- states apart
+abbrev IsOffered : State → Type 0
+IsOffered Offered = Unit {0}
+IsOffered _ = ⊥
+
+not-knocked : Rattle.zb_model.specs.Data.State.Knocked ≡ Offered → ⊥
+not-knocked e = subst IsOffered (sym e) tt
+
+not-confirmed : Rattle.zb_model.specs.Data.State.Confirmed ≡ Offered → ⊥
+not-confirmed e = subst IsOffered (sym e) tt
+
+not-rejoining : Rattle.zb_model.specs.Data.State.Rejoining ≡ Offered → ⊥
+not-rejoining e = subst IsOffered (sym e) tt
+
+not-gone : Rattle.zb_model.specs.Data.State.Gone ≡ Offered → ⊥
+not-gone e = subst IsOffered (sym e) tt
+
+drops-keep-state : (rows : List LinkKey) (more : List Move) → AllByRecursion KeepsState more → AllByRecursion KeepsState (map drop_link rows ++ more)
+drops-keep-state [] more a = a
+drops-keep-state (r ∷ rs) more a = (tt, drops-keep-state rs more a)
+
 knock-fits : (c : Setting) (s : NodeState) (task : Task) → is_centre c.me.role ≡ false → OutcomeFits c s task (knock c s)
 unfolding knock drop_others
-knock-fits c s task m = by-given c s task _ _ _ (λ row e. by-member c s task _ m (others-of-member s (filter (λ (r : LinkKey). is_live_of row.partner r && not (same_key r.key row.key)) s.links) _ (tt, (tt, tt))))
+knock-fits c s task m =
+    by-given c s task _ _ _ (λ row e. by-member c s task (drop_others s row.partner row.key ++ (Row row.partner row.key Provisional ∷ Became Rattle.zb_model.specs.Data.State.Knocked ∷ [])) m
+    (others-of-member s (others row) _ (tt, (tt, tt)))
+    (leaves Rattle.zb_model.specs.Data.State.Knocked (drop_others s row.partner row.key ++ (Row row.partner row.key Provisional ∷ [])) not-knocked (drops-keep-state (others row) _ (tt, tt))
+    (sym (append_assoc (map drop_link (others row)) (Row row.partner row.key Provisional ∷ []) (Became Rattle.zb_model.specs.Data.State.Knocked ∷ [])))))
+  where
+    others : LinkKey → List LinkKey
+    others row = filter (λ (r : LinkKey). is_live_of row.partner r && not (same_key r.key row.key)) s.links
 
 rejoin-fits : (c : Setting) (s : NodeState) (task : Task) → is_centre c.me.role ≡ false → OutcomeFits c s task (rejoin s)
 unfolding rejoin
-rejoin-fits c s task m = by-unless c s task _ _ _ (λ a. by-member c s task _ m (tt, tt))
+rejoin-fits c s task m = by-unless c s task _ _ _ (λ a. by-member c s task (Became Rattle.zb_model.specs.Data.State.Rejoining ∷ []) m (tt, tt) (leaves Rattle.zb_model.specs.Data.State.Rejoining [] not-rejoining tt refl))
 
 request-fits : (c : Setting) (s : NodeState) (task : Task) → OutcomeFits c s task (request_key c s)
 unfolding request_key
@@ -339,7 +398,7 @@ unfolding centre_timer
 centre-timer-fits c s task m =
     by-given c s task (active_row s) _ _ (λ net e. by-unless c s task _ _ _ (λ a. by-given c s task (next_member s) _ _ (λ device b.
     by-given c s task (newest s) _ _ (λ new f. by-given c s task (current s device) _ _ (λ row g. by-unless c s task _ _ _ (λ h.
-    record { deed = quiet m (tt, tt); send = (m, (device, current-live s device row g), newest-net s new f, (tt, tt)) }))))))
+    record { deed = quiet m (tt, tt) (tt, tt); send = (m, (device, current-live s device row g), newest-net s new f, (tt, tt)) }))))))
 
 provision-new-fits : (c : Setting) (s : NodeState) (device : ℕ) (key : Bytes) (o : Option LinkKey) → is_centre c.me.role ≡ true → is_live s device ≡ false → other_user s device key ≡ o → OutcomeFits c s (DoProvision device key) (provision_new s device key o)
 provision-new-fits c s device key (Some other) m a e = tt
@@ -384,22 +443,34 @@ old-idle s = by-test (Rattle.std.specs.Prelude.nat_le 2 (Rattle.std.specs.Prelud
     by-test true = first-idle (filter (λ (r : NetKey). not (is_active_key s.active r.key)) (Rattle.zb_model.specs.State.live_nets s))
     by-test false = tt
 
+first-still : (rows : List NetKey) → AllByRecursion Still (first_drop rows)
+first-still [] = tt
+first-still (r ∷ rs) = (tt, tt)
+
+old-still : (s : NodeState) → AllByRecursion Still (drop_old s)
+unfolding drop_old
+old-still s = by-test (Rattle.std.specs.Prelude.nat_le 2 (Rattle.std.specs.Prelude.length (Rattle.zb_model.specs.State.live_nets s)))
+  where
+    by-test : (b : Bool) → AllByRecursion Still (cond b (first_drop (filter (λ (r : NetKey). not (is_active_key s.active r.key)) (Rattle.zb_model.specs.State.live_nets s))) [])
+    by-test true = first-still (filter (λ (r : NetKey). not (is_active_key s.active r.key)) (Rattle.zb_model.specs.State.live_nets s))
+    by-test false = tt
+
 roll-fits : (c : Setting) (s : NodeState) (draw : Option Bytes) → is_centre c.me.role ≡ true → OutcomeFits c s (DoRoll draw) (roll s draw)
 unfolding roll
 roll-fits c s draw m =
     by-given c s (DoRoll draw) (active_row s) _ _ (λ net e. by-unless c s (DoRoll draw) _ _ _ (λ a. by-unless c s (DoRoll draw) _ _ _ (λ b. by-given c s (DoRoll draw) (unless_held s draw) _ _ (λ key new.
-    record { deed = rolls m key _ (drop_old s) new (old-idle s) refl; send = tt }))))
+    record { deed = rolls m key _ (drop_old s) new (old-idle s) (old-still s) refl; send = tt }))))
 
 switch-fits : (c : Setting) (s : NodeState) (task : Task) → is_centre c.me.role ≡ true → OutcomeFits c s task (switch_over s)
 unfolding switch_over
 switch-fits c s task m =
     by-given c s task (active_row s) _ _ (λ net e. by-unless c s task _ _ _ (λ a. by-unless c s task _ _ _ (λ b. by-choose c s task s.sending _ _
-    (λ d. by-given c s task (newest s) _ _ (λ new f. record { deed = quiet m (tt, (tt, tt)); send = (inr refl, refl) }))
+    (λ d. by-given c s task (newest s) _ _ (λ new f. record { deed = quiet m (tt, (tt, tt)) (tt, (tt, tt)); send = (inr refl, refl) }))
     (λ d. only-sends c s task _ (inr refl, refl)))))
 
 again-fits : (c : Setting) (s : NodeState) (task : Task) (device : ℕ) → is_centre c.me.role ≡ true → OutcomeFits c s task (again s device)
 unfolding again
-again-fits c s task device m = by-unless c s task _ _ _ (λ a. by-unless c s task _ _ _ (λ b. record { deed = quiet m (tt, tt); send = tt }))
+again-fits c s task device m = by-unless c s task _ _ _ (λ a. by-unless c s task _ _ _ (λ b. record { deed = quiet m (tt, tt) (tt, tt); send = tt }))
 
 share-fits : (c : Setting) (s : NodeState) (task : Task) (device partner : ℕ) → is_centre c.me.role ≡ true → OutcomeFits c s task (share c s device partner)
 unfolding share
@@ -461,46 +532,109 @@ by-old : (c : Setting) (s : NodeState) (task : Task) (key : Bytes) (o : Option �
 by-old c s task key None rest f = f
 by-old c s task key (Some place) rest f = tt
 
+still-append : (xs ys : List Move) → AllByRecursion Still xs → AllByRecursion Still ys → AllByRecursion Still (xs ++ ys)
+still-append [] ys a b = b
+still-append (x ∷ xs) ys a b = (a.0, still-append xs ys a.1 b)
+
+-- in a node that waits for the key the state goes on from the link rows
+joined-has : (a b : Bool) → cond a Offered (cond b Rattle.zb_model.specs.Data.State.Confirmed Joined) ≡ Offered → a ≡ true
+joined-has true b e = refl
+joined-has false true e = absurd (not-confirmed e)
+joined-has false false e = absurd (subst IsOffered (sym e) tt)
+
+activate-deed : (c : Setting) (s : NodeState) (key : Bytes) (before : List Move) → AllByRecursion Still before → (a b : Bool)
+    → MemberDeed (centre_of c.stations) s (before ++ ((cond a (Active key ∷ []) []) ++ (cond b (Became (joined_state c s) ∷ []) [])))
+activate-deed c s key before still_ true true =
+    goes_on (joined_state c s) (before ++ (Active key ∷ [])) (still-append before (Active key ∷ []) still_ (tt, tt)) (λ e. joined-has (is_some (offered s (centre_of c.stations))) _ e) (sym (append_assoc before (Active key ∷ []) (Became (joined_state c s) ∷ [])))
+activate-deed c s key before still_ true false = still (still-append before (Active key ∷ []) still_ (tt, tt))
+activate-deed c s key before still_ false true = goes_on (joined_state c s) before still_ (λ e. joined-has (is_some (offered s (centre_of c.stations))) _ e) refl
+activate-deed c s key before still_ false false = still (still-append before [] still_ tt)
+
 net-key-fits : (c : Setting) (s : NodeState) (task : Task) (m : Heard) (key : Bytes) (sequence destination source : ℕ) → OutcomeFits c s task (take_net_key c s m key sequence destination source)
 unfolding take_net_key
 net-key-fits c s task m key sequence destination source =
     by-unless c s task _ _ _ (λ a. by-old c s task key (dropped_at 0 key s.nets) _
     (by-choose c s task (has_net key s.nets) _ _
-    (λ b. by-member c s task (activate c s key) (of-member c _ a) (activate-by c s key (activates s) (waits_for_key s.state)))
-    (λ b. by-unless c s task _ _ _ (λ d. by-member c s task _ (of-member c _ a) (old-member s (Install key sequence ∷ activate c s key) (tt, activate-by c s key (activates s) (waits_for_key s.state)))))))
+    (λ b. by-member c s task (activate c s key) (of-member c _ a) (activate-by c s key (activates s) (waits_for_key s.state)) (activate-deed c s key [] tt (activates s) (waits_for_key s.state)))
+    (λ b. by-unless c s task _ _ _ (λ d. by-member c s task (drop_old s ++ (Install key sequence ∷ activate c s key)) (of-member c _ a) (old-member s (Install key sequence ∷ activate c s key) (tt, activate-by c s key (activates s) (waits_for_key s.state)))
+    (subst (λ ms. MemberDeed (centre_of c.stations) s ms) (append_assoc (drop_old s) (Install key sequence ∷ []) (activate c s key))
+    (activate-deed c s key (drop_old s ++ (Install key sequence ∷ [])) (still-append (drop_old s) (Install key sequence ∷ []) (old-still s) (tt, tt)) (activates s) (waits_for_key s.state)))))))
 
 by-used : (c : Setting) (s : NodeState) (task : Task) (o : Option LinkKey) (rest : Outcome) → OutcomeFits c s task rest → OutcomeFits c s task (unless_used o rest)
 by-used c s task None rest f = f
 by-used c s task (Some r) rest f = tt
 
-row-fits : (c : Setting) (s : NodeState) (task : Task) (partner : ℕ) (key : Bytes) (moves : List Move) → is_centre c.me.role ≡ false → AllByRecursion OfMember moves → OutcomeFits c s task (take_row s partner key moves)
+row-fits : (c : Setting) (s : NodeState) (task : Task) (partner : ℕ) (key : Bytes) (moves : List Move) → is_centre c.me.role ≡ false → AllByRecursion OfMember moves → MemberDeed (centre_of c.stations) s moves → OutcomeFits c s task (take_row s partner key moves)
 unfolding take_row
-row-fits c s task partner key moves m a = by-unless c s task _ _ _ (λ b. by-used c s task (other_user s partner key) _ (by-member c s task moves m a))
+row-fits c s task partner key moves m a d = by-unless c s task _ _ _ (λ b. by-used c s task (other_user s partner key) _ (by-member c s task moves m a d))
 
 drop-member : (o : Option LinkKey) (more : List Move) → AllByRecursion OfMember more → AllByRecursion OfMember (drop_row o ++ more)
 drop-member None more a = a
 drop-member (Some r) more a = (tt, a)
 
+or-second : (a b : Bool) → (a || b) ≡ false → b ≡ false
+or-second true b e = absurd (false≢true (sym e))
+or-second false b e = e
+
 link-key-fits : (c : Setting) (s : NodeState) (task : Task) (m : Heard) (key : Bytes) (destination source : ℕ) → OutcomeFits c s task (take_link_key c s m key destination source)
 unfolding take_link_key
 link-key-fits c s task m key destination source =
     by-unless c s task _ _ _ (λ a. by-unless c s task _ _ _ (λ b. by-choose c s task _ _ _ (λ d. does-nothing c s task)
-    (λ d. row-fits c s task (centre_of c.stations) key _ (of-member c _ a) (drop-member (offered s (centre_of c.stations)) _ (tt, (tt, tt))))))
+    (λ d. row-fits c s task (centre_of c.stations) key (drop_row (offered s (centre_of c.stations)) ++ (Row (centre_of c.stations) key Unverified ∷ Became Offered ∷ [])) (of-member c _ a)
+    (drop-member (offered s (centre_of c.stations)) _ (tt, (tt, tt)))
+    (takes key (or-second (Rattle.zb_model.specs.Commands.has_key key (current s (centre_of c.stations))) (Rattle.zb_model.specs.Commands.has_key key (offered s (centre_of c.stations))) d) refl))))
+
+-- rows of one partner are dropped
+OfPartner : ℕ → LinkKey → Type 0
+OfPartner p r = r.partner ≡ p
+
+keep-partner : (p : ℕ) (r : LinkKey) (b : Bool) (rs : List LinkKey) → is_live_of p r ≡ b → AllByRecursion (OfPartner p) rs → AllByRecursion (OfPartner p) (cond b (r ∷ rs) rs)
+unfolding OfPartner
+keep-partner p r true rs e a = ((live-of p r e).1, a)
+keep-partner p r false rs e a = a
+
+all-of-partner : (p : ℕ) (rs : List LinkKey) → AllByRecursion (OfPartner p) (filter (is_live_of p) rs)
+all-of-partner p [] = tt
+all-of-partner p (r ∷ rs) = keep-partner p r (is_live_of p r) (filter (is_live_of p) rs) refl (all-of-partner p rs)
+
+drops-only : (p : ℕ) (rows : List LinkKey) (more : List Move) → AllByRecursion (OfPartner p) rows → AllByRecursion (OnlyOf p) more → AllByRecursion (OnlyOf p) (map drop_link rows ++ more)
+unfolding OfPartner
+drops-only p [] more a b = b
+drops-only p (r ∷ rs) more a b = (a.0, drops-only p rs more a.1 b)
+
+-- a key of two devices is no key of the centre
+not-the-centre : (c : Setting) (s : NodeState) (m : Heard) (partner : ℕ)
+    → not (is_member c && (Rattle.zb_model.specs.Commands.nwk_secured m && (Rattle.zb_model.specs.Commands.labelled Rattle.zb_model.specs.Data.Label.ForLoad m.label && (Rattle.zb_model.specs.Rules.from_centre c m.sender
+    && not (nat_eq partner c.me.eui || Rattle.zb_model.specs.Rules.from_centre c partner))))) ≡ false → partner ≡ centre_of c.stations → ⊥
+not-the-centre c s m partner a e = false≢true (sym (or-second (nat_eq partner c.me.eui) (nat_eq partner (centre_of c.stations)) (not-true (nat_eq partner c.me.eui || nat_eq partner (centre_of c.stations)) last)) ∙ Rattle.std.proofs.Common.eq-eqb partner (centre_of c.stations) e)
+  where
+    second : (x y : Bool) → (x && y) ≡ true → y ≡ true
+    second x y q = (and_parts x y q).1
+
+    last : not (nat_eq partner c.me.eui || nat_eq partner (centre_of c.stations)) ≡ true
+    last = second (Rattle.zb_model.specs.Rules.from_centre c m.sender) _ (second (Rattle.zb_model.specs.Commands.labelled Rattle.zb_model.specs.Data.Label.ForLoad m.label) _ (second (Rattle.zb_model.specs.Commands.nwk_secured m) _ (needs (is_member c) _ a).1))
 
 app-key-fits : (c : Setting) (s : NodeState) (task : Task) (m : Heard) (key : Bytes) (partner : ℕ) → OutcomeFits c s task (take_app_key c s m key partner)
 unfolding take_app_key drop_partner
 app-key-fits c s task m key partner =
     by-unless c s task _ _ _ (λ a. by-unless c s task _ _ _ (λ b. by-unless c s task _ _ _ (λ d. by-choose c s task _ _ _ (λ e. does-nothing c s task)
-    (λ e. row-fits c s task partner key _ (of-member c _ a) (others-of-member s (filter (is_live_of partner) s.links) _ (tt, tt))))))
+    (λ e. row-fits c s task partner key (drop_partner s partner ++ (Row partner key Verified ∷ [])) (of-member c _ a) (others-of-member s (filter (is_live_of partner) s.links) _ (tt, tt))
+    (shares partner (not-the-centre c s m partner a) (drops-only partner (filter (is_live_of partner) s.links) (Row partner key Verified ∷ []) (all-of-partner partner s.links) (refl, tt)))))))
 
 take-switch-fits : (c : Setting) (s : NodeState) (task : Task) (m : Heard) (sequence : ℕ) → OutcomeFits c s task (take_switch c s m sequence)
 unfolding take_switch
-take-switch-fits c s task m sequence = by-unless c s task _ _ _ (λ a. by-given c s task _ _ _ (λ row e. by-member c s task _ (of-member c _ a) (tt, tt)))
+take-switch-fits c s task m sequence = by-unless c s task _ _ _ (λ a. by-given c s task _ _ _ (λ row e. by-member c s task (Active row.key ∷ []) (of-member c _ a) (tt, tt) (still (tt, tt))))
+
+drop-keeps-state : (o : Option LinkKey) (more : List Move) → AllByRecursion KeepsState more → AllByRecursion KeepsState (drop_row o ++ more)
+drop-keeps-state None more a = a
+drop-keeps-state (Some r) more a = (tt, a)
 
 take-confirm-fits : (c : Setting) (s : NodeState) (task : Task) (m : Heard) (status kind destination : ℕ) → OutcomeFits c s task (take_confirm c s m status kind destination)
 unfolding take_confirm
 take-confirm-fits c s task m status kind destination =
-    by-unless c s task _ _ _ (λ a. by-unless c s task _ _ _ (λ b. by-unless c s task _ _ _ (λ d. by-given c s task (offered s (centre_of c.stations)) _ _ (λ row e. by-member c s task (drop_row (current s (centre_of c.stations)) ++ (Row row.partner row.key Verified ∷ Became Rattle.zb_model.specs.Data.State.Confirmed ∷ [])) (of-member c _ a) (drop-member (current s (centre_of c.stations)) (Row row.partner row.key Verified ∷ Became Rattle.zb_model.specs.Data.State.Confirmed ∷ []) (tt, (tt, tt)))))))
+    by-unless c s task _ _ _ (λ a. by-unless c s task _ _ _ (λ b. by-unless c s task _ _ _ (λ d. by-given c s task (offered s (centre_of c.stations)) _ _ (λ row e. by-member c s task (drop_row (current s (centre_of c.stations)) ++ (Row row.partner row.key Verified ∷ Became Rattle.zb_model.specs.Data.State.Confirmed ∷ [])) (of-member c _ a) (drop-member (current s (centre_of c.stations)) (Row row.partner row.key Verified ∷ Became Rattle.zb_model.specs.Data.State.Confirmed ∷ []) (tt, (tt, tt)))
+    (leaves Rattle.zb_model.specs.Data.State.Confirmed (drop_row (current s (centre_of c.stations)) ++ (Row row.partner row.key Verified ∷ [])) not-confirmed (drop-keeps-state (current s (centre_of c.stations)) _ (tt, tt))
+    (sym (append_assoc (drop_row (current s (centre_of c.stations))) (Row row.partner row.key Verified ∷ []) (Became Rattle.zb_model.specs.Data.State.Confirmed ∷ []))))))))
 
 take-remove-fits : (c : Setting) (s : NodeState) (task : Task) (m : Heard) (target : ℕ) → OutcomeFits c s task (take_remove c s m target)
 unfolding take_remove
@@ -608,7 +742,7 @@ unfolding take_verify
 take-verify-fits tools c s task m heard kind device hash =
     by-unless c s task (not (is_centre c.me.role && (is_clear m && (nat_eq kind 4 && names_eui device m.nwk_source)))) _ _ (λ a. by-unless c s task (not (is_live s device)) _ _ (λ b. by-unless c s task _ _ _ (λ d. by-unless c s task _ _ _ (λ e.
     by-choose c s task _ _ _
-    (λ f. by-given c s task (offered s device) _ _ (λ row g. record { deed = quiet (centre a) (replaces row g b); send = (centre a, named a, inr (row, g, refl, refl)) }))
+    (λ f. by-given c s task (offered s device) _ _ (λ row g. record { deed = verifies (centre a) device row g (replaces row g b) refl; send = (centre a, named a, inr (row, g, refl, refl)) }))
     (λ f. by-choose c s task _ _ _ (λ g. by-given c s task (verified_current s device) _ _ (λ row h. only-sends c s task _ (centre a, named a, inl (refl, verified-current s device row h)))) (λ g. tt))))))
   where
     centre : not (is_centre c.me.role && (is_clear m && (nat_eq kind 4 && names_eui device m.nwk_source))) ≡ false → is_centre c.me.role ≡ true
@@ -641,7 +775,7 @@ take-command-fits tools c s bytes draw m heard (ConfirmKey status kind destinati
 
 leave-fits : (c : Setting) (s : NodeState) (task : Task) (term : Term) (options : ℕ) → OutcomeFits c s task (take_leave c term options)
 unfolding take_leave
-leave-fits c s task term options = by-unless c s task _ _ _ (λ a. by-member c s task _ (of-member c _ a) (tt, tt))
+leave-fits c s task term options = by-unless c s task _ _ _ (λ a. by-member c s task (Became Rattle.zb_model.specs.Data.State.Gone ∷ []) (of-member c _ a) (tt, tt) (leaves Rattle.zb_model.specs.Data.State.Gone [] not-gone tt refl))
 
 -- The plan of a delivered frame
 

@@ -20,7 +20,7 @@ use Rattle.zb_model_laws.specs.KeysApart.{KeysApart}
 use Rattle.zb_model_laws.proofs.FreshLines.{all-append, all-map}
 use Rattle.zb_model_laws.proofs.Judged.{In, nowhere}
 use Rattle.zb_model_laws.proofs.Runs.{found-is, FoundIs}
-use Rattle.zb_model_laws.proofs.LockoutDeeds.{IsNew, draw_of, OfMember, Quiet, Deed, member, nothing, quiet, rolls, offers, pairs, enters, removes}
+use Rattle.zb_model_laws.proofs.LockoutDeeds.{IsNew, draw_of, OfMember, Quiet, Deed, member, nothing, quiet, verifies, rolls, offers, pairs, enters, removes}
 use Rattle.zb_model_laws.proofs.ConfirmsRuns.{Mere, rest_edits, rests-mere}
 use Rattle.zb_model_laws.proofs.LockoutKept.{Other, Safe, Known}
 use Rattle.zb_model_laws.proofs.LockoutSteps.{Case, centre, InNet, Whole, IsIdle, idle-one, Carries, seal-step, seal-carries, comes-step, Comes}
@@ -103,7 +103,7 @@ member-goes x number n f [] a g same = goes-none x g
 member-goes x number n f (e ∷ es) a g same = goes-cons x g (Changed number n e) (map (Changed number n) es) (λ o w. member-line x g number n e f same a.0 o w)
     (member-goes x number n f es a.1 (g ++ Changed number n e ∷ []) (change-stations g number n e ∙ same))
 
-mere-member : (es : List Edit) → AllByRecursion Mere es → AllByRecursion OfMemberEdit es
+pub mere-member : (es : List Edit) → AllByRecursion Mere es → AllByRecursion OfMemberEdit es
 mere-member [] a = tt
 mere-member (Reserve l v ∷ es) a = (tt, mere-member es a.1)
 mere-member (Floor l k p v ∷ es) a = (tt, mere-member es a.1)
@@ -125,11 +125,11 @@ move-member k (Pair u v key) a = absurd a
 move-member k (Became g) a = (tt, tt)
 move-member k (Live d) a = absurd a
 move-member k (Removed d) a = absurd a
-move-member k (Roll b) a = (tt, tt)
-move-member k (Told d) a = (tt, tt)
-move-member k (Untold d) a = (tt, tt)
+move-member k (Roll b) a = absurd a
+move-member k (Told d) a = absurd a
+move-member k (Untold d) a = absurd a
 
-moves-member : (s : NodeState) (k : Counting) (ms : List Move) → AllByRecursion OfMember ms → AllByRecursion OfMemberEdit (flat_map (move_edits k) (filter (changes s) ms))
+pub moves-member : (s : NodeState) (k : Counting) (ms : List Move) → AllByRecursion OfMember ms → AllByRecursion OfMemberEdit (flat_map (move_edits k) (filter (changes s) ms))
 moves-member s k [] a = tt
 moves-member s k (m ∷ ms) a = by-test (changes s m) (moves-member s k ms a.1)
   where
@@ -139,7 +139,7 @@ moves-member s k (m ∷ ms) a = by-test (changes s m) (moves-member s k ms a.1)
 
 -- The changes of a group
 
-edits-parts : (s : NodeState) (k : Counting) (p : Plan) → edits_of s k p ≡ rest_edits k p.accepts ++ flat_map (move_edits k) (filter (changes s) (moves_of p.outcome))
+pub edits-parts : (s : NodeState) (k : Counting) (p : Plan) → edits_of s k p ≡ rest_edits k p.accepts ++ flat_map (move_edits k) (filter (changes s) (moves_of p.outcome))
 unfolding edits_of
 edits-parts s k p = sym (append_assoc (reserve_edit k Nwk ++ reserve_edit k Aps) (flat_map (floor_edit k) p.accepts) (flat_map (move_edits k) (filter (changes s) (moves_of p.outcome))))
 
@@ -166,10 +166,11 @@ at-centre x h n e P p = subst (λ m. P (state_of h m)) e p
 -- at the centre
 deed-goes : (x : Case) → Grounds x → (h : List Line) → Whole x h → (ms : List Line) → AllByRecursion IsIdle ms → (number n : ℕ) → Names x.schedule n → n ≡ centre x → (kk : Counting) (task : Task) → TaskFits x h task → (moves : List Move) → Deed (setting_of x.schedule n) (state_of h n) task moves
     → GoesOn x (h ++ ms) (moves_lines number n (state_of h n) kk moves)
-deed-goes x g h w ms i number n named mine kk task f moves (member m a) = absurd (false≢true (sym m ∙ centre-is x g n named mine))
+deed-goes x g h w ms i number n named mine kk task f moves (member m a d) = absurd (false≢true (sym m ∙ centre-is x g n named mine))
 deed-goes x g h w ms i number n named mine kk task f moves (nothing e) = subst (λ y. GoesOn x (h ++ ms) (moves_lines number n (state_of h n) kk y)) (sym e) (goes-none x (h ++ ms))
-deed-goes x g h w ms i number n named mine kk task f moves (quiet c a) = quiet-goes x h w g.apart (h ++ ms) (same-lines x h h ms i (same-self x h)) number n mine kk moves (at-centre x h n mine (λ s. AllByRecursion (Quiet s) moves) a)
-deed-goes x g h w ms i number n named mine kk task f moves (rolls c k q drops new a e) = subst (λ y. GoesOn x (h ++ ms) (moves_lines number n (state_of h n) kk y)) (sym e)
+deed-goes x g h w ms i number n named mine kk task f moves (quiet c a y) = quiet-goes x h w g.apart (h ++ ms) (same-lines x h h ms i (same-self x h)) number n mine kk moves (at-centre x h n mine (λ s. AllByRecursion (Quiet s) moves) a)
+deed-goes x g h w ms i number n named mine kk task f moves (verifies c p row o a e) = quiet-goes x h w g.apart (h ++ ms) (same-lines x h h ms i (same-self x h)) number n mine kk moves (at-centre x h n mine (λ s. AllByRecursion (Quiet s) moves) a)
+deed-goes x g h w ms i number n named mine kk task f moves (rolls c k q drops new a y e) = subst (λ y. GoesOn x (h ++ ms) (moves_lines number n (state_of h n) kk y)) (sym e)
     (rolls-goes x g.keys h g.apart (h ++ ms) (same-lines x h h ms i (same-self x h)) number n mine kk (state_of h n) task f k q drops (at-centre x h n mine (λ s. IsNew s (draw_of task) k) new) a)
 deed-goes x g h w ms i number n named mine kk task f moves (offers c p k new live e) = subst (λ y. GoesOn x (h ++ ms) (moves_lines number n (state_of h n) kk y)) (sym e)
     (offers-goes x g.keys h w g.apart (h ++ ms) (same-lines x h h ms i (same-self x h)) number n mine kk task f p k (at-centre x h n mine (λ s. IsNew s (draw_of task) k) new) (at-centre x h n mine (λ s. Rattle.zb_model.specs.State.is_live s p ≡ true) live))
@@ -183,10 +184,11 @@ deed-goes x g h w ms i number n named mine kk task f moves (removes c p live e) 
 
 -- elsewhere
 deed-member : (x : Case) → Grounds x → (n : ℕ) → Names x.schedule n → (n ≡ centre x → ⊥) → (s : NodeState) (task : Task) (moves : List Move) → Deed (setting_of x.schedule n) s task moves → AllByRecursion OfMember moves
-deed-member x g n named other s task moves (member m a) = a
+deed-member x g n named other s task moves (member m a d) = a
 deed-member x g n named other s task moves (nothing e) = subst (AllByRecursion OfMember) (sym e) tt
-deed-member x g n named other s task moves (quiet c a) = absurd (other (is-centre x g n named c))
-deed-member x g n named other s task moves (rolls c k q drops new a e) = absurd (other (is-centre x g n named c))
+deed-member x g n named other s task moves (quiet c a y) = absurd (other (is-centre x g n named c))
+deed-member x g n named other s task moves (verifies c p row o a e) = absurd (other (is-centre x g n named c))
+deed-member x g n named other s task moves (rolls c k q drops new a y e) = absurd (other (is-centre x g n named c))
 deed-member x g n named other s task moves (offers c p k new live e) = absurd (other (is-centre x g n named c))
 deed-member x g n named other s task moves (pairs c a b k new la lb e) = absurd (other (is-centre x g n named c))
 deed-member x g n named other s task moves (enters c p k by dead none e) = absurd (other (is-centre x g n named c))

@@ -258,7 +258,7 @@ pub record LedgerFits (c : ℕ) (draws : List Bytes) (Net NetGiven : Bytes → T
   pub pairs : (k : Bytes) → speaker l ≡ c → LinePair l k → ((p : ℕ) → HasRow (state_of h c) p k → ⊥) × In k (drawn h)
   pub draw : (k : Bytes) → In k (drawn_in l) → Net k × (slice_get draws (draws_used h) ≡ Some k)
 
-used-less : (n : ℕ) (l : Line) → n ≡ draw_line n l ⊎ ((n + 1) ≡ draw_line n l)
+pub used-less : (n : ℕ) (l : Line) → n ≡ draw_line n l ⊎ ((n + 1) ≡ draw_line n l)
 used-less n (Changed e m (Moved (Draw k))) = inr refl
 used-less n (Changed e m (Moved (DropNet k))) = inl refl
 used-less n (Changed e m (Moved (DropLink p k))) = inl refl
@@ -277,7 +277,7 @@ used-less n _ = inl refl
 less-used : (i n : ℕ) (l : Line) → i < n → i < draw_line n l
 less-used i n l lt = ⊎_elim (λ e. subst (λ m. i < m) e lt) (λ e. subst (λ m. i < m) e (omega (arith, lt))) (used-less n l)
 
-drawn-used : (n : ℕ) (l : Line) (k : Bytes) → In k (drawn_in l) → n < draw_line n l
+pub drawn-used : (n : ℕ) (l : Line) (k : Bytes) → In k (drawn_in l) → n < draw_line n l
 unfolding In
 drawn-used n (Changed e m (Moved (Draw j))) k i = omega arith
 drawn-used n _ k i = absurd i

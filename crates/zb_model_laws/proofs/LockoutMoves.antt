@@ -256,7 +256,7 @@ none-at k [] i a e = no-key k e
 none-at k (j ∷ keys) zero a e = a.0 (some-key j k e)
 none-at k (j ∷ keys) (suc i) a e = none-at k keys i a.1 e
 
-places-one : (keys : List Bytes) (i j : ℕ) (k : Bytes) → AllDiffer keys → slice_get keys i ≡ Some k → slice_get keys j ≡ Some k → i ≡ j
+pub places-one : (keys : List Bytes) (i j : ℕ) (k : Bytes) → AllDiffer keys → slice_get keys i ≡ Some k → slice_get keys j ≡ Some k → i ≡ j
 places-one [] i j k d a b = absurd (no-key k a)
 places-one (y ∷ keys) zero zero k d a b = refl
 places-one (y ∷ keys) zero (suc j) k d a b = absurd (none-at k keys j (subst (IsNoneOf keys) (some-key y k a) d.0) b)

@@ -215,7 +215,7 @@ moved-forth (Roll b) s y i = rolled-forth b s.links y i
 moved-forth (Told d) s y i = forth-if (told_as true) (is_live_of d) (λ r. refl) (λ r. refl) s.links y i
 moved-forth (Untold d) s y i = forth-if (told_as false) (is_live_of d) (λ r. refl) (λ r. refl) s.links y i
 
-applied-back : (e n : ℕ) (x : Edit) (s : NodeState) (y : LinkKey) → In y (applied x s).links → OldLink s.links y ⊎ RowOf (Changed e n x) y
+pub applied-back : (e n : ℕ) (x : Edit) (s : NodeState) (y : LinkKey) → In y (applied x s).links → OldLink s.links y ⊎ RowOf (Changed e n x) y
 unfolding applied
 applied-back e n (Reserve Nwk v) s y i = inl (itself s.links y i)
 applied-back e n (Reserve Aps v) s y i = inl (itself s.links y i)
@@ -261,7 +261,7 @@ unfolding with_declared
 declared-forth Nwk v s y i = still s.links y i
 declared-forth Aps v s y i = still s.links y i
 
-after-back : (l : Line) (s : NodeState) (y : LinkKey) → In y (after l s).links → OldLink s.links y ⊎ RowOf l y
+pub after-back : (l : Line) (s : NodeState) (y : LinkKey) → In y (after l s).links → OldLink s.links y ⊎ RowOf l y
 unfolding after with_given_net with_given_link after_sealing after_accepting after_boot
 after-back (Declared p) s y i = inl (itself s.links y i)
 after-back (GivenNet n k q) s y i = inl (itself s.links y i)
@@ -413,7 +413,7 @@ nets-moved-forth (Roll b) s y i = net-self s.nets y i
 nets-moved-forth (Told d) s y i = net-self s.nets y i
 nets-moved-forth (Untold d) s y i = net-self s.nets y i
 
-nets-applied-back : (e n : ℕ) (x : Edit) (s : NodeState) (y : NetKey) → In y (applied x s).nets → SameNet s.nets y ⊎ NetOf (Changed e n x) y
+pub nets-applied-back : (e n : ℕ) (x : Edit) (s : NodeState) (y : NetKey) → In y (applied x s).nets → SameNet s.nets y ⊎ NetOf (Changed e n x) y
 unfolding applied
 nets-applied-back e n (Reserve Nwk v) s y i = inl ((keyed-active (reserved v) (λ r. refl) s.active).back s.nets y i)
 nets-applied-back e n (Reserve Aps v) s y i = inl (net-self s.nets y i)
@@ -452,7 +452,7 @@ nets-sealed : (layer : Layer) (t : Term) (s : NodeState) (y : NetKey) → (In y 
 nets-sealed Nwk t s y = ((keyed-at t.base (next_at (t.counter + 1)) (λ r. refl)).back s.nets y, (keyed-at t.base (next_at (t.counter + 1)) (λ r. refl)).forth s.nets y)
 nets-sealed Aps t s y = (net-self s.nets y, net-self s.nets y)
 
-nets-after-back : (l : Line) (s : NodeState) (y : NetKey) → In y (after l s).nets → SameNet s.nets y ⊎ NetOf l y
+pub nets-after-back : (l : Line) (s : NodeState) (y : NetKey) → In y (after l s).nets → SameNet s.nets y ⊎ NetOf l y
 unfolding after with_given_net with_given_link after_sealing after_accepting after_boot
 nets-after-back (GivenNet n k q) s y i = net-add-back (has_net k s.nets) (given_net s.declared k q) s.nets y i
 nets-after-back (Changed e n x) s y i = nets-applied-back e n x s y i

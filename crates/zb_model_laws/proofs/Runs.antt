@@ -1,18 +1,19 @@
 -- Whole runs: each line of a transcript fits.
-use Rattle.std.proofs.Common.{◌≡◌, ℕ, ◌<◌, ◌+◌, ◌^◌, Bool, true, false, cond, List, [], ◌∷◌, ◌++◌, map, length, Option, Some, None, find, is_some, nat_eq, flat_map, refl, subst, eqb-true, le_refl}
+use Rattle.std.proofs.Common.{◌≡◌, ℕ, ◌<◌, ◌+◌, ◌^◌, Bool, true, false, cond, List, [], ◌∷◌, ◌++◌, map, length, Option, Some, None, option_map, find, is_some, nat_eq, flat_map, refl, ap, ◌∙◌, subst, eqb-true, le_refl}
 use Rattle.std.proofs.lemmas.Bool.{false≢true}
 use Rattle.std.specs.List.{AllByRecursion}
-use Rattle.zb_model.specs.Data.{Bytes, Layer, Nwk, Aps, Station, Task, Received, DoRoll, Reason, Down, WrongState}
+use Rattle.zb_model.specs.Data.{Bytes, nobody, Layer, Nwk, Aps, Station, Task, Received, DoRoll, Reason, Down, WrongState}
 use Rattle.zb_model.specs.Lines.{Line, Declared, Counter, Boot, DownReset}
 use Rattle.zb_model.specs.Tools.{Tools}
-use Rattle.zb_model.specs.Rules.{Setting, Plan, centre_of, station_of}
+use Rattle.zb_model.specs.Rules.{Setting, Plan, centre_of, eui_or, is_declared, station_of}
+use Rattle.zb_model.specs.State.{is_centre}
 use Rattle.zb_model.specs.Answer.{Answer, answer_by, plan_of, counting_of}
 use Rattle.zb_model.specs.Readings.{state_of, is_up}
-use Rattle.zb_model.specs.Play.{Schedule, Node, Event, Own, RollOver, Deliver, Reset, PowerOn, ShowRecord, ArmStop, ArmFail, InjectBytes, ForgeNet, ForgeNetAps, ForgeOpen, Step, Disk, stations, setting_of, station_or, net_line, link_line, limit_line, start, disk_of, with_disk, falls, calls_for, leaves_both, BootCalls, group_of, cut_of, fallen_line, answer_step, boot_step, refused_step, answer_counted, task_step, deliver_step, frame_at, supply, forged, forged_net, forged_both, forged_open, step_by, step, groups}
+use Rattle.zb_model.specs.Play.{Schedule, Node, Event, Own, RollOver, Deliver, Reset, PowerOn, ShowRecord, ArmStop, ArmFail, InjectBytes, ForgeNet, ForgeNetAps, ForgeOpen, Step, Disk, stations, setting_of, station_or, without_blocks, net_line, link_line, limit_line, start, disk_of, with_disk, falls, calls_for, leaves_both, BootCalls, group_of, cut_of, fallen_line, answer_step, boot_step, refused_step, answer_counted, task_step, deliver_step, frame_at, supply, forged, forged_net, forged_both, forged_open, step_by, step, groups}
 use Rattle.zb_model.specs.Schedules.{IsMember, Names, NamesNode, IsSchedule}
 use Rattle.zb_model.specs.Transcript.{run_lines, transcript, end_line}
 use Rattle.zb_model.specs.Claims.{Each, Fresh, sealed_terms}
-use Rattle.zb_model_laws.proofs.Basics.{each-append}
+use Rattle.zb_model_laws.proofs.Basics.{each-append, find-map}
 use Rattle.zb_model_laws.proofs.Counters.{LineFits, Commanded}
 use Rattle.zb_model_laws.proofs.FreshLines.{all-append, Inv, inv-lines}
 use Rattle.zb_model_laws.proofs.Groups.{NoSeal, plain}
@@ -53,7 +54,29 @@ me-by ps n (Some p) e f = record { mine = eqb-true p.eui n f.1; eui = subst (λ 
 
 pub me-of : (w : Schedule) → IsSchedule w → (n : ℕ) → Names w n → Me (setting_of w n) n
 unfolding setting_of station_of
-me-of w i n named = me-by (stations w) n (station_of (stations w) n) named (found-is IsStation (λ p. nat_eq p.eui n) (stations w) (are-stations w.nodes i.nodes))
+me-of w i n named = me-by (map without_blocks (stations w)) n (station_of (stations w) n) named (found-is IsStation (λ p. nat_eq p.eui n) (stations w) (are-stations w.nodes i.nodes))
+
+-- Others are known as they are declared, but for their blocks.
+
+pub some-map : {X Y : Type 0} (f : X → Y) (o : Option X) → is_some (option_map f o) ≡ is_some o
+some-map f None = refl
+some-map f (Some x) = refl
+
+pub hidden-station : (ps : List Station) (n : ℕ) → station_of (map without_blocks ps) n ≡ option_map without_blocks (station_of ps n)
+unfolding station_of
+hidden-station ps n = find-map (λ (p : Station). nat_eq p.eui n) without_blocks (λ p. refl) ps
+
+pub hidden-declared : (w : Schedule) (n d : ℕ) → is_declared (setting_of w n) d ≡ is_some (station_of (stations w) d)
+unfolding setting_of
+hidden-declared w n d = ap is_some (hidden-station (stations w) d) ∙ some-map without_blocks (station_of (stations w) d)
+
+hidden-eui : (o : Option Station) → eui_or nobody (option_map without_blocks o) ≡ eui_or nobody o
+hidden-eui None = refl
+hidden-eui (Some p) = refl
+
+pub hidden-centre : (w : Schedule) (n : ℕ) → centre_of (setting_of w n).stations ≡ centre_of (stations w)
+unfolding centre_of setting_of
+hidden-centre w n = ap (eui_or nobody) (find-map (λ (p : Station). is_centre p.role) without_blocks (λ p. refl) (stations w)) ∙ hidden-eui (find (λ (p : Station). is_centre p.role) (stations w))
 
 -- The lines of a step
 

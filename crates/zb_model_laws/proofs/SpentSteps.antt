@@ -1,9 +1,9 @@
--- Counters are taken by seals alone: no other line but a boot and a first counter sets them on.
-use Rattle.std.proofs.Common.{◌≡◌, ℕ, ◌+◌, Bool, true, false, cond, ◌&&◌, List, [], ◌∷◌, ◌++◌, map, length, Option, Some, None, option_map, find, nat_eq, refl, sym, ap, ◌∙◌, subst, arith, ◌⊎◌, inl, inr}
+-- Counters are taken by seals alone: a boot, a first counter and a limit at the start set those of their own node and row.
+use Rattle.std.proofs.Common.{◌≡◌, ℕ, ◌+◌, Bool, true, false, cond, ◌&&◌, List, [], ◌∷◌, ◌++◌, map, length, Option, Some, None, option_map, find, nat_eq, refl, sym, ap, ◌∙◌, subst, arith, min, max}
 use Rattle.std.proofs.lemmas.Bool.{false≢true}
 use Rattle.zb_model.specs.Data.{Bytes, Layer, Nwk, Aps, Term, Move, Draw, DropNet, DropLink, Install, Active, Row, Pair, Became, Live, Removed, Roll, Told, Untold, Edit, Reserve, Floor, Start, Moved}
 use Rattle.zb_model.specs.Lines.{Line, Declared, GivenNet, GivenLink, Counter, Changed, Commit, Accept, Refuse, Seal, Forge, Send, Inject, Stopped, DownReset, DownDisk, Boot, Dump, End}
-use Rattle.zb_model.specs.State.{NetKey, NodeState, same_key, has_net, at_net, of_active, net_of, new_net, given_net, reserved, dropped_net, net_floor, net_kept, next_at, applied, moved, after_sealing, sealed_at, after_hearing, after_accepting, with_given_net, with_given_link, same_layer}
+use Rattle.zb_model.specs.State.{greatest_counter, NetKey, NodeState, same_key, has_net, at_net, of_active, net_of, new_net, given_net, reserved, dropped_net, net_floor, net_kept, next_at, started_at, booted_net, declared_at, applied, moved, after_sealing, sealed_at, after_hearing, after_accepting, after_boot, with_given_net, with_given_link, with_declared, same_layer}
 use Rattle.zb_model.specs.Readings.{state_of, heard_line, after, speaker}
 use Rattle.zb_model.specs.Claims.{Each}
 use Rattle.zb_model.specs.Play.{Schedule}
@@ -11,7 +11,7 @@ use Rattle.zb_model.specs.Schedules.{IsSchedule}
 use Rattle.zb_model.specs.Tools.{Tools}
 use Rattle.zb_model.specs.Transcript.{transcript}
 use Rattle.zb_model_laws.specs.Counting.{NextIs, TakesNext}
-use Rattle.zb_model_laws.specs.Spent.{taken_aps, taken_nwk, SetsOn, TakesAll}
+use Rattle.zb_model_laws.specs.Spent.{taken_aps, taken_nwk, aps_behind, nwk_behind, TakesAll}
 use Rattle.zb_model_laws.proofs.Basics.{find-map, same_key-eq, same_key-refl, state-snoc}
 use Rattle.zb_model_laws.proofs.Counters.{found-key}
 use Rattle.zb_model_laws.proofs.CountedRuns.{takes-next}
@@ -88,43 +88,51 @@ unfolding after_hearing
 heard-stays Nwk k sender counter s = record { aps = refl; nets = at-nets k (net_kept sender (counter + 1)) (λ r. refl) (λ r. refl) s.nets }
 heard-stays Aps k sender counter s = record { aps = refl; nets = same-nets s.nets }
 
--- what a line that takes no counter does
+-- what a line that moves no counter does
 abbrev Keeps : Line → Type 0
-Keeps l = SetsOn l ⊎ ((s : NodeState) → Stays s (after l s))
+Keeps l = (s : NodeState) → Stays s (after l s)
 
-edit-keeps : (e n : ℕ) (x : Edit) → Keeps (Changed e n x)
+-- a change that sets no first counter
+abbrev NoStart : Edit → Type 0
+NoStart (Start k v) = ⊥
+NoStart _ = Unit {0}
+
+edit-keeps : (e n : ℕ) (x : Edit) → NoStart x → Keeps (Changed e n x)
 unfolding after applied
-edit-keeps e n (Reserve Nwk v) = inr (λ s. record { aps = refl; nets = active-nets v s.active s.nets })
-edit-keeps e n (Reserve Aps v) = inr (λ s. record { aps = refl; nets = same-nets s.nets })
-edit-keeps e n (Floor Nwk k p v) = inr (λ s. record { aps = refl; nets = at-nets k (net_floor p v) (λ r. refl) (λ r. refl) s.nets })
-edit-keeps e n (Floor Aps k p v) = inr (λ s. record { aps = refl; nets = same-nets s.nets })
-edit-keeps e n (Start k v) = inl tt
-edit-keeps e n (Moved m) = inr (λ s. moved-stays m s)
+edit-keeps e n (Reserve Nwk v) w = λ s. record { aps = refl; nets = active-nets v s.active s.nets }
+edit-keeps e n (Reserve Aps v) w = λ s. record { aps = refl; nets = same-nets s.nets }
+edit-keeps e n (Floor Nwk k p v) w = λ s. record { aps = refl; nets = at-nets k (net_floor p v) (λ r. refl) (λ r. refl) s.nets }
+edit-keeps e n (Floor Aps k p v) w = λ s. record { aps = refl; nets = same-nets s.nets }
+edit-keeps e n (Start k v) w = absurd w
+edit-keeps e n (Moved m) w = λ s. moved-stays m s
 
-abbrev NoSeal : Line → Type 0
-NoSeal (Seal e n t) = ⊥
-NoSeal _ = Unit {0}
+abbrev MovesNone : Line → Type 0
+MovesNone (Seal e n t) = ⊥
+MovesNone (Boot e n) = ⊥
+MovesNone (Counter n layer v) = ⊥
+MovesNone (Changed e n x) = NoStart x
+MovesNone _ = Unit {0}
 
-line-keeps : (l : Line) → NoSeal l → Keeps l
+line-keeps : (l : Line) → MovesNone l → Keeps l
 unfolding after with_given_net with_given_link after_accepting
-line-keeps (Declared p) k = inr (λ s. record { aps = refl; nets = same-nets s.nets })
-line-keeps (GivenNet n key q) k = inr (λ s. record { aps = refl; nets = add-nets (has_net key s.nets) (given_net s.declared key q) s.nets })
-line-keeps (GivenLink n p key) k = inr (λ s. record { aps = refl; nets = same-nets s.nets })
-line-keeps (Counter n layer v) k = inl tt
-line-keeps (Changed e n x) k = edit-keeps e n x
-line-keeps (Commit e n) k = inr (λ s. record { aps = refl; nets = same-nets s.nets })
-line-keeps (Accept e n t) k = inr (λ s. heard-stays t.layer t.base t.source t.counter s)
-line-keeps (Refuse e n a r) k = inr (λ s. record { aps = refl; nets = same-nets s.nets })
+line-keeps (Declared p) k = λ s. record { aps = refl; nets = same-nets s.nets }
+line-keeps (GivenNet n key q) k = λ s. record { aps = refl; nets = add-nets (has_net key s.nets) (given_net s.declared key q) s.nets }
+line-keeps (GivenLink n p key) k = λ s. record { aps = refl; nets = same-nets s.nets }
+line-keeps (Counter n layer v) k = absurd k
+line-keeps (Changed e n x) k = edit-keeps e n x k
+line-keeps (Commit e n) k = λ s. record { aps = refl; nets = same-nets s.nets }
+line-keeps (Accept e n t) k = λ s. heard-stays t.layer t.base t.source t.counter s
+line-keeps (Refuse e n a r) k = λ s. record { aps = refl; nets = same-nets s.nets }
 line-keeps (Seal e n t) k = absurd k
-line-keeps (Forge e t) k = inr (λ s. record { aps = refl; nets = same-nets s.nets })
-line-keeps (Send e n f b) k = inr (λ s. record { aps = refl; nets = same-nets s.nets })
-line-keeps (Inject e f b) k = inr (λ s. record { aps = refl; nets = same-nets s.nets })
-line-keeps (Stopped e n) k = inr (λ s. record { aps = refl; nets = same-nets s.nets })
-line-keeps (DownReset e n) k = inr (λ s. record { aps = refl; nets = same-nets s.nets })
-line-keeps (DownDisk e n) k = inr (λ s. record { aps = refl; nets = same-nets s.nets })
-line-keeps (Boot e n) k = inl tt
-line-keeps (Dump e n b) k = inr (λ s. record { aps = refl; nets = same-nets s.nets })
-line-keeps (End a b c d e f) k = inr (λ s. record { aps = refl; nets = same-nets s.nets })
+line-keeps (Forge e t) k = λ s. record { aps = refl; nets = same-nets s.nets }
+line-keeps (Send e n f b) k = λ s. record { aps = refl; nets = same-nets s.nets }
+line-keeps (Inject e f b) k = λ s. record { aps = refl; nets = same-nets s.nets }
+line-keeps (Stopped e n) k = λ s. record { aps = refl; nets = same-nets s.nets }
+line-keeps (DownReset e n) k = λ s. record { aps = refl; nets = same-nets s.nets }
+line-keeps (DownDisk e n) k = λ s. record { aps = refl; nets = same-nets s.nets }
+line-keeps (Boot e n) k = absurd k
+line-keeps (Dump e n b) k = λ s. record { aps = refl; nets = same-nets s.nets }
+line-keeps (End a b c d e f) k = λ s. record { aps = refl; nets = same-nets s.nets }
 
 -- so many counters taken
 abbrev Takes : ℕ → (Bytes → ℕ) → NodeState → NodeState → Type 0
@@ -135,14 +143,6 @@ no-more n = omega arith
 
 takes-none : (s t : NodeState) → Stays s t → Takes 0 (λ key. 0) s t
 takes-none s t k = (k.aps ∙ no-more s.aps_next, λ key r e. k.nets key r e ∙ ap Some (no-more r.next))
-
-heard-none : (m : ℕ) (l : Line) (s : NodeState) → ((s : NodeState) → Stays s (after l s)) → Takes 0 (λ key. 0) s (heard_line m s l)
-unfolding heard_line
-heard-none m l s k = by-test (nat_eq (speaker l) m)
-  where
-    by-test : (b : Bool) → Takes 0 (λ key. 0) s (cond b (after l s) s)
-    by-test true = takes-none s (after l s) (k s)
-    by-test false = takes-none s s (record { aps = refl; nets = same-nets s.nets })
 
 -- a seal
 
@@ -193,33 +193,108 @@ seal-takes m e n t s k = by-test (nat_eq n m) refl
     by-test true q = sealed-takes t.layer t s (k (Rattle.std.proofs.Common.eqb-true n m q))
     by-test false q = takes-none s s (record { aps = refl; nets = same-nets s.nets })
 
-quiet-takes : (h : List Line) (l : Line) → ((m : ℕ) → taken_aps m l ≡ 0) → ((m : ℕ) (key : Bytes) → taken_nwk m key l ≡ 0) → Keeps l → TakesAll h l
-quiet-takes h l a b (inl k) = inl k
-quiet-takes h l a b (inr k) = inr (λ m. turn m (subst (λ s. Takes 0 (λ key. 0) (state_of h m) s) (sym (state-snoc h l m)) (heard-none m l (state_of h m) k)))
+-- a line that moves none: each next counter stays
+abbrev StaysOf : ℕ → NodeState → NodeState → Type 0
+StaysOf m s t = (t.aps_next ≡ s.aps_next) × ((key : Bytes) (r : NetKey) → row_of key s.nets ≡ Some r → next_in key t.nets ≡ Some r.next)
+
+heard-stays-of : (m : ℕ) (l : Line) (s : NodeState) → Keeps l → StaysOf m s (heard_line m s l)
+unfolding heard_line
+heard-stays-of m l s k = by-test (nat_eq (speaker l) m)
   where
-    turn : (m : ℕ) → Takes 0 (λ key. 0) (state_of h m) (state_of (h ++ l ∷ []) m) → Takes (taken_aps m l) (λ key. taken_nwk m key l) (state_of h m) (state_of (h ++ l ∷ []) m)
-    turn m q = (q.0 ∙ ap (λ x. (state_of h m).aps_next + x) (sym (a m)), λ key r e. q.1 key r e ∙ ap (λ x. Some (r.next + x)) (sym (b m key)))
+    by-test : (b : Bool) → StaysOf m s (cond b (after l s) s)
+    by-test true = ((k s).aps, (k s).nets)
+    by-test false = (refl, same-nets s.nets)
+
+quiet-takes : (h : List Line) (l : Line) → Keeps l → (m : ℕ) → StaysOf m (state_of h m) (state_of (h ++ l ∷ []) m)
+quiet-takes h l k m = subst (λ s. StaysOf m (state_of h m) s) (sym (state-snoc h l m)) (heard-stays-of m l (state_of h m) k)
+
+-- a line that sets its own node's on
+abbrev Set : ℕ → (NodeState → ℕ) → (Bytes → NetKey → ℕ) → NodeState → NodeState → Type 0
+Set m a b s t = (t.aps_next ≡ a s) × ((key : Bytes) (r : NetKey) → row_of key s.nets ≡ Some r → next_in key t.nets ≡ Some (b key r))
+
+mapped-next : (f : NetKey → NetKey) → ((r : NetKey) → (f r).key ≡ r.key) → (key : Bytes) (nets : List NetKey) (r : NetKey) → row_of key nets ≡ Some r → next_in key (map f nets) ≡ Some (f r).next
+mapped-next f k key nets r e = ap (λ o. option_map (λ (x : NetKey). x.next) o) (find-map (λ (x : NetKey). same_key x.key key) f (λ x. ap (λ y. same_key y key) (k x)) nets ∙ ap (λ o. option_map f o) e)
+
+boot-sets : (m e n : ℕ) (s : NodeState) → Set m (λ x. aps_behind m (Boot e n) x) (λ key r. nwk_behind m key (Boot e n) r) s (heard_line m s (Boot e n))
+unfolding heard_line speaker after after_boot
+boot-sets m e n s = by-test (nat_eq n m)
+  where
+    by-test : (b : Bool) → Set m (λ x. cond b x.aps_limit x.aps_next) (λ key r. cond b r.limit r.next) s (cond b (Rattle.zb_model.specs.State.after_boot s) s)
+    by-test true = (refl, λ key r f. mapped-next booted_net (λ x. refl) key s.nets r f)
+    by-test false = (refl, same-nets s.nets)
+
+raised-next : (v : ℕ) (b : Bool) (r : NetKey) → (cond b (started_at v r) r).next ≡ cond b (max r.next (min v greatest_counter)) r.next
+raised-next v true r = refl
+raised-next v false r = refl
+
+started-next : (k : Bytes) (v : ℕ) (key : Bytes) (nets : List NetKey) (r : NetKey) → row_of key nets ≡ Some r → next_in key (at_net k (started_at v) nets) ≡ Some (cond (same_key key k) (max r.next (min v greatest_counter)) r.next)
+started-next k v key nets r e =
+    mapped-next (λ x. cond (same_key x.key k) (started_at v x) x) (λ x. by-key (same_key x.key k) x) key nets r e
+    ∙ ap Some (raised-next v (same_key r.key k) r) ∙ ap (λ y. Some (cond (same_key y k) (max r.next (min v greatest_counter)) r.next)) (same_key-eq r.key key (found-key key nets r e))
+  where
+    by-key : (b : Bool) (x : NetKey) → (cond b (started_at v x) x).key ≡ x.key
+    by-key true x = refl
+    by-key false x = refl
+
+start-sets : (m e n : ℕ) (k : Bytes) (v : ℕ) (s : NodeState) → Set m (λ x. x.aps_next) (λ key r. nwk_behind m key (Changed e n (Start k v)) r) s (heard_line m s (Changed e n (Start k v)))
+unfolding heard_line speaker after applied
+start-sets m e n k v s = by-test (nat_eq n m)
+  where
+    by-test : (b : Bool) → Set m (λ x. x.aps_next) (λ key r. cond (b && same_key key k) (max r.next (min v greatest_counter)) r.next) s (cond b (record s { nets = at_net k (started_at v) s.nets }) s)
+    by-test true = (refl, λ key r f. started-next k v key s.nets r f)
+    by-test false = (refl, same-nets s.nets)
+
+declared-next : (v : ℕ) (b : Bool) (r : NetKey) → (cond b (record r { limit = max r.limit v; next = max r.next v }) r).next ≡ cond b (max r.next v) r.next
+declared-next v true r = refl
+declared-next v false r = refl
+
+declared-key : (v : ℕ) (b : Bool) (r : NetKey) → (cond b (record r { limit = max r.limit v; next = max r.next v }) r).key ≡ r.key
+declared-key v true r = refl
+declared-key v false r = refl
+
+counter-sets : (layer : Layer) (m n v : ℕ) (s : NodeState) → Set m (λ x. aps_behind m (Counter n layer v) x) (λ key r. nwk_behind m key (Counter n layer v) r) s (heard_line m s (Counter n layer v))
+unfolding heard_line speaker after with_declared
+counter-sets Nwk m n v s = by-test (nat_eq n m)
+  where
+    by-test : (b : Bool) → Set m (λ x. x.aps_next) (λ key r. cond (b && r.started) (max r.next v) r.next) s (cond b (record s { declared = v; nets = map (declared_at v) s.nets }) s)
+    by-test true = (refl, λ key r f. mapped-next (declared_at v) (λ x. declared-key v x.started x) key s.nets r f ∙ ap Some (declared-next v r.started r))
+    by-test false = (refl, same-nets s.nets)
+counter-sets Aps m n v s = by-test (nat_eq n m)
+  where
+    by-test : (b : Bool) → Set m (λ x. cond b (max x.aps_next v) x.aps_next) (λ key r. r.next) s (cond b (record s { aps_limit = max s.aps_limit v; aps_next = max s.aps_next v }) s)
+    by-test true = (refl, same-nets s.nets)
+    by-test false = (refl, same-nets s.nets)
+
+set-of : (h : List Line) (l : Line) (m : ℕ) (a : NodeState → ℕ) (b : Bytes → NetKey → ℕ) → Set m a b (state_of h m) (heard_line m (state_of h m) l) → Set m a b (state_of h m) (state_of (h ++ l ∷ []) m)
+set-of h l m a b k = subst (λ s. Set m a b (state_of h m) s) (sym (state-snoc h l m)) k
+
+edit-takes : (h : List Line) (e n : ℕ) (x : Edit) → TakesAll h (Changed e n x)
+edit-takes h e n (Start k v) = λ m. set-of h (Changed e n (Start k v)) m (λ s. s.aps_next) (λ key r. nwk_behind m key (Changed e n (Start k v)) r) (start-sets m e n k v (state_of h m))
+edit-takes h e n (Reserve layer v) = quiet-takes h (Changed e n (Reserve layer v)) (edit-keeps e n (Reserve layer v) tt)
+edit-takes h e n (Floor layer k p v) = quiet-takes h (Changed e n (Floor layer k p v)) (edit-keeps e n (Floor layer k p v) tt)
+edit-takes h e n (Moved x) = quiet-takes h (Changed e n (Moved x)) (edit-keeps e n (Moved x) tt)
 
 line-takes : (h : List Line) (l : Line) → TakesNext h l → TakesAll h l
-line-takes h (Seal e n t) k = inr (λ m. subst (λ s. Takes (taken_aps m (Seal e n t)) (λ key. taken_nwk m key (Seal e n t)) (state_of h m) s) (sym (state-snoc h (Seal e n t) m))
-    (seal-takes m e n t (state_of h m) (λ q. subst (λ x. NextIs t.layer t (state_of h x)) q k.2)))
-line-takes h (Declared p) k = quiet-takes h (Declared p) (λ m. refl) (λ m key. refl) (line-keeps (Declared p) tt)
-line-takes h (GivenNet n key q) k = quiet-takes h (GivenNet n key q) (λ m. refl) (λ m key. refl) (line-keeps (GivenNet n key q) tt)
-line-takes h (GivenLink n p key) k = quiet-takes h (GivenLink n p key) (λ m. refl) (λ m key. refl) (line-keeps (GivenLink n p key) tt)
-line-takes h (Counter n layer v) k = inl tt
-line-takes h (Changed e n x) k = quiet-takes h (Changed e n x) (λ m. refl) (λ m key. refl) (line-keeps (Changed e n x) tt)
-line-takes h (Commit e n) k = quiet-takes h (Commit e n) (λ m. refl) (λ m key. refl) (line-keeps (Commit e n) tt)
-line-takes h (Accept e n t) k = quiet-takes h (Accept e n t) (λ m. refl) (λ m key. refl) (line-keeps (Accept e n t) tt)
-line-takes h (Refuse e n a r) k = quiet-takes h (Refuse e n a r) (λ m. refl) (λ m key. refl) (line-keeps (Refuse e n a r) tt)
-line-takes h (Forge e t) k = quiet-takes h (Forge e t) (λ m. refl) (λ m key. refl) (line-keeps (Forge e t) tt)
-line-takes h (Send e n f b) k = quiet-takes h (Send e n f b) (λ m. refl) (λ m key. refl) (line-keeps (Send e n f b) tt)
-line-takes h (Inject e f b) k = quiet-takes h (Inject e f b) (λ m. refl) (λ m key. refl) (line-keeps (Inject e f b) tt)
-line-takes h (Stopped e n) k = quiet-takes h (Stopped e n) (λ m. refl) (λ m key. refl) (line-keeps (Stopped e n) tt)
-line-takes h (DownReset e n) k = quiet-takes h (DownReset e n) (λ m. refl) (λ m key. refl) (line-keeps (DownReset e n) tt)
-line-takes h (DownDisk e n) k = quiet-takes h (DownDisk e n) (λ m. refl) (λ m key. refl) (line-keeps (DownDisk e n) tt)
-line-takes h (Boot e n) k = inl tt
-line-takes h (Dump e n b) k = quiet-takes h (Dump e n b) (λ m. refl) (λ m key. refl) (line-keeps (Dump e n b) tt)
-line-takes h (End a b c d e f) k = quiet-takes h (End a b c d e f) (λ m. refl) (λ m key. refl) (line-keeps (End a b c d e f) tt)
+line-takes h (Seal e n t) k = λ m. subst (λ s. Takes (taken_aps m (Seal e n t)) (λ key. taken_nwk m key (Seal e n t)) (state_of h m) s) (sym (state-snoc h (Seal e n t) m))
+    (seal-takes m e n t (state_of h m) (λ q. subst (λ x. NextIs t.layer t (state_of h x)) q k.2))
+line-takes h (Counter n Nwk v) k = λ m. set-of h (Counter n Nwk v) m (λ s. s.aps_next) (λ key r. nwk_behind m key (Counter n Nwk v) r) (counter-sets Nwk m n v (state_of h m))
+line-takes h (Counter n Aps v) k = λ m. set-of h (Counter n Aps v) m (λ s. aps_behind m (Counter n Aps v) s) (λ key r. r.next) (counter-sets Aps m n v (state_of h m))
+line-takes h (Boot e n) k = λ m. set-of h (Boot e n) m (λ s. aps_behind m (Boot e n) s) (λ key r. nwk_behind m key (Boot e n) r) (boot-sets m e n (state_of h m))
+line-takes h (Changed e n x) k = edit-takes h e n x
+line-takes h (Declared p) k = quiet-takes h (Declared p) (line-keeps (Declared p) tt)
+line-takes h (GivenNet n key q) k = quiet-takes h (GivenNet n key q) (line-keeps (GivenNet n key q) tt)
+line-takes h (GivenLink n p key) k = quiet-takes h (GivenLink n p key) (line-keeps (GivenLink n p key) tt)
+line-takes h (Commit e n) k = quiet-takes h (Commit e n) (line-keeps (Commit e n) tt)
+line-takes h (Accept e n t) k = quiet-takes h (Accept e n t) (line-keeps (Accept e n t) tt)
+line-takes h (Refuse e n a r) k = quiet-takes h (Refuse e n a r) (line-keeps (Refuse e n a r) tt)
+line-takes h (Forge e t) k = quiet-takes h (Forge e t) (line-keeps (Forge e t) tt)
+line-takes h (Send e n f b) k = quiet-takes h (Send e n f b) (line-keeps (Send e n f b) tt)
+line-takes h (Inject e f b) k = quiet-takes h (Inject e f b) (line-keeps (Inject e f b) tt)
+line-takes h (Stopped e n) k = quiet-takes h (Stopped e n) (line-keeps (Stopped e n) tt)
+line-takes h (DownReset e n) k = quiet-takes h (DownReset e n) (line-keeps (DownReset e n) tt)
+line-takes h (DownDisk e n) k = quiet-takes h (DownDisk e n) (line-keeps (DownDisk e n) tt)
+line-takes h (Dump e n b) k = quiet-takes h (Dump e n b) (line-keeps (Dump e n b) tt)
+line-takes h (End a b c d e f) k = quiet-takes h (End a b c d e f) (line-keeps (End a b c d e f) tt)
 
 each-takes-all : (h ls : List Line) → Each TakesNext h ls → Each TakesAll h ls
 each-takes-all h [] a = tt

@@ -6,3 +6,5 @@ pub mod Records
 pub mod KeysApart
 pub mod Spent
 pub mod Premises
+pub mod Events
+pub mod CentreAlone

@@ -1,5 +1,5 @@
 -- Which lines take counters, and who answers that a counter is spent.
-use Rattle.std.specs.Prelude.{ℕ, ◌≡◌, ◌+◌, ◌⊎◌, if◌then◌else◌, ◌&&◌, List, [], ◌∷◌, ◌++◌, Some, option_map, nat_eq, ⊤}
+use Rattle.std.specs.Prelude.{ℕ, ◌≡◌, ◌+◌, min, max, ◌⊎◌, if◌then◌else◌, ◌&&◌, List, [], ◌∷◌, ◌++◌, Some, option_map, nat_eq, ⊤}
 use Rattle.zb_model.specs.Data.{Bytes, Nwk, Aps, Start, CounterSpent}
 use Rattle.zb_model.specs.Lines.{Line, Counter, Changed, Refuse, Seal, Boot}
 use Rattle.zb_model.specs.State.{greatest_counter, NetKey, NodeState, same_key, net_of, next_counter, same_layer}
@@ -22,14 +22,23 @@ abbrev pub taken_nwk : ℕ → Bytes → Line → ℕ
 taken_nwk m key (Seal e n t) = if nat_eq n m && (same_layer t.layer Nwk && same_key t.base key) then 1 else 0
 taken_nwk m key _ = 0
 
--- The lines that set counters on without taking one: a boot, to the limit; a key's first counter; the limits at the start.
-abbrev pub SetsOn : Line → Type 0
-SetsOn (Boot e n) = ⊤
-SetsOn (Changed e n (Start key value)) = ⊤
-SetsOn (Counter n layer limit) = ⊤
-SetsOn _ = ⊥
+-- Where a line leaves the next counters of a node: at APS, and of its network row with the key. A boot sets its own node's to the
+-- limits; a key's first counter, that row's; a limit at the start, its node's at the layer, of the rows that have started. No
+-- other line moves one but the seal that takes it.
+abbrev pub aps_behind : ℕ → Line → NodeState → ℕ
+aps_behind m (Boot e n) s = if nat_eq n m then s.aps_limit else s.aps_next
+aps_behind m (Counter n Aps v) s = if nat_eq n m then max s.aps_next v else s.aps_next
+aps_behind m (Seal e n t) s = s.aps_next + taken_aps m (Seal e n t)
+aps_behind m _ s = s.aps_next
 
--- Of each node the next counters rise by those that the line takes, and so does the next counter of each network row.
+abbrev pub nwk_behind : ℕ → Bytes → Line → NetKey → ℕ
+nwk_behind m key (Boot e n) r = if nat_eq n m then r.limit else r.next
+nwk_behind m key (Changed e n (Start k v)) r = if nat_eq n m && same_key key k then max r.next (min v greatest_counter) else r.next
+nwk_behind m key (Counter n Nwk v) r = if nat_eq n m && r.started then max r.next v else r.next
+nwk_behind m key (Seal e n t) r = r.next + taken_nwk m key (Seal e n t)
+nwk_behind m key _ r = r.next
+
+-- Of each node the next counters are those behind the line.
 abbrev pub TakesAll : List Line → Line → Type 0
-TakesAll h l = SetsOn l ⊎ ((m : ℕ) → ((state_of (h ++ l ∷ []) m).aps_next ≡ (state_of h m).aps_next + taken_aps m l)
-    × ((key : Bytes) (r : NetKey) → net_of key (state_of h m) ≡ Some r → option_map (λ (x : NetKey). x.next) (net_of key (state_of (h ++ l ∷ []) m)) ≡ Some (r.next + taken_nwk m key l)))
+TakesAll h l = (m : ℕ) → ((state_of (h ++ l ∷ []) m).aps_next ≡ aps_behind m l (state_of h m))
+    × ((key : Bytes) (r : NetKey) → net_of key (state_of h m) ≡ Some r → option_map (λ (x : NetKey). x.next) (net_of key (state_of (h ++ l ∷ []) m)) ≡ Some (nwk_behind m key l r))

@@ -2,8 +2,9 @@
 //! contract of a function with an empty body; docs/THEOREMS.md says it in words.
 #![tactic(auto)]
 
-ghost use Rattle.std.specs.Prelude.{◌≡◌, ◌<◌, ◌≤◌, ◌+◌, ◌++◌, min, ℕ, true, List, Option, Some, [], ◌∷◌, fold};
+ghost use Rattle.std.specs.Prelude.{◌≡◌, ◌<◌, ◌≤◌, ◌+◌, ◌++◌, min, ℕ, true, false, List, Option, Some, [], ◌∷◌, fold};
 ghost use Rattle.std.specs.List.{AllByRecursion};
+ghost use Rattle.zb_model_laws.specs.CentreAlone.{OfEachNode};
 ghost use Rattle.zb_model_laws.specs.Commanding.{OneCentre, ShowsKeys, SpellsConfirm};
 ghost use Rattle.zb_model_laws.specs.Counting.{TakesNext};
 ghost use Rattle.zb_model_laws.specs.KeysApart.{KeysApart};
@@ -12,8 +13,8 @@ ghost use Rattle.zb_model_laws.specs.Opening.{Opens};
 ghost use Rattle.zb_model_laws.specs.Records.{FitsRecord, state_in};
 ghost use Rattle.zb_model_laws.specs.Spent.{SpentLine, TakesAll};
 ghost use Rattle.zb_model.specs.Claims.{Confirms, Each, Fresh, Lawful, Locked, Once};
-ghost use Rattle.zb_model.specs.Answer.{Answer, answered, floor_for, reserve_of, stored_floor};
-ghost use Rattle.zb_model.specs.Data.{Edit, Term, Layer};
+ghost use Rattle.zb_model.specs.Answer.{Answer, answer, answered, floor_for, reserve_of, stored_floor};
+ghost use Rattle.zb_model.specs.Data.{Edit, Task, Term, Layer};
 ghost use Rattle.zb_model.specs.Fits.{fits, keys_differ};
 ghost use Rattle.zb_model.specs.Lines.{Line, Boot};
 ghost use Rattle.zb_model.specs.Play.{Schedule, group_of, stored_lines};
@@ -22,7 +23,7 @@ ghost use Rattle.zb_model.specs.Record.{record_of};
 ghost use Rattle.zb_model.specs.Rules.{Sending, Setting};
 ghost use Rattle.zb_model.specs.Schedules.{IsSchedule};
 ghost use Rattle.zb_model.specs.Secrets.{ideal, private};
-ghost use Rattle.zb_model.specs.State.{NodeState, after_boot, applied_all, greatest_counter, next_counter, shown, stored_limit};
+ghost use Rattle.zb_model.specs.State.{NodeState, after_boot, is_centre, applied_all, greatest_counter, next_counter, shown, stored_limit};
 ghost use Rattle.zb_model.specs.Tools.{Tools};
 ghost use Rattle.zb_model.specs.Transcript.{run_lines, transcript};
 
@@ -128,6 +129,14 @@ pub fn a_reserve_is_one_block()
 pub fn a_floor_is_one_block()
     ensures { (c : Setting) (s : NodeState) (t : Term) (v : ℕ) → floor_for c s t ≡ Some v
         → (stored_floor t s ≤ t.counter) × (v ≡ min (t.counter + c.me.in_block) greatest_counter) }
+{}
+
+/// Only the centre draws keys, gives pairs, begins or ends a rollover, and says of a device that it is live, removed,
+/// told or not: the answer of any other node has no such change. So lines of these that name no node are the centre's.
+pub fn the_centre_alone_draws_and_admits()
+    ensures { (tools : Tools) → Opens tools → (c : Setting) (s : NodeState) (task : Task)
+        → is_centre c.me.role ≡ false
+        → AllByRecursion OfEachNode (answer tools c s task).edits }
 {}
 
 /// The record of a state is read back as that state after a boot: counters go on from their limits, floors are the

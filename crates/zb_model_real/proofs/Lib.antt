@@ -1,7 +1,2 @@
-mod Showing
-mod Confirming
-mod Keys
-mod Commands
-mod OwnKeys
-pub mod RealRuns
-mod SameTerms
+pub mod Showing
+pub mod SameTerms

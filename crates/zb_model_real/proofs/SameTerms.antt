@@ -1,4 +1,4 @@
--- The tools are the program's: a term of the program, made the model's and back, is itself.
+-- The tools are the program's: a term or command of the program, made the model's and back, is itself.
 use Rattle.std.proofs.Common.{◌≡◌, ℕ, List, refl, ap, ◌∙◌}
 use Rattle.zb_base.specs.declared.label.Label.{Label}
 use Rattle.zb_base.specs.declared.label.Label.TheVariants as label
@@ -6,11 +6,15 @@ use Rattle.zb_base.specs.declared.label.Layer.{Layer}
 use Rattle.zb_base.specs.declared.label.Layer.TheVariants as layer
 use Rattle.zb_node_types.specs.Changes.{model_layer}
 use Rattle.zb_model.specs.Tools.{sealing_key as model_key}
+use Rattle.zb_cmd.specs.Spelling.{command}
+use Rattle.zb_cmd.specs.declared.command.Command.{Command}
+use Rattle.zb_cmd.specs.declared.command.Command.TheVariants as cmd
 use Rattle.zb_seal.specs.Keys.{sealing_key}
-use Rattle.zb_trace.specs.Terms.{model_label, model_term}
 use Rattle.zb_seal.specs.Wire.{wire}
 use Rattle.zb_seal.specs.declared.term.Term.{Term}
-use Rattle.zb_model_real.specs.Real.{real, term_of, layer_of, label_of}
+use Rattle.zb_model_real.specs.Readers.{model_command}
+use Rattle.zb_model_real.specs.Real.{real, command_for}
+use Rattle.zb_model_real.specs.Terms.{term_of, layer_of, label_of, model_label, model_term}
 
 layer-back : (l : Layer) → layer_of (model_layer l) ≡ l
 layer-back layer.Nwk = refl
@@ -35,3 +39,20 @@ same_key label.Data base = refl
 same_key label.Network base = refl
 same_key label.Transport base = refl
 same_key label.Load base = refl
+
+command-back : (c : Command) → command_for (model_command c) ≡ c
+command-back (cmd.TransportNetwork key sequence destination source) = refl
+command-back (cmd.TransportApplication key partner initiator) = refl
+command-back (cmd.TransportLink key destination source) = refl
+command-back (cmd.Update device short status) = refl
+command-back (cmd.Remove target) = refl
+command-back (cmd.RequestApplication partner) = refl
+command-back cmd.RequestLink = refl
+command-back (cmd.Switch sequence) = refl
+command-back (cmd.Tunnel destination inner) = refl
+command-back (cmd.Verify kind source hash) = refl
+command-back (cmd.Confirm status kind destination) = refl
+
+pub same_spelling : (c : Command) → real.spelled (model_command c) ≡ command c
+unfolding real
+same_spelling c = ap command (command-back c)

@@ -1,11 +1,11 @@
 -- What a frame opens to is what it shows.
 use Rattle.std.proofs.Common.{◌≡◌, ℕ, List, ◌++◌, Option, Some, None, option_map, Result, Ok, Err, sym, ap, ◌∙◌, subst}
+use Rattle.std.specs.Prelude.{unwrap_or}
 use Rattle.zb_aps.specs.Reading as aps
 use Rattle.zb_aps.specs.declared.auxiliary.ApsAux.{ApsAux}
 use Rattle.zb_aps.specs.declared.fault.ApsError.{ApsError}
 use Rattle.zb_aps.specs.declared.frame.ApsFrame.{ApsFrame}
 use Rattle.zb_base.specs.declared.address.Eui.{Eui}
-use Rattle.zb_model_laws.specs.Opening.{Opens, shown_source}
 use Rattle.zb_model.specs.Data.{Bytes, Nwk, Aps, Term}
 use Rattle.zb_model.specs.Tools.{NwkShown, NwkAuxiliary, ApsShown, ApsAuxiliary}
 use Rattle.zb_nwk.specs.Reading as nwk
@@ -21,10 +21,10 @@ use Rattle.zb_base.specs.declared.label.Layer.TheVariants as layer
 use Rattle.zb_seal.specs.Keys.{sealing_key}
 use Rattle.zb_seal.specs.Opening as opening
 use Rattle.zb_seal.specs.Wire.{real_level}
-use Rattle.zb_trace.specs.Terms.{model_term}
 use Rattle.zb_seal.specs.declared.envelope.Envelope.{Envelope}
-use Rattle.zb_model_real.specs.Real.{eui_of, key_of, opened, nwk_auxiliary, nwk_shown, real}
-use Rattle.zb_trace_watch.specs.Readers.{auxiliary, aps_shown}
+use Rattle.zb_model_real.specs.Readers.{auxiliary, aps_shown, nwk_auxiliary, nwk_shown}
+use Rattle.zb_model_real.specs.Real.{opened, real}
+use Rattle.zb_model_real.specs.Terms.{eui_of, key_of, model_term}
 
 abbrev IsNone : (A : Type 0) → Option A → Type 0
 IsNone A None = Unit {0}
@@ -34,7 +34,7 @@ none-is : (A : Type 0) (x : A) → None ≡ Some x → ⊥
 none-is A x e = subst (λ o. IsNone A o) e tt
 
 some-same : (A : Type 0) (x y : A) → Some x ≡ Some y → x ≡ y
-some-same A x y e = ap (λ o. Rattle.std.specs.Prelude.unwrap_or o x) e
+some-same A x y e = ap (λ o. unwrap_or o x) e
 
 -- the term of an envelope: its layer, base key, source and counter
 abbrev Facts : Envelope → Bytes → ℕ → Term → Type 0
@@ -80,7 +80,7 @@ nwk-by key (Ok fr) f aux t a b c = nwk-aux key fr fr.aux aux t (ap (λ (o : Opti
 
 -- APS
 
-aps-from : (s : Envelope) (key : Bytes) (given : ℕ) (o : Option Eui) (t : Term) → opened (opened_from s (key_of key) (source_of o (Some (eui_of given)))) ≡ Some t → Facts s key (shown_source given (option_map (λ (x : Eui). x.0) o)) t
+aps-from : (s : Envelope) (key : Bytes) (given : ℕ) (o : Option Eui) (t : Term) → opened (opened_from s (key_of key) (source_of o (Some (eui_of given)))) ≡ Some t → Facts s key (unwrap_or (option_map (λ (x : Eui). x.0) o) given) t
 aps-from s key given None t e = term-facts s key (eui_of given) (content_of s (sealing_key s.label key) (eui_of given)) t e
 aps-from s key given (Some x) t e = term-facts s key x (content_of s (sealing_key s.label key) x) t e
 
@@ -97,13 +97,13 @@ aps_envelope_of f a = record {
 }
 
 aps-aux : (key : Bytes) (given : ℕ) (f : ApsFrame) (x : Option ApsAux) (aux : ApsAuxiliary) (t : Term) → option_map auxiliary x ≡ Some aux → opened (opened_seen (aps_envelope f x) (key_of key) (Some (eui_of given))) ≡ Some t
-    → (t.layer ≡ Aps) × (t.base ≡ key) × (t.source ≡ shown_source given aux.source) × (t.counter ≡ aux.counter)
+    → (t.layer ≡ Aps) × (t.base ≡ key) × (t.source ≡ unwrap_or aux.source given) × (t.counter ≡ aux.counter)
 unfolding opening.opened aps_envelope_of
 aps-aux key given f None aux t a e = absurd (none-is ApsAuxiliary aux a)
-aps-aux key given f (Some x) aux t a e = let q = some-same ApsAuxiliary (auxiliary x) aux a in let g = aps-from (aps_envelope_of f x) key given x.source t e in (g.0, g.1, g.2 ∙ ap (λ (y : ApsAuxiliary). shown_source given y.source) q, g.3 ∙ ap (λ (y : ApsAuxiliary). y.counter) q)
+aps-aux key given f (Some x) aux t a e = let q = some-same ApsAuxiliary (auxiliary x) aux a in let g = aps-from (aps_envelope_of f x) key given x.source t e in (g.0, g.1, g.2 ∙ ap (λ (y : ApsAuxiliary). unwrap_or y.source given) q, g.3 ∙ ap (λ (y : ApsAuxiliary). y.counter) q)
 
 aps-by : (key : Bytes) (given : ℕ) (r : Result ApsFrame ApsError) (f : ApsShown) (aux : ApsAuxiliary) (t : Term) → aps_shown r ≡ Some f → f.auxiliary ≡ Some aux → opened (opened_seen (aps_seen r) (key_of key) (Some (eui_of given))) ≡ Some t
-    → (t.layer ≡ Aps) × (t.base ≡ key) × (t.source ≡ shown_source given aux.source) × (t.counter ≡ aux.counter)
+    → (t.layer ≡ Aps) × (t.base ≡ key) × (t.source ≡ unwrap_or aux.source given) × (t.counter ≡ aux.counter)
 aps-by key given (Err e) f aux t a b c = absurd (none-is ApsShown f a)
 aps-by key given (Ok fr) f aux t a b c = aps-aux key given fr fr.aux aux t (ap (λ (o : Option ApsShown). shown o) a ∙ b) c
   where
@@ -111,9 +111,12 @@ aps-by key given (Ok fr) f aux t a b c = aps-aux key given fr fr.aux aux t (ap (
     shown None = None
     shown (Some x) = x.auxiliary
 
-pub opens-real : Opens real
-unfolding real opened_nwk opened_aps seen_nwk seen_aps
-opens-real = record {
-  nwk = λ bytes key f aux t a b c. nwk-by key (nwk.frame_of bytes) f aux t a b c;
-  aps = λ bytes key given f aux t a b c. aps-by key given (aps.frame_of bytes) f aux t a b c;
-}
+pub nwk-opens : (bytes key : Bytes) (f : NwkShown) (aux : NwkAuxiliary) (t : Term) → real.read_nwk bytes ≡ Some f → f.auxiliary ≡ Some aux → real.open_nwk bytes key ≡ Some t
+    → (t.layer ≡ Nwk) × (t.base ≡ key) × (t.source ≡ aux.source) × (t.counter ≡ aux.counter)
+unfolding real opened_nwk seen_nwk
+nwk-opens bytes key f aux t a b c = nwk-by key (nwk.frame_of bytes) f aux t a b c
+
+pub aps-opens : (bytes key : Bytes) (given : ℕ) (f : ApsShown) (aux : ApsAuxiliary) (t : Term) → real.read_aps bytes ≡ Some f → f.auxiliary ≡ Some aux → real.open_aps bytes key given ≡ Some t
+    → (t.layer ≡ Aps) × (t.base ≡ key) × (t.source ≡ unwrap_or aux.source given) × (t.counter ≡ aux.counter)
+unfolding real opened_aps seen_aps
+aps-opens bytes key given f aux t a b c = aps-by key given (aps.frame_of bytes) f aux t a b c

@@ -1,2 +1,3 @@
+pub mod Terms
+pub mod Readers
 pub mod Real
-pub mod Headline

@@ -2,8 +2,8 @@
 use Rattle.zb_model_laws.specs.Premises.{Premises}
 use Rattle.zb_sched.specs.Schedules.{Schedule}
 use Rattle.zb_sched.specs.Valid.{IsSchedule}
-use Rattle.zb_model_real.specs.Headline.{Holds}
-use Rattle.zb_model_real.proofs.RealRuns.{holds}
+use Rattle.zb_model_headline.specs.Headline.{Holds}
+use Rattle.zb_model_headline.proofs.RealRuns.{holds}
 use Rattle.zb_model_schedules.specs.Schedules.{schedule_of}
 use Rattle.zb_model_schedules.proofs.Meets.{is_schedule, keys_apart, one}
 

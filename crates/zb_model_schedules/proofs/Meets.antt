@@ -1,10 +1,11 @@
 -- What every schedule keeps gives what the laws over runs ask of its model.
-use Rattle.std.proofs.Common.{◌≡◌, ℕ, ◌&&◌, ◌||◌, not, Bool, true, false, cond, List, [], ◌∷◌, ◌++◌, map, find, Option, Some, None, option_to_list, nat_eq, bytes_eq, refl, sym, ap, ◌∙◌, subst, arith, eq-eqb}
+use Rattle.std.proofs.Common.{◌≡◌, ℕ, ◌&&◌, ◌||◌, not, Bool, true, false, cond, List, [], ◌∷◌, ◌++◌, map, find, Option, Some, None, option_to_list, nat_eq, bytes_eq, refl, sym, ap, ◌∙◌, subst, arith, eq-eqb, eqb-true, ◌≤◌}
 use Rattle.std.specs.Prelude.{is_some, IfSome}
 use Rattle.std.specs.List.{AllByRecursion, list_any}
 use Rattle.std.specs.Option.{option_map}
 use Rattle.std.proofs.lemmas.Bool.{and_parts, false≢true}
 use Rattle.std.proofs.lemmas.Bool.Decides.{nat_tests}
+use Rattle.std.proofs.lemmas.List.{length-map}
 use Rattle.std.proofs.lemmas.Slice.Eq.{bytes_eq-Decides}
 use Rattle.zb_base.specs.declared.node.Role.{Role}
 use Rattle.zb_base.specs.declared.node.Role.TheVariants.{Centre, Router, Device}
@@ -15,7 +16,7 @@ use Rattle.zb_model_laws.specs.KeysApart.{KeysApart, AllDiffer, EntersOwn, IsNew
 use Rattle.zb_model.specs.Data.{Station, nobody}
 use Rattle.zb_model.specs.Play as model
 use Rattle.zb_model.specs.Rules.{centre_of, eui_or, station_of as model_station}
-use Rattle.zb_model.specs.Schedules.{IsMember, IsSchedule, Names, NamesNode}
+use Rattle.zb_model.specs.Schedules.{IsMember, IsSchedule, Names, NamesNode, SuitsRole, CountsCalls}
 use Rattle.zb_model.specs.State.{is_centre as is_centre_role}
 use Rattle.zb_sched.specs.Judge.{Seat, clashes, has_its_nodes, has_name, is_drawn, is_joiner, is_key, is_link_of_other, is_network, is_parent, link_of, network_of, role_named, well_known}
 use Rattle.zb_sched.specs.Schedules.{Node, Schedule}
@@ -25,6 +26,7 @@ use Rattle.zb_sched.specs.Valid.{Apart, Differ, FitsNode, FitsSchedule, Pairwise
 use Rattle.zb_sched.proofs.Lists.{all_map, all_map2, any_false, neither, unequal}
 use Rattle.zb_sched.proofs.OneCentre.{one_centre}
 use Rattle.zb_sched.proofs.Splits.{mapped_all}
+use Rattle.zb_sched_line.specs.Fits.{FitsEvent}
 use Rattle.zb_sched_line.specs.Said.{Bytes, Event, Says, Delivers, Ticks, Knocks, Rejoins, Adopts, Provisions, Repeats, Rolls, Switches, Removes, Resets, Boots, Dumps, Stops, Fails, Injects, ForgesNet, ForgesBoth, ForgesOpen, Asks, Shares, Tells}
 use Rattle.zb_model_schedules.specs.Schedules.{station_for, stations_for, node_for, named, event_for, schedule_of}
 use Rattle.zb_model_schedules.proofs.Nodes.{NotBoth, EuisDiffer, declared, first_by, passes, the_one}
@@ -152,13 +154,6 @@ event_names p is (Tells name partner bytes) e =
 is_member : (m : Node) → FitsNode m → IsMember (node_for m)
 is_member m f = record { eui = f.0.1.0; out_block = grind (arith, nat_tests, f.1); in_block = grind (arith, nat_tests, f.1); start_nwk = f.4; start_aps = f.5 }
 
-pub is_schedule : (p : Schedule) → sched.IsSchedule p → IsSchedule (schedule_of p)
-unfolding schedule_of
-is_schedule p is = record {
-  nodes = mapped_all FitsNode IsMember node_for is_member p.nodes is.so_far.nodes;
-  events = mapped_all (FitsSchedule p) (NamesNode (schedule_of p)) (event_for (stations_for p)) (λ event f. event_names p is event f.1) p.events is.so_far.events;
-}
-
 -- One centre
 
 not_both_centres : (m n : Node) → (is_centre m.role ≡ true → is_centre n.role ≡ true → ⊥) → NotBoth is_a_centre (station_for m) (station_for n)
@@ -181,6 +176,129 @@ euis_apart m n apart = apart.1
 pub centre_alone : (p : Schedule) → sched.IsSchedule p → AllByRecursion (λ (s : Station). s.eui ≡ centre_of (stations_for p) → is_a_centre s ≡ true) (stations_for p)
 unfolding centre_of
 centre_alone p is = passes is_a_centre (stations_for p) (related_map Apart EuisDiffer station_for euis_apart p.nodes is.so_far.apart) (found_centre p.nodes is.centre)
+
+-- what each declared node has, the one that is found has, and it passes the test
+found_role_by : (Q : Station → Type 0) (test : Station → Bool) (s : Station) (o : Option Station) (b : Bool) → test s ≡ b → Q s → (is_some o ≡ true → Q (model.station_or o) × (test (model.station_or o) ≡ true))
+    → is_some (cond b (Some s) o) ≡ true → Q (model.station_or (cond b (Some s) o)) × (test (model.station_or (cond b (Some s) o)) ≡ true)
+found_role_by Q test s o true e q more found = (q, e)
+found_role_by Q test s o false e q more found = more found
+
+found_has : (Q : Station → Type 0) (test : Station → Bool) (ss : List Station) → AllByRecursion Q ss → is_some (find test ss) ≡ true → Q (model.station_or (find test ss)) × (test (model.station_or (find test ss)) ≡ true)
+found_has Q test [] all found = absurd (false≢true found)
+found_has Q test (s ∷ ss) all found = found_role_by Q test s (find test ss) (test s) refl all.0 (found_has Q test ss all.1) found
+
+-- a router or device isn't the centre
+
+not_centre_by : (c : ℕ) (name : Bytes) (m : Node) (ms : List Node) (b : Bool) → bytes_eq m.name name ≡ b → (m.eui ≡ c → is_a_centre (station_for m) ≡ true)
+    → (is_joiner (role_named name (map seated ms)) ≡ true → named (map station_for ms) name ≡ c → ⊥)
+    → is_joiner (option_map (λ (seat : Seat). seat.node.role) (cond b (Some (seated m)) (find (λ seat. has_name name seat) (map seated ms)))) ≡ true
+    → eui_or nobody (cond b (Some (station_for m)) (find (has_that_name name) (map station_for ms))) ≡ c → ⊥
+not_centre_by c name m ms true e alone more joins same = no_joiner m.role joins (sym (same_centre m.role) ∙ alone same)
+  where
+    no_joiner : (role : Role) → is_joiner (Some role) ≡ true → is_centre role ≡ true → ⊥
+    no_joiner Centre joins centre = false≢true joins
+    no_joiner Router joins centre = false≢true centre
+    no_joiner Device joins centre = false≢true centre
+not_centre_by c name m ms false e alone more joins same = more joins same
+
+not_centre : (c : ℕ) (name : Bytes) (ms : List Node) → AllByRecursion (λ (m : Node). m.eui ≡ c → is_a_centre (station_for m) ≡ true) ms
+    → is_joiner (role_named name (map seated ms)) ≡ true → named (map station_for ms) name ≡ c → ⊥
+not_centre c name [] alone joins same = false≢true joins
+not_centre c name (m ∷ ms) alone joins same = not_centre_by c name m ms (bytes_eq m.name name) refl alone.0 (not_centre c name ms alone.1) joins same
+
+-- Each event of a node's own is for its role.
+
+centre_by : (n : ℕ) (s : Station) → (s.eui ≡ n → is_a_centre s ≡ true) × (nat_eq s.eui n ≡ true) → is_a_centre s ≡ true
+centre_by n s f = f.0 (eqb-true s.eui n f.1)
+
+member_by : (n c : ℕ) (s : Station) (b : Bool) → is_a_centre s ≡ b → (is_a_centre s ≡ true → s.eui ≡ c) × (nat_eq s.eui n ≡ true) → (n ≡ c → ⊥) → b ≡ false
+member_by n c s true e f differ = absurd (differ (sym (eqb-true s.eui n f.1) ∙ f.0 e))
+member_by n c s false e f differ = refl
+
+centre_role : (p : Schedule) → sched.IsSchedule p → is_centre_role (model.setting_of (schedule_of p) (centre_of (stations_for p))).me.role ≡ true
+unfolding model.setting_of model_station
+centre_role p is =
+    centre_by (centre_of (stations_for p)) (model.station_or (model_station (model.stations (schedule_of p)) (centre_of (stations_for p))))
+    (found_has (λ (s : Station). s.eui ≡ centre_of (stations_for p) → is_a_centre s ≡ true) (λ (s : Station). nat_eq s.eui (centre_of (stations_for p))) (model.stations (schedule_of p))
+    (subst (λ ps. AllByRecursion (λ (s : Station). s.eui ≡ centre_of (stations_for p) → is_a_centre s ≡ true) ps) (sym (same_stations p)) (centre_alone p is)) (the_centre p is))
+
+member_role : (p : Schedule) → sched.IsSchedule p → (n : ℕ) → Names (schedule_of p) n → (n ≡ centre_of (model.stations (schedule_of p)) → ⊥) → is_centre_role (model.setting_of (schedule_of p) n).me.role ≡ false
+unfolding model.setting_of model_station
+member_role p is n named_ differ =
+    member_by n (centre_of (model.stations (schedule_of p))) (model.station_or (model_station (model.stations (schedule_of p)) n)) (is_a_centre (model.station_or (model_station (model.stations (schedule_of p)) n))) refl
+    (found_has (λ (s : Station). is_a_centre s ≡ true → s.eui ≡ centre_of (model.stations (schedule_of p))) (λ (s : Station). nat_eq s.eui n) (model.stations (schedule_of p)) (one p is) named_) differ
+
+joiner_role : (p : Schedule) → sched.IsSchedule p → (name : Bytes) → is_joiner (role_named name (map seated p.nodes)) ≡ true → not (is_centre_role (model.setting_of (schedule_of p) (named (stations_for p) name)).me.role) ≡ true
+joiner_role p is name joins =
+    ap not (member_role p is (named (stations_for p) name) (a_joiner p name joins)
+    (λ same. not_centre (centre_of (stations_for p)) name p.nodes
+    (unmapped_all (λ (s : Station). s.eui ≡ centre_of (stations_for p) → is_a_centre s ≡ true) station_for p.nodes (centre_alone p is)) joins
+    (same ∙ ap centre_of (same_stations p))))
+
+event_roles : (p : Schedule) → sched.IsSchedule p → (event : Event) → has_its_nodes event (map seated p.nodes) ≡ true → SuitsRole (schedule_of p) (event_for (stations_for p) event)
+unfolding event_for
+event_roles p is (Says name to bytes) e = refl
+event_roles p is (Delivers frame name) e = tt
+event_roles p is (Ticks name) e = refl
+event_roles p is (Knocks name) e = joiner_role p is name e
+event_roles p is (Rejoins name) e = joiner_role p is name e
+event_roles p is (Adopts parent name rejoin) e = refl
+event_roles p is (Provisions name code) e = centre_role p is
+event_roles p is (Repeats name) e = centre_role p is
+event_roles p is Rolls e = centre_role p is
+event_roles p is Switches e = centre_role p is
+event_roles p is (Removes name parent) e = centre_role p is
+event_roles p is (Resets name) e = tt
+event_roles p is (Boots name) e = tt
+event_roles p is (Dumps name) e = tt
+event_roles p is (Stops name calls torn) e = tt
+event_roles p is (Fails name call) e = tt
+event_roles p is (Injects bytes) e = tt
+event_roles p is (ForgesNet to from source key sequence counter content) e = tt
+event_roles p is (ForgesBoth to from source key sequence counter label base aps_counter command) e = tt
+event_roles p is (ForgesOpen to from source label base aps_counter command) e = tt
+event_roles p is (Asks name partner) e =
+    joiner_role p is name (joiner_of_two (not (bytes_eq name partner)) (is_joiner (role_named partner (map seated p.nodes))) (role_named name (map seated p.nodes)) e)
+event_roles p is (Shares name partner) e = centre_role p is
+event_roles p is (Tells name partner bytes) e =
+    joiner_role p is name (joiner_of_two (not (bytes_eq name partner)) (is_joiner (role_named partner (map seated p.nodes))) (role_named name (map seated p.nodes)) e)
+
+-- a call that fails is at least the first
+event_calls : (p : Schedule) (event : Event) → FitsEvent event → CountsCalls (event_for (stations_for p) event)
+unfolding event_for
+event_calls p (Says name to bytes) f = tt
+event_calls p (Delivers frame name) f = tt
+event_calls p (Ticks name) f = tt
+event_calls p (Knocks name) f = tt
+event_calls p (Rejoins name) f = tt
+event_calls p (Adopts parent name rejoin) f = tt
+event_calls p (Provisions name code) f = tt
+event_calls p (Repeats name) f = tt
+event_calls p Rolls f = tt
+event_calls p Switches f = tt
+event_calls p (Removes name parent) f = tt
+event_calls p (Resets name) f = tt
+event_calls p (Boots name) f = tt
+event_calls p (Dumps name) f = tt
+event_calls p (Stops name calls torn) f = tt
+event_calls p (Fails name call) f = f.1
+event_calls p (Injects bytes) f = tt
+event_calls p (ForgesNet to from source key sequence counter content) f = tt
+event_calls p (ForgesBoth to from source key sequence counter label base aps_counter command) f = tt
+event_calls p (ForgesOpen to from source label base aps_counter command) f = tt
+event_calls p (Asks name partner) f = tt
+event_calls p (Shares name partner) f = tt
+event_calls p (Tells name partner bytes) f = tt
+
+pub is_schedule : (p : Schedule) → sched.IsSchedule p → IsSchedule (schedule_of p)
+unfolding schedule_of
+is_schedule p is = record {
+  few_nodes = subst (λ n. n ≤ 64) (sym (length-map p.nodes node_for)) is.so_far.few_nodes;
+  nodes = mapped_all FitsNode IsMember node_for is_member p.nodes is.so_far.nodes;
+  events = mapped_all (FitsSchedule p) (NamesNode (schedule_of p)) (event_for (stations_for p)) (λ event f. event_names p is event f.1) p.events is.so_far.events;
+  roles = mapped_all (FitsSchedule p) (SuitsRole (schedule_of p)) (event_for (stations_for p)) (λ event f. event_roles p is event f.1) p.events is.so_far.events;
+  calls = mapped_all (FitsSchedule p) CountsCalls (event_for (stations_for p)) (λ event f. event_calls p event f.0) p.events is.so_far.events;
+}
 
 -- Keys
 
@@ -224,25 +342,6 @@ no_code p is =
     all_map2 (λ (m : Node). m.eui ≡ centre_of (stations_for p) → is_a_centre (station_for m) ≡ true) FitsNode (NoCode p) p.nodes
     (λ m alone f same. no_code_by m m.code f.2 (alone same))
     (unmapped_all (λ (s : Station). s.eui ≡ centre_of (stations_for p) → is_a_centre s ≡ true) station_for p.nodes (centre_alone p is)) is.so_far.nodes
-
--- a router or device isn't the centre
-
-not_centre_by : (c : ℕ) (name : Bytes) (m : Node) (ms : List Node) (b : Bool) → bytes_eq m.name name ≡ b → (m.eui ≡ c → is_a_centre (station_for m) ≡ true)
-    → (is_joiner (role_named name (map seated ms)) ≡ true → named (map station_for ms) name ≡ c → ⊥)
-    → is_joiner (option_map (λ (seat : Seat). seat.node.role) (cond b (Some (seated m)) (find (λ seat. has_name name seat) (map seated ms)))) ≡ true
-    → eui_or nobody (cond b (Some (station_for m)) (find (has_that_name name) (map station_for ms))) ≡ c → ⊥
-not_centre_by c name m ms true e alone more joins same = no_joiner m.role joins (sym (same_centre m.role) ∙ alone same)
-  where
-    no_joiner : (role : Role) → is_joiner (Some role) ≡ true → is_centre role ≡ true → ⊥
-    no_joiner Centre joins centre = false≢true joins
-    no_joiner Router joins centre = false≢true centre
-    no_joiner Device joins centre = false≢true centre
-not_centre_by c name m ms false e alone more joins same = more joins same
-
-not_centre : (c : ℕ) (name : Bytes) (ms : List Node) → AllByRecursion (λ (m : Node). m.eui ≡ c → is_a_centre (station_for m) ≡ true) ms
-    → is_joiner (role_named name (map seated ms)) ≡ true → named (map station_for ms) name ≡ c → ⊥
-not_centre c name [] alone joins same = false≢true joins
-not_centre c name (m ∷ ms) alone joins same = not_centre_by c name m ms (bytes_eq m.name name) refl alone.0 (not_centre c name ms alone.1) joins same
 
 no_link_key : (key : Bytes) (o : Option Bytes) → is_key key o ≡ false → IsNoneOf (option_to_list o) key
 no_link_key key None e = tt

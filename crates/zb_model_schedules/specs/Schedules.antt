@@ -10,7 +10,7 @@ use Rattle.zb_model.specs.Play as model
 use Rattle.zb_model.specs.Rules.{centre_of, eui_or}
 use Rattle.zb_sched.specs.Schedules.{Node, Schedule}
 use Rattle.zb_sched_line.specs.Said.{Bytes, Event, Says, Delivers, Ticks, Knocks, Rejoins, Adopts, Provisions, Repeats, Rolls, Switches, Removes, Resets, Boots, Dumps, Stops, Fails, Injects, ForgesNet, ForgesBoth, ForgesOpen, Asks, Shares, Tells}
-use Rattle.zb_trace.specs.Terms.{model_label}
+use Rattle.zb_model_real.specs.Terms.{model_label}
 
 -- Nodes
 

@@ -4,7 +4,7 @@ ghost use Rattle.zb_model_laws.specs.Premises.{Premises};
 ghost use Rattle.zb_model_schedules.specs.Schedules.{schedule_of};
 ghost use Rattle.zb_sched.specs.Schedules.{Schedule};
 ghost use Rattle.zb_sched.specs.Valid.{IsSchedule};
-ghost use Rattle.zb_model_real.specs.Headline.{Holds};
+ghost use Rattle.zb_model_headline.specs.Headline.{Holds};
 
 /// Says that the model of each schedule is as the laws over runs ask.
 ///

@@ -6,7 +6,7 @@ ghost use Rattle.zb_model_schedules.specs.Schedules.{schedule_of};
 ghost use Rattle.zb_sched.specs.Schedules.{Schedule};
 ghost use Rattle.zb_sched.specs.Reading.{schedule_in};
 ghost use Rattle.zb_sched.specs.Valid.{IsSchedule};
-ghost use Rattle.zb_model_real.specs.Headline.{Holds};
+ghost use Rattle.zb_model_headline.specs.Headline.{Holds};
 
 use crate::laws::each_schedule_holds;
 use zb_sched_line::read_line;

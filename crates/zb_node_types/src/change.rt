@@ -2,23 +2,28 @@
 use arrayvec::ArrayVec;
 use zb_base::{Attribute, Eui, Key, Layer, Rollover, State};
 
-/// One change of what a node keeps over a reset.
+/// Says one change of what a node keeps over a reset.
 #[derive(Clone, Copy, Debug, PartialEq, Eq)]
 pub enum Change {
-    /// The outgoing counter of a layer is reserved up to, but not with, `limit`. At NWK it is that of the active key.
+    /// The outgoing counter of a layer is reserved up to, but not with, `limit`.
+    ///
+    /// At NWK it is that of the active key.
     Reserve {
         layer: Layer,
         limit: u32,
     },
-    /// Frames of `sender` under `key` with a counter below `value` are refused after a boot. At APS the sender is the
-    /// partner of the link key.
+    /// Frames of `sender` under `key` with a counter below `value` are refused after a boot.
+    ///
+    /// At APS the sender is the partner of the link key.
     Floor {
         layer: Layer,
         key: Key,
         sender: Eui,
         value: u32,
     },
-    /// The next key of the supply is used. It is kept nowhere: the change that takes the key says where it goes.
+    /// The next key of the supply is used.
+    ///
+    /// It is kept nowhere: the change that takes the key says where it goes.
     Draw {
         key: Key,
     },
@@ -31,16 +36,16 @@ pub enum Change {
         partner: Eui,
         key: Key,
     },
-    /// A new network key.
+    /// A network key is new.
     Install {
         key: Key,
         sequence: u8,
     },
-    /// The network key under which the node seals from now on.
+    /// The node seals under this network key from now on.
     Active {
         key: Key,
     },
-    /// The first outgoing counter of a network key that becomes active for the first time.
+    /// A network key that becomes active for the first time counts from `value` on.
     Start {
         key: Key,
         value: u32,
@@ -51,13 +56,13 @@ pub enum Change {
         key: Key,
         attribute: Attribute,
     },
-    /// At the centre, a key for two devices; `first` is the smaller address.
+    /// At the centre, two devices have a key for one another; `first` is the smaller address.
     Pair {
         first: Eui,
         second: Eui,
         key: Key,
     },
-    /// The state of a router or device.
+    /// A router or device enters a state.
     State {
         state: State,
     },
@@ -69,7 +74,9 @@ pub enum Change {
     Removed {
         device: Eui,
     },
-    /// At the centre, a rollover begins or ends. Where it begins, no device was told.
+    /// At the centre, a rollover begins or ends.
+    ///
+    /// Where it begins, no device was told.
     Roll {
         rollover: Rollover,
     },
@@ -83,11 +90,13 @@ pub enum Change {
     },
 }
 
-/// The changes of one event, in the order in which they are made. An event makes at most 16.
+/// Holds the changes of one event, in the order in which they are made.
+///
+/// An event makes at most 16.
 pub type Changes = ArrayVec<Change, 16>;
 
 impl Default for Change {
-    /// What stands in the unused places of a list of changes.
+    /// Makes what stands in the unused places of a list of changes.
     fn default() -> Change {
         Change::State {
             state: State::Fresh,

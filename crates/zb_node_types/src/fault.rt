@@ -3,7 +3,7 @@ use std::error::Error;
 use std::fmt;
 use zb_base::Eui;
 
-/// The refusals of the calls on tables.
+/// Says why a call on tables is refused.
 #[derive(Clone, Copy, Debug, PartialEq, Eq)]
 pub enum KeyError {
     /// The network key was dropped before; its row stands at that place, from 0.
@@ -18,8 +18,10 @@ pub enum KeyError {
     NoRow,
     /// The hash is that of no key of the partner.
     WrongHash,
-    /// The bytes are no record, or no payloads that fit: the place of the first byte of the first field that isn't
-    /// whole or breaks a rule, or the length where bytes are left over.
+    /// The bytes are no record, or no payloads that fit.
+    ///
+    /// `at` is the place of the first byte of the first field that isn't whole or breaks a rule, or the length where
+    /// bytes are left over.
     BadRecord { at: u32 },
 }
 

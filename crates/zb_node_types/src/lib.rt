@@ -4,9 +4,9 @@
 //! A change stands for one line of a transcript and for one entry in the payload of a commit.
 #![tactic(auto)]
 
-pub mod change;
-pub mod fault;
-pub mod refusal;
+mod change;
+mod fault;
+mod refusal;
 
 pub use change::{Change, Changes};
 pub use fault::KeyError;

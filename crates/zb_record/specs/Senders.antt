@@ -1,6 +1,6 @@
 -- The floors of senders in a row of the program, which has room for 64 of them.
-use Rattle.std.specs.Prelude.{◌≡◌, ℕ, ◌+◌, ◌≤◌, List, ◌∷◌, ◌++◌, length, map, take, drop, ◌≢◌, nat_lt, if◌then◌else◌}
-use Rattle.zb_model.specs.State.{NetKey, floor_stored, net_floor, next_at}
+use Rattle.std.specs.Prelude.{◌≡◌, ℕ, ◌+◌, ◌≤◌, List, ◌∷◌, ◌++◌, length, map, take, drop, ◌≢◌, if◌then◌else◌}
+use Rattle.zb_model.specs.State.{NetKey, floor_stored, net_floor}
 use Rattle.zb_record.specs.declared.net_row.SenderFloor.{SenderFloor}
 use Rattle.zb_record.specs.RowViews.{heard_floor}
 
@@ -20,7 +20,3 @@ pub record IsPlace (floors : List SenderFloor) (sender place : ℕ) : Type 0 whe
 -- the floor at that place isn't of that sender
 abbrev pub IsAbsent : List SenderFloor → ℕ → ℕ → Type 0
 IsAbsent floors sender place = (f : SenderFloor) (rest : List SenderFloor) → drop place floors ≡ f ∷ rest → f.sender.0 ≢ sender
-
--- a reserved counter is used
-abbrev pub counted_row : NetKey → NetKey
-counted_row r = if nat_lt r.next r.limit then next_at (r.next + 1) r else r

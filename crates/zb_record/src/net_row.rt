@@ -1,11 +1,11 @@
 //! Rows of network keys.
-ghost use Rattle.std.specs.Prelude.{◌≡◌, ◌+◌, ◌<◌, ◌≤◌, [], ◌∷◌, ◌++◌, ℕ, List, length, map, take, drop, min, if◌then◌else◌, nat_eq, not, ◌&&◌, find, position, All, IsTrue, IsFalse};
+ghost use Rattle.std.specs.Prelude.{◌≡◌, ◌<◌, ◌≤◌, length, map, if◌then◌else◌, nat_eq, ◌&&◌, find, position, All, IsTrue, IsFalse};
 ghost use Rattle.std.specs.List.{list_any};
 ghost use Rattle.std.specs.Option.{option_copied};
 ghost use Rattle.zb_record.specs.RowViews.{net_key, heard_floor};
-ghost use Rattle.zb_model.specs.State.{greatest_counter, booted_floor, booted_net, at_net, new_net, given_net, same_key, reserved, started_at, dropped_net, shown_net, next_at, net_floor, net_kept, floor_stored, floor_kept};
+ghost use Rattle.zb_model.specs.State.{booted_floor, booted_net, at_net, new_net, given_net, same_key, reserved, started_at, dropped_net, shown_net, next_at, net_kept, floor_stored, floor_kept};
 ghost use Rattle.zb_record.specs.Redoing.{limited};
-ghost use Rattle.zb_record.specs.Senders.{IsPlace, IsAbsent, HasRoom, live_floor, counted_row};
+ghost use Rattle.zb_record.specs.Senders.{IsPlace, IsAbsent, HasRoom, live_floor};
 
 use arrayvec::ArrayVec;
 use zb_base::{Eui, Key};
@@ -127,13 +127,13 @@ impl NetRow {
         }
     }
 
-    /// Uses the next outgoing counter, if the row has that key and the counter is reserved.
-    fn count_at(&mut self, key: &Key)
+    /// Goes on from a counter, if the row has that key.
+    fn go_on_at(&mut self, key: &Key, next: u32)
         ensures { net_key self.new ≡ (if same_key (net_key self.old).key key.now.0
-            then counted_row (net_key self.old) else net_key self.old) }
+            then next_at next (net_key self.old) else net_key self.old) }
     {
-        if self.key == *key && self.next < self.limit {
-            self.next += 1;
+        if self.key == *key {
+            self.next = next;
         }
     }
 
@@ -285,12 +285,12 @@ pub fn start_net(rows: &mut [NetRow], key: &Key, value: u32)
     }
 }
 
-/// Uses the next outgoing counter of a key.
-pub fn count_net(rows: &mut [NetRow], key: &Key)
-    ensures { map net_key rows.new ≡ at_net key.now.0 counted_row (map net_key rows.old) }
+/// Sets the next outgoing counter of a key.
+pub fn set_net_next(rows: &mut [NetRow], key: &Key, next: u32)
+    ensures { map net_key rows.new ≡ at_net key.now.0 (next_at next) (map net_key rows.old) }
 {
     for row in rows.iter_mut() {
-        row.count_at(key);
+        row.go_on_at(key, next);
     }
 }
 

@@ -1,2 +1,1 @@
 pub mod LeastLemmas
-pub mod StepLemmas

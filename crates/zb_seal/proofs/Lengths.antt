@@ -1,5 +1,5 @@
--- Keys that are derived have 16 bytes, and a code has the length that is asked for.
-use Rattle.std.proofs.Common.{◌≡◌, ℕ, zero, suc, ◌+◌, ◌*◌, ◌/◌, ◌≤◌, List, [], ◌∷◌, ◌++◌, length, take, drop, map, replicate, refl, ◌∙◌, arith, length-take, length-drop}
+-- Keys that are derived have 16 bytes, a code has the length that is asked for, and how long a term is on the air.
+use Rattle.std.proofs.Common.{◌≡◌, ℕ, zero, suc, ◌+◌, ◌-◌, ◌*◌, ◌/◌, ◌≤◌, Bool, true, false, cond, List, [], ◌∷◌, ◌++◌, length, take, drop, map, replicate, nat_le, refl, ap, ◌∙◌, arith, length-append, length-take, length-drop}
 use Rattle.std.specs.List.{fold, range_with_len}
 use Rattle.zb_base.specs.declared.label.Label.{Label}
 use Rattle.zb_base.specs.declared.label.Label.TheVariants.{Data, Network, Transport, Load}
@@ -12,6 +12,9 @@ use Rattle.zb_mmo.specs.Keyed.{keyed, inner_pad, outer_pad}
 use Rattle.zb_ccm.specs.Blocks.{chain, chained}
 use Rattle.zb_ccm.specs.Ccm.{authenticated_blocks, code, sealed, stream_block}
 use Rattle.zb_seal.specs.Keys.{sealing_key}
+use Rattle.zb_seal.specs.Wire.{zero_level, at_place, aux_size, on_air, sealed_term, wire, wire_length}
+use Rattle.zb_seal.specs.declared.term.Term.{Term}
+use Rattle.zb_seal.proofs.Places.{length-at_place}
 
 length-mixed : (value block : List ℕ) → length value ≡ 16 → 16 ≤ length block → length (mixed value block) ≡ 16
 length-mixed value block h le = length-xored (enciphered value block) block (omega (arith, length-enciphered value block h)) ∙ length-enciphered value block h
@@ -49,3 +52,18 @@ length-mic key nonce a message h =
     let stream : length (stream_block key nonce 0) ≡ 16 = length-enciphered key _ h in
     let total = length-xored value (stream_block key nonce 0) (omega arith) in
     omega (arith, length-take 4 (xored value (stream_block key nonce 0)))
+
+length-one_of : (b : Bool) (xs ys : List ℕ) → length xs ≡ length ys → length (cond b xs ys) ≡ length ys
+length-one_of true xs ys h = h
+length-one_of false xs ys h = refl
+
+length-on_air : (size : ℕ) (header : List ℕ) → length (on_air size header) ≡ length header
+length-on_air size header = length-one_of (nat_le size (length header)) (at_place zero_level (length header - size) header) header (length-at_place zero_level (length header - size) header)
+
+-- the length on the air, from those of the cipher text and of the code
+pub length-wire : (t : Term) (key text mic : List ℕ) → key ≡ sealing_key t.label t.base.0 → text ≡ (sealed_term key t).text → mic ≡ (sealed_term key t).mic → length text ≡ length t.content.items → length mic ≡ 4
+    → length (wire t) ≡ wire_length t
+length-wire t key text mic is at code same four =
+    let air : List ℕ = on_air (aux_size t.layer t.control) t.header.items in
+    let parts : wire t ≡ (air ++ text) ++ mic = rw (at, code, is) refl in
+    ap (length {A = ℕ}) parts ∙ omega (arith, length-append (air ++ text) mic, length-append air text, length-on_air (aux_size t.layer t.control) t.header.items, same, four)

@@ -45,3 +45,7 @@ wire_under key t = on_air (aux_size t.layer t.control) t.header.items ++ (sealed
 
 abbrev pub wire : Term → List ℕ
 wire t = wire_under (sealing_key t.label t.base.0) t
+
+-- How many bytes a term has on the air: neither the level bits nor the cipher change a length, and the code has 4 bytes.
+abbrev pub wire_length : Term → ℕ
+wire_length t = length t.header.items + length t.content.items + 4

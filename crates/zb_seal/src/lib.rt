@@ -4,6 +4,7 @@
 mod envelope;
 mod key;
 mod laws;
+mod memo;
 mod opening;
 mod sealing;
 mod sealing_keys;
@@ -12,8 +13,9 @@ mod term;
 pub use envelope::{Envelope, NwkEnvelope, OpenError};
 pub use key::{nonce, real_level, sealing_key, zero_level};
 pub use laws::wire_and_open;
+pub use memo::KeyMemo;
 pub use opening::{
-    envelope_aps, envelope_nwk, look_aps, look_nwk, open_aps, open_aps_with, open_nwk,
+    envelope_aps, envelope_nwk, label_of, look_aps, look_nwk, open_aps, open_aps_with, open_nwk,
     open_nwk_with,
 };
 pub use sealing::{wire, wire_with};

@@ -108,8 +108,8 @@ pub fn look_nwk(bytes: &[u8]) -> Result<Envelope, OpenError>
     }
 }
 
-/// Answers the label that an auxiliary control byte names.
-fn label_of(control: u8) -> Label
+/// Answers the label that an auxiliary control byte names (05-3474-21, 4.5.1.1.2).
+pub fn label_of(control: u8) -> Label
     ensures { result ≡ label_of_id (key_id control) }
 {
     match (control >> 3) & 3 {

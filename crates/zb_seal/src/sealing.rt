@@ -1,7 +1,7 @@
 //! From a term to the bytes on the air.
 ghost use Rattle.std.specs.Prelude.{◌≡◌, ◌+◌, ◌-◌, ◌≤◌, ◌<◌, length, slice_set, IfOk, OnErr};
 ghost use Rattle.zb_seal.specs.Keys.{sealing_key as key_of};
-ghost use Rattle.zb_seal.specs.Wire.{wire as wire_of, wire_under, sealed_term, on_air as air, aux_size as size_of_aux, at_place, zero_level as cleared};
+ghost use Rattle.zb_seal.specs.Wire.{wire as wire_of, wire_under, sealed_term, on_air as air, aux_size as size_of_aux, wire_length, at_place, zero_level as cleared};
 
 use crate::key::{nonce, sealing_key, zero_level};
 use crate::term::Term;
@@ -52,6 +52,8 @@ fn on_air(size: usize, header: &Frame) -> Frame
 fn seal_content(cipher: &Cipher, term: &Term) -> (Frame, [u8; 4])
     ensures text { result.0.items ≡ (sealed_term cipher.now term.now).text }
     ensures mic { result.1 ≡ (sealed_term cipher.now term.now).mic }
+    ensures text_len { length result.0.items ≡ length term.now.content.items }
+    ensures mic_len { length result.1 ≡ 4 }
 {
     let mut text = frame_from(term.content.as_slice());
     let nonce = nonce(term.source, term.counter, term.control);
@@ -69,6 +71,7 @@ pub fn wire_with(term: &Term, cipher: &Cipher) -> Result<Frame, TooLong>
     ensures text { IfOk result (λ bytes. bytes.items ≡ wire_of term.now) }
     ensures fits { IfOk result (λ bytes. length (wire_of term.now) ≤ 127) }
     ensures long { OnErr result (127 < length (wire_of term.now)) }
+    ensures len { length (wire_of term.now) ≡ wire_length term.now }
 {
     let mut out = on_air(aux_size(term.layer, term.control), &term.header);
     let (text, mic) = seal_content(cipher, term);
@@ -86,6 +89,7 @@ pub fn wire(term: &Term) -> Result<Frame, TooLong>
     ensures text { IfOk result (λ bytes. bytes.items ≡ wire_of term.now) }
     ensures fits { IfOk result (λ bytes. length (wire_of term.now) ≤ 127) }
     ensures long { OnErr result (127 < length (wire_of term.now)) }
+    ensures len { length (wire_of term.now) ≡ wire_length term.now }
 {
     let key = sealing_key(term.label, &term.base);
     wire_with(term, &Cipher::new(&key.0))

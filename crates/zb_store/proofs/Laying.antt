@@ -1,17 +1,18 @@
 -- What a `format` leaves, and what an `open` does.
-use Rattle.std.proofs.Common.{◌≡◌, ℕ, ◌+◌, ◌≤◌, ◌<◌, ◌&&◌, ◌==◌, List, [], ◌∷◌, length, get_or, take, drop, Some, Bool, true, false, not, if◌then◌else◌, IsTrue, Result, Ok, Err, refl, sym, ◌∙◌, ap, subst, arith, length-take, length-drop, get_or-drop, add-zero, zero-add}
+use Rattle.std.proofs.Common.{◌≡◌, ◌≢◌, inl, inr, ℕ, ◌+◌, ◌≤◌, ◌<◌, ◌&&◌, ◌==◌, List, [], ◌∷◌, length, get_or, take, drop, Option, Some, None, Bool, true, false, not, if◌then◌else◌, IsTrue, Result, Ok, Err, refl, sym, ◌∙◌, ap, subst, arith, length-take, length-drop, get_or-drop, add-zero, zero-add}
 use Rattle.std.proofs.lemmas.Bool.{eq-eqb}
-use Rattle.zb_disk.specs.View.{Telling, View, IsStill, LeavesOnly, overwrite}
+use Rattle.zb_disk.specs.View.{Telling, View, Torn, Follows, IsStill, LeavesOnly, overwrite}
 use Rattle.zb_disk.specs.Calls.{IsWrite}
+use Rattle.zb_disk.proofs.Images.{torn_stands}
 use Rattle.zb_disk.proofs.Moments.{weakened, still_then, still_leaves, still_trans}
-use Rattle.zb_store.specs.Layout.{Standing, IsWhole, slot, base_of, gate_of, stands, end_of, body, open_gate}
-use Rattle.zb_store.specs.Steps.{WentThrough, IsPlaced}
-use Rattle.zb_store.specs.Store.{Place, place_of, IsHeld, IsReady, formatted, IsLaidOut, both_gates_open, AllWhole, WasThere, IsFound, IsSettled, OpenStop}
-use Rattle.zb_store.proofs.Slots.{part, slot_part, slot_byte, overwrite_holds, overwrite_torn, stands_in}
+use Rattle.zb_store.specs.Layout.{Standing, Opened, IsWhole, slot, base_of, gate_of, opened, elected, stands, end_of, body, open_gate}
+use Rattle.zb_store.specs.Steps.{WentThrough, PlaceStop, IsPlaced}
+use Rattle.zb_store.specs.Store.{Place, place_of, IsHeld, IsReady, formatted, IsTornLayout, FormatStop, IsLaidOut, both_gates_open, AllWhole, WasThere, IsFound, IsSettled, OpenStop}
+use Rattle.zb_store.proofs.Slots.{part, slot_part, slot_byte, overwrite_holds, overwrite_torn, opened_none, stands_in}
 use Rattle.zb_store.proofs.Images.{holds_body, alone}
 use Rattle.zb_store.proofs.Stages.{written_byte}
 use Rattle.zb_store.proofs.Replacing.{length-body}
-use Rattle.zb_store.proofs.Going.{one_through, through_then, causes, still_through, still_stopped}
+use Rattle.zb_store.proofs.Going.{one_through, one_stopped, through_then, stopped_then, causes, still_through, still_stopped}
 
 -- what a `format` writes: a body from the second byte on, a closed gate further on, and then the first byte
 module _ (h : ℕ) (seen bytes : List ℕ) (some : 0 < length bytes) (fits : 1 + length bytes ≤ h) where
@@ -77,6 +78,104 @@ formatted_whole seen bytes content bytes_are small x is =
     let long = subst (λ (l : List ℕ). 0 < length l) (sym (second_is x ∙ ap (λ (l : List ℕ). drop 65536 l) is)) (laid_long 65536 seen bytes some fits) in
     (laid_whole x content gate spelled second long small, second)
 
+none_stands : (c : List ℕ) → gate_of (slot false c) ≢ 165 → gate_of (slot true c) ≢ 165 → stands c ≡ None
+unfolding stands elected
+none_stands c first second = ap (λ (x : Option Opened). elected x (opened (slot true c))) (opened_none (slot false c) first) ∙ ap (λ (x : Option Opened). elected None x) (opened_none (slot true c) second)
+
+front_stands : (seen bytes : List ℕ) → get_or (overwrite seen 1 bytes) 0 0 ≡ get_or seen 0 0
+front_stands [] bytes = refl
+front_stands (b ∷ seen) bytes = refl
+
+torn_same : (at n : ℕ) (c : List ℕ) → Torn at n c c
+torn_same at n c = record { before = λ m until within. refl; after = λ m from. refl; no_shorter = omega arith }
+
+-- bytes that are a formatted disk but for the first gate, which may be torn
+module _ (seen bytes content x c : List ℕ) (bytes_are : bytes ≡ body 1 content) (small : length content ≤ 49152) (is : x ≡ overwrite (overwrite seen 1 bytes) 65536 (0 ∷ [])) (torn : Torn 0 1 x c) where
+  many : length bytes ≡ 13 + length content
+  many = ap length bytes_are ∙ length-body 1 content
+
+  long_body : 1 + length bytes ≤ length (overwrite seen 1 bytes)
+  long_body = omega (arith, many, ap length (overwrite_holds seen 1 bytes), length-take (length bytes) (drop 1 (overwrite seen 1 bytes)), length-drop 1 (overwrite seen 1 bytes))
+
+  wide_disk : 65537 ≤ length x
+  wide_disk = subst (λ (l : List ℕ). 65537 ≤ length l) (sym is) (omega (arith, ap length (overwrite_holds (overwrite seen 1 bytes) 65536 (0 ∷ [])), length-take 1 (drop 65536 (overwrite (overwrite seen 1 bytes) 65536 (0 ∷ []))), length-drop 65536 (overwrite (overwrite seen 1 bytes) 65536 (0 ∷ []))))
+
+  second_shut : gate_of (slot true c) ≡ 0
+  second_shut =
+      slot_byte true 0 c (omega arith) ∙ torn_stands 0 1 x c torn 65536 (inr (omega arith)) (omega (arith, wide_disk))
+      ∙ ap (λ (l : List ℕ). get_or l 65536 0) is ∙ written_byte 65536 0 (overwrite seen 1 bytes)
+
+  first_gate : gate_of (slot false c) ≡ get_or c 0 0
+  first_gate = slot_byte false 0 c (omega arith)
+
+  pub shut_none : get_or c 0 0 ≢ 165 → stands c ≡ None
+  shut_none shut = none_stands c (λ open_it. shut (sym first_gate ∙ open_it)) (λ open_it. let zero_there = second_shut in omega arith)
+
+  pub open_whole : get_or c 0 0 ≡ 165 → IsWhole (formatted content) c
+  open_whole open_it =
+      let n = length bytes in
+      let torn2 = overwrite_torn (overwrite seen 1 bytes) 65536 (0 ∷ []) in
+      let there : take n (drop 1 (slot false c)) ≡ bytes =
+      slot_part false 1 n c (omega (arith, many)) ∙ ap (λ (i : ℕ). take n (drop i c)) (zero-add 1) ∙ ap (λ (l : List ℕ). take n l) (torn.after 1 (omega arith)) ∙ ap (λ (l : List ℕ). take n (drop 1 l)) is
+      ∙ part 1 n (1 + n) (overwrite (overwrite seen 1 bytes) 65536 (0 ∷ [])) (overwrite seen 1 bytes) (omega arith) (torn2.before (1 + n) (omega (arith, many)) long_body) ∙ overwrite_holds seen 1 bytes in
+      let spelled = subst (λ (l : List ℕ). take (length l) (drop 1 (slot false c)) ≡ l) bytes_are there in
+      let long = subst (λ (l : List ℕ). 0 < length l) (sym (second_is c)) (omega (arith, length-drop 65536 c, wide_disk, torn.no_shorter)) in
+      laid_whole c content (first_gate ∙ open_it) spelled second_shut long small
+
+  pub same_front : get_or x 0 0 ≡ get_or seen 0 0
+  same_front =
+      ap (λ (l : List ℕ). get_or l 0 0) is
+      ∙ torn_stands 65536 1 (overwrite seen 1 bytes) (overwrite (overwrite seen 1 bytes) 65536 (0 ∷ [])) (overwrite_torn (overwrite seen 1 bytes) 65536 (0 ∷ [])) 0 (inl (omega arith)) (omega (arith, long_body))
+      ∙ front_stands seen bytes
+
+-- a `format` that stopped
+module _ (tells : Telling) (bytes : List ℕ) (v0 v1 v2 v3 : View) where
+  as_layout : (content : List ℕ) → bytes ≡ body 1 content → Follows (IsTornLayout (length bytes)) v0.images v3.images → Follows (IsTornLayout (13 + length content)) v0.images v3.images
+  as_layout content bytes_are it = subst (λ (n : ℕ). Follows (IsTornLayout n) v0.images v3.images) (ap length bytes_are ∙ length-body 1 content) it
+
+  pub format_unwritten : {T E : Type 0} (e : E) → IsWrite {T = T} {E = E} tells 1 bytes v0 v3 (Err e) → IsLaidOut {T = T} {E = E} tells bytes v0 v3 (Err e)
+  format_unwritten e write = record {
+    held = tt;
+    through = tt;
+    stopped = λ content bytes_are small told steady.
+        let same = write.refused steady in
+        FormatStop.unsynced 0 (omega arith) (one_stopped write.counted) (as_layout content bytes_are (λ c image. (c, same.images c image, (c, torn_same 1 (length bytes) c, torn_same 65536 1 c))));
+    cause = write.counted.cause;
+  }
+
+  second_stop : {T E : Type 0} (x : T) → IsWrite {T = T} {E = E} tells 1 bytes v0 v1 (Ok x) → (content : List ℕ) → bytes ≡ body 1 content → PlaceStop tells 65536 (0 ∷ []) v1 v3 → FormatStop tells content v0 v3
+  second_stop x write content bytes_are (PlaceStop.before_write stop same) =
+      FormatStop.unsynced 1 (omega arith) (stopped_then 1 0 v0 v1 v3 (one_through write.counted) stop)
+      (as_layout content bytes_are (λ c image. let from = write.torn c (same.images c image) in (from.0, from.1, (c, from.2, torn_same 65536 1 c))))
+  second_stop x write content bytes_are (PlaceStop.before_sync stop open_range) =
+      FormatStop.unsynced 2 (omega arith) (stopped_then 1 1 v0 v1 v3 (one_through write.counted) stop)
+      (as_layout content bytes_are (λ c image. let e = open_range.torn c image in let from = write.torn e.0 e.1 in (from.0, from.1, (e.0, from.2, e.2))))
+
+  pub format_shut : {T E : Type 0} (x : T) (e : E) → IsWrite {T = T} {E = E} tells 1 bytes v0 v1 (Ok x) → IsPlaced {T = T} {E = E} tells (base_of true) (0 ∷ []) v1 v3 (Err e) → IsLaidOut {T = T} {E = E} tells bytes v0 v3 (Err e)
+  format_shut x e write second = record {
+    held = tt;
+    through = tt;
+    stopped = λ content bytes_are small told steady. second_stop x write content bytes_are (second.stopped told steady);
+    cause = causes v0.faults v1.faults v3.faults x (Err e) write.counted.cause second.cause;
+  }
+
+  first_stop : {T E : Type 0} (x y : T) → IsWrite {T = T} {E = E} tells 1 bytes v0 v1 (Ok x) → IsPlaced {T = T} {E = E} tells (base_of true) (0 ∷ []) v1 v2 (Ok y) → IsTrue tells.content
+      → (content : List ℕ) → bytes ≡ body 1 content → length content ≤ 49152 → PlaceStop tells 0 (165 ∷ []) v2 v3 → FormatStop tells content v0 v3
+  first_stop x y write second told content bytes_are small (PlaceStop.before_write stop same) =
+      let is : v2.seen ≡ overwrite (overwrite v0.seen 1 bytes) 65536 (0 ∷ []) = second.seen told ∙ ap (λ (l : List ℕ). overwrite l 65536 (0 ∷ [])) (write.written told) in
+      let torn = torn_same 0 1 v2.seen in
+      FormatStop.before_gate (stopped_then 3 0 v0 v2 v3 (through_then 1 2 v0 v1 v2 (one_through write.counted) second.through) stop)
+      (λ shut c image. subst (λ (l : List ℕ). stands l ≡ None) (sym (second.durable c (same.images c image)))
+      (shut_none v0.seen bytes content v2.seen v2.seen bytes_are small is torn (λ open_it. shut (sym (same_front v0.seen bytes content v2.seen v2.seen bytes_are small is torn) ∙ open_it))))
+  first_stop x y write second told content bytes_are small (PlaceStop.before_sync stop open_range) =
+      let is : v2.seen ≡ overwrite (overwrite v0.seen 1 bytes) 65536 (0 ∷ []) = second.seen told ∙ ap (λ (l : List ℕ). overwrite l 65536 (0 ∷ [])) (write.written told) in
+      FormatStop.opening (stopped_then 3 1 v0 v2 v3 (through_then 1 2 v0 v1 v2 (one_through write.counted) second.through) stop)
+      (λ c image. open_whole v0.seen bytes content v2.seen c bytes_are small is (from_seen c image))
+      (λ c image. shut_none v0.seen bytes content v2.seen c bytes_are small is (from_seen c image))
+    where
+      from_seen : (c : List ℕ) → v3.images c → Torn 0 1 v2.seen c
+      from_seen c image = let e = open_range.torn c image in subst (λ (d : List ℕ). Torn 0 1 d c) (second.durable e.0 e.1) e.2
+
 module _ (tells : Telling) (bytes : List ℕ) (v0 v1 v2 v3 : View) where
   laid_held : {T E : Type 0} (x y z : T) → IsWrite {T = T} {E = E} tells 1 bytes v0 v1 (Ok x) → IsPlaced {T = T} {E = E} tells (base_of true) (0 ∷ []) v1 v2 (Ok y) → IsPlaced {T = T} {E = E} tells (base_of false) (165 ∷ []) v2 v3 (Ok z)
       → (content : List ℕ) → bytes ≡ body 1 content → length content ≤ 49152 → IsTrue tells.content → IsHeld (formatted content) v3
@@ -93,11 +192,13 @@ module _ (tells : Telling) (bytes : List ℕ) (v0 v1 v2 v3 : View) where
   laid_out {T} {E} x y (Ok z) write second first = record {
     held = laid_held x y z write second first;
     through = through_then 3 2 v0 v2 v3 (through_then 1 2 v0 v1 v2 (one_through write.counted) second.through) first.through;
+    stopped = tt;
     cause = causes v0.faults v2.faults v3.faults y (Ok z) (causes v0.faults v1.faults v2.faults x (Ok y) write.counted.cause second.cause) first.cause;
   }
   laid_out {T} {E} x y (Err e) write second first = record {
     held = tt;
     through = tt;
+    stopped = λ content bytes_are small told steady. first_stop tells bytes v0 v1 v2 v3 x y write second told content bytes_are small (first.stopped told steady);
     cause = causes v0.faults v2.faults v3.faults y (Err e) (causes v0.faults v1.faults v2.faults x (Ok y) write.counted.cause second.cause) first.cause;
   }
 
@@ -158,8 +259,8 @@ module _ (tells : Telling) (v0 v1 v2 : View) (still : IsStill v0 v1) (reads : Is
     images = λ c image. still.same.images c (same.images c image);
     images_kept = λ c image. same.images_kept c (still.same.images_kept c image);
   })
-  later_stop s (OpenStop.both_open stop both) = OpenStop.both_open (still_stopped 1 v0 v1 v2 still stop) both
-  later_stop s (OpenStop.closing stop closing) = OpenStop.closing (still_stopped 2 v0 v1 v2 still stop) closing
+  later_stop s (OpenStop.both_open wide stop both) = OpenStop.both_open (ap both_gates_open (sym still.same.seen) ∙ wide) (still_stopped 1 v0 v1 v2 still stop) both
+  later_stop s (OpenStop.closing wide stop closing) = OpenStop.closing (ap both_gates_open (sym still.same.seen) ∙ wide) (still_stopped 2 v0 v1 v2 still stop) closing
 
   pub open_stopped : {T E : Type 0} (e : E) (s t : Standing) (second other : Bool) → IsSettled {T = T} {E = E} tells second other v1 v2 (Err e) → stands v0.seen ≡ Some s → second ≡ s.second → other ≡ (gate_of (slot (not s.second) v0.seen) == open_gate)
       → AllWhole v0 → IsTrue tells.content → IsTrue tells.steady → stands v0.seen ≡ Some t → OpenStop tells t v0 v2

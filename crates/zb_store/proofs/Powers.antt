@@ -1,18 +1,19 @@
 -- What the power leaves on a disk in memory after a commit that a stop or a failure ended.
-use Rattle.std.proofs.Common.{◌≡◌, ◌≢◌, ◌⊎◌, inl, inr, ℕ, zero, suc, ◌+◌, ◌≤◌, ◌<◌, ◌==◌, ◌&&◌, List, [], ◌∷◌, length, get_or, Bool, true, false, not, nat_le, if◌then◌else◌, refl, sym, ◌∙◌, ap, subst, arith, add-zero}
+use Rattle.std.proofs.Common.{◌≡◌, ◌≢◌, ◌⊎◌, inl, inr, ℕ, zero, suc, ◌+◌, ◌-◌, ◌≤◌, ◌<◌, ◌==◌, ◌&&◌, List, [], ◌∷◌, length, get_or, Bool, true, false, not, nat_le, if◌then◌else◌, refl, sym, ◌∙◌, ap, subst, arith, add-zero}
 use Rattle.std.proofs.lemmas.Bool.{false≢true, cases_lt, le-leb, leb-true, lt-ltb, le-ltb, eq-eqb, ne_eqb, eqb-true}
 use Rattle.std.proofs.lemmas.List.{get_or_past}
-use Rattle.zb_disk.specs.declared.memory.Arming.TheVariants.{Stop, Fail}
-use Rattle.zb_disk.specs.View.{Torn, Only, IsUnsynced, overwrite}
+use Rattle.zb_disk.specs.declared.memory.Arming.TheVariants.{Unarmed, Stop, Fail}
+use Rattle.zb_base.specs.Outside.{risen}
+use Rattle.zb_disk.specs.View.{Telling, View, Torn, Only, IsUnsynced, overwrite}
 use Rattle.zb_disk.specs.Memory.{Medium, IsImage, refuses, off_after, is_stopped, powered, settled, torn_by, memory_tells, memory_view}
 use Rattle.zb_disk.specs.MemoryLaws.{image_seen}
 use Rattle.zb_disk.proofs.Calls.{off_now}
 use Rattle.zb_disk.proofs.Images.{torn_stands}
 use Rattle.zb_disk.proofs.Tearing.{settled_image, settled_byte}
 use Rattle.zb_store.specs.Layout.{Standing, IsWhole, slot, base_of, gate_of, end_of, open_gate}
-use Rattle.zb_store.specs.Steps.{StoppedAfter}
-use Rattle.zb_store.specs.Store.{appended, replaced, IsGateOpening, IsBothOpen, IsGateClosing, IsUntouched, other_gate, both_gates_open, AppendStop, PutStop, OpenStop}
-use Rattle.zb_store.specs.Power.{reads_open, stop_commits, failure_commits, stop_opens_both, failure_opens_both, open_stop_leaves_both, open_failure_leaves_both}
+use Rattle.zb_store.specs.Steps.{WentThrough, StoppedAfter, StoppedWithin}
+use Rattle.zb_store.specs.Store.{appended, replaced, IsGateOpening, IsBothOpen, IsGateClosing, IsUntouched, other_gate, both_gates_open, open_calls, AppendStop, PutStop, OpenStop, FormatStop}
+use Rattle.zb_store.specs.Power.{reads_open, stop_commits, failure_commits, stop_opens_both, failure_opens_both, open_stop_leaves_both, open_failure_leaves_both, StopFell, FailureFell}
 use Rattle.zb_store.proofs.Slots.{slot_byte, long_by_first, overwrite_torn, stands_in}
 use Rattle.zb_store.proofs.Stages.{not_not, written_byte}
 
@@ -267,8 +268,8 @@ open_stands_by : (s : Standing) (old new : Medium) → OpenStop memory_tells s (
     → off_after old.arming 0 ≡ false → IsWhole s (powered new).bytes
 open_stands_by s old new (OpenStop.reading off still) whole only on = absurd (false≢true (sym on ∙ off refl))
 open_stands_by s old new (OpenStop.not_synced stop same) whole only on = subst (IsWhole s) (sym (only (powered new).bytes (same.images (powered new).bytes (left_image new)))) whole
-open_stands_by s old new (OpenStop.both_open stop it) whole only on = subst (IsWhole s) (sym (it.synced (powered new).bytes (left_image new))) it.whole
-open_stands_by s old new (OpenStop.closing stop it) whole only on = it.whole (powered new).bytes (left_image new)
+open_stands_by s old new (OpenStop.both_open wide stop it) whole only on = subst (IsWhole s) (sym (it.synced (powered new).bytes (left_image new))) it.whole
+open_stands_by s old new (OpenStop.closing wide stop it) whole only on = it.whole (powered new).bytes (left_image new)
 
 on_by_stop : (old : Medium) (calls : ℕ) → old.arming ≡ Stop calls → off_after old.arming 0 ≡ false
 on_by_stop old calls armed = ap (λ a. off_after a 0) armed ∙ le-ltb calls 0 (omega arith)
@@ -298,8 +299,8 @@ pub open_gates : (s : Standing) (old new : Medium) (calls : ℕ) → OpenStop me
 open_gates s old new calls (OpenStop.reading off still) only both armed = absurd (false≢true (sym (on_by_stop old calls armed) ∙ off refl))
 open_gates s old new calls (OpenStop.not_synced stop same) only both armed =
     ap both_gates_open (only (powered new).bytes (same.images (powered new).bytes (left_image new))) ∙ both ∙ ap (λ (k : ℕ). open_stop_leaves_both k old.torn) (stop_is 0 old new stop calls armed)
-open_gates s old new calls (OpenStop.both_open stop it) only both armed = both_by s new it ∙ ap (λ (k : ℕ). open_stop_leaves_both k old.torn) (stop_is 1 old new stop calls armed)
-open_gates s old new calls (OpenStop.closing stop it) only both armed =
+open_gates s old new calls (OpenStop.both_open wide stop it) only both armed = both_by s new it ∙ ap (λ (k : ℕ). open_stop_leaves_both k old.torn) (stop_is 1 old new stop calls armed)
+open_gates s old new calls (OpenStop.closing wide stop it) only both armed =
     let long = longer s new.bytes (it.whole new.bytes (image_seen new.bytes new.written new.grown)) in
     let small = base_small (not s.second) in
     closing_by s new it ∙ gate_left old.torn 0 (other_gate s) new (stop.torn refl) (now_off 2 old new stop calls armed) it.unsynced (omega arith) it.reads
@@ -310,8 +311,84 @@ pub open_failure_gates : (s : Standing) (old new : Medium) (call : ℕ) → Open
 open_failure_gates s old new call (OpenStop.reading off still) only both armed = absurd (false≢true (sym (on_by_failure old call armed) ∙ off refl))
 open_failure_gates s old new call (OpenStop.not_synced stop same) only both armed =
     ap both_gates_open (only (powered new).bytes (same.images (powered new).bytes (left_image new))) ∙ both ∙ ap open_failure_leaves_both (failure_is 0 old new stop call armed)
-open_failure_gates s old new call (OpenStop.both_open stop it) only both armed = both_by s new it ∙ ap open_failure_leaves_both (failure_is 1 old new stop call armed)
-open_failure_gates s old new call (OpenStop.closing stop it) only both armed =
+open_failure_gates s old new call (OpenStop.both_open wide stop it) only both armed = both_by s new it ∙ ap open_failure_leaves_both (failure_is 1 old new stop call armed)
+open_failure_gates s old new call (OpenStop.closing wide stop it) only both armed =
     let c = (powered new).bytes in
     let shut : get_or c (other_gate s) 0 ≡ 0 = ap (λ (l : List ℕ). get_or l (other_gate s) 0) (as_read new (now_on 2 old new stop call armed)) ∙ it.reads in
     closing_by s new it ∙ ne_eqb (get_or c (other_gate s) 0) open_gate (λ open_it. absurd (omega arith)) ∙ ap open_failure_leaves_both (failure_is 2 old new stop call armed)
+
+-- where one gate was closed, one is
+pub open_closed : (s : Standing) (old new : Medium) → OpenStop memory_tells s (memory_view old) (memory_view new) → Only old.bytes (memory_view old).images → both_gates_open old.bytes ≡ false
+    → both_gates_open (powered new).bytes ≡ false
+open_closed s old new (OpenStop.reading off still) only shut = ap both_gates_open (only (powered new).bytes (still.same.images (powered new).bytes (left_image new))) ∙ shut
+open_closed s old new (OpenStop.not_synced stop same) only shut = ap both_gates_open (only (powered new).bytes (same.images (powered new).bytes (left_image new))) ∙ shut
+open_closed s old new (OpenStop.both_open wide stop it) only shut = absurd (false≢true (sym shut ∙ wide))
+open_closed s old new (OpenStop.closing wide stop it) only shut = absurd (false≢true (sym shut ∙ wide))
+
+-- within how many calls each call of the store stopped
+pub append_within : (tells : Telling) (s : Standing) (payload : List ℕ) (old new : View) → AppendStop tells s payload old new → StoppedWithin tells 4 old new
+append_within tells s payload old new (AppendStop.not_begun n low stop it shut) = (n, omega arith, stop)
+append_within tells s payload old new (AppendStop.opening stop it shut) = (3, omega arith, stop)
+
+pub put_within : (tells : Telling) (s : Standing) (content : List ℕ) (old new : View) → PutStop tells s content old new → StoppedWithin tells 6 old new
+put_within tells s content old new (PutStop.not_begun n low stop it) = (n, omega arith, stop)
+put_within tells s content old new (PutStop.opening stop it) = (3, omega arith, stop)
+put_within tells s content old new (PutStop.both_open stop it) = (4, omega arith, stop)
+put_within tells s content old new (PutStop.closing stop it) = (5, omega arith, stop)
+
+pub format_within : (tells : Telling) (content : List ℕ) (old new : View) → FormatStop tells content old new → StoppedWithin tells 5 old new
+format_within tells content old new (FormatStop.unsynced n low stop it) = (n, omega arith, stop)
+format_within tells content old new (FormatStop.before_gate stop it) = (3, omega arith, stop)
+format_within tells content old new (FormatStop.opening stop it else_none) = (4, omega arith, stop)
+
+some_calls : (wide : Bool) → 0 < (if wide then 3 else 1)
+some_calls true = omega arith
+some_calls false = omega arith
+
+pub open_within : (s : Standing) (old new : Medium) → OpenStop memory_tells s (memory_view old) (memory_view new) → is_stopped old.arming ≡ false
+    → StoppedWithin memory_tells (open_calls old.bytes) (memory_view old) (memory_view new)
+open_within s old new (OpenStop.reading off still) on = absurd (false≢true (sym on ∙ sym (off_now old.arming) ∙ off refl))
+open_within s old new (OpenStop.not_synced stop same) on = (0, some_calls (both_gates_open old.bytes), stop)
+open_within s old new (OpenStop.both_open wide stop it) on = (1, subst (λ (b : Bool). 1 < (if b then 3 else 1)) (sym wide) (omega arith), stop)
+open_within s old new (OpenStop.closing wide stop it) on = (2, subst (λ (b : Bool). 2 < (if b then 3 else 1)) (sym wide) (omega arith), stop)
+
+-- what an armed disk does to a run of calls
+module _ (run : ℕ) (old new : Medium) where
+  pub stop_falls : (calls : ℕ) → StoppedWithin memory_tells run (memory_view old) (memory_view new) → old.arming ≡ Stop calls → StopFell calls run old new
+  stop_falls calls (n, low, stop) armed =
+      let here = stop_is n old new stop calls armed in
+      record {
+        within = omega (arith, here, low);
+        made = stop.calls ∙ ap (λ (k : ℕ). risen old.calls (k + 1)) here;
+        off = now_off n old new stop calls armed;
+      }
+
+  pub failure_falls : (call : ℕ) → StoppedWithin memory_tells run (memory_view old) (memory_view new) → old.arming ≡ Fail call → FailureFell call run old new
+  failure_falls call (n, low, stop) armed =
+      let here = failure_is n old new stop call armed in
+      record {
+        first = omega (arith, here);
+        within = omega (arith, here, low);
+        made = stop.calls ∙ ap (λ (k : ℕ). risen old.calls k) here;
+        on = now_on n old new stop call armed;
+      }
+
+  pub unarmed_none : StoppedWithin memory_tells run (memory_view old) (memory_view new) → old.arming ≡ Unarmed → ⊥
+  unarmed_none (n, low, stop) armed = false≢true (ap (λ a. refuses a n) (sym armed) ∙ stop.refused refl)
+
+  pub stop_missed : (calls : ℕ) → WentThrough memory_tells run (memory_view old) (memory_view new) → old.arming ≡ Stop calls → run ≤ calls
+  stop_missed calls went armed = elim (cases_lt calls run) [
+    | inl early ↦ absurd (false≢true (sym (ap (λ a. refuses a calls) (sym armed) ∙ went.foretold refl calls early) ∙ le-leb calls calls (omega arith)))
+    | inr late ↦ late
+  ]
+
+  pub failure_missed : (call : ℕ) → WentThrough memory_tells run (memory_view old) (memory_view new) → old.arming ≡ Fail call → 1 ≤ call → run < call
+  failure_missed call went armed some = elim (cases_lt run call) [
+    | inl late ↦ late
+    | inr early ↦
+        let there : (call - 1) + 1 ≡ call = omega arith in
+        absurd (false≢true (sym (ap (λ a. refuses a (call - 1)) (sym armed) ∙ went.foretold refl (call - 1) (omega arith)) ∙ eq-eqb ((call - 1) + 1) call there))
+  ]
+
+  pub still_on : WentThrough memory_tells run (memory_view old) (memory_view new) → is_stopped new.arming ≡ false
+  still_on went = sym (off_now new.arming) ∙ went.on refl

@@ -6,9 +6,10 @@ use Rattle.zb_disk.specs.Calls.{IsSync}
 use Rattle.zb_disk.proofs.Moments.{started, goes_on, weakened, goes_through}
 use Rattle.zb_store.specs.Layout.{Standing, IsWhole, slot, base_of, gate_of, open_gate}
 use Rattle.zb_store.specs.Steps.{WentThrough, PlaceStop, IsPlaced}
-use Rattle.zb_store.specs.Store.{other_gate, OpenStop, WasThere, IsFound, IsSettled}
+use Rattle.zb_store.specs.Store.{other_gate, both_gates_open, OpenStop, WasThere, IsFound, IsSettled}
 use Rattle.zb_store.proofs.Going.{one_through, one_stopped, through_then, stopped_then, causes}
 use Rattle.zb_store.proofs.Replacing.{closes, closed_held, closing_of, both_open}
+use Rattle.zb_store.proofs.Laying.{both_are}
 
 module _ (tells : Telling) (second other_open : Bool) (v0 v1 v2 : View) (only_now : (c : List ℕ) → v0.since v0.moment c → v0.images c)
     (reads0 : IsTrue tells.content → v0.images v0.seen) (reads1 : IsTrue tells.content → v1.images v1.seen) where
@@ -53,9 +54,12 @@ module _ (tells : Telling) (second other_open : Bool) (v0 v1 v2 : View) (only_no
           goes_through v0 v1 v2 (WasThere v0) (synced_moments went sync all)
           (weakened v1 v2 (IsWhole s) (WasThere v0) (λ c whole. (s, whole, (v0.seen, reads0 told, found.is))) (closes tells s v1 v2 sync.durable (reads1 told) w.0 w.1 r (here s r found done)))
 
+      wide_gates : (s : Standing) → IsFound s second other_open v0 → both_gates_open v0.seen ≡ true
+      wide_gates s found = both_are v0.seen s found.is.stands ∙ sym found.gate ∙ wide
+
       stop_of : (s : Standing) → IsFound s second other_open v0 → IsTrue tells.content → PlaceStop tells (other_gate s) (0 ∷ []) v1 v2 → OpenStop tells s v0 v2
-      stop_of s found told (PlaceStop.before_write stop same) = let w = was s found told in OpenStop.both_open (stopped_then 1 0 v0 v1 v2 (one_through sync.counted) stop) (both_open tells s v1 v2 sync.durable (reads1 told) w.0 w.1 same)
-      stop_of s found told (PlaceStop.before_sync stop open_range) = let w = was s found told in OpenStop.closing (stopped_then 1 1 v0 v1 v2 (one_through sync.counted) stop) (closing_of tells s v1 v2 sync.durable (reads1 told) w.0 w.1 open_range)
+      stop_of s found told (PlaceStop.before_write stop same) = let w = was s found told in OpenStop.both_open (wide_gates s found) (stopped_then 1 0 v0 v1 v2 (one_through sync.counted) stop) (both_open tells s v1 v2 sync.durable (reads1 told) w.0 w.1 same)
+      stop_of s found told (PlaceStop.before_sync stop open_range) = let w = was s found told in OpenStop.closing (wide_gates s found) (stopped_then 1 1 v0 v1 v2 (one_through sync.counted) stop) (closing_of tells s v1 v2 sync.durable (reads1 told) w.0 w.1 open_range)
 
       by_result : (r : Result T E) → IsPlaced tells (base_of (not second)) (0 ∷ []) v1 v2 r → IsSettled tells second other_open v0 v2 r
       by_result (Ok y) done = record {

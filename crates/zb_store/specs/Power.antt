@@ -1,5 +1,7 @@
 -- What stands on a disk in memory once the power is back, after a stop or a failure inside a commit.
-use Rattle.std.specs.Prelude.{ℕ, ◌==◌, ◌&&◌, ◌||◌, List, [], ◌∷◌, Bool, true, nat_lt, if◌then◌else◌}
+use Rattle.std.specs.Prelude.{ℕ, ◌+◌, ◌≤◌, ◌<◌, ◌≡◌, ◌==◌, ◌&&◌, ◌||◌, List, [], ◌∷◌, Bool, true, false, nat_lt, if◌then◌else◌}
+use Rattle.zb_base.specs.Outside.{risen}
+use Rattle.zb_disk.specs.Memory.{Medium, is_stopped}
 use Rattle.zb_store.specs.Layout.{open_gate}
 
 -- Whether the one gate that is unsynced then reads open: by the first byte that the stop leaves, or as it was written
@@ -29,3 +31,16 @@ open_stop_leaves_both calls torn = if calls == 2 then reads_open torn 0 else tru
 
 abbrev pub open_failure_leaves_both : ℕ → Bool
 open_failure_leaves_both call = nat_lt call 3
+
+-- An armed stop fell within a run of writes and syncs: so many went through, the next one was refused, and the disk is off.
+pub record StopFell (calls run : ℕ) (old new : Medium) : Type 0 where
+  pub within : calls < run
+  pub made : new.calls ≡ risen old.calls (calls + 1)
+  pub off : is_stopped new.arming ≡ true
+
+-- An armed failure fell within one: on the call of its number, counted from 1, and the disk isn't off.
+pub record FailureFell (call run : ℕ) (old new : Medium) : Type 0 where
+  pub first : 1 ≤ call
+  pub within : call ≤ run
+  pub made : new.calls ≡ risen old.calls call
+  pub on : is_stopped new.arming ≡ false

@@ -21,6 +21,10 @@ pub record StoppedAfter (tells : Telling) (n : ℕ) (old new : View) : Type 0 wh
   pub off : IsTrue tells.refusals → new.off 0 ≡ old.off (n + 1)
   pub torn : IsTrue tells.refusals → new.torn ≡ old.torn
 
+-- one of a run of so many was refused
+abbrev pub StoppedWithin : Telling → ℕ → View → View → Type 0
+StoppedWithin tells run old new = (n : ℕ) × (n < run) × StoppedAfter tells n old new
+
 -- an image that is an old one, torn at one place
 abbrev pub TornFrom : (List ℕ → Type 0) → ℕ → ℕ → List ℕ → Type 0
 TornFrom images at n c = (d : List ℕ) × images d × Torn at n d c

@@ -1,8 +1,8 @@
 -- What the calls of a store promise.
 use Rattle.std.specs.List.{concat}
-use Rattle.std.specs.Prelude.{◌&&◌, true, false, ◌^◌, ◌==◌, if◌then◌else◌, Result, OnOk, OnErr, ℕ, ◌+◌, ◌≤◌, ◌<◌, ◌≡◌, ◌≢◌, ◌⊎◌, ◌++◌, List, [], ◌∷◌, length, get_or, Bool, not, IsTrue, Some}
+use Rattle.std.specs.Prelude.{◌&&◌, true, false, ◌^◌, ◌==◌, if◌then◌else◌, Result, OnOk, OnErr, ℕ, ◌+◌, ◌≤◌, ◌<◌, ◌≡◌, ◌≢◌, ◌⊎◌, ◌++◌, List, [], ◌∷◌, length, get_or, Bool, not, IsTrue, Some, None}
 use Rattle.zb_base.specs.Outside.{HasCause}
-use Rattle.zb_disk.specs.View.{Telling, View, IsSame, IsStill, IsUnsynced, Only, LeavesOnly}
+use Rattle.zb_disk.specs.View.{Telling, View, Torn, Follows, IsSame, IsStill, IsUnsynced, Only, LeavesOnly}
 use Rattle.zb_store.specs.Sizes.{record_room}
 use Rattle.zb_store.specs.Layout.{Standing, IsWhole, stands, slot, gate_of, open_gate, base_of, end_of, body}
 use Rattle.zb_store.specs.Steps.{WentThrough, StoppedAfter}
@@ -87,12 +87,21 @@ pub data PutStop (tells : Telling) (s : Standing) (content : List ℕ) (old new 
   both_open : StoppedAfter tells 4 old new → IsBothOpen (other_gate s) (base_of s.second) (replaced s content) new → PutStop tells s content old new
   closing : StoppedAfter tells 5 old new → IsGateClosing (base_of s.second) (replaced s content) new → PutStop tells s content old new
 
--- An `open` that failed likewise. It makes its reads before its first sync; a read fails where the disk is off.
+-- the gates of both slots are open
+abbrev pub both_gates_open : List ℕ → Bool
+both_gates_open bytes = gate_of (slot false bytes) == open_gate && gate_of (slot true bytes) == open_gate
+
+-- how many writes and syncs an `open` makes: where both gates are open it closes one of them
+abbrev pub open_calls : List ℕ → ℕ
+open_calls bytes = if both_gates_open bytes then 3 else 1
+
+-- An `open` that failed likewise. It makes its reads before its first sync; a read fails where the disk is off. Only
+-- where it found the gates of both slots open it goes on behind the sync.
 pub data OpenStop (tells : Telling) (s : Standing) (old new : View) : Type 0 where
   reading : (IsTrue tells.refusals → old.off 0 ≡ true) → IsStill old new → OpenStop tells s old new
   not_synced : StoppedAfter tells 0 old new → IsSame old new → OpenStop tells s old new
-  both_open : StoppedAfter tells 1 old new → IsBothOpen (base_of s.second) (other_gate s) s new → OpenStop tells s old new
-  closing : StoppedAfter tells 2 old new → IsGateClosing (other_gate s) s new → OpenStop tells s old new
+  both_open : both_gates_open old.seen ≡ true → StoppedAfter tells 1 old new → IsBothOpen (base_of s.second) (other_gate s) s new → OpenStop tells s old new
+  closing : both_gates_open old.seen ≡ true → StoppedAfter tells 2 old new → IsGateClosing (other_gate s) s new → OpenStop tells s old new
 
 -- a call made no write and no sync, and nothing has changed
 abbrev pub IsUnchanged : View → View → Type 0
@@ -135,19 +144,25 @@ pub record IsSettled {T E : Type 0} (tells : Telling) (second other_open : Bool)
 abbrev pub formatted : List ℕ → Standing
 formatted content = record { second = false; generation = 1; content = content; payloads = [] }
 
+-- bytes in which the body of a first record and the gate of the second slot are torn
+abbrev pub IsTornLayout : ℕ → List ℕ → List ℕ → Type 0
+IsTornLayout n old new = (c : List ℕ) × Torn 1 n old c × Torn (base_of true) 1 c new
+
+-- A `format` of this record that failed. The body and the closed gate of the second slot are synced before the gate of
+-- the first is written. Where that was closed, nothing stands then, and the record stands in an image where the gate
+-- is open in it.
+pub data FormatStop (tells : Telling) (content : List ℕ) (old new : View) : Type 0 where
+  unsynced : (n : ℕ) → n < 3 → StoppedAfter tells n old new → Follows (IsTornLayout (13 + length content)) old.images new.images → FormatStop tells content old new
+  before_gate : StoppedAfter tells 3 old new → (get_or old.seen 0 0 ≢ open_gate → (c : List ℕ) → new.images c → stands c ≡ None) → FormatStop tells content old new
+  opening : StoppedAfter tells 4 old new → ((c : List ℕ) → new.images c → get_or c 0 0 ≡ open_gate → IsWhole (formatted content) c)
+      → ((c : List ℕ) → new.images c → get_or c 0 0 ≢ open_gate → stands c ≡ None) → FormatStop tells content old new
+
 -- the body of a first record is written, and its gate is opened
 pub record IsLaidOut {T E : Type 0} (tells : Telling) (bytes : List ℕ) (old new : View) (result : Result T E) : Type 0 where
   pub held : OnOk result ((content : List ℕ) → bytes ≡ body 1 content → length content ≤ record_room → IsTrue tells.content → IsHeld (formatted content) new)
   pub through : OnOk result (WentThrough tells 5 old new)
+  pub stopped : OnErr result ((content : List ℕ) → bytes ≡ body 1 content → length content ≤ record_room → IsTrue tells.content → IsTrue tells.steady → FormatStop tells content old new)
   pub cause : HasCause old.faults new.faults result
-
--- the gates of both slots are open
-abbrev pub both_gates_open : List ℕ → Bool
-both_gates_open bytes = gate_of (slot false bytes) == open_gate && gate_of (slot true bytes) == open_gate
-
--- how many writes and syncs an `open` makes: where both gates are open it closes one of them
-abbrev pub open_calls : List ℕ → ℕ
-open_calls bytes = if both_gates_open bytes then 3 else 1
 
 -- each image is whole
 abbrev pub AllWhole : View → Type 0

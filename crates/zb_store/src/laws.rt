@@ -1,12 +1,48 @@
 //! What stands on a disk in memory after a call of the store that a stop or a failure ended, once the power is back.
 //! Each function here says laws and does nothing.
-ghost use Rattle.std.specs.Prelude.{◌≡◌, if◌then◌else◌, ℕ, List, true, false};
-ghost use Rattle.zb_disk.specs.declared.memory.Arming.TheVariants.{Stop, Fail};
+ghost use Rattle.std.specs.Prelude.{◌≡◌, ◌≤◌, ◌<◌, if◌then◌else◌, ℕ, List, true, false};
+ghost use Rattle.zb_disk.specs.declared.memory.Arming.TheVariants.{Unarmed, Stop, Fail};
 ghost use Rattle.zb_disk.specs.View.{Only};
-ghost use Rattle.zb_disk.specs.Memory.{Medium, powered, memory_tells, memory_view};
+ghost use Rattle.zb_disk.specs.Memory.{Medium, is_stopped, powered, memory_tells, memory_view};
 ghost use Rattle.zb_store.specs.Layout.{Standing, IsWhole};
-ghost use Rattle.zb_store.specs.Store.{AppendStop, PutStop, OpenStop, appended, replaced, both_gates_open};
-ghost use Rattle.zb_store.specs.Power.{stop_commits, failure_commits, stop_opens_both, failure_opens_both, open_stop_leaves_both, open_failure_leaves_both};
+ghost use Rattle.zb_store.specs.Steps.{WentThrough, StoppedWithin};
+ghost use Rattle.zb_store.specs.Store.{AppendStop, PutStop, OpenStop, FormatStop, appended, replaced, both_gates_open, open_calls};
+ghost use Rattle.zb_store.specs.Power.{stop_commits, failure_commits, stop_opens_both, failure_opens_both, open_stop_leaves_both, open_failure_leaves_both, StopFell, FailureFell};
+
+/// Says on which call of a run an armed stop or failure falls, and that nothing falls where nothing is armed.
+///
+/// A run is what a call of the store makes of writes and syncs: `append` four, `put` six, `format` five, `open` one or
+/// three. A stop or failure that didn't fall lies behind it.
+pub fn armed_runs()
+    ensures stopped { (run : ℕ) (old new : Medium) (calls : ℕ)
+        → StoppedWithin memory_tells run (memory_view old) (memory_view new) → old.arming ≡ Stop calls
+        → StopFell calls run old new }
+    ensures failed { (run : ℕ) (old new : Medium) (call : ℕ)
+        → StoppedWithin memory_tells run (memory_view old) (memory_view new) → old.arming ≡ Fail call
+        → FailureFell call run old new }
+    ensures unarmed { (run : ℕ) (old new : Medium)
+        → StoppedWithin memory_tells run (memory_view old) (memory_view new) → old.arming ≡ Unarmed → ⊥ }
+    ensures missed_stop { (run : ℕ) (old new : Medium) (calls : ℕ)
+        → WentThrough memory_tells run (memory_view old) (memory_view new) → old.arming ≡ Stop calls → run ≤ calls }
+    ensures missed_failure { (run : ℕ) (old new : Medium) (call : ℕ)
+        → WentThrough memory_tells run (memory_view old) (memory_view new) → old.arming ≡ Fail call
+        → 1 ≤ call → run < call }
+    ensures on { (run : ℕ) (old new : Medium)
+        → WentThrough memory_tells run (memory_view old) (memory_view new) → is_stopped new.arming ≡ false }
+{}
+
+/// Says within how many calls an `append`, a `put` or a `format` stopped.
+pub fn stopped_runs()
+    ensures append { (s : Standing) (payload : List ℕ) (old new : Medium)
+        → AppendStop memory_tells s payload (memory_view old) (memory_view new)
+        → StoppedWithin memory_tells 4 (memory_view old) (memory_view new) }
+    ensures put { (s : Standing) (content : List ℕ) (old new : Medium)
+        → PutStop memory_tells s content (memory_view old) (memory_view new)
+        → StoppedWithin memory_tells 6 (memory_view old) (memory_view new) }
+    ensures format { (content : List ℕ) (old new : Medium)
+        → FormatStop memory_tells content (memory_view old) (memory_view new)
+        → StoppedWithin memory_tells 5 (memory_view old) (memory_view new) }
+{}
 
 /// Says what stands after a commit that an armed stop or failure ended, by the call on which that fell.
 ///
@@ -38,7 +74,8 @@ pub fn stopped_commits()
 
 /// Says the same of an `open` of a disk on which all is synced.
 ///
-/// What stood stands; where the gates of both slots were open, the other clauses say whether they still are.
+/// What stood stands. Where the gates of both slots were open, the other clauses say whether they still are; where one
+/// was closed, one is. On a disk that isn't off it stopped at a write or a sync.
 pub fn stopped_open()
     ensures stands { (s : Standing) (old new : Medium) (calls : ℕ)
         → OpenStop memory_tells s (memory_view old) (memory_view new) → IsWhole s old.bytes
@@ -54,4 +91,10 @@ pub fn stopped_open()
         → OpenStop memory_tells s (memory_view old) (memory_view new) → Only old.bytes (memory_view old).images
         → both_gates_open old.bytes ≡ true → old.arming ≡ Fail call
         → both_gates_open (powered new).bytes ≡ open_failure_leaves_both call }
+    ensures closed { (s : Standing) (old new : Medium)
+        → OpenStop memory_tells s (memory_view old) (memory_view new) → Only old.bytes (memory_view old).images
+        → both_gates_open old.bytes ≡ false → both_gates_open (powered new).bytes ≡ false }
+    ensures within { (s : Standing) (old new : Medium)
+        → OpenStop memory_tells s (memory_view old) (memory_view new) → is_stopped old.arming ≡ false
+        → StoppedWithin memory_tells (open_calls old.bytes) (memory_view old) (memory_view new) }
 {}

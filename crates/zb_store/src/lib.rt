@@ -12,6 +12,6 @@ mod spelling;
 mod store;
 
 pub use fault::StoreFault;
-pub use laws::{stopped_commits, stopped_open};
+pub use laws::{armed_runs, stopped_commits, stopped_open, stopped_runs};
 pub use sizes::{ENTRIES_ROOM, PAYLOAD_ROOM, RECORD_ROOM};
 pub use store::Store;

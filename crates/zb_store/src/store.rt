@@ -5,7 +5,7 @@ ghost use Rattle.zb_store.specs.Layout.{Standing, stands};
 ghost use Rattle.zb_store.specs.Reading.{AreCounted, AreContents};
 ghost use Rattle.zb_store.specs.Sizes.{record_room, payload_room, entries_room, payloads_room};
 ghost use Rattle.zb_store.specs.Steps.{WentThrough};
-ghost use Rattle.zb_store.specs.Store.{IsReady, IsWholeEither, appended, replaced, formatted, open_calls, IsAnswer, AllWhole, WasThere, AppendStop, PutStop, OpenStop};
+ghost use Rattle.zb_store.specs.Store.{IsReady, IsWholeEither, appended, replaced, formatted, open_calls, IsAnswer, AllWhole, WasThere, AppendStop, PutStop, OpenStop, FormatStop};
 ghost use Rattle.zb_store.specs.Faults.{OnlyReads, IsSpared, IsAppendFault, IsPutFault, IsFormatFault, IsReadFault, IsStandingFault};
 
 use crate::commit::{base, lay_out, replace, settle, write_gated};
@@ -153,6 +153,10 @@ impl Store {
         ensures ready { IfOk result (λ store. IsTrue D.tells.content
             → IsReady store (formatted first.now) (D.state disk.new)) }
         ensures through { OnOk result (WentThrough D.tells 5 (D.state disk.old) (D.state disk.new)) }
+
+        // Where the disk failed, it stopped at one of the five calls.
+        ensures stopped { IsErrOf result StoreFault.Disk → IsTrue D.tells.content → IsTrue D.tells.steady
+            → FormatStop D.tells first.now (D.state disk.old) (D.state disk.new) }
 
         // Too large a record is refused before any device call.
         ensures too_large { record_room < length first.now → result ≡ Err (StoreFault.TooLarge (length first.now)) }

@@ -3,11 +3,10 @@ use Rattle.std.proofs.Common.{◌≡◌, ℕ, ◌+◌, List, [], ◌∷◌, ◌+
 use Rattle.std.specs.Prelude.{nat_eq}
 use Rattle.std.proofs.lemmas.List.{length-map}
 use Rattle.std.proofs.lemmas.List.Concat.{flat_map-cons}
-use Rattle.zb_model.specs.Data.{Bytes, Layer, Nwk, Aps}
-use Rattle.zb_model.specs.State.{SenderFloor, NetKey, LinkKey, NodeState, same_key, is_link, at_net, at_link, of_active, next_at, after_counting, floor_kept, net_kept, link_kept, after_hearing, booted_floor, booted_net, booted_link, after_boot, shown_net, shown}
+use Rattle.zb_model.specs.Data.{Bytes, Layer, Nwk, Aps, Term}
+use Rattle.zb_model.specs.State.{SenderFloor, NetKey, LinkKey, NodeState, same_key, is_link, at_net, at_link, of_active, next_at, sealed_at, after_sealing, after_counting, floor_kept, net_kept, link_kept, after_hearing, after_accepting, booted_floor, booted_net, booted_link, after_boot, shown_net, shown}
 use Rattle.zb_model.specs.Record.{place_from, active_place, net_bytes, sender_bytes, floors_bytes, link_bytes, record_of}
 use Rattle.zb_model_fits.proofs.ShownApplied.{shown_twice}
-use Rattle.zb_keys.specs.Reading.{heard_under, heard_from}
 use Rattle.zb_keys.proofs.BootLemmas.{booted_shown}
 
 -- ---- the bytes of rows that are changed
@@ -146,13 +145,19 @@ boot_of_heard Nwk key sender counter s =
 boot_of_heard Aps key sender counter s =
     ap (λ l. record s { aps_next = s.aps_limit; nets = map booted_net s.nets; links = l }) (link_memory sender key (link_kept (counter + 1)) (λ r. refl) s.links)
 
-pub boot_of_heard_under : (o : Option NetKey) (sender counter : ℕ) (s : NodeState) → after_boot (heard_under o sender counter s) ≡ after_boot s
-boot_of_heard_under None sender counter s = refl
-boot_of_heard_under (Some r) sender counter s = boot_of_heard Nwk r.key sender counter s
+-- a term was sealed, or accepted
+sealed_memory : (layer : Layer) (t : Term) (s : NodeState) → after_boot (sealed_at layer t s) ≡ after_boot s
+unfolding after_boot
+sealed_memory Nwk t s = ap (λ l. record s { aps_next = s.aps_limit; nets = l; links = map booted_link s.links }) (net_memory t.base (next_at (t.counter + 1)) (λ r. refl) s.nets)
+sealed_memory Aps t s = refl
 
-pub boot_of_heard_from : (o : Option LinkKey) (counter : ℕ) (s : NodeState) → after_boot (heard_from o counter s) ≡ after_boot s
-boot_of_heard_from None counter s = refl
-boot_of_heard_from (Some r) counter s = boot_of_heard Aps r.key r.partner counter s
+pub boot_of_sealed : (t : Term) (s : NodeState) → after_boot (after_sealing t s) ≡ after_boot s
+unfolding after_sealing
+boot_of_sealed t s = sealed_memory t.layer t s
+
+pub boot_of_accepted : (t : Term) (s : NodeState) → after_boot (after_accepting t s) ≡ after_boot s
+unfolding after_accepting
+boot_of_accepted t s = boot_of_heard t.layer t.base t.source t.counter s
 
 -- ---- the role stays
 
@@ -161,15 +166,15 @@ unfolding after_counting
 role_of_counted Nwk s = refl
 role_of_counted Aps s = refl
 
-role_of_heard : (layer : Layer) (key : Bytes) (sender counter : ℕ) (s : NodeState) → (after_hearing layer key sender counter s).role ≡ s.role
+role_of_sealed_at : (layer : Layer) (t : Term) (s : NodeState) → (sealed_at layer t s).role ≡ s.role
+role_of_sealed_at Nwk t s = refl
+role_of_sealed_at Aps t s = refl
+
+pub role_of_sealed : (t : Term) (s : NodeState) → (after_sealing t s).role ≡ s.role
+unfolding after_sealing
+role_of_sealed t s = role_of_sealed_at t.layer t s
+
+pub role_of_heard : (layer : Layer) (key : Bytes) (sender counter : ℕ) (s : NodeState) → (after_hearing layer key sender counter s).role ≡ s.role
 unfolding after_hearing
 role_of_heard Nwk key sender counter s = refl
 role_of_heard Aps key sender counter s = refl
-
-pub role_of_heard_under : (o : Option NetKey) (sender counter : ℕ) (s : NodeState) → (heard_under o sender counter s).role ≡ s.role
-role_of_heard_under None sender counter s = refl
-role_of_heard_under (Some r) sender counter s = role_of_heard Nwk r.key sender counter s
-
-pub role_of_heard_from : (o : Option LinkKey) (counter : ℕ) (s : NodeState) → (heard_from o counter s).role ≡ s.role
-role_of_heard_from None counter s = refl
-role_of_heard_from (Some r) counter s = role_of_heard Aps r.key r.partner counter s

@@ -9,3 +9,4 @@ pub mod Restoring
 pub mod Reserving
 pub mod Short
 pub mod Readings
+pub mod CoreValues

@@ -46,7 +46,7 @@ limit_same : (f : NetKey → NetKey) → ((r : NetKey) → (f r).limit ≡ r.lim
 limit_same f same declared None = refl
 limit_same f same declared (Some r) = same r
 
-active_after : (limit : ℕ) (s : NodeState) → active_row (shown (applied (Reserve Nwk limit) s)) ≡ option_map shown_net (option_map (reserved limit) (active_row s))
+pub active_after : (limit : ℕ) (s : NodeState) → active_row (shown (applied (Reserve Nwk limit) s)) ≡ option_map shown_net (option_map (reserved limit) (active_row s))
 active_after limit s = active_shown (applied (Reserve Nwk limit) s) ∙ ap (option_map shown_net) (active_reserved limit s)
 
 reserved_limit : (limit declared : ℕ) (o : Option NetKey) → is_some o ≡ true → limit_of declared (option_map (reserved limit) o) ≡ max (limit_of declared o) (min limit greatest_counter)

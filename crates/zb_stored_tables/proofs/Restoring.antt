@@ -6,7 +6,7 @@ use Rattle.zb_node_types.specs.declared.fault.KeyError.{KeyError}
 use Rattle.zb_node_types.specs.declared.fault.KeyError.TheVariants.{KeyOld, KeysFull, RowsFull, KeyInUse, NoRow, WrongHash, BadRecord}
 use Rattle.zb_host.specs.Plans.{gives, IsRestoreFault}
 use Rattle.zb_model.specs.Data.{Role}
-use Rattle.zb_model.specs.State.{NodeState, shown, after_boot}
+use Rattle.zb_model.specs.State.{NodeState, after_boot}
 use Rattle.zb_model.specs.Record.{record_of}
 use Rattle.zb_record.specs.Ranges.{FitsBytes}
 use Rattle.zb_record.specs.declared.version.Version.{Version}

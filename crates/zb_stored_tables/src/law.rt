@@ -4,16 +4,18 @@ ghost use Rattle.std.specs.List.{AllByRecursion};
 ghost use Rattle.zb_node_types.specs.declared.change.Change.{Change};
 ghost use Rattle.zb_node_types.specs.Changes.{edit, edits};
 ghost use Rattle.zb_host.specs.Plans.{gives};
-ghost use Rattle.zb_model.specs.Data.{Bytes, Role, Layer, Reserve};
+ghost use Rattle.zb_model.specs.Answer.{Answer, answered};
+ghost use Rattle.zb_model.specs.Data.{Bytes, Role, Layer, Reserve, Term};
 ghost use Rattle.zb_model.specs.Fits.{fits, keeps_rules};
 ghost use Rattle.zb_model.specs.Record.{payload, record_of};
-ghost use Rattle.zb_model.specs.State.{NodeState, after_boot, applied, after_counting, after_hearing, greatest_counter, next_counter, shown, stored_limit};
+ghost use Rattle.zb_model.specs.State.{NodeState, after_boot, applied, after_accepting, after_counting, after_hearing, after_sealing, greatest_counter, next_counter, shown, stored_limit};
 ghost use Rattle.zb_record.specs.declared.version.Version.TheVariants.{Third};
 ghost use Rattle.zb_record.specs.Changes.{change_at};
 ghost use Rattle.zb_record.specs.Fields.{record_version};
 ghost use Rattle.zb_record.specs.Ranges.{FitsBytes, InRange};
 ghost use Rattle.zb_record.specs.Sizes.{payload_room};
 ghost use Rattle.zb_record.specs.Records.{record_read};
+ghost use Rattle.zb_stored_tables.specs.Cores.{CoreValue, IsValueAfter};
 ghost use Rattle.zb_stored_tables.specs.Stored.{state_given, restored, IsKept, IsStorable, IsStoredAfter, MayReserve};
 
 /// Says that what is read from the bytes of a record has values within its widths.
@@ -61,6 +63,8 @@ pub fn what_is_in_memory_alone_is_not_recorded()
     ensures boots { (s : NodeState) → record_of (after_boot s) ≡ record_of s }
     ensures forgets { (s : NodeState) → record_of (shown s) ≡ record_of s }
     ensures seals { (layer : Layer) (s : NodeState) → after_boot (after_counting layer s) ≡ after_boot s }
+    ensures sealed { (t : Term) (s : NodeState) → after_boot (after_sealing t s) ≡ after_boot s }
+    ensures accepted { (t : Term) (s : NodeState) → after_boot (after_accepting t s) ≡ after_boot s }
     ensures hears { (layer : Layer) (key : Bytes) (sender counter : ℕ) (s : NodeState)
         → after_boot (after_hearing layer key sender counter s) ≡ after_boot s }
 {}
@@ -78,6 +82,27 @@ pub fn a_core_over_tables_keeps_the_law()
         → restored role (record_of t) [] ≡ gives (record_of t) }
     ensures newest { (s : NodeState) → get_or (record_of s) 0 0 ≢ 1 }
     ensures idle { (s t : NodeState) → shown s ≡ s → IsStoredAfter [] s t → record_of t ≡ record_of s }
+{}
+
+/// Says the same of the value that the cores of all roles have, a setting and tables.
+///
+/// `c` is the core before an event, and `d` the one after its changes, accepted terms and seals. It also says that these
+/// are the tables that are shown after the event's answer, where they are those of the answer.
+pub fn a_core_of_setting_and_tables_keeps_the_law()
+    ensures adds { (role : Role) (changes : List Change) (accepts seals : List Term) (c d : CoreValue) (r q : List ℕ)
+        → IsStorable role c.tables changes → IsValueAfter changes accepts seals c d → get_or r 0 0 ≢ 1
+        → restored role r q ≡ gives (record_of c.tables)
+        → restored role r (q ++ payload (edits changes)) ≡ gives (record_of d.tables) }
+    ensures keeps { (role : Role) (changes : List Change) (accepts seals : List Term) (c d : CoreValue)
+        → IsStorable role c.tables changes → IsValueAfter changes accepts seals c d
+        → restored role (record_of d.tables) [] ≡ gives (record_of d.tables) }
+    ensures newest { (c : CoreValue) → get_or (record_of c.tables) 0 0 ≢ 1 }
+    ensures idle { (role : Role) (changes : List Change) (accepts seals : List Term) (c d : CoreValue)
+        → IsStorable role c.tables changes → IsValueAfter changes accepts seals c d → changes ≡ []
+        → record_of d.tables ≡ record_of c.tables }
+    ensures leads { (changes : List Change) (accepts seals : List Term) (a : Answer) (c d : CoreValue)
+        → edits changes ≡ a.edits → accepts ≡ a.accepts → seals ≡ a.seals → IsValueAfter changes accepts seals c d
+        → d ≡ record { setting = c.setting; tables = shown (answered a c.tables) } }
 {}
 
 /// Says that what is stored after a plan gives the tables after it again.

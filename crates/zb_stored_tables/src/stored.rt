@@ -1,12 +1,13 @@
 //! A node's tables, as the core of a host keeps them.
-ghost use Rattle.std.specs.Prelude.{◌≡◌, ◌<◌, ◌≤◌, ◌^◌, ◌-◌, Ok, IfOk, IfErr, length, take, slice_get};
+ghost use Rattle.std.specs.Prelude.{◌≡◌, ◌<◌, ◌≤◌, ◌^◌, ◌-◌, Ok, IfOk, IfErr, length, take};
 ghost use Rattle.std.specs.List.{AllByRecursion};
 ghost use Rattle.zb_node_types.specs.Changes.{model_role, edits, model_layer};
 ghost use Rattle.zb_host.specs.Plans.{gives, IsRestoreFault};
-ghost use Rattle.zb_keys.specs.Reading.{heard_under, heard_from};
+ghost use Rattle.zb_keys.specs.Reading.{IsNext};
+ghost use Rattle.zb_model.specs.Data.{Term};
 ghost use Rattle.zb_model.specs.Fits.{AllFit};
 ghost use Rattle.zb_model.specs.Record.{record_of};
-ghost use Rattle.zb_model.specs.State.{applied_all, after_counting, next_counter, stored_limit, shown};
+ghost use Rattle.zb_model.specs.State.{applied_all, after_hearing, after_sealing, shown};
 ghost use Rattle.zb_record.specs.Ranges.{InRange};
 ghost use Rattle.zb_record.specs.Sizes.{payloads_room, record_room};
 ghost use Rattle.zb_stored_tables.specs.Stored.{restored, state_given, IsGivenFault, IsKept};
@@ -14,7 +15,7 @@ ghost use Rattle.zb_stored_tables.specs.Stored.{restored, state_given, IsGivenFa
 use crate::restore::restore;
 use std::alloc::Global;
 use std::marker::Model;
-use zb_base::{Eui, Layer, OrMemory, Role};
+use zb_base::{Eui, Key, Layer, OrMemory, Role};
 use zb_keys::Tables;
 use zb_node_types::{Changes, KeyError};
 
@@ -90,33 +91,28 @@ impl StoredTables {
         self.tables.apply(changes);
     }
 
-    /// Uses the next outgoing counter of a layer.
+    /// Uses the next counter of a base key of a layer: a term was sealed under it.
     ///
-    /// Requires one that is reserved.
-    pub fn sealed(&mut self, layer: Layer)
-        requires { next_counter (model_layer layer) self.old < stored_limit (model_layer layer) self.old }
-        ensures counted { self.new ≡ after_counting (model_layer layer) self.old }
+    /// At NWK that is the counter of the key's row, at APS the node's own. Requires that there is one, and that it isn't
+    /// the greatest.
+    pub fn sealed_under(&mut self, layer: Layer, key: &Key)
+        requires { (t : Term) × IsNext (model_layer layer) key.now.0 self.old t }
+        ensures counted { (t : Term) → IsNext (model_layer layer) key.now.0 self.old t
+            → self.new ≡ after_sealing t self.old }
         ensures role { self.new.role ≡ self.old.role }
     {
-        self.tables.sealed(layer);
+        self.tables.sealed_under(layer, key);
     }
 
-    /// Keeps what was accepted of a sender under the network key at a place.
-    pub fn accepted_net(&mut self, place: u32, sender: Eui, counter: u32)
+    /// Keeps what was accepted of a sender under a base key of a layer.
+    ///
+    /// At APS the sender is the partner. A dropped network key keeps nothing.
+    pub fn heard(&mut self, layer: Layer, key: &Key, sender: Eui, counter: u32)
         requires { counter < 2 ^ 32 - 1 }
-        ensures heard { self.new ≡ heard_under (slice_get self.old.nets place) sender.0 counter self.old }
+        ensures heard { self.new ≡ after_hearing (model_layer layer) key.now.0 sender.0 counter self.old }
         ensures role { self.new.role ≡ self.old.role }
     {
-        self.tables.accepted_net(place, sender, counter);
-    }
-
-    /// Keeps what was accepted under the link key at a place.
-    pub fn accepted_link(&mut self, place: u32, counter: u32)
-        requires { counter < 2 ^ 32 - 1 }
-        ensures heard { self.new ≡ heard_from (slice_get self.old.links place) counter self.old }
-        ensures role { self.new.role ≡ self.old.role }
-    {
-        self.tables.accepted_link(place, counter);
+        self.tables.heard(layer, key, sender, counter);
     }
 
     /// Writes their record, and answers its length.

@@ -9,7 +9,7 @@ use Rattle.zb_model.specs.Data.{Station, nobody}
 use Rattle.zb_model.specs.Lines as log
 use Rattle.zb_model.specs.Readings.{stations_of}
 use Rattle.zb_model.specs.State.{is_centre}
-use Rattle.zb_trace.specs.Terms.{model_term}
+use Rattle.zb_model_real.specs.Terms.{model_term}
 use Rattle.zb_trace.specs.declared.line.Line.{Line}
 use Rattle.zb_trace.specs.declared.line.Line.TheVariants as line
 

@@ -9,7 +9,7 @@ use Rattle.zb_model.specs.Lines.{Line}
 use Rattle.zb_model.specs.Readings.{station_line, stations_of}
 use Rattle.zb_model.specs.Secrets.{base_in, based_line, came_by, carried, code_in, ever_in, exposed, forged_in, holds, holds_some, ideal_line, network_in, network_keys, outside, passes_on, removed_in, same_term, terms_in}
 use Rattle.zb_model.specs.Tools.{Tools}
-use Rattle.zb_trace.specs.Terms.{model_term}
+use Rattle.zb_model_real.specs.Terms.{model_term}
 use Rattle.zb_seal.specs.declared.term.Term.{Term}
 use Rattle.zb_trace_watch.specs.Exposure.{IsSettled, was_removed}
 use Rattle.zb_trace_watch.specs.Nodes.{Declares}

@@ -21,7 +21,7 @@ use Rattle.zb_model.specs.Lines as log
 use Rattle.zb_model.specs.Readings.{station_line, stations_of}
 use Rattle.zb_model.specs.Secrets.{base_in, based_line, came_by, carried, carried_at, code_in, ever_in, forged_in, holds, holds_some, ideal_line, is_the_centre, network_in, network_keys, removed_in, same_term, terms_in}
 use Rattle.zb_model.specs.Tools.{Tools}
-use Rattle.zb_trace.specs.Terms.{model_term}
+use Rattle.zb_model_real.specs.Terms.{model_term}
 use Rattle.zb_seal.specs.declared.term.Term.{Term}
 use Rattle.zb_trace.specs.Views.{logged, named}
 use Rattle.zb_trace.specs.declared.line.Line.{Line}

@@ -23,11 +23,12 @@ use Rattle.zb_model.specs.Data.{Bytes}
 use Rattle.zb_model.specs.Readings.{stations_of}
 use Rattle.zb_model.specs.Secrets.{clear_key, key_shown, unsealed_key, bases, codes_of, each_line, ever, ideal, network_keys, passes_on, private, removed_devices, terms_of}
 use Rattle.zb_model.specs.Tools.{Tools}
+use Rattle.zb_model_real.specs.Readers.{aps_shown, auxiliary, command_shown}
+use Rattle.zb_model_real.specs.Real.{real}
 use Rattle.zb_seal.specs.declared.term.Term.{Term}
 use Rattle.zb_trace_watch.specs.Exposure.{IsSettled, was_removed}
 use Rattle.zb_trace_watch.specs.Nodes.{Declares}
 use Rattle.zb_trace_watch.specs.Sets.{has, is_carried, is_node, node_has}
-use Rattle.zb_trace_watch.specs.Readers.{aps_shown, auxiliary, command_shown, with_readers}
 use Rattle.zb_trace_watch.specs.Standing.{FindKeys, Stands, bytes_of}
 use Rattle.zb_trace_watch.specs.Terms.{has_term}
 use Rattle.zb_trace_watch.specs.declared.exposure.Exposure.{Exposure}
@@ -95,21 +96,23 @@ command_found (Err (fault.KeyType found)) = refl
 command_found (Err (fault.Short at)) = refl
 command_found (Err (fault.Trailing count)) = refl
 
-unsealed_found : (tools : Tools) (f : ApsFrame) (aux : Option ApsAux) (b : Bool)
-    → unsealed_key (with_readers tools) (record { is_command = b; auxiliary = option_map auxiliary aux; body = f.body.items }) (option_map auxiliary aux)
+unsealed_found : (f : ApsFrame) (aux : Option ApsAux) (b : Bool)
+    → unsealed_key real (record { is_command = b; auxiliary = option_map auxiliary aux; body = f.body.items }) (option_map auxiliary aux)
     ≡ bytes_of (if is_none aux && b then carrying.key_in (command_of f.body.items) else None)
-unsealed_found tools f None true = command_found (command_of f.body.items)
-unsealed_found tools f None false = refl
-unsealed_found tools f (Some aux) b = refl
+unfolding real
+unsealed_found f None true = command_found (command_of f.body.items)
+unsealed_found f None false = refl
+unsealed_found f (Some aux) b = refl
 
-frame_found : (tools : Tools) (r : Result ApsFrame ApsError) → clear_key (with_readers tools) (aps_shown r) ≡ bytes_of (carrying.clear_key r)
-frame_found tools (Ok f) = unsealed_found tools f f.aux (carrying.is_command f.header.control)
-frame_found tools (Err e) = refl
+frame_found : (r : Result ApsFrame ApsError) → clear_key real (aps_shown r) ≡ bytes_of (carrying.clear_key r)
+frame_found (Ok f) = unsealed_found f f.aux (carrying.is_command f.header.control)
+frame_found (Err e) = refl
 
-pub readers_find : (tools : Tools) → FindKeys (with_readers tools)
-readers_find tools = record {
+pub readers_find : FindKeys real
+unfolding real
+readers_find = record {
   in_command = λ bytes. command_found (command_of bytes);
-  in_frame = λ bytes. frame_found tools (frame_of bytes);
+  in_frame = λ bytes. frame_found (frame_of bytes);
 }
 
 pub log_more : (lines : List Line) (i : ℕ) (l : Line) → i < length lines → l ≡ get_or lines i l → log_of (take (i + 1) lines) ≡ with_line (log_of (take i lines)) l

@@ -15,7 +15,7 @@ use Rattle.zb_trace_watch.proofs.Alike.{bytes_alike}
 use Rattle.zb_trace_watch.proofs.Truth.{number_so, same_truth}
 use Rattle.zb_model.specs.Secrets.{same_term}
 use Rattle.zb_node_types.specs.Changes.{model_layer}
-use Rattle.zb_trace.specs.Terms.{model_term, model_label}
+use Rattle.zb_model_real.specs.Terms.{model_term, model_label}
 use Rattle.zb_seal.specs.declared.term.Term.{Term}
 use Rattle.zb_seal.specs.contracts.term.TermOrd.TheImpl as term_ord
 use Rattle.zb_seal.specs.contracts.term.TermOrd.TheImpl.Laws as term_laws

@@ -6,4 +6,3 @@ pub mod Passing
 pub mod Nodes
 pub mod Closure
 pub mod Standing
-pub mod Readers

@@ -12,7 +12,7 @@ use Rattle.zb_aps.specs.Reading.{frame_of}
 use Rattle.zb_base.specs.declared.key.Key.{Key}
 use Rattle.zb_transported.specs.Carrying as carrying
 use Rattle.zb_cmd.specs.Reading.{command_of}
-use Rattle.zb_trace.specs.Terms.{model_term}
+use Rattle.zb_model_real.specs.Terms.{model_term}
 use Rattle.zb_seal.specs.declared.term.Term.{Term}
 use Rattle.zb_trace_watch.specs.Exposure.{was_removed}
 use Rattle.zb_trace_watch.specs.Nodes.{Declares}

@@ -2,7 +2,7 @@
 use Rattle.std.specs.Prelude.{Bool}
 use Rattle.std.specs.List.{list_any}
 use Rattle.zb_model.specs.Secrets.{same_term}
-use Rattle.zb_trace.specs.Terms.{model_term}
+use Rattle.zb_model_real.specs.Terms.{model_term}
 use Rattle.zb_seal.specs.declared.term.Term.{Term}
 use Rattle.zb_trace_watch.specs.declared.terms.Terms.{Terms}
 

@@ -4,13 +4,12 @@ ghost use Rattle.zb_model.specs.Data.{Bytes};
 ghost use Rattle.zb_model.specs.Lines.{Line};
 ghost use Rattle.zb_model.specs.Secrets.{exposed, holds, terms_of};
 ghost use Rattle.zb_model.specs.Tools.{Tools};
+ghost use Rattle.zb_model_real.specs.Real.{real};
 ghost use Rattle.zb_trace_watch.specs.Closure.{IsClosed};
-ghost use Rattle.zb_trace_watch.specs.Readers.{with_readers};
 ghost use Rattle.zb_trace_watch.specs.Standing.{FindKeys};
 
 /// The exposed keys have the start, have what a term carries wherever they have its base key, and are no more than
 /// any such set of keys has.
-#[tactic(auto, using(crate::proofs::Exposed::exposed_covers, crate::proofs::Exposed::exposed_closed, crate::proofs::Exposed::exposed_least))]
 pub fn exposed_keys_are_the_least_closed_set()
     ensures covers { (tools : Tools) (h : List Line) (from : List Bytes) (k : Bytes) → holds from k ≡ true
         → holds (exposed tools h from) k ≡ true }
@@ -21,9 +20,7 @@ pub fn exposed_keys_are_the_least_closed_set()
         → (k : Bytes) → holds (exposed tools h from) k ≡ true → S k ≡ true }
 {}
 
-/// Tools that read APS frames and commands as this program does find the keys in them that this program finds, so there
-/// are tools of which the contract of the watch speaks.
-#[tactic(auto, using(crate::proofs::Starting::readers_find))]
-pub fn tools_with_these_readers_find_their_keys()
-    ensures { (tools : Tools) → FindKeys (with_readers tools) }
+/// The keys that real commands and frames carry are those that the watch over a transcript finds in them.
+pub fn the_watch_finds_the_keys_of_frames()
+    ensures { FindKeys real }
 {}

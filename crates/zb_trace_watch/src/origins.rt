@@ -1,7 +1,7 @@
 //! Where what was accepted, and the keys that were taken in, came from.
 ghost use Rattle.std.specs.Prelude.{◌≡◌, ◌||◌, ◌&&◌, ◌⊎◌, ℕ, List, OnOk, Some, bytes_eq, false, true, not};
 ghost use Rattle.zb_model.specs.Secrets.{same_term};
-ghost use Rattle.zb_trace.specs.Terms.{model_term};
+ghost use Rattle.zb_model_real.specs.Terms.{model_term};
 ghost use Rattle.zb_seal.specs.declared.term.Term.{Term as AnyTerm};
 ghost use Rattle.zb_trace_watch.specs.Origins.{IsTraced, came};
 ghost use Rattle.zb_trace_watch.specs.Sets.{eui_cmp, is_carried, is_key, is_node, key_cmp, keys_at, meet, node_has};
@@ -76,8 +76,8 @@ impl Origins {
         self.ideal = self.ideal && self.terms.has(term);
     }
 
-    /// Notes that a router or device took a key in, or no node did. What was traced isn't looked for again, and once a key came
-    /// from nowhere none is.
+    /// Notes that a router or device took a key in, or no node did. What was traced isn't looked for again, and once a
+    /// key came from nowhere none is.
     pub fn take_in(&mut self, alloc: Global, node: Option<Eui>, key: Key) -> Result<(), AllocError>
         ensures ideal { OnOk result (IsTraced self.old node key.0
             → self.new.ideal ≡ (self.old.ideal && came self.old node key.0)) }

@@ -1,7 +1,7 @@
 //! Sets of terms.
 ghost use Rattle.std.specs.Prelude.{◌≡◌, ◌||◌, OnOk, false};
 ghost use Rattle.zb_model.specs.Secrets.{same_term};
-ghost use Rattle.zb_trace.specs.Terms.{model_term};
+ghost use Rattle.zb_model_real.specs.Terms.{model_term};
 ghost use Rattle.zb_seal.specs.declared.term.Term.{Term};
 ghost use Rattle.zb_trace_watch.specs.Terms.{has_term};
 

@@ -7,7 +7,7 @@ ghost use Rattle.zb_model.specs.Lines.{Declared, GivenNet as net_given, GivenLin
 ghost use Rattle.zb_model.specs.Readings.{stations_of};
 ghost use Rattle.zb_model.specs.Secrets.{ideal as ideal_of, private as private_of};
 ghost use Rattle.zb_model.specs.Tools.{Tools};
-ghost use Rattle.zb_trace.specs.Terms.{model_term};
+ghost use Rattle.zb_model_real.specs.Terms.{model_term};
 ghost use Rattle.zb_trace.specs.Views.{log_of, logged, named};
 ghost use Rattle.zb_trace_watch.specs.Nodes.{IsOf};
 ghost use Rattle.zb_trace_watch.specs.Standing.{FindKeys, Follows, Stands};

@@ -19,7 +19,7 @@ key_in (Ok (TransportApplication key partner initiator)) = Some key
 key_in (Ok (TransportLink key destination source)) = Some key
 key_in _ = None
 
--- the two low bits of an APS frame control are 1 for a command
+-- the two low bits of a frame control are 1 for a command, at NWK (05-3474-21, 3.3.1.1.1) as at APS (2.2.5.1.1.1)
 abbrev pub is_command : ℕ → Bool
 is_command control = control % 4 == 1
 

@@ -35,12 +35,12 @@ fn is_command_header(header: &[u8]) -> bool
 {
     match header {
         [] => false,
-        [control, ..] => is_command(*control),
+        [control, ..] => is_command(u16::from(*control)),
     }
 }
 
-/// Tells whether an APS frame control is that of a command.
-fn is_command(control: u8) -> bool
+/// Tells whether an APS or NWK frame control is that of a command: its two low bits are 1.
+pub fn is_command(control: u16) -> bool
     ensures { result ≡ is_command control }
 {
     control % 4 == 1
@@ -66,7 +66,7 @@ fn key_in_clear(bytes: &[u8]) -> Option<Key>
 fn is_clear_command(frame: &ApsFrame) -> bool
     ensures { result ≡ is_clear_command frame.now }
 {
-    frame.aux.is_none() && is_command(frame.header.control)
+    frame.aux.is_none() && is_command(u16::from(frame.header.control))
 }
 
 /// Answers the key in a Transport-Key, of any of its three types.

@@ -1,7 +1,8 @@
 use Rattle.std.proofs.Common.{◌≡◌, List, ℕ, Bool, true, false, rules, sym, ◌∙◌, ap, subst}
-use Rattle.zb_disk.specs.Memory.{Medium, IsImage, is_stopped, torn_by, settled, powered}
+use Rattle.zb_disk.specs.View.{Only}
+use Rattle.zb_disk.specs.Memory.{Medium, IsImage, is_stopped, torn_by, settled, powered, memory_view}
 use Rattle.zb_disk.specs.MemoryInside.{medium_of}
-use Rattle.zb_disk.proofs.Tearing.{settled_image, settled_byte, powered_on, powered_off}
+use Rattle.zb_disk.proofs.Tearing.{settled_image, settled_byte, powered_on, powered_off, only_powered}
 use Rattle.zb_disk.proofs.memory.MemDisk.power_on.Goals as goal
 
 bytes_of : (m new : Medium) → new ≡ powered m → new.bytes ≡ settled m
@@ -11,6 +12,9 @@ bytes_of m new is = ap (λ (x : Medium). x.bytes) is
 image_of : (m new : Medium) → new ≡ powered m → IsImage m.bytes m.written m.grown new.bytes
 image_of m new is = subst (λ (l : List ℕ). IsImage m.bytes m.written m.grown l) (sym (bytes_of m new is)) (settled_image m (is_stopped m.arming))
 
+only_of : (m new : Medium) → new ≡ powered m → Only new.bytes (memory_view new).images
+only_of m new is = subst (λ (x : Medium). Only x.bytes (memory_view x).images) (sym is) (only_powered m)
+
 pub returns-then-not-is_off-clause-after : goal.returns-then-not-is_off-clause-after
 returns-then-not-is_off-clause-after c =
     let on : is_stopped c.args.self.now.arming ≡ false = search rules in
@@ -18,6 +22,9 @@ returns-then-not-is_off-clause-after c =
 
 pub returns-then-not-is_off-clause-one_of_the_images : goal.returns-then-not-is_off-clause-one_of_the_images
 returns-then-not-is_off-clause-one_of_the_images c = image_of c.args.self.now c.settle.new.self (returns-then-not-is_off-clause-after c)
+
+pub returns-then-not-is_off-clause-only : goal.returns-then-not-is_off-clause-only
+returns-then-not-is_off-clause-only c = only_of c.args.self.now c.settle.new.self (returns-then-not-is_off-clause-after c)
 
 pub returns-clause-after : goal.returns-clause-after
 returns-clause-after c =
@@ -31,6 +38,9 @@ returns-clause-after c =
 
 pub returns-clause-one_of_the_images : goal.returns-clause-one_of_the_images
 returns-clause-one_of_the_images c = image_of c.args.self.now c.settle-2.new.self (returns-clause-after c)
+
+pub returns-clause-only : goal.returns-clause-only
+returns-clause-only c = only_of c.args.self.now c.settle-2.new.self (returns-clause-after c)
 
 pub returns-clause-one_byte : goal.returns-clause-one_byte
 returns-clause-one_byte c at one within off some = bytes_of c.args.self.now c.settle-2.new.self (returns-clause-after c) ∙ settled_byte c.args.self.now at one within off some

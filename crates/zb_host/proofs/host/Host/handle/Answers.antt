@@ -1,4 +1,4 @@
-use Rattle.std.proofs.Common.{rules, ◌≡◌, ◌==◌, ◌||◌, ◌⊎◌, List, Bool, Option, Ok, Err, Result, refl, sym, ◌∙◌, ap, subst}
+use Rattle.std.proofs.Common.{rules, ◌≡◌, ◌≢◌, ◌==◌, ◌||◌, ◌⊎◌, List, [], Bool, Option, Ok, Err, Result, refl, sym, ◌∙◌, ap, subst}
 use Rattle.zb_store.specs.Store.{Place}
 use Rattle.zb_node_types.specs.declared.change.Change.{Change}
 use Rattle.zb_host.specs.declared.fault.HostFault.{HostFault}
@@ -105,6 +105,9 @@ returns-in-Err g c =
             subst (λ (items : List Change). CommitStop g.D.Disk.tells (writes_whole host) s (g.C.Core.recorded after) (g.C.Core.payload items) old new) split.1 stop,
             subst (λ (items : List Change). Gives g.C.Core.restored (next_standing (writes_whole host) s (g.C.Core.recorded after) (g.C.Core.payload items)) (g.C.Core.recorded after)) split.1 leads,
           );
+      changed = λ changes fault.
+          let some : p.changes.items ≢ [] = search rules in
+          subst (λ (items : List Change). items ≢ []) (of_disk f p.changes changes (sym c.fault_of.ensures ∙ fault)).1 some;
       entry_next = tt;
       not_worn = tt;
       worn = λ is_worn. commit.untouched (ap (λ (x : StoreFault). Err x) (of_worn (writes_whole host) c.unwrap-store.result old new f p.changes (sym c.fault_of.ensures ∙ is_worn) commit.faults));

@@ -2,7 +2,7 @@ use Rattle.zb_model.specs.Data as model
 use Rattle.std.proofs.Common.{◌||◌, ◌∙◌, ap}
 use Rattle.std.specs.List.{each_same}
 use Rattle.zb_model.specs.Secrets.{same_term}
-use Rattle.zb_trace.specs.Terms.{model_term}
+use Rattle.zb_model_real.specs.Terms.{model_term}
 use Rattle.zb_seal.specs.declared.term.Term.{Term}
 use Rattle.zb_trace_watch.specs.Terms.{has_term}
 use Rattle.zb_trace_watch.proofs.Alike.{added_alike}

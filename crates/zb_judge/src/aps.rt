@@ -1,0 +1,148 @@
+//! The APS part of a delivered frame.
+ghost use Rattle.std.specs.Prelude.{◌≡◌, ◌&&◌, Ok, find, is_some, map, option_map, reverse};
+ghost use Rattle.std.specs.Option.{option_copied};
+ghost use Rattle.zb_aps.specs.Reading.{frame_of};
+ghost use Rattle.zb_aps.specs.Shape.{Spells};
+ghost use Rattle.zb_model.specs.Judging.{aps_source, candidates, chosen_row, judge_aps, opens_with};
+ghost use Rattle.zb_model.specs.State.{is_live_of};
+ghost use Rattle.zb_model_real.specs.Readers.{auxiliary, nwk_frame_shown};
+ghost use Rattle.zb_model_real.specs.Real.{real};
+ghost use Rattle.zb_model_real.specs.Terms.{model_term};
+ghost use Rattle.zb_record.specs.RowViews.{link_key};
+ghost use Rattle.zb_judge.specs.Verdicts.{judged, unsealed_seen};
+
+use crate::opening::open_aps;
+use zb_aps::{ApsAux, ApsFrame};
+use zb_base::{Eui, Place};
+use zb_keys::{LinkRow, Tables};
+use zb_network::Network;
+use zb_node_types::Refusal;
+use zb_nwk::NwkFrame;
+use zb_seal::{KeyMemo, Term};
+
+/// An APS part that is accepted.
+#[derive(Debug, Drop)]
+pub struct Unsealed {
+    /// What is accepted.
+    pub term: Term,
+    /// The link row that opened it.
+    pub row: LinkRow,
+}
+
+/// Answers the source of a sealed APS part: its own, or the declared node of the frame's network address.
+fn source_of(network: &Network, frame: &NwkFrame, aux: &ApsAux) -> Option<Eui>
+    ensures { option_map (λ e. e.0) result ≡ aps_source network.now (nwk_frame_shown frame.now) (auxiliary aux.now) }
+{
+    match aux.source {
+        Some(source) => Some(source),
+        None => network.eui_at(frame.header.source),
+    }
+}
+
+/// Tells whether a row is in use and of a partner.
+fn is_candidate(row: &LinkRow, source: Eui) -> bool
+    ensures { result ≡ is_live_of source.0 (link_key row.now) }
+{
+    row.live && row.partner.0 == source.0
+}
+
+/// Tells whether the key of a row opens the frame. Requires the bytes that the frame was read from.
+fn opens(memo: &KeyMemo, bytes: &[u8], frame: &ApsFrame, row: &LinkRow, source: Eui) -> bool
+    requires read { frame_of bytes.now ≡ Ok frame.now }
+    requires spells { Spells bytes.now frame.now }
+    ensures { result ≡ opens_with real bytes.now source.0 (link_key row.now) }
+{
+    open_aps(memo, bytes, frame, &row.key, source).is_some()
+}
+
+/// Answers the newest row of a partner that is in use.
+fn first_candidate<'a>(rows: &'a [LinkRow], source: Eui) -> Option<&'a LinkRow>
+    ensures { option_copied result ≡ find (λ row. is_live_of source.0 (link_key row)) (reverse rows.now) }
+{
+    rows.iter().rev().find(|row| is_candidate(row, source))
+}
+
+/// Answers the newest row of a partner that is in use and opens the frame.
+///
+/// Requires the bytes that the frame was read from.
+fn first_opening<'a>(
+    memo: &KeyMemo,
+    rows: &'a [LinkRow],
+    bytes: &[u8],
+    frame: &ApsFrame,
+    source: Eui,
+) -> Option<&'a LinkRow>
+    requires read { frame_of bytes.now ≡ Ok frame.now }
+    requires spells { Spells bytes.now frame.now }
+    ensures { option_copied result ≡ find (λ row. is_live_of source.0 (link_key row)
+        && opens_with real bytes.now source.0 (link_key row)) (reverse rows.now) }
+{
+    rows.iter().rev().find(|row| is_candidate(row, source)
+        && opens(memo, bytes, frame, row, source))
+}
+
+/// Answers the newest row of a partner that is in use and opens the frame, else the newest that is in use.
+///
+/// Requires the bytes that the frame was read from.
+fn chosen<'a>(
+    memo: &KeyMemo,
+    tables: &'a Tables,
+    bytes: &[u8],
+    frame: &ApsFrame,
+    source: Eui,
+) -> Option<&'a LinkRow>
+    requires read { frame_of bytes.now ≡ Ok frame.now }
+    requires spells { Spells bytes.now frame.now }
+    ensures { option_map link_key (option_copied result)
+        ≡ chosen_row real bytes.now source.0 (candidates tables.now source.0) }
+{
+    let rows = tables.links();
+    match first_opening(memo, rows, bytes, frame, source) {
+        Some(row) => Some(row),
+        None => first_candidate(rows, source),
+    }
+}
+
+/// Judges a sealed APS part of a frame, by the link key of its source. Requires the bytes that the part was read from.
+/// A key that the memo lacks is expanded.
+///
+/// # Errors
+///
+/// No source or no link key of it, the greatest counter, a counter below the key's floor and a wrong code, in this
+/// order.
+#[tactic(auto, unfolding(crate::specs::Steps::judge_aps, crate::specs::Steps::need, crate::specs::Steps::reject))]
+pub fn judge_aps(
+    network: &Network,
+    tables: &Tables,
+    memo: &KeyMemo,
+    frame: &NwkFrame,
+    bytes: &[u8],
+    part: &ApsFrame,
+    aux: &ApsAux,
+) -> Result<Unsealed, Refusal>
+    requires read { frame_of bytes.now ≡ Ok part.now }
+    requires spells { Spells bytes.now part.now }
+    ensures { judged unsealed_seen result
+        ≡ judge_aps real network.now tables.now (nwk_frame_shown frame.now) bytes.now (auxiliary aux.now) }
+{
+    let place = Place::Aps;
+    let Some(source) = source_of(network, frame, aux) else {
+        return Err(Refusal::NoKey { place });
+    };
+    let Some(row) = chosen(memo, tables, bytes, part, source) else {
+        return Err(Refusal::NoKey { place });
+    };
+    if aux.counter >= u32::MAX {
+        return Err(Refusal::CounterMax { place });
+    }
+    if aux.counter < row.floor.kept {
+        return Err(Refusal::Stale {
+            place,
+            floor: row.floor.kept,
+        });
+    }
+    let Some(term) = open_aps(memo, bytes, part, &row.key, source) else {
+        return Err(Refusal::BadMic { place });
+    };
+    Ok(Unsealed { term, row: *row })
+}

@@ -1,0 +1,213 @@
+//! The NWK layer of a delivered frame.
+ghost use Rattle.std.specs.Prelude.{◌≡◌, ◌&&◌, IfSome, Ok, Some, not, option_map};
+ghost use Rattle.zb_model.specs.Judging.{is_transport, judge_net, judge_nwk, judge_security, may_pass_unsecured, sealed_for_transport};
+ghost use Rattle.zb_model.specs.Rules.{waits_for_key};
+ghost use Rattle.zb_model.specs.State.{is_centre, is_known, is_live};
+ghost use Rattle.zb_model_real.specs.Readers.{aps_frame_shown, nwk_auxiliary, nwk_frame_shown};
+ghost use Rattle.zb_model_real.specs.Real.{real};
+ghost use Rattle.zb_model_real.specs.Terms.{model_label, model_term};
+ghost use Rattle.zb_node_types.specs.Changes.{model_state};
+ghost use Rattle.zb_nwk.specs.Reading.{frame_of};
+ghost use Rattle.zb_nwk.specs.Shape.{Spells};
+ghost use Rattle.zb_judge.specs.Verdicts.{carrier_seen, judged};
+
+use crate::opening::open_nwk;
+use zb_aps::ApsFrame;
+use zb_base::{Eui, Label, Place, State};
+use zb_keys::Tables;
+use zb_network::Network;
+use zb_node_types::Refusal;
+use zb_nwk::{NwkAux, NwkFrame};
+use zb_rows::{floor_of, is_full_for, is_known, is_live, usable_of};
+use zb_seal::{KeyMemo, Term, label_of};
+use zb_transported::is_command;
+
+/// A frame whose NWK layer passed.
+#[derive(Debug, Drop)]
+pub struct Carrier {
+    /// The frame.
+    pub frame: NwkFrame,
+    /// What is accepted, where the NWK layer is secured.
+    pub term: Option<Term>,
+}
+
+/// Tells whether a label is that of a key-transport key.
+fn is_transport(label: Label) -> bool
+    ensures { result ≡ is_transport (model_label label) }
+{
+    match label {
+        Label::Data => false,
+        Label::Network => false,
+        Label::Transport => true,
+        Label::Load => false,
+    }
+}
+
+/// Tells whether an APS frame is a command that is sealed under a key-transport key.
+fn is_for_transport(frame: &ApsFrame) -> bool
+    ensures { result ≡ sealed_for_transport (Some (aps_frame_shown frame.now)) }
+{
+    match &frame.aux {
+        None => false,
+        Some(aux) => is_command(u16::from(frame.header.control))
+            && is_transport(label_of(aux.control)),
+    }
+}
+
+/// Tells whether bytes are an APS command that is sealed under a key-transport key.
+#[tactic(auto, unfolding(crate::specs::Steps::real))]
+fn is_sealed_for_transport(bytes: &[u8]) -> bool
+    ensures { result ≡ sealed_for_transport (real.read_aps bytes.now) }
+{
+    match zb_aps::read(bytes) {
+        Err(_) => false,
+        Ok(frame) => is_for_transport(&frame),
+    }
+}
+
+/// Tells whether a node in that state waits for the network key.
+fn waits_for_key(state: State) -> bool
+    ensures { result ≡ waits_for_key (model_state state) }
+{
+    match state {
+        State::Fresh => false,
+        State::Knocked => true,
+        State::Joined => false,
+        State::Offered => false,
+        State::Confirmed => false,
+        State::Rejoining => true,
+        State::Gone => false,
+    }
+}
+
+/// Tells whether an unsecured frame passes: it brings a router or device that waits for the network key a command
+/// under a key-transport key.
+fn may_pass_unsecured(network: &Network, tables: &Tables, frame: &NwkFrame) -> bool
+    ensures { result ≡ may_pass_unsecured real network.now tables.now (nwk_frame_shown frame.now) }
+{
+    !network.is_centre()
+        && waits_for_key(tables.state())
+        && !is_command(frame.header.control)
+        && is_sealed_for_transport(frame.body.as_slice())
+}
+
+/// Tells whether a sender is a device that was removed, which the centre knows.
+fn was_removed(network: &Network, tables: &Tables, source: Eui) -> bool
+    ensures { result ≡ (is_centre network.now.me.role
+        && (is_known tables.now source.0 && not (is_live tables.now source.0))) }
+{
+    network.is_centre() && is_known(tables, source) && !is_live(tables, source)
+}
+
+/// Judges a frame under the network key of its key sequence. Requires the bytes that the frame was read from.
+///
+/// # Errors
+///
+/// No key of that sequence, the greatest counter, a counter below the sender's floor, a wrong code, a sender that isn't
+/// declared or was removed, and no room for the sender's floor, in this order.
+#[tactic(auto, unfolding(crate::specs::Steps::judge_net, crate::specs::Steps::need, crate::specs::Steps::reject))]
+fn judge_net(
+    network: &Network,
+    tables: &Tables,
+    memo: &KeyMemo,
+    bytes: &[u8],
+    frame: &NwkFrame,
+    aux: &NwkAux,
+) -> Result<Term, Refusal>
+    requires read { frame_of bytes.now ≡ Ok frame.now }
+    requires spells { Spells bytes.now frame.now }
+    ensures { judged model_term result ≡ judge_net real network.now tables.now bytes.now (nwk_auxiliary aux.now) }
+{
+    let place = Place::Nwk;
+    let Some(row) = usable_of(tables, aux.key_sequence) else {
+        return Err(Refusal::NoKey { place });
+    };
+    if aux.counter >= u32::MAX {
+        return Err(Refusal::CounterMax { place });
+    }
+    let floor = floor_of(row, aux.source).kept;
+    if aux.counter < floor {
+        return Err(Refusal::Stale { place, floor });
+    }
+    let Some(term) = open_nwk(memo, bytes, frame, &row.key) else {
+        return Err(Refusal::BadMic { place });
+    };
+    if !network.is_declared(aux.source) {
+        return Err(Refusal::NotMember { place });
+    }
+    if was_removed(network, tables, aux.source) {
+        return Err(Refusal::NotMember { place });
+    }
+    if is_full_for(row, aux.source, aux.counter) {
+        return Err(Refusal::RowsFull { place });
+    }
+    Ok(term)
+}
+
+/// Judges the security of a frame for this node. Requires the bytes that the frame was read from.
+#[tactic(auto, unfolding(crate::specs::Steps::reject))]
+fn judge_security(
+    network: &Network,
+    tables: &Tables,
+    memo: &KeyMemo,
+    bytes: &[u8],
+    frame: NwkFrame,
+) -> Result<Carrier, Refusal>
+    requires read { frame_of bytes.now ≡ Ok frame }
+    requires spells { Spells bytes.now frame }
+    ensures { judged carrier_seen result ≡ judge_security real network.now tables.now bytes.now (nwk_frame_shown frame)
+        (option_map nwk_auxiliary frame.aux) }
+{
+    match &frame.aux {
+        None => {
+            if !may_pass_unsecured(network, tables, &frame) {
+                return Err(Refusal::Unsecured { place: Place::Nwk });
+            }
+            Ok(Carrier { frame, term: None })
+        }
+        Some(aux) => {
+            let term = judge_net(network, tables, memo, bytes, &frame, aux)?;
+            Ok(Carrier {
+                frame,
+                term: Some(term),
+            })
+        }
+    }
+}
+
+/// Reads a NWK frame, if the bytes are one.
+#[tactic(auto, unfolding(crate::specs::Steps::real))]
+fn read_frame(bytes: &[u8]) -> Option<NwkFrame>
+    ensures shown { option_map nwk_frame_shown result ≡ real.read_nwk bytes.now }
+    ensures read { IfSome result (λ frame. frame_of bytes.now ≡ Ok frame) }
+    ensures spells { IfSome result (λ frame. Spells bytes.now frame) }
+{
+    match zb_nwk::read(bytes) {
+        Ok(frame) => Some(frame),
+        Err(_) => None,
+    }
+}
+
+/// Judges the NWK layer of delivered bytes. A key that the memo lacks is expanded.
+///
+/// # Errors
+///
+/// Malformed bytes, a frame of this node or for another, one that isn't secured and may not pass so, and then what
+/// the security of the frame is refused for.
+#[tactic(auto, unfolding(crate::specs::Steps::judge_nwk, crate::specs::Steps::need, crate::specs::Steps::reject))]
+pub fn judge_nwk(
+    network: &Network,
+    tables: &Tables,
+    memo: &KeyMemo,
+    bytes: &[u8],
+) -> Result<Carrier, Refusal>
+    ensures { judged carrier_seen result ≡ judge_nwk real network.now tables.now bytes.now }
+{
+    let Some(frame) = read_frame(bytes) else {
+        return Err(Refusal::Malformed { place: Place::Nwk });
+    };
+    if frame.header.source.0 == network.short().0 || !network.hears(frame.header.destination) {
+        return Err(Refusal::NotForMe { place: Place::Nwk });
+    }
+    judge_security(network, tables, memo, bytes, frame)
+}

@@ -1,0 +1,6 @@
+pub mod Alike
+pub mod Held
+pub mod Joining
+pub mod Drawn
+pub mod Standing
+pub mod NoDraws

@@ -1,8 +1,0 @@
--- The readers are the same.
-use Rattle.zb_trace_watch.proofs.Starting.{readers_find}
-use Rattle.zb_model_real.specs.Real.{real}
-use Rattle.zb_model_real.proofs.the_watch_finds_the_keys_of_frames.Goals as goal
-
-pub returns : goal.returns
-unfolding real
-returns c = readers_find real

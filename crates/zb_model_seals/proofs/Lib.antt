@@ -1,0 +1,7 @@
+mod Rows
+mod Along
+pub mod Next
+pub mod Room
+pub mod Limits
+pub mod SealLayers
+pub mod Heard

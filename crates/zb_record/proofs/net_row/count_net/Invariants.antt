@@ -1,9 +1,0 @@
-use Rattle.std.proofs.Common.{if◌then◌else◌}
-use Rattle.zb_model.specs.State.{NetKey, same_key}
-use Rattle.zb_record.specs.RowViews.{net_key}
-use Rattle.zb_record.specs.Senders.{counted_row}
-use Rattle.zb_record.proofs.Mapping.{Mapped}
-use Rattle.zb_record.proofs.net_row.count_net.Given as goal
-
-abbrev pub invariant-loop-row : goal.invariant-loop-row
-invariant-loop-row l = Mapped net_key (λ (r : NetKey). if same_key r.key l.key.0 then counted_row r else r) l.row-index l.initial.rows l.rows

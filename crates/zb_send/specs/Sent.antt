@@ -1,0 +1,22 @@
+-- What goes out, as the model's.
+use Rattle.std.specs.Prelude.{◌≡◌, ℕ, List, [], ◌∷◌, ◌++◌, Option, Some, None, option_map, option_to_list}
+use Rattle.arrayvec.specs.ArrayVec.{ArrayVec}
+use Rattle.zb_model.specs.Answer as model
+use Rattle.zb_model.specs.Data as words
+use Rattle.zb_model.specs.State.{NodeState, next_counter}
+use Rattle.zb_model_real.specs.Terms.{model_term}
+use Rattle.zb_seal.specs.declared.term.Term.{Term}
+use Rattle.zb_send.specs.declared.sent.Sent.{Sent}
+
+-- the terms of a frame, APS before NWK
+abbrev pub seals_of : Option Term → Option Term → List words.Term
+seals_of aps None = option_to_list (option_map model_term aps)
+seals_of aps (Some nwk) = option_to_list (option_map model_term aps) ++ model_term nwk ∷ []
+
+abbrev pub sent_seen : Sent → model.Outgoing
+sent_seen s = record { seals = seals_of s.aps s.nwk; frame = option_map (λ (f : ArrayVec ℕ). f.items) s.frame }
+
+-- the counters of a frame are the next ones of the state
+pub record IsCounting (s : NodeState) (k : model.Counting) : Type 0 where
+  pub nwk : k.counter words.Nwk ≡ next_counter words.Nwk s
+  pub aps : k.counter words.Aps ≡ next_counter words.Aps s

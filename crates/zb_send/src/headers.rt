@@ -1,0 +1,103 @@
+//! The headers of the frames that a node sends (05-3474-21, 2.2.5.1, 3.3.1 and 4.5.1), in the values of this profile.
+ghost use Rattle.std.specs.Prelude.{◌≡◌, ◌+◌, ◌≤◌, ◌∷◌, ◌++◌, [], length};
+ghost use Rattle.zb_model.specs.Frames.{aps_auxiliary, aps_control, aps_label, data_control, data_front, low_byte, nwk_auxiliary, nwk_header, sealed_command, sealed_data};
+ghost use Rattle.zb_model.specs.Data.{ForData};
+ghost use Rattle.zb_model_real.specs.Terms.{model_label};
+
+use zb_base::{Eui, Frame, Label, Short};
+use zb_cursor::{frame_from, put};
+
+/// Answers the auxiliary control of an APS frame: level 5, the extended nonce, and the key identifier of the label.
+pub(crate) fn aps_control(label: Label) -> u8
+    ensures { result ≡ aps_control (model_label label) }
+{
+    match label {
+        Label::Data => 0x25,
+        Label::Network => 0x25,
+        Label::Transport => 0x35,
+        Label::Load => 0x3d,
+    }
+}
+
+/// Answers the label of an APS term, since network keys seal at the NWK layer alone.
+pub(crate) fn aps_label(label: Label) -> Label
+    ensures { model_label result ≡ aps_label (model_label label) }
+{
+    match label {
+        Label::Data => Label::Data,
+        Label::Network => Label::Data,
+        Label::Transport => Label::Transport,
+        Label::Load => Label::Load,
+    }
+}
+
+/// Answers the low byte of a frame counter, which stands for the sequence numbers of both layers.
+pub(crate) fn low_byte(counter: u32) -> u8
+    ensures { result ≡ low_byte counter }
+{
+    (counter % 256) as u8
+}
+
+/// Makes the header of a sealed APS command with its auxiliary header.
+pub(crate) fn command_header(label: Label, counter: u32, source: Eui) -> Frame
+    ensures items { result.items
+        ≡ sealed_command ++ low_byte counter ∷ aps_auxiliary (model_label label) counter source.0 }
+    ensures len { length result.items ≡ 15 }
+{
+    let [a, b, c, d, e, f, g, h] = source.0.to_le_bytes();
+    let [i, j, k, l] = counter.to_le_bytes();
+    let low = low_byte(counter);
+    let control = aps_control(label);
+    frame_from(&[0x21, low, control, i, j, k, l, a, b, c, d, e, f, g, h])
+}
+
+/// Makes the header of sealed application data with its auxiliary header.
+pub(crate) fn data_header(counter: u32, source: Eui) -> Frame
+    ensures items { result.items ≡ data_front sealed_data ++ low_byte counter ∷ aps_auxiliary ForData counter source.0 }
+    ensures len { length result.items ≡ 21 }
+{
+    let [a, b, c, d, e, f, g, h] = source.0.to_le_bytes();
+    let [i, j, k, l] = counter.to_le_bytes();
+    let low = low_byte(counter);
+    frame_from(&[
+        0x20, 1, 0, 0, 4, 1, 1, low, 0x25, i, j, k, l, a, b, c, d, e, f, g, h,
+    ])
+}
+
+/// Answers the APS frame control of application data that isn't sealed: delivery by broadcast from FFF8 up.
+pub(crate) fn data_control(to: Short) -> u8
+    ensures { result ≡ data_control to.0 }
+{
+    if to.0 >= 0xfff8 { 0x08 } else { 0x00 }
+}
+
+/// Makes the header of a NWK frame.
+pub(crate) fn nwk_header(control: u16, to: Short, from: Short, sequence: u8) -> Frame
+    ensures items { result.items ≡ nwk_header control to.0 from.0 sequence }
+    ensures len { length result.items ≡ 8 }
+{
+    let [a, b] = control.to_le_bytes();
+    let [c, d] = to.0.to_le_bytes();
+    let [e, f] = from.0.to_le_bytes();
+    frame_from(&[a, b, c, d, e, f, 0x1e, sequence])
+}
+
+/// Makes the auxiliary header of a NWK frame.
+pub(crate) fn nwk_auxiliary(counter: u32, source: Eui, sequence: u8) -> Frame
+    ensures items { result.items ≡ nwk_auxiliary counter source.0 sequence }
+    ensures len { length result.items ≡ 14 }
+{
+    let [a, b, c, d, e, f, g, h] = source.0.to_le_bytes();
+    let [i, j, k, l] = counter.to_le_bytes();
+    frame_from(&[0x2d, i, j, k, l, a, b, c, d, e, f, g, h, sequence])
+}
+
+/// Puts the second bytes behind the first. Requires that a frame has room for both.
+pub(crate) fn joined(front: &[u8], back: &[u8]) -> Frame
+    requires { length front.now + length back.now ≤ 127 }
+    ensures { result.items ≡ front.now ++ back.now }
+{
+    let mut out = frame_from(front);
+    let _ = put(&mut out, back);
+    out
+}

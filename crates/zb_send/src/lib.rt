@@ -1,0 +1,11 @@
+//! What a node sends: from what is to be sent to the sealed terms and the bytes of the frame.
+#![tactic(auto)]
+
+mod headers;
+mod part;
+mod sending;
+mod sent;
+
+pub use part::{Part, part_of};
+pub use sending::{Body, Payload, Sending};
+pub use sent::{Sent, may_seal, reserve, send_out};

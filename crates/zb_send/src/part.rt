@@ -1,0 +1,259 @@
+//! The payload of a NWK frame, and what is sealed in it.
+ghost use Rattle.std.specs.Prelude.{◌≡◌, ◌+◌, ◌≤◌, ℕ, false, length, true};
+ghost use Rattle.zb_cmd.specs.Shape.{is_inner, is_tunnel};
+ghost use Rattle.zb_model.specs.Answer.{part_of};
+ghost use Rattle.zb_model.specs.Data.{ForData, Tunnel};
+ghost use Rattle.zb_model.specs.Frames.{aps_term, data_front, sealed_command, sealed_data};
+ghost use Rattle.zb_model.specs.Rules as model;
+ghost use Rattle.zb_model_real.specs.Readers.{model_command};
+ghost use Rattle.zb_model_real.specs.Real.{real};
+ghost use Rattle.zb_model_real.specs.Terms.{model_label, model_term};
+ghost use Rattle.zb_seal.specs.Wire.{wire_length};
+ghost use Rattle.zb_send.specs.Sendings.{IsSendable, body_of, room};
+ghost use Rattle.zb_send.specs.Parts.{part_seen};
+
+use crate::headers::{
+    aps_control, aps_label, command_header, data_control, data_header, joined, low_byte,
+};
+use crate::sending::{Body, Payload, Sending};
+use zb_base::{Eui, Frame, Key, Label, Layer, Short};
+use zb_cmd::{Command, write_command};
+use zb_cursor::frame_from;
+use zb_seal::{KeyMemo, Term};
+
+/// The NWK frame control of a sealed data frame.
+const SECURED: u16 = 0x0208;
+
+/// The payload of a NWK frame.
+#[derive(Debug, Drop)]
+pub struct Part {
+    /// The NWK frame control that carries it, with the bit that says sealed.
+    pub control: u16,
+    /// What is sealed at the APS layer.
+    pub seal: Option<Term>,
+    /// The payload.
+    pub bytes: Frame,
+}
+
+/// Writes a command. Requires one that is no Tunnel.
+#[tactic(auto, using(crate::proofs::Lengths::shaped, zb_model_real::proofs::SameTerms::same_spelling))]
+fn spelled(command: &Command) -> Frame
+    requires { is_tunnel command.now ≡ false }
+    ensures text { result.items ≡ real.spelled (model_command command.now) }
+    ensures short { length result.items ≤ 35 }
+{
+    match write_command(command) {
+        Ok(bytes) => bytes,
+        Err(_) => Frame::new(),
+    }
+}
+
+/// Seals a term. Requires that its bytes on the air fit a frame.
+#[tactic(auto, using(zb_model_real::proofs::SameTerms::same_wire))]
+pub(crate) fn sealed(memo: &KeyMemo, term: &Term) -> Frame
+    requires { wire_length term.now ≤ 127 }
+    ensures text { result.items ≡ real.wire (model_term term.now) }
+    ensures len { length result.items ≡ wire_length term.now }
+{
+    match memo.wire(term) {
+        Ok(bytes) => bytes,
+        Err(_) => Frame::new(),
+    }
+}
+
+/// Makes the term of an APS command under a link key.
+fn command_term(label: Label, key: &Key, me: Eui, counter: u32, content: Frame) -> Term
+    ensures term { model_term result
+        ≡ aps_term sealed_command (model_label label) key.now.0 me.0 counter content.items }
+    ensures len { wire_length result ≡ length content.items + 19 }
+{
+    Term {
+        layer: Layer::Aps,
+        base: *key,
+        label: aps_label(label),
+        source: me,
+        counter,
+        control: aps_control(label),
+        header: command_header(label, counter, me),
+        content,
+    }
+}
+
+/// Makes the term of application data under a link key.
+fn data_term(key: &Key, me: Eui, counter: u32, content: Frame) -> Term
+    ensures term { model_term result ≡ aps_term (data_front sealed_data) ForData key.now.0 me.0 counter content.items }
+    ensures len { wire_length result ≡ length content.items + 25 }
+{
+    Term {
+        layer: Layer::Aps,
+        base: *key,
+        label: Label::Data,
+        source: me,
+        counter,
+        control: 0x25,
+        header: data_header(counter, me),
+        content,
+    }
+}
+
+/// Writes a Tunnel that brings a device its frame. Requires a frame that may stand there, of at most 54 bytes.
+#[tactic(auto, using(zb_model_real::proofs::SameTerms::same_spelling))]
+fn tunnel(device: Eui, inner: Frame) -> Frame
+    requires shaped { is_inner inner.items ≡ true }
+    requires small { length inner.items ≤ 54 }
+    ensures text { result.items ≡ real.spelled (Tunnel device.0 inner.items) }
+    ensures len { length result.items ≤ 63 }
+{
+    let command = Command::Tunnel {
+        destination: device,
+        inner,
+    };
+    match write_command(&command) {
+        Ok(bytes) => bytes,
+        Err(_) => Frame::new(),
+    }
+}
+
+/// Makes the part of application data that isn't sealed.
+#[tactic(auto, unfolding(zb_model::specs::Answer::part_of))]
+fn saying(to: Short, nwk: u32, bytes: &Payload) -> Part
+    ensures part { (me aps : ℕ) → part_seen result ≡ part_of real me to.0 nwk aps (model.Saying bytes.now.items) }
+    ensures room { length result.bytes.items ≤ 101 }
+{
+    let header = [data_control(to), 1, 0, 0, 4, 1, 1, low_byte(nwk)];
+    Part {
+        control: SECURED,
+        seal: None,
+        bytes: joined(&header, bytes.as_slice()),
+    }
+}
+
+/// Makes the part of an APS command that isn't sealed.
+#[tactic(auto, unfolding(zb_model::specs::Answer::part_of))]
+fn clear(control: u8, nwk: u32, command: &Command) -> Part
+    requires { is_tunnel command.now ≡ false }
+    ensures part { (me to aps : ℕ) → part_seen result
+        ≡ part_of real me to nwk aps (model.Clear control (model_command command.now)) }
+    ensures room { length result.bytes.items ≤ 101 }
+{
+    let header = [control, low_byte(nwk)];
+    let bytes = spelled(command);
+    Part {
+        control: SECURED,
+        seal: None,
+        bytes: joined(&header, bytes.as_slice()),
+    }
+}
+
+/// Makes the part of an APS command under a link key.
+#[tactic(auto, unfolding(zb_model::specs::Answer::part_of))]
+fn secret(memo: &KeyMemo, label: Label, key: &Key, me: Eui, aps: u32, command: &Command) -> Part
+    requires { is_tunnel command.now ≡ false }
+    ensures part { (to nwk : ℕ) → part_seen result
+        ≡ part_of real me.0 to nwk aps (model.Secret (model_label label) key.now.0 (model_command command.now)) }
+    ensures room { length result.bytes.items ≤ 101 }
+{
+    let term = command_term(label, key, me, aps, spelled(command));
+    let bytes = sealed(memo, &term);
+    Part {
+        control: SECURED,
+        seal: Some(term),
+        bytes,
+    }
+}
+
+/// Makes the part of an APS command inside a Tunnel.
+#[tactic(auto, unfolding(zb_model::specs::Answer::part_of))]
+fn tunnelled(
+    memo: &KeyMemo,
+    device: Eui,
+    key: &Key,
+    me: Eui,
+    nwk: u32,
+    aps: u32,
+    command: &Command,
+) -> Part
+    requires { is_tunnel command.now ≡ false }
+    ensures part { (to : ℕ) → part_seen result
+        ≡ part_of real me.0 to nwk aps (model.Tunnelled device.0 key.now.0 (model_command command.now)) }
+    ensures room { length result.bytes.items ≤ 101 }
+{
+    let term = command_term(Label::Transport, key, me, aps, spelled(command));
+    let inner = sealed(memo, &term);
+    let bytes = tunnel(device, inner);
+    let header = [0x01, low_byte(nwk)];
+    Part {
+        control: SECURED,
+        seal: Some(term),
+        bytes: joined(&header, bytes.as_slice()),
+    }
+}
+
+/// Makes the part of application data under a link key.
+#[tactic(auto, unfolding(zb_model::specs::Answer::part_of))]
+fn telling(memo: &KeyMemo, key: &Key, me: Eui, aps: u32, bytes: &Payload) -> Part
+    ensures part { (to nwk : ℕ) → part_seen result
+        ≡ part_of real me.0 to nwk aps (model.Telling key.now.0 bytes.now.items) }
+    ensures room { length result.bytes.items ≤ 101 }
+{
+    let term = data_term(key, me, aps, frame_from(bytes.as_slice()));
+    let bytes = sealed(memo, &term);
+    Part {
+        control: SECURED,
+        seal: Some(term),
+        bytes,
+    }
+}
+
+/// Makes the part of a Leave that asks a node to go.
+#[tactic(auto, unfolding(zb_model::specs::Answer::part_of))]
+fn leaving() -> Part
+    ensures part { (me to nwk aps : ℕ) → part_seen result ≡ part_of real me to nwk aps model.Leaving }
+    ensures room { length result.bytes.items ≤ 101 }
+{
+    Part {
+        control: 0x0209,
+        seal: None,
+        bytes: frame_from(&[0x04, 0x40]),
+    }
+}
+
+/// Makes the part that is the frame of a Tunnel.
+#[tactic(auto, unfolding(zb_model::specs::Answer::part_of))]
+fn relayed(bytes: &Frame) -> Part
+    ensures part { (me to nwk aps : ℕ) → part_seen result ≡ part_of real me to nwk aps (model.Relayed bytes.now.items) }
+    ensures room { length result.bytes.items ≡ length bytes.now.items }
+{
+    Part {
+        control: SECURED,
+        seal: None,
+        bytes: frame_from(bytes.as_slice()),
+    }
+}
+
+/// Makes the payload of a NWK frame, from the node's IEEE address and the frame counters of both layers. A key that the
+/// memo lacks is expanded.
+#[tactic(auto, using(crate::proofs::Lengths::least_room))]
+pub fn part_of(memo: &KeyMemo, me: Eui, nwk: u32, aps: u32, sending: &Sending) -> Part
+    requires { IsSendable sending.now }
+    ensures part { part_seen result ≡ part_of real me.0 sending.now.to.0 nwk aps (body_of sending.now.body) }
+    ensures room { length result.bytes.items ≤ room sending.now.secured }
+{
+    match &sending.body {
+        Body::Saying { bytes } => saying(sending.to, nwk, bytes),
+        Body::Clear { control, command } => clear(*control, nwk, command),
+        Body::Secret {
+            label,
+            key,
+            command,
+        } => secret(memo, *label, key, me, aps, command),
+        Body::Tunnelled {
+            device,
+            key,
+            command,
+        } => tunnelled(memo, *device, key, me, nwk, aps, command),
+        Body::Telling { key, bytes } => telling(memo, key, me, aps, bytes),
+        Body::Leaving => leaving(),
+        Body::Relayed { bytes } => relayed(bytes),
+    }
+}

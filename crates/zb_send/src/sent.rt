@@ -1,0 +1,245 @@
+//! The frame that goes out, and the terms that are sealed in it.
+ghost use Rattle.std.specs.Prelude.{◌≡◌, ◌≤◌, ◌+◌, ◌&&◌, ◌||◌, Some, is_some, length, nat_eq, not, option_map};
+ghost use Rattle.zb_model.specs.Answer.{Counting, framed, has_aps_seal, may_seal, nothing_out, out_of, plain_out, reserve_of, seals_at, secured_out, sent};
+ghost use Rattle.zb_model.specs.Data.{Aps, Nwk};
+ghost use Rattle.zb_model.specs.Frames.{nwk_term};
+ghost use Rattle.zb_model.specs.Rules.{spent};
+ghost use Rattle.zb_model.specs.State.{active_row, next_counter, stored_limit};
+ghost use Rattle.zb_model_real.specs.Real.{real};
+ghost use Rattle.zb_model_real.specs.Terms.{model_term};
+ghost use Rattle.zb_node_types.specs.Changes.{model_layer};
+ghost use Rattle.zb_record.specs.RowViews.{net_key};
+ghost use Rattle.zb_seal.specs.Wire.{wire_length};
+ghost use Rattle.zb_send.specs.Sendings.{CanBeSent, IsSendable, body_of, room, sending_of};
+ghost use Rattle.zb_send.specs.Parts.{part_seen};
+ghost use Rattle.zb_send.specs.Sent.{IsCounting, sent_seen};
+
+use crate::headers::{joined, low_byte, nwk_auxiliary, nwk_header};
+use crate::part::{Part, part_of, sealed};
+use crate::sending::{Body, Sending};
+use zb_base::{Frame, Label, Layer, Short};
+use zb_keys::{NetRow, Tables};
+use zb_network::Network;
+use zb_rows::{is_spent, next_counter, stored_limit};
+use zb_seal::{KeyMemo, Term};
+
+/// What goes out.
+#[derive(Debug, Drop)]
+pub struct Sent {
+    /// What is sealed at the APS layer.
+    pub aps: Option<Term>,
+    /// What is sealed at the NWK layer.
+    pub nwk: Option<Term>,
+    /// The frame.
+    pub frame: Option<Frame>,
+}
+
+/// Makes the term of a NWK frame under a network key.
+fn nwk_term(
+    network: &Network,
+    control: u16,
+    to: Short,
+    counter: u32,
+    row: &NetRow,
+    content: Frame,
+) -> Term
+    ensures term { model_term result ≡ nwk_term control to.0 network.now.me.short network.now.me.eui
+        (net_key row.now).key (net_key row.now).sequence counter content.items }
+    ensures len { wire_length result ≡ length content.items + 26 }
+{
+    let header = nwk_header(control, to, network.short(), low_byte(counter));
+    let auxiliary = nwk_auxiliary(counter, network.eui(), row.sequence);
+    Term {
+        layer: Layer::Nwk,
+        base: row.key,
+        label: Label::Network,
+        source: network.eui(),
+        counter,
+        control: 0x2d,
+        header: joined(header.as_slice(), auxiliary.as_slice()),
+        content,
+    }
+}
+
+/// Makes nothing of what can't be sealed.
+fn nothing() -> Sent
+    ensures { sent_seen result ≡ nothing_out }
+{
+    Sent {
+        aps: None,
+        nwk: None,
+        frame: None,
+    }
+}
+
+/// Makes the frame of a part, not sealed at the NWK layer.
+fn plain(network: &Network, to: Short, part: Part) -> Sent
+    requires { length part.bytes.items ≤ 119 }
+    ensures { sent_seen result ≡ plain_out network.now to.0 (part_seen part) }
+{
+    let header = nwk_header(0x0008, to, network.short(), 0);
+    let frame = joined(header.as_slice(), part.bytes.as_slice());
+    Sent {
+        aps: part.seal,
+        nwk: None,
+        frame: Some(frame),
+    }
+}
+
+/// Makes the frame of a part, sealed under a network key.
+fn secured(
+    network: &Network,
+    memo: &KeyMemo,
+    to: Short,
+    counter: u32,
+    row: &NetRow,
+    part: Part,
+) -> Sent
+    requires { length part.bytes.items ≤ 101 }
+    ensures { sent_seen result ≡ secured_out real network.now to.0 counter (net_key row.now) (part_seen part) }
+{
+    let term = nwk_term(network, part.control, to, counter, row, part.bytes);
+    let frame = sealed(memo, &term);
+    Sent {
+        aps: part.seal,
+        nwk: Some(term),
+        frame: Some(frame),
+    }
+}
+
+/// Makes the frame of a part, under the active network key where it is to be sealed.
+fn framed(
+    network: &Network,
+    tables: &Tables,
+    memo: &KeyMemo,
+    sending: &Sending,
+    counter: u32,
+    part: Part,
+) -> Sent
+    requires { length part.bytes.items ≤ room sending.now.secured }
+    ensures { sent_seen result ≡ framed real network.now sending.now.to.0 counter sending.now.secured
+        (active_row tables.now) (part_seen part) }
+{
+    if !sending.secured {
+        return plain(network, sending.to, part);
+    }
+    match tables.active_row() {
+        None => nothing(),
+        Some(row) => secured(network, memo, sending.to, counter, row, part),
+    }
+}
+
+/// Makes what goes out of what is to be sent, with the next counters.
+fn send_one(network: &Network, tables: &Tables, memo: &KeyMemo, sending: &Sending) -> Sent
+    requires { IsSendable sending.now }
+    ensures { (k : Counting) → IsCounting tables.now k
+        → sent_seen result ≡ sent real network.now tables.now k (Some (sending_of sending.now)) }
+{
+    let nwk = next_counter(tables, Layer::Nwk);
+    let aps = next_counter(tables, Layer::Aps);
+    let part = part_of(memo, network.eui(), nwk, aps, sending);
+    framed(network, tables, memo, sending, nwk, part)
+}
+
+/// Tells whether something is sealed at the APS layer.
+fn has_aps_seal(body: &Body) -> bool
+    ensures { result ≡ has_aps_seal (body_of body.now) }
+{
+    match body {
+        Body::Saying { .. } => false,
+        Body::Clear { .. } => false,
+        Body::Secret { .. } => true,
+        Body::Tunnelled { .. } => true,
+        Body::Telling { .. } => true,
+        Body::Leaving => false,
+        Body::Relayed { .. } => false,
+    }
+}
+
+/// Tells whether the NWK layer has a key and a counter for a frame, where it is to be sealed there.
+fn may_seal_nwk(tables: &Tables, secured: bool) -> bool
+    ensures { result ≡ (not secured || (is_some (active_row tables.now) && not (spent Nwk tables.now))) }
+{
+    !secured || tables.active_row().is_some() && !is_spent(tables, Layer::Nwk)
+}
+
+/// Tells whether the APS layer has a counter for a frame, where something is to be sealed there.
+fn may_seal_aps(tables: &Tables, body: &Body) -> bool
+    ensures { result ≡ (not (has_aps_seal (body_of body.now)) || not (spent Aps tables.now)) }
+{
+    !has_aps_seal(body) || !is_spent(tables, Layer::Aps)
+}
+
+/// Tells whether the node has a key and the counters for a frame.
+#[tactic(auto, unfolding(zb_model::specs::Answer::may_seal))]
+pub fn may_seal(tables: &Tables, sending: &Sending) -> bool
+    ensures { result ≡ may_seal tables.now (Some (sending_of sending.now)) }
+{
+    may_seal_nwk(tables, sending.secured) && may_seal_aps(tables, &sending.body)
+}
+
+/// Tells whether a frame is sealed at a layer.
+fn seals_at(layer: Layer, sending: &Sending) -> bool
+    ensures { result ≡ seals_at (model_layer layer) (Some (sending_of sending.now)) }
+{
+    match layer {
+        Layer::Nwk => sending.secured,
+        Layer::Aps => has_aps_seal(&sending.body),
+    }
+}
+
+/// Tells whether the counters that are reserved at a layer are used up.
+fn is_used_up(tables: &Tables, layer: Layer) -> bool
+    ensures { result
+        ≡ nat_eq (next_counter (model_layer layer) tables.now) (stored_limit (model_layer layer) tables.now) }
+{
+    next_counter(tables, layer) == stored_limit(tables, layer)
+}
+
+/// Answers the limit up to which counters of a layer are reserved before the frame goes out, if any are.
+#[tactic(auto, unfolding(zb_model::specs::Answer::reserve_of))]
+pub fn reserve(
+    network: &Network,
+    tables: &Tables,
+    sending: &Option<Sending>,
+    layer: Layer,
+) -> Option<u32>
+    ensures { result ≡ reserve_of network.now tables.now (option_map sending_of sending.now) (model_layer layer) }
+{
+    match sending {
+        None => None,
+        Some(sending) => {
+            if seals_at(layer, sending) && may_seal(tables, sending) && is_used_up(tables, layer) {
+                Some(next_counter(tables, layer).saturating_add(network.out_block()))
+            } else {
+                None
+            }
+        }
+    }
+}
+
+/// Makes what goes out of what is to be sent, if anything is, with the node's next counters.
+///
+/// Nothing goes out where the node lacks a key or a counter for it. A key that the memo lacks is expanded.
+#[tactic(auto, unfolding(zb_model::specs::Answer::out_of))]
+pub fn send_out(
+    network: &Network,
+    tables: &Tables,
+    memo: &KeyMemo,
+    sending: &Option<Sending>,
+) -> Sent
+    requires { CanBeSent sending.now }
+    ensures { (k : Counting) → IsCounting tables.now k
+        → sent_seen result ≡ out_of real network.now tables.now k (option_map sending_of sending.now) }
+{
+    match sending {
+        None => nothing(),
+        Some(sending) => {
+            if may_seal(tables, sending) {
+                send_one(network, tables, memo, sending)
+            } else {
+                nothing()
+            }
+        }
+    }
+}
