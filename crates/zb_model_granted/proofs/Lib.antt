@@ -4,3 +4,5 @@ pub mod Joining
 pub mod Drawn
 pub mod Standing
 pub mod NoDraws
+pub mod Senders
+pub mod FrameLayers

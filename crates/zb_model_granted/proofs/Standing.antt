@@ -197,7 +197,7 @@ standing-kept tools opens w apart = record {
 
 -- The start
 
-lines-with : (Φ : NodeState → Type 0) (Q : Line → Type 0) → ((l : Line) (s : NodeState) → Q l → Φ s → Φ (after l s)) → (h ls : List Line) → AllByRecursion Q ls → ((n : ℕ) → Φ (state_of h n)) → (n : ℕ) → Φ (state_of (h ++ ls) n)
+pub lines-with : (Φ : NodeState → Type 0) (Q : Line → Type 0) → ((l : Line) (s : NodeState) → Q l → Φ s → Φ (after l s)) → (h ls : List Line) → AllByRecursion Q ls → ((n : ℕ) → Φ (state_of h n)) → (n : ℕ) → Φ (state_of (h ++ ls) n)
 lines-with Φ Q k h [] a j n = subst (λ x. Φ (state_of x n)) (sym (append-nil' h)) (j n)
 lines-with Φ Q k h (l ∷ ls) a j n =
     subst (λ x. Φ (state_of x n)) (append_assoc h (l ∷ []) ls)
@@ -241,7 +241,7 @@ GivesOther k (GivenLink n p j) = j ≡ k → ⊥
 GivesOther k (Counter n layer v) = Unit {0}
 GivesOther k _ = ⊥
 
-abbrev Begins : Line → Type 0
+abbrev pub Begins : Line → Type 0
 Begins (Declared p) = Unit {0}
 Begins (GivenNet n j q) = Unit {0}
 Begins (GivenLink n p j) = Unit {0}
@@ -329,7 +329,7 @@ all-nodes : (ms : List Node) → AllByRecursion (λ (m : Node). Unit {0}) ms
 all-nodes [] = tt
 all-nodes (m ∷ ms) = (tt, all-nodes ms)
 
-start-begins : (w : Schedule) → AllByRecursion Begins (start w)
+pub start-begins : (w : Schedule) → AllByRecursion Begins (start w)
 start-begins w = start-with Begins (λ (m : Node). Unit {0}) (record { declared = λ p. tt; net = λ m a. net-begins m.station.eui m.network; link = λ c m a. link-begins c m.station.eui m.code; limit = λ n layer v. tt }) w (all-nodes w.nodes)
 
 no-calm : (n : ℕ) → Calm (state_of [] n)
@@ -427,7 +427,7 @@ granted-of w h n p = record {
   active_row_started = λ key e. started-row (state_of h n) (state_of h n).active refl key e (p.active key e);
 }
 
-before-map : (P Q : List Line → Event → Type 0) → ((h : List Line) (event : Event) → P h event → Q h event) → (tools : Tools) (w : Schedule) (h : List Line) (disks : List Disk) (number : ℕ) (events : List Event) → BeforeEach P tools w h disks number events → BeforeEach Q tools w h disks number events
+pub before-map : (P Q : List Line → Event → Type 0) → ((h : List Line) (event : Event) → P h event → Q h event) → (tools : Tools) (w : Schedule) (h : List Line) (disks : List Disk) (number : ℕ) (events : List Event) → BeforeEach P tools w h disks number events → BeforeEach Q tools w h disks number events
 before-map P Q k tools w h disks number [] a = tt
 before-map P Q k tools w h disks number (event ∷ events) a = (k h event a.0, before-map P Q k tools w (h ++ (step tools w h disks number event).lines) (step tools w h disks number event).disks (number + 1) events a.1)
 

@@ -2,8 +2,9 @@
 use Rattle.std.specs.Prelude.{ℕ, ◌≡◌, true, false, List, Some, is_some}
 use Rattle.zb_model.specs.Data.{Bytes, Offered}
 use Rattle.zb_model.specs.Lines.{Line}
-use Rattle.zb_model.specs.State.{is_centre, active_row, current, offered, is_live}
-use Rattle.zb_model.specs.Rules.{centre_of, unless_held}
+use Rattle.zb_model.specs.State.{NetKey, is_centre, active_row, usable_of, current, offered, is_live}
+use Rattle.zb_model.specs.Rules.{centre_of, is_declared, unless_held}
+use Rattle.zb_model.specs.Judging.{senders_full}
 use Rattle.zb_model.specs.Answer.{row_is_started}
 use Rattle.zb_model.specs.Readings.{state_of}
 use Rattle.zb_model.specs.Play.{Schedule, setting_of, supply}
@@ -18,3 +19,9 @@ pub record Granted (w : Schedule) (h : List Line) (n : ℕ) : Type 0 where
   pub next_key : is_centre (setting_of w n).me.role ≡ true → unless_held (state_of h n) (supply w h) ≡ supply w h
   -- the active key has a row, and that row has started
   pub active_row_started : (key : Bytes) → (state_of h n).active ≡ Some key → row_is_started (active_row (state_of h n)) ≡ true
+
+-- Under each network key that a node may use a floor of a declared node has room beside those of others: rows-full never comes at NWK.
+abbrev pub HasRoom : Schedule → List Line → ℕ → Type 0
+HasRoom w h n =
+    (sequence : ℕ) (row : NetKey) → usable_of (state_of h n) sequence ≡ Some row → (source counter : ℕ) → is_declared (setting_of w n) source ≡ true
+    → senders_full source counter row ≡ false

@@ -2,17 +2,22 @@
 //! an empty body; docs/THEOREMS.md says it in words.
 #![tactic(auto)]
 
-ghost use Rattle.std.specs.Prelude.{◌≡◌, ℕ, true, List, [], Some, None};
-ghost use Rattle.zb_model_granted.specs.Granted.{Granted};
+ghost use Rattle.std.specs.Prelude.{◌≡◌, ◌≤◌, ℕ, length, true, List, [], Option, Some, None};
+ghost use Rattle.zb_model_granted.specs.FrameLayers.{OneSpent, SealedAt, command_layers, own_layers};
+ghost use Rattle.zb_model_granted.specs.Granted.{Granted, HasRoom};
 ghost use Rattle.zb_model_laws.specs.Events.{BeforeEach};
 ghost use Rattle.zb_model_laws.specs.KeysApart.{KeysApart};
 ghost use Rattle.zb_model_laws.specs.Opening.{Opens};
 ghost use Rattle.zb_model.specs.Answer.{plan_of, refusal_of};
-ghost use Rattle.zb_model.specs.Data.{Bytes, DoRoll, NoDraw, Received};
+ghost use Rattle.zb_model.specs.Commands.{Heard, take_command};
+ghost use Rattle.zb_model.specs.Data.{Bytes, Command, CounterSpent, DoRoll, Move, NoDraw, Policy, Received, Task};
 ghost use Rattle.zb_model.specs.Lines.{Line};
+ghost use Rattle.zb_model.specs.OwnEvents.{own};
 ghost use Rattle.zb_model.specs.Play.{Event, Schedule, setting_of, start, supply};
 ghost use Rattle.zb_model.specs.Readings.{state_of};
-ghost use Rattle.zb_model.specs.State.{is_centre};
+ghost use Rattle.zb_model.specs.Rules.{Does, Sending, Setting, Stop};
+ghost use Rattle.zb_model.specs.Schedules.{is_for_role};
+ghost use Rattle.zb_model.specs.State.{NodeState, is_centre};
 ghost use Rattle.zb_model.specs.Tools.{Tools};
 
 /// Before each event of a run: a router or device in Offered has an offered row of the centre; each live device of the
@@ -34,4 +39,35 @@ pub fn no_draw_comes_where_the_supply_is_empty()
         → is_centre (setting_of w n).me.role ≡ true → (bytes : Bytes)
         → refusal_of (plan_of tools (setting_of w n) (state_of h n) (Received bytes (supply w h))) ≡ Some NoDraw
         → supply w h ≡ None }
+{}
+
+/// Before each event of a run with at most 64 nodes: under each network key that a node may use there is room for the
+/// floor of each declared sender. So rows-full never comes at NWK, where only declared senders are asked for it.
+pub fn each_sender_has_room()
+    ensures { (tools : Tools) → Opens tools → (w : Schedule) → length w.nodes ≤ 64
+        → BeforeEach (λ (h : List Line) (event : Event). (n : ℕ) → HasRoom w h n) tools w (start w) [] 1 w.events }
+{}
+
+/// A node answers that a counter is spent only where a layer at which the frame of its rule is sealed has none left:
+/// its next counter is the greatest. `own_layers` and `command_layers` say which layers these are, and what a rule
+/// sends is sealed at just these.
+pub fn counter_spent_is_of_the_layers_of_the_frame()
+    ensures own_events { (tools : Tools) (c : Setting) (s : NodeState) (task : Task)
+        → own tools c s task ≡ Stop CounterSpent → OneSpent (own_layers c s task) s }
+    ensures own_frames { (tools : Tools) (c : Setting) (s : NodeState) (task : Task) (moves : List Move)
+        (send : Option Sending)
+        → own tools c s task ≡ Does moves send → SealedAt (own_layers c s task) send }
+    ensures commands { (tools : Tools) (c : Setting) (s : NodeState) (draw : Option Bytes) (m : Heard)
+        (command : Command)
+        → take_command tools c s draw m command ≡ Stop CounterSpent → OneSpent (command_layers command) s }
+    ensures their_frames { (tools : Tools) (c : Setting) (s : NodeState) (draw : Option Bytes) (m : Heard)
+        (command : Command) (moves : List Move) (send : Option Sending)
+        → take_command tools c s draw m command ≡ Does moves send → SealedAt (command_layers command) send }
+{}
+
+/// An event of a node's own that is for a node of its role is never refused as policy. A schedule has no others
+/// (`IsSchedule.roles`), so that refusal comes in no run.
+pub fn events_suit_the_role_of_their_node()
+    ensures { (tools : Tools) (c : Setting) (s : NodeState) (task : Task)
+        → is_for_role (is_centre c.me.role) task ≡ true → own tools c s task ≡ Stop Policy → ⊥ }
 {}

@@ -2,6 +2,7 @@
 use Rattle.std.proofs.Common.{◌≡◌, List, [], ◌∷◌, ◌++◌, length, true}
 use Rattle.zb_model_counted.proofs.Floors.{floors-are-for}
 use Rattle.zb_model_counted.proofs.Unique.{counted, unique}
+use Rattle.zb_model_granted.proofs.Senders.{has-room}
 use Rattle.zb_model_granted.proofs.Standing.{granted}
 use Rattle.zb_model_laws.proofs.ConfirmsRuns.{confirms}
 use Rattle.zb_model_laws.proofs.LawfulRuns.{lawful}
@@ -40,6 +41,7 @@ holds w p = record {
   floors = floors-are-for real opens-real w;
   spent = transcript-spent real w p.schedule;
   granted = granted real opens-real w p.keys;
+  room = has-room real opens-real w p.schedule.few_nodes;
   fresh = fresh real w p.schedule;
   once = once real opens-real w p.schedule;
   confirms = confirms real opens-real spells-confirm w p.schedule p.one_centre;

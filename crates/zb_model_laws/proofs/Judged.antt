@@ -124,7 +124,7 @@ live-row : (s : NodeState) (q : ℕ) (r : NetKey) → usable_of s q ≡ Some r �
 unfolding usable_of usable_nets
 live-row s q r e = usable-live s (may_use s) r (in-reverse r (cond (may_use s) (live_nets s) []) (found-element (λ (r : NetKey). nat_eq r.sequence q) (reverse (cond (may_use s) (live_nets s) [])) r e).0)
 
-usable-row : (s : NodeState) (q : ℕ) (r : NetKey) → usable_of s q ≡ Some r → In r s.nets
+pub usable-row : (s : NodeState) (q : ℕ) (r : NetKey) → usable_of s q ≡ Some r → In r s.nets
 unfolding usable_of usable_nets
 usable-row s q r e = usable-in s (may_use s) r (in-reverse r (cond (may_use s) (live_nets s) []) (found-element (λ (r : NetKey). nat_eq r.sequence q) (reverse (cond (may_use s) (live_nets s) [])) r e).0)
 

@@ -7,7 +7,7 @@ pub mod GroupSeals
 pub mod EventStates
 pub mod Runs
 mod Finds
-mod FloorRows
+pub mod FloorRows
 mod OnceLines
 pub mod Sound
 pub mod Judged

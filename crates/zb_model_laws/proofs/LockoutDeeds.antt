@@ -783,7 +783,7 @@ abbrev pub PlanFits : Setting → NodeState → Task → Plan → Type 0
 PlanFits c s task p = OutcomeFits c s task p.outcome
 
 -- an accepted NWK term is of a declared node
-abbrev IfDeclared : Setting → Option Term → Type 0
+abbrev pub IfDeclared : Setting → Option Term → Type 0
 IfDeclared c None = Unit {0}
 IfDeclared c (Some t) = is_declared c t.source ≡ true
 
@@ -868,7 +868,7 @@ layer-declared : (tools : Tools) → Opens tools → (c : Setting) (s : NodeStat
 layer-declared tools opens c s bytes f None read shown = reject-good (λ (k : Carrier). IfDeclared c k.term) _ _ _ _ (λ e. tt)
 layer-declared tools opens c s bytes f (Some aux) read shown = carrier-declared c f (judge_net tools c s bytes aux) (net-declared tools opens c s bytes f aux read shown)
 
-nwk-declared : (tools : Tools) → Opens tools → (c : Setting) (s : NodeState) (bytes : Bytes) → OnGood (λ (k : Carrier). IfDeclared c k.term) (judge_nwk tools c s bytes)
+pub nwk-declared : (tools : Tools) → Opens tools → (c : Setting) (s : NodeState) (bytes : Bytes) → OnGood (λ (k : Carrier). IfDeclared c k.term) (judge_nwk tools c s bytes)
 unfolding judge_nwk
 nwk-declared tools opens c s bytes =
     need-good (λ (k : Carrier). IfDeclared c k.term) (tools.read_nwk bytes) _ _ _ (λ f read.

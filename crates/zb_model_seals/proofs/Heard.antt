@@ -1,5 +1,6 @@
 -- An answer accepts at most one term of NWK and then one of APS, and none with the greatest counter.
-use Rattle.std.proofs.Common.{◌≡◌, Bool, true, false, if◌then◌else◌, List, [], ◌∷◌, ◌++◌, Option, Some, None, refl, arith, inl, inr, leb-false}
+use Rattle.std.proofs.Common.{◌≡◌, ◌<◌, Bool, true, false, if◌then◌else◌, List, [], ◌∷◌, ◌++◌, Option, Some, None, refl, arith, inl, inr, leb-false}
+use Rattle.std.specs.List.{AllByRecursion}
 use Rattle.std.specs.Prelude.{option_to_list, nat_le}
 use Rattle.zb_model.specs.Data.{Bytes, Nwk, Aps, Term, Place, Reason, Task, Received}
 use Rattle.zb_model.specs.State.{greatest_counter, NodeState, usable_of}
@@ -139,3 +140,13 @@ plan_hears tools opens c s _ = tt
 pub answer_hears : (tools : Tools) → OpensAsJudged tools → (c : Setting) (s : NodeState) (task : Task) → AreHeard (answer tools c s task).accepts
 unfolding answer answer_by
 answer_hears tools opens c s task = plan_hears tools opens c s task
+
+below_last : (ts : List Term) → AreHeard ts → AllByRecursion (λ (t : Term). t.counter < greatest_counter) ts
+below_last [] is = tt
+below_last (t ∷ []) (inl is) = (is.below_last, tt)
+below_last (t ∷ []) (inr is) = (is.below_last, tt)
+below_last (t ∷ u ∷ []) is = (is.0.below_last, (is.1.below_last, tt))
+below_last (t ∷ u ∷ v ∷ ts) is = absurd is
+
+pub answer_below_last : (tools : Tools) → OpensAsJudged tools → (c : Setting) (s : NodeState) (task : Task) → AllByRecursion (λ (t : Term). t.counter < greatest_counter) (answer tools c s task).accepts
+answer_below_last tools opens c s task = below_last (answer tools c s task).accepts (answer_hears tools opens c s task)

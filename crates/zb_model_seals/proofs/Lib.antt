@@ -5,3 +5,4 @@ pub mod Room
 pub mod Limits
 pub mod SealLayers
 pub mod Heard
+pub mod InParts

@@ -5,10 +5,9 @@ use Rattle.zb_model.specs.State.{NetKey, NodeState, same_key, has_net, at_net, o
 use Rattle.zb_model.specs.Tools.{Tools}
 use Rattle.zb_model.specs.Rules.{Setting}
 use Rattle.zb_model.specs.Answer.{answer, accepted_all, sealed_all}
-use Rattle.zb_model_seals.specs.Sealing.{limit_under, IsBelow, SealsReserved, RowIsWithin, IsWithinLimits}
+use Rattle.zb_model_seals.specs.Sealing.{before_seals, limit_under, IsBelow, SealsReserved, RowIsWithin, IsWithinLimits}
 use Rattle.zb_model_seals.proofs.Rows.{with_key, find_map}
 use Rattle.zb_model_seals.proofs.Along.{found_key}
-use Rattle.zb_model_seals.proofs.Next.{before_seals}
 use Rattle.zb_model_seals.proofs.Room.{answer_reserved}
 use Rattle.zb_model_fits.proofs.Parts.{same_key_is}
 
@@ -155,8 +154,10 @@ booted_within s = record {
 -- the whole answer
 
 pub answered_within : (tools : Tools) (c : Setting) (s : NodeState) (task : Task) → IsWithinLimits s → 1 ≤ c.me.out_block
-    → IsWithinLimits (sealed_all (answer tools c s task).seals (before_seals tools c s task))
+    → IsWithinLimits (sealed_all (answer tools c s task).seals (before_seals (answer tools c s task) s))
 answered_within tools c s task w block =
     let a = answer tools c s task in
-    seals_within a.seals (before_seals tools c s task) (answer_reserved tools c s task w block)
+    seals_within a.seals (before_seals (answer tools c s task) s) (answer_reserved tools c s task w block)
     (accepted_within a.accepts (shown (applied_all a.edits s)) (shown_within (applied_all a.edits s) (changed_within a.edits s w)))
+
+pub ruleset limits_stand = (answered_within, applied_within, shown_within, booted_within)

@@ -7,8 +7,8 @@ use Rattle.zb_model.specs.Data.{Bytes, Layer, Nwk, Aps, Term, Move, Active, Edit
 use Rattle.zb_model.specs.State.{NetKey, NodeState, active_row, next_counter, applied_all, shown}
 use Rattle.zb_model.specs.Tools.{Tools}
 use Rattle.zb_model.specs.Rules.{Plan, Setting}
-use Rattle.zb_model.specs.Answer.{Counting, start_edit, move_edits, floor_edit, reserve_edit, moves_of, changes, edits_of, half, first_counter, activated, start_for, is_started_key, counting_of, plan_of, answer_by, answer, accepted_all}
-use Rattle.zb_model_seals.specs.Sealing.{IsNext, SealsNext}
+use Rattle.zb_model.specs.Answer.{Counting, start_edit, move_edits, floor_edit, reserve_edit, moves_of, changes, edits_of, half, first_counter, activated, start_for, is_started_key, counting_of, plan_of, answer_by, answer}
+use Rattle.zb_model_seals.specs.Sealing.{before_seals, IsNext, SealsNext}
 use Rattle.zb_model_seals.proofs.Rows.{Holds, with_key, On, Gentle, on_applied_all, on_accepted, on_shown, aps_applied_all, aps_accepted, aps_shown}
 use Rattle.zb_model_seals.proofs.Along.{active_found, next_is, unspent_nwk, unspent_aps, sending_at, answer_along}
 
@@ -79,10 +79,6 @@ edits_gentle c s p =
     (all_append (Gentle n) (reserve_edit k Nwk) (reserve_edit k Aps) (reserve_gentle n Nwk (k.reserve Nwk)) (reserve_gentle n Aps (k.reserve Aps)))
     (rest_gentle c s p)
 
--- the state in which an answer's seals are made
-abbrev pub before_seals : Tools → Setting → NodeState → Task → NodeState
-before_seals tools c s task = accepted_all (answer tools c s task).accepts (shown (applied_all (answer tools c s task).edits s))
-
 -- the counter that comes next
 
 abbrev Next : ℕ → ℕ → ℕ → Type 0
@@ -97,7 +93,7 @@ pub holds_some : (Q : ℕ → ℕ → Type 0) (o : Option NetKey) (r : NetKey) �
 unfolding Holds
 holds_some Q o r e h = subst (Holds Q) (sym e) h
 
-next_left : (tools : Tools) (c : Setting) (s : NodeState) (task : Task) (r : NetKey) → active_row s ≡ Some r → On (Next (next_counter Nwk s)) r.key (before_seals tools c s task).nets
+next_left : (tools : Tools) (c : Setting) (s : NodeState) (task : Task) (r : NetKey) → active_row s ≡ Some r → On (Next (next_counter Nwk s)) r.key (before_seals (answer tools c s task) s).nets
 unfolding answer answer_by
 next_left tools c s task r e =
     let n = next_counter Nwk s in
@@ -107,19 +103,19 @@ next_left tools c s task r e =
     (on_applied_all n (Next n) (λ next limit more le is. is) (λ next limit value le is. omega (arith, le, is)) r.key (edits_of s (counting_of c s p) p) s (edits_gentle c s p)
     (holds_some (Next n) (find (with_key r.key) s.nets) r (active_found s r e) (sym (next_is s r e)))))
 
-aps_left : (tools : Tools) (c : Setting) (s : NodeState) (task : Task) → (before_seals tools c s task).aps_next ≡ next_counter Aps s
+aps_left : (tools : Tools) (c : Setting) (s : NodeState) (task : Task) → (before_seals (answer tools c s task) s).aps_next ≡ next_counter Aps s
 unfolding next_counter
 aps_left tools c s task =
     let a = answer tools c s task in
     aps_accepted (Next s.aps_next) a.accepts (shown (applied_all a.edits s))
     (aps_shown (Next s.aps_next) (applied_all a.edits s) (aps_applied_all (Next s.aps_next) (λ next limit more le is. is) a.edits s refl))
 
-pub answer_next : (tools : Tools) (c : Setting) (s : NodeState) (task : Task) → SealsNext (before_seals tools c s task) (answer tools c s task).seals
+pub answer_next : (tools : Tools) (c : Setting) (s : NodeState) (task : Task) → SealsNext (before_seals (answer tools c s task) s) (answer tools c s task).seals
 answer_next tools c s task =
-    answer_along IsNext tools c s task (before_seals tools c s task)
+    answer_along IsNext tools c s task (before_seals (answer tools c s task) s)
     (λ may seals front label key content. record { counter_is = ap Some (aps_left tools c s task); below_last = unspent_aps s (sending_at tools c s task) may seals })
     (λ may seals r e u same control to bytes. record {
       counter_is = ap (λ (rs : List NetKey). option_map (λ (x : NetKey). x.next) (find (with_key r.key) rs)) same
-          ∙ next_found (next_counter Nwk s) (find (with_key r.key) (before_seals tools c s task).nets) (next_left tools c s task r e);
+          ∙ next_found (next_counter Nwk s) (find (with_key r.key) (before_seals (answer tools c s task) s).nets) (next_left tools c s task r e);
       below_last = unspent_nwk s (sending_at tools c s task) may seals;
     })

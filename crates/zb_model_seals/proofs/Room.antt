@@ -7,10 +7,10 @@ use Rattle.zb_model.specs.State.{greatest_counter, NetKey, NodeState, of_active,
 use Rattle.zb_model.specs.Tools.{Tools}
 use Rattle.zb_model.specs.Rules.{Plan, Sending, Setting}
 use Rattle.zb_model.specs.Answer.{seals_at, may_seal, reserve_of, edits_of, counting_of, plan_of, answer_by, answer}
-use Rattle.zb_model_seals.specs.Sealing.{IsBelow, IsReserved, SealsReserved, RowIsWithin, IsWithinLimits}
+use Rattle.zb_model_seals.specs.Sealing.{before_seals, IsBelow, IsReserved, SealsReserved, RowIsWithin, IsWithinLimits}
 use Rattle.zb_model_seals.proofs.Rows.{Holds, with_key, On, OnAps, Rises, made_found, on_applied_all, on_accepted, on_shown, aps_applied_all, aps_accepted, aps_shown}
 use Rattle.zb_model_seals.proofs.Along.{active_is, active_found, next_is, limit_is, unspent_nwk, unspent_aps, sending_at, answer_along}
-use Rattle.zb_model_seals.proofs.Next.{holds_some, reserve_gentle, rest_of, rest_gentle, before_seals}
+use Rattle.zb_model_seals.proofs.Next.{holds_some, reserve_gentle, rest_of, rest_gentle}
 
 -- a counter is below the limit
 abbrev Room : ℕ → ℕ → ℕ → Type 0
@@ -115,13 +115,13 @@ module _ (tools : Tools) (c : Setting) (s : NodeState) (task : Task) (within : I
       (omega (arith, block, unspent_aps s (sending_at tools c s task) may seals))) in
       subst (OnAps (Room n)) (sym changed_is) (aps_applied_all (Room n) (room_rises n) (rest_of c s p) (applied_all at_aps (applied_all at_nwk s)) one)
 
-  nwk_room : seals_at Nwk (sending_at tools c s task) ≡ true → (r : NetKey) → active_row s ≡ Some r → On (Room (next_counter Nwk s)) r.key (before_seals tools c s task).nets
+  nwk_room : seals_at Nwk (sending_at tools c s task) ≡ true → (r : NetKey) → active_row s ≡ Some r → On (Room (next_counter Nwk s)) r.key (before_seals (answer tools c s task) s).nets
   nwk_room seals r found =
       let a = answer tools c s task in
       let n = next_counter Nwk s in
       on_accepted (Room n) r.key a.accepts (shown (applied_all a.edits s)) (on_shown (Room n) r.key (applied_all a.edits s) (nwk_changed seals r found))
 
-  aps_room : seals_at Aps (sending_at tools c s task) ≡ true → OnAps (Room (next_counter Aps s)) (before_seals tools c s task)
+  aps_room : seals_at Aps (sending_at tools c s task) ≡ true → OnAps (Room (next_counter Aps s)) (before_seals (answer tools c s task) s)
   aps_room seals =
       let a = answer tools c s task in
       let n = next_counter Aps s in
@@ -132,10 +132,10 @@ unfolding Holds
 below_found n None h = absurd h
 below_found n (Some r) h = h
 
-pub answer_reserved : (tools : Tools) (c : Setting) (s : NodeState) (task : Task) → IsWithinLimits s → 1 ≤ c.me.out_block → SealsReserved (before_seals tools c s task) (answer tools c s task).seals
+pub answer_reserved : (tools : Tools) (c : Setting) (s : NodeState) (task : Task) → IsWithinLimits s → 1 ≤ c.me.out_block → SealsReserved (before_seals (answer tools c s task) s) (answer tools c s task).seals
 answer_reserved tools c s task within block =
-    answer_along IsReserved tools c s task (before_seals tools c s task)
+    answer_along IsReserved tools c s task (before_seals (answer tools c s task) s)
     (λ may seals front label key content. aps_room tools c s task within block may seals)
     (λ may seals r e u same control to bytes.
     subst (λ (rs : List NetKey). IsBelow (next_counter Nwk s) (option_map (λ (x : NetKey). x.limit) (find (with_key r.key) rs))) (sym same)
-    (below_found (next_counter Nwk s) (find (with_key r.key) (before_seals tools c s task).nets) (nwk_room tools c s task within block may seals r e)))
+    (below_found (next_counter Nwk s) (find (with_key r.key) (before_seals (answer tools c s task) s).nets) (nwk_room tools c s task within block may seals r e)))

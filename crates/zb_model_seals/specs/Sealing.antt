@@ -1,8 +1,13 @@
 -- What the terms are that an answer accepts and seals, and which counters the sealed ones take.
 use Rattle.std.specs.Prelude.{◌≡◌, ◌<◌, ◌≤◌, ◌⊎◌, ℕ, List, [], ◌∷◌, Option, Some, None, option_map, ⊤}
 use Rattle.zb_model.specs.Data.{Bytes, Layer, Nwk, Aps, Term}
-use Rattle.zb_model.specs.State.{greatest_counter, NetKey, NodeState, net_of, after_sealing}
+use Rattle.zb_model.specs.State.{greatest_counter, NetKey, NodeState, net_of, after_sealing, applied_all, shown}
 use Rattle.zb_model.specs.Rules.{Setting}
+use Rattle.zb_model.specs.Answer.{Answer, accepted_all}
+
+-- The state in which an answer's seals are made: after its changes, as the tables then show it, and its accepted terms.
+abbrev pub before_seals : Answer → NodeState → NodeState
+before_seals a s = accepted_all a.accepts (shown (applied_all a.edits s))
 
 -- Which counters are taken
 
@@ -29,7 +34,7 @@ IsBelow counter (Some limit) = counter < limit
 abbrev pub IsReserved : NodeState → Term → Type 0
 IsReserved s t = IsBelow t.counter (limit_under t.layer t.base s)
 
--- each term holds in the state after those before it are sealed
+-- P holds of each term in the state after those before it are sealed
 abbrev pub SealsAlong : (NodeState → Term → Type 0) → NodeState → List Term → Type 0
 SealsAlong P s [] = ⊤
 SealsAlong P s (t ∷ ts) = P s t × SealsAlong P (after_sealing t s) ts
