@@ -39,11 +39,11 @@ pub fn a_floor_is_at_most_one_block_above_its_counter()
     ensures { (tools : Tools) → Opens tools → (w : Schedule) → FloorsAreFor w (transcript tools w) }
 {}
 
-/// Each floor that an answer stores is for a term that the answer accepts, of the floor's layer, base key and source, and
-/// is at most the node's incoming block above its counter. That holds where a stop or failure cuts the event too: the
-/// floor lines that stand then are those of the whole answer.
+/// Each floor that an answer stores is for a term that the answer accepts, of the floor's layer, base key and source,
+/// and is at most the node's incoming block above its counter. That holds where a stop or failure cuts the event too:
+/// the floor lines that stand then are those of the whole answer.
 pub fn floors_of_an_answer_are_for_what_it_accepts()
     ensures { (tools : Tools) → Opens tools → (c : Setting) (h : List Line) (n : ℕ) (task : Task)
         → AllByRecursion (FloorOf c.me.in_block (answer tools c (state_of h n) task).accepts)
-            (answer tools c (state_of h n) task).edits }
+        (answer tools c (state_of h n) task).edits }
 {}

@@ -336,9 +336,14 @@ declared-in (p ∷ ps) n e = by-test (nat_eq p.eui n) refl e (declared-in ps n)
 few : (c : Setting) → length c.stations ≤ 64 → (source : ℕ) (fs : List SenderFloor) → Sorted fs → AllByRecursion (λ (f : SenderFloor). is_declared c f.sender ≡ true) fs → is_declared c source ≡ true → length (others source fs) < 64
 unfolding Distinct In
 few c most source fs s a d =
-    omega (arith, most, length-map c.stations (λ (p : Station). p.eui), length-map (others source fs) (λ (f : SenderFloor). f.sender),
-    no-more-than (source ∷ senders (others source fs)) (map (λ (p : Station). p.eui) c.stations) (others-apart source fs, others-distinct source fs s)
-    (λ x i. declared-in c.stations x (⊎_elim (λ e. subst (λ n. is_declared c n ≡ true) e d) (λ j. all-in (λ n. is_declared c n ≡ true) (senders (others source fs)) (others-all (λ n. is_declared c n ≡ true) source fs a) x j) i)))
+    omega (
+      arith,
+      most,
+      length-map c.stations (λ (p : Station). p.eui),
+      length-map (others source fs) (λ (f : SenderFloor). f.sender),
+      no-more-than (source ∷ senders (others source fs)) (map (λ (p : Station). p.eui) c.stations) (others-apart source fs, others-distinct source fs s)
+          (λ x i. declared-in c.stations x (⊎_elim (λ e. subst (λ n. is_declared c n ≡ true) e d) (λ j. all-in (λ n. is_declared c n ≡ true) (senders (others source fs)) (others-all (λ n. is_declared c n ≡ true) source fs a) x j) i)),
+    )
 
 not-le : (n : ℕ) → n < 64 → (b : Bool) → nat_le 64 n ≡ b → b ≡ false
 not-le n lt true e = absurd (lt_irrefl n (omega (arith, lt, Rattle.std.proofs.Common.leb-true 64 n e)))

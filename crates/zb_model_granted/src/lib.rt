@@ -50,9 +50,9 @@ pub fn each_sender_has_room()
         → BeforeEach (λ (h : List Line) (event : Event). (n : ℕ) → HasRoom w h n) tools w (start w) [] 1 w.events }
 {}
 
-/// A node answers that a counter is spent only where a layer at which the frame of its rule is sealed has none left: its
-/// next counter is the greatest. `own_layers` and `command_layers` say which layers these are, and what a rule sends is
-/// sealed at just these.
+/// A node answers that a counter is spent only where a layer at which the frame of its rule is sealed has none left:
+/// its next counter is the greatest. `own_layers` and `command_layers` say which layers these are, and what a rule
+/// sends is sealed at just these.
 pub fn counter_spent_is_of_the_layers_of_the_frame()
     ensures own_events { (tools : Tools) (c : Setting) (s : NodeState) (task : Task)
         → own tools c s task ≡ Stop CounterSpent → OneSpent (own_layers c s task) s }

@@ -1,6 +1,7 @@
 //! A network as one of its nodes knows it.
 ghost use Rattle.std.specs.Prelude.{◌≡◌, ◌≤◌, ◌<◌, ◌^◌, ◌||◌, nat_eq, option_map};
 ghost use Rattle.zb_base.specs.Config.{IsConfig};
+ghost use Rattle.zb_model.specs.Commands.{eui_of};
 ghost use Rattle.zb_model.specs.Judging.{hears};
 ghost use Rattle.zb_model.specs.Rules.{acts_as_router, centre_of, from_centre, is_declared, is_router, short_of, station_at};
 ghost use Rattle.zb_model.specs.State.{is_centre};
@@ -32,8 +33,8 @@ impl Model for Network {
     ghost Value = { Setting };
 
     ghost view = { λ network. record {
-        me = station network.out_block network.in_block network.me;
-        stations = map known network.peers.items;
+      me = station network.out_block network.in_block network.me;
+      stations = map known network.peers.items;
     } };
 
     ghost invariant = { λ network. (network.centre.0 ≡ centre_of (map known network.peers.items))
@@ -133,6 +134,20 @@ impl Network {
         match peers::peer_of(self.peers.as_slice(), eui) {
             Some(peer) => peer.short,
             None => Short(0xffff),
+        }
+    }
+
+    /// Answers the network address of the source of a frame, and FFFF where it is unknown or not declared.
+    #[tactic(auto, unfolding(zb_model::specs::Rules::short_of))]
+    pub fn short_of_source(&self, source: Option<Eui>) -> Short
+        ensures { result.0 ≡ short_of self.now (eui_of (option_map (λ e. e.0) source)) }
+    {
+        match source {
+            Some(eui) => self.short_of(eui),
+            None => {
+                peers::nobody_among(self.peers.as_slice());
+                Short(0xffff)
+            }
         }
     }
 

@@ -1,7 +1,8 @@
 //! Looking for a node among those that are declared.
-ghost use Rattle.std.specs.Prelude.{◌≡◌, ◌&&◌, ◌≤◌, ◌<◌, ◌^◌, count_by, find, length, map, nat_eq, option_map};
+ghost use Rattle.std.specs.Prelude.{None, false, ◌≡◌, ◌&&◌, ◌≤◌, ◌<◌, ◌^◌, count_by, find, length, map, nat_eq, option_map};
 ghost use Rattle.std.specs.Option.{option_copied};
 ghost use Rattle.zb_base.specs.Config.{is_centre};
+ghost use Rattle.zb_model.specs.Data.{nobody};
 ghost use Rattle.zb_model.specs.Rules.{centre_of, is_router, station_at, station_of};
 ghost use Rattle.zb_model.specs.State.{is_centre as is_the_centre};
 ghost use Rattle.zb_node_types.specs.Changes.{model_role};
@@ -105,6 +106,32 @@ pub(crate) fn centre_among(peers: &[Peer]) -> Eui
     match first_centre(peers) {
         Some(peer) => peer.eui,
         None => Eui(0),
+    }
+}
+
+/// Tells that a node isn't the one that stands for nobody, whose number is no address.
+fn is_nobody(peer: &Peer) -> bool
+    ensures is { result ≡ nat_eq (known peer.now).eui nobody }
+    ensures never { result ≡ false }
+{
+    let _eui = in_range(peer.eui);
+    false
+}
+
+/// Answers the first node that stands for nobody.
+fn first_nobody(peers: &[Peer]) -> Option<&Peer>
+    ensures { option_copied result ≡ find (λ peer. nat_eq (known peer).eui nobody) peers.now }
+{
+    peers.iter().find(|peer| is_nobody(peer))
+}
+
+/// Says that nobody is declared; does nothing.
+#[tactic(auto, unfolding(zb_model::specs::Rules::station_of), using(crate::proofs::Looking::find_map))]
+pub(crate) fn nobody_among(peers: &[Peer])
+    ensures { station_of (map known peers.now) nobody ≡ None }
+{
+    if let Some(peer) = first_nobody(peers) {
+        let _never = is_nobody(peer);
     }
 }
 

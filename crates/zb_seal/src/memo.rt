@@ -59,12 +59,7 @@ impl KeyMemo {
     /// # Errors
     ///
     /// `NoSource` where the source is not known, then `BadMic` where the code is not that of a content.
-    pub fn open(
-        &self,
-        envelope: Envelope,
-        key: &Key,
-        given: Option<Eui>,
-    ) -> Result<Term, OpenError>
+    pub fn open(&self, envelope: Envelope, key: &Key, given: Option<Eui>) -> Result<Term, OpenError>
         ensures { result ≡ opened envelope key.now given }
     {
         match self.find(key) {

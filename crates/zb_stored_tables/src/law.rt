@@ -86,8 +86,8 @@ pub fn a_core_over_tables_keeps_the_law()
 
 /// Says the same of the value that the cores of all roles have, a setting and tables.
 ///
-/// `c` is the core before an event, and `d` the one after its changes, accepted terms and seals. It also says that these
-/// are the tables that are shown after the event's answer, where they are those of the answer.
+/// `c` is the core before an event, and `d` the one after its changes, accepted terms and seals. It also says that
+/// these are the tables that are shown after the event's answer, where they are those of the answer.
 pub fn a_core_of_setting_and_tables_keeps_the_law()
     ensures adds { (role : Role) (changes : List Change) (accepts seals : List Term) (c d : CoreValue) (r q : List ℕ)
         → IsStorable role c.tables changes → IsValueAfter changes accepts seals c d → get_or r 0 0 ≢ 1

@@ -93,8 +93,8 @@ impl StoredTables {
 
     /// Uses the next counter of a base key of a layer: a term was sealed under it.
     ///
-    /// At NWK that is the counter of the key's row, at APS the node's own. Requires that there is one, and that it isn't
-    /// the greatest.
+    /// At NWK that is the counter of the key's row, at APS the node's own. Requires that there is one, and that it
+    /// isn't the greatest.
     pub fn sealed_under(&mut self, layer: Layer, key: &Key)
         requires { (t : Term) × IsNext (model_layer layer) key.now.0 self.old t }
         ensures counted { (t : Term) → IsNext (model_layer layer) key.now.0 self.old t

@@ -1,0 +1,4 @@
+mod Opening
+pub mod Storing
+mod Parts
+pub mod PlanLaws

@@ -1,0 +1,4 @@
+pub mod Keeping
+mod Lists
+mod Planned
+mod Stored

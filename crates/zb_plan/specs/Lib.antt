@@ -1,0 +1,4 @@
+pub mod Answers
+pub mod Deciding
+pub mod Settling
+pub mod Storing

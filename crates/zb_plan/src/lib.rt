@@ -1,0 +1,12 @@
+//! From what was decided of an event to its whole plan: reserves and floors, the changes that change something, first
+//! counters, seals and the frame.
+#![tactic(auto)]
+
+mod decision;
+mod floors;
+mod plan;
+mod reserves;
+mod settling;
+
+pub use decision::Decision;
+pub use plan::{plan_of, plan_own};

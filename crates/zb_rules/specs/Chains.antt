@@ -1,0 +1,13 @@
+-- What the proof of a rule unfolds beside the rule's own word: the steps of its chain of refusals.
+use Rattle.std.specs.Prelude.{⊤}
+use Rattle.zb_model.specs.Rules.{unless, found_or, choose}
+use Rattle.zb_model_real.specs.Real.{real}
+
+unfoldable pub steps : ⊤
+unfolding unless found_or choose
+steps = tt
+
+-- the same of a rule that asks a tool
+unfoldable pub steps_with_tools : ⊤
+unfolding unless found_or choose real
+steps_with_tools = tt

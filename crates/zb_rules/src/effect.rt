@@ -1,0 +1,62 @@
+//! The effect of a rule that doesn't refuse.
+ghost use Rattle.std.specs.Prelude.{◌≡◌, [], None, Some};
+
+use arrayvec::ArrayVec;
+use zb_base::Short;
+use zb_node_types::Changes;
+use zb_send::{Body, Sending};
+
+/// Says what a rule does: the changes that it makes, without counters, and what it sends.
+#[derive(Debug, Drop)]
+pub struct Effect {
+    /// The changes, in order. One that leaves a thing as it is may be among them.
+    pub changes: Changes,
+    /// What the node sends, if anything.
+    pub sending: Option<Sending>,
+}
+
+/// Answers what sends a body to an address.
+///
+/// `secured`: at the network layer.
+pub fn sending(to: Short, secured: bool, body: Body) -> Option<Sending>
+    ensures { result ≡ Some (record { to = to; secured = secured; body = body }) }
+{
+    Some(Sending { to, secured, body })
+}
+
+impl Effect {
+    /// Answers the effect that changes nothing and sends nothing.
+    pub fn nothing() -> Effect
+        ensures changes { result.changes.items ≡ [] }
+        ensures sending { result.sending ≡ None }
+    {
+        Effect {
+            changes: ArrayVec::new(),
+            sending: None,
+        }
+    }
+
+    /// Answers the effect that makes these changes and sends nothing.
+    pub fn of_changes(changes: Changes) -> Effect
+        ensures changes { result.changes ≡ changes }
+        ensures sending { result.sending ≡ None }
+    {
+        Effect {
+            changes,
+            sending: None,
+        }
+    }
+
+    /// Answers the effect that sends a body to an address and changes nothing.
+    ///
+    /// `secured`: at the network layer.
+    pub fn of_sending(to: Short, secured: bool, body: Body) -> Effect
+        ensures changes { result.changes.items ≡ [] }
+        ensures sending { result.sending ≡ Some (record { to = to; secured = secured; body = body }) }
+    {
+        Effect {
+            changes: ArrayVec::new(),
+            sending: sending(to, secured, body),
+        }
+    }
+}
