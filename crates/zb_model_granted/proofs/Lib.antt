@@ -6,3 +6,5 @@ pub mod Standing
 pub mod NoDraws
 pub mod Senders
 pub mod FrameLayers
+pub mod Suited
+pub mod Newest

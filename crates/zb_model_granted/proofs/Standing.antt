@@ -359,10 +359,10 @@ start-standing w apart n = record {
 
 -- What rules ask
 
-found-some : (test : LinkKey → Bool) (r : LinkKey) (xs : List LinkKey) → In r xs → test r ≡ true → is_some (find test xs) ≡ true
+pub found-some : {X : Type 0} (test : X → Bool) (r : X) (xs : List X) → In r xs → test r ≡ true → is_some (find test xs) ≡ true
 unfolding In
 found-some test r [] i e = absurd i
-found-some test r (x ∷ xs) i e = by-test (test x) refl i (found-some test r xs)
+found-some {X = X} test r (x ∷ xs) i e = by-test (test x) refl i (found-some test r xs)
   where
     by-test : (b : Bool) → test x ≡ b → (x ≡ r) ⊎ In r xs → (In r xs → test r ≡ true → is_some (find test xs) ≡ true) → is_some (cond b (Some x) (find test xs)) ≡ true
     by-test true f j more = refl

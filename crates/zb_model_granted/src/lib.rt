@@ -4,19 +4,21 @@
 
 ghost use Rattle.std.specs.Prelude.{◌≡◌, ◌≤◌, ℕ, length, true, List, [], Option, Some, None};
 ghost use Rattle.zb_model_granted.specs.FrameLayers.{OneSpent, SealedAt, command_layers, own_layers};
-ghost use Rattle.zb_model_granted.specs.Granted.{Granted, HasRoom};
+ghost use Rattle.zb_model_granted.specs.Granted.{Granted, HasNewest, HasRoom, IsSuited};
 ghost use Rattle.zb_model_laws.specs.Events.{BeforeEach};
 ghost use Rattle.zb_model_laws.specs.KeysApart.{KeysApart};
 ghost use Rattle.zb_model_laws.specs.Opening.{Opens};
+ghost use Rattle.zb_model_shown.specs.Along.{NodesAllAlong, euis_differ};
+ghost use Rattle.zb_model_storable.specs.Storing.{OpensAsJudged};
 ghost use Rattle.zb_model.specs.Answer.{plan_of, refusal_of};
 ghost use Rattle.zb_model.specs.Commands.{Heard, take_command};
-ghost use Rattle.zb_model.specs.Data.{Bytes, Command, CounterSpent, DoRoll, Move, NoDraw, Policy, Received, Task};
+ghost use Rattle.zb_model.specs.Data.{Bytes, Command, CounterSpent, DoRoll, Move, NoDraw, Received, Task};
 ghost use Rattle.zb_model.specs.Lines.{Line};
 ghost use Rattle.zb_model.specs.OwnEvents.{own};
 ghost use Rattle.zb_model.specs.Play.{Event, Schedule, setting_of, start, supply};
 ghost use Rattle.zb_model.specs.Readings.{state_of};
 ghost use Rattle.zb_model.specs.Rules.{Does, Sending, Setting, Stop};
-ghost use Rattle.zb_model.specs.Schedules.{is_for_role};
+ghost use Rattle.zb_model.specs.Schedules.{IsSchedule};
 ghost use Rattle.zb_model.specs.State.{NodeState, is_centre};
 ghost use Rattle.zb_model.specs.Tools.{Tools};
 
@@ -65,9 +67,16 @@ pub fn counter_spent_is_of_the_layers_of_the_frame()
         → take_command tools c s draw m command ≡ Does moves send → SealedAt (command_layers command) send }
 {}
 
-/// An event of a node's own that is for a node of its role is never refused as policy. A schedule has no others
-/// (`IsSchedule.roles`), so that refusal comes in no run.
+/// No event of a node's own is refused as policy in a run: that refusal is for an event that isn't for a node of its
+/// role, and a schedule has none (`IsSchedule.roles`).
 pub fn events_suit_the_role_of_their_node()
-    ensures { (tools : Tools) (c : Setting) (s : NodeState) (task : Task)
-        → is_for_role (is_centre c.me.role) task ≡ true → own tools c s task ≡ Stop Policy → ⊥ }
+    ensures { (tools : Tools) (w : Schedule) → IsSchedule w
+        → BeforeEach (IsSuited tools w) tools w (start w) [] 1 w.events }
+{}
+
+/// Before each event of a run its node has a newest live network key, if its active key has a row. So a rollover that
+/// goes on, and the switch that ends it, find the key that they send.
+pub fn a_newest_key_is_there()
+    ensures { (tools : Tools) → OpensAsJudged tools → (w : Schedule) → IsSchedule w → euis_differ w ≡ true
+        → NodesAllAlong HasNewest tools w }
 {}

@@ -4,6 +4,7 @@ use Rattle.zb_model_counted.proofs.Floors.{floors-are-for}
 use Rattle.zb_model_counted.proofs.Unique.{counted, unique}
 use Rattle.zb_model_granted.proofs.Senders.{has-room}
 use Rattle.zb_model_granted.proofs.Standing.{granted}
+use Rattle.zb_model_granted.proofs.Suited.{draws, suited}
 use Rattle.zb_model_laws.proofs.ConfirmsRuns.{confirms}
 use Rattle.zb_model_laws.proofs.LawfulRuns.{lawful}
 use Rattle.zb_model_laws.proofs.LockoutLaw.{locked}
@@ -41,6 +42,8 @@ holds w p = record {
   floors = floors-are-for real opens-real w;
   spent = transcript-spent real w p.schedule;
   granted = granted real opens-real w p.keys;
+  draws = draws real opens-real w p.keys;
+  suited = suited real w p.schedule;
   room = has-room real opens-real w p.schedule.few_nodes;
   fresh = fresh real w p.schedule;
   once = once real opens-real w p.schedule;

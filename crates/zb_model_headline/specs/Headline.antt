@@ -3,7 +3,7 @@
 use Rattle.std.specs.Prelude.{ℕ, ◌≡◌, true, List, [], ◌∷◌}
 use Rattle.zb_model_counted.specs.Counted.{Counted}
 use Rattle.zb_model_counted.specs.Floors.{FloorsAreFor}
-use Rattle.zb_model_granted.specs.Granted.{Granted, HasRoom}
+use Rattle.zb_model_granted.specs.Granted.{DrawsAreThere, Granted, HasRoom, IsSuited}
 use Rattle.zb_model_laws.specs.Events.{BeforeEach}
 use Rattle.zb_model_laws.specs.Spent.{SpentLine, TakesAll}
 use Rattle.zb_model.specs.Claims.{Confirms, Each, Fresh, Lawful, Locked, Once}
@@ -34,6 +34,10 @@ pub record Holds (w : Schedule) : Type 0 where
   pub spent : Each SpentLine [] (transcript real w)
   -- before each event every node has what the rules take for granted, so none is refused for want of it
   pub granted : BeforeEach (λ (h : List Line) (event : Event). (n : ℕ) → Granted w h n) real w (start w) [] 1 w.events
+  -- so the centre answers no-draw only where the supply is empty; and no event of a node's own is refused as policy
+  pub draws : BeforeEach (λ (h : List Line) (event : Event). (n : ℕ) → DrawsAreThere real w h n) real w (start w) [] 1 w.events
+  pub suited : BeforeEach (IsSuited real w) real w (start w) [] 1 w.events
+  -- and there is room for the floor of each declared sender
   pub room : BeforeEach (λ (h : List Line) (event : Event). (n : ℕ) → HasRoom w h n) real w (start w) [] 1 w.events
   -- no node seals twice under one key and nonce; no receiver accepts a sender's counter twice under one key, resets included
   pub fresh : Fresh real (transcript real w)

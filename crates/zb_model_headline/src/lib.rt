@@ -23,7 +23,8 @@ pub fn frames_show_their_own_keys()
 
 /// For every schedule, of real frames: the run is lawful and counted, and no other lines are; no counter is skipped
 /// without a boot, no floor is more than one incoming block above its counter, and who answers counter-spent stands at
-/// the greatest counter; before each event every node has what the rules take for granted; no node seals twice under
+/// the greatest counter; before each event every node has what the rules take for granted, so the centre answers
+/// no-draw only where the supply is empty; no event of a node's own is refused as policy; no node seals twice under
 /// one key and nonce; no receiver accepts a counter twice, resets included; only stored keys are confirmed; and where
 /// the end line says `yes yes`, removed devices are locked out. `Premises` is of the schedule: its numbers are in
 /// their ranges, it names declared nodes, has one centre, and its keys are different keys.

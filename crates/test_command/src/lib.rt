@@ -1,0 +1,5 @@
+//! Tests of the program's commands over the public call `run`: worked runs, refusals, sources and sinks that fail.
+#![tactic(auto)]
+
+#[cfg(test)]
+mod runs;

@@ -1,0 +1,487 @@
+//! Whole runs over objects in memory. What is wanted comes from worked examples outside of this repository.
+use std::test::Fail;
+use std::thread::Threads;
+use zb_base::{MemSink, MemSource};
+use zb_command::{Status, run};
+
+const TWO_FRAMES: &[u8] = b"node c centre 00124B0000000001 0000 4 2
+node d device 00124B0000000002 1A2B 4 2
+netkey c 000102030405060708090A0B0C0D0E0F 0
+netkey d 000102030405060708090A0B0C0D0E0F 0
+say c 1A2B 0102
+say c 1A2B 0102
+";
+
+const TWO_FRAMES_PLAYED: &[u8] = b"0 node c centre 00124B0000000001 0000 4 2
+0 node d device 00124B0000000002 1A2B 4 2
+0 given c net 000102030405060708090A0B0C0D0E0F 0
+0 given d net 000102030405060708090A0B0C0D0E0F 0
+1 seal c nwk network 000102030405060708090A0B0C0D0E0F 00124B0000000001 0 2D \
+              08022B1A00001E002D0000000001000000004B120000 00010000040101000102
+1 send c 1 08022B1A00001E00280000000001000000004B12000063DD603D8198631D3B765B34BA85
+2 seal c nwk network 000102030405060708090A0B0C0D0E0F 00124B0000000001 1 2D \
+              08022B1A00001E012D0100000001000000004B120000 00010000040101010102
+2 send c 2 08022B1A00001E01280100000001000000004B120000897752BDF0FC12EC62703D343AD0
+end 2 2 0 0 yes yes
+";
+
+const WITHOUT_A_KEY: &[u8] = b"node c centre 00124B0000000001 0000 4 2
+node d device 00124B0000000002 1A2B 4 2
+netkey c 000102030405060708090A0B0C0D0E0F 0
+say c 1A2B 0102
+say c 1A2B 0102
+say d 0000 -
+";
+
+const WITHOUT_A_KEY_PLAYED: &[u8] = b"0 node c centre 00124B0000000001 0000 4 2
+0 node d device 00124B0000000002 1A2B 4 2
+0 given c net 000102030405060708090A0B0C0D0E0F 0
+1 seal c nwk network 000102030405060708090A0B0C0D0E0F 00124B0000000001 0 2D \
+              08022B1A00001E002D0000000001000000004B120000 00010000040101000102
+1 send c 1 08022B1A00001E00280000000001000000004B12000063DD603D8198631D3B765B34BA85
+2 seal c nwk network 000102030405060708090A0B0C0D0E0F 00124B0000000001 1 2D \
+              08022B1A00001E012D0100000001000000004B120000 00010000040101010102
+2 send c 2 08022B1A00001E01280100000001000000004B120000897752BDF0FC12EC62703D343AD0
+3 refuse d event no-key
+end 3 2 0 1 yes yes
+";
+
+const MADE_FOR_ONE: &[u8] = b"node c centre 00124B0000000001 0000 8 4
+node d1 router 00124B0000000101 1001 8 4
+code d1 3E00EF2F895F40D67F5BB8E81F09A5A10FD8
+netkey c 2C840EC3CE9A7F3B181BE188EF711A1E 0
+draw 984CE172B9216F419F445367456D5619
+draw 314A42A3DA86B001387BFDB80E0CFE42
+provision d1 3E00EF2F895F40D67F5BB8E81F09A5A10FD8
+knock d1
+child c d1 join
+deliver 1 d1
+timer d1
+deliver 2 c
+deliver 3 d1
+timer d1
+deliver 4 c
+deliver 5 d1
+deliver 4 c
+say d1 FFFF DC
+say d1 FFFF EE
+say d1 FFFF 4B
+stop c 4 50
+say c FFFF 00
+boot c
+deliver 7 d1
+timer d1
+say d1 FFFF 70
+deliver 6 c
+say d1 FFFF 78
+deliver 9 c
+say d1 FFFF 6C
+say c FFFF DB
+reset c
+boot c
+say d1 FFFF A1
+stop c 2 5E
+say c FFFF 00
+boot c
+deliver 8 c
+reset d1
+boot d1
+reset c
+boot c
+stop d1 3 1E
+say d1 FFFF 00
+boot d1
+remove d1 via c
+roll
+switch
+deliver 11 d1
+deliver 13 c
+deliver 16 d1
+deliver 11 c
+deliver 12 d1
+deliver 9 d1
+deliver 20 d1
+deliver 16 d1
+deliver 15 c
+deliver 6 c
+";
+
+const CODE: &str = "83FED3407A939723A5C639B26916D505C3B5";
+
+const KEY: &str = "000102030405060708090A0B0C0D0E0F";
+
+/// A capture file without check sequences: a packet whose payload is the first of the frames above.
+const CAPTURE_FILE: [u8; 85] =
+    *b"\xD4\xC3\xB2\xA1\x02\x00\x04\x00\x00\x00\x00\x00\x00\x00\x00\x00\x00\x00\x00\x00\xE6\x00\x00\x00\
+      \x00\x00\x00\x00\x00\x00\x00\x00\x2D\x00\x00\x00\x2D\x00\x00\x00\x41\x88\x01\x62\x1A\x2B\x1A\x00\
+      \x00\x08\x02\x2B\x1A\x00\x00\x1E\x00\x28\x00\x00\x00\x00\x01\x00\x00\x00\x00\x4B\x12\x00\x00\x63\
+      \xDD\x60\x3D\x81\x98\x63\x1D\x3B\x76\x5B\x34\xBA\x85";
+
+const CAPTURE_FILE_SHOWN: &[u8] = b"1 nwk key 1 00124B0000000001 0 00010000040101000102
+1 aps not-secured
+key 1 000102030405060708090A0B0C0D0E0F given
+end 1 1 1
+packets 1 0 0
+";
+
+/// What is shown of a file whose one packet has a wrong check sequence.
+const PASSED_OVER: &[u8] = b"key 1 000102030405060708090A0B0C0D0E0F given
+end 0 1 1
+packets 1 1 0
+";
+
+/// What a run came to: how it ended, and what the sink took.
+#[derive(Drop)]
+struct Ran {
+    status: Status,
+    sink: MemSink,
+}
+
+/// Runs words over an input whose calls of some numbers fail, and a sink whose calls of some numbers fail.
+fn over<H: AllocGlobal + Threads + Sync>(
+    rt: &H,
+    words: &[&str],
+    input: &[u8],
+    fails: &[u32],
+    sink_fails: &[u32],
+) -> Result<Ran, Fail> {
+    let mut texts = Vec::new(rt.alloc());
+    for word in words {
+        texts.push(String::from_str(rt.alloc(), word)?)?;
+    }
+    let mut source = MemSource::new(rt.alloc(), input, fails)?;
+    let mut sink = MemSink::new(rt.alloc(), 65_536, sink_fails)?;
+    let status = run(rt, rt.alloc(), texts.as_slice(), &mut source, &mut sink);
+    Ok(Ran { status, sink })
+}
+
+#[test]
+fn worked_runs_have_their_outputs(rt: HostRuntime) -> Result<(), Fail> {
+    // the packet of the capture file where the last two bytes of each are its check sequence
+    let mut checked = CAPTURE_FILE;
+    checked[20] = 195;
+    let runs: [(&[&str], &[u8], &[u8]); 11] = [
+        (&["play"], TWO_FRAMES, TWO_FRAMES_PLAYED),
+        (&["play"], WITHOUT_A_KEY, WITHOUT_A_KEY_PLAYED),
+        // comments, empty lines, carriage returns, and a last line without an end
+        (
+            &["play"],
+            b"# \xFF any byte\r\n\r\n\nnode c centre 00124b0000000001 0000 65536 1024\r\nsay c FFF8 -",
+            b"0 node c centre 00124B0000000001 0000 65536 1024\n1 refuse c event no-key\nend 1 0 0 1 yes yes\n",
+        ),
+        (&["make", "1"], b"", MADE_FOR_ONE),
+        (
+            &["install", CODE],
+            b"",
+            b"66B6900981E1EE3CA4206B6B861C02BB\n",
+        ),
+        (
+            &["install", "83FED3407A932B70"],
+            b"",
+            b"CD4FA064773F46941EC986C09963D1A8\n",
+        ),
+        (&["sniff", "1", KEY], &CAPTURE_FILE, CAPTURE_FILE_SHOWN),
+        (&["sniff", "4", KEY], &CAPTURE_FILE, CAPTURE_FILE_SHOWN),
+        (&["sniff", "1", KEY], &checked, PASSED_OVER),
+        (&["sniff", "4", KEY], &checked, PASSED_OVER),
+        (&["inspect", "2"], b"", b"end 0 0 1\n"),
+    ];
+    for (words, input, output) in runs {
+        let ran = over(&rt, words, input, &[], &[])?;
+        assert!(rt; ran.status == Status::Ok && ran.sink.taken() == output);
+    }
+    Ok(())
+}
+
+#[test]
+fn other_words_and_inputs_are_refused(rt: HostRuntime) -> Result<(), Fail> {
+    let runs: [(&[&str], &[u8], &str); 53] = [
+        (&["play"], b"boom\n", "refused 1 syntax"),
+        (&["play"], b"", "refused 1 no-centre"),
+        (&["play"], b"# no centre\n", "refused 2 no-centre"),
+        (
+            &["play"],
+            b"node d device 00124B0000000002 1A2B 4 2\n",
+            "refused 2 no-centre",
+        ),
+        (
+            &["play"],
+            b"node c centre 00124B0000000001 0000 0 2\n",
+            "refused 1 block",
+        ),
+        (
+            &["play"],
+            b"node c centre 00124B0000000001 0000 65537 2\n",
+            "refused 1 block",
+        ),
+        (
+            &["play"],
+            b"node c centre 00124B0000000001 0000 4 1025\n",
+            "refused 1 block",
+        ),
+        (
+            &["play"],
+            b"node c centre 00124B0000000001 0001 4 2\n",
+            "refused 1 syntax",
+        ),
+        (
+            &["play"],
+            b"node c centre 0000000000000000 0000 4 2\n",
+            "refused 1 syntax",
+        ),
+        (
+            &["play"],
+            b"node c centre FFFFFFFFFFFFFFFF 0000 4 2\n",
+            "refused 1 syntax",
+        ),
+        (
+            &["play"],
+            b"node c centre 00124B0000000001 0000 4 02\n",
+            "refused 1 syntax",
+        ),
+        (
+            &["play"],
+            b"node c centre 00124B0000000001 0000 4 2 \n",
+            "refused 1 syntax",
+        ),
+        (
+            &["play"],
+            b"node c centre 00124B0000000001 0000 4 2\nnode e centre 00124B0000000002 0000 4 2\n\
+              ",
+            "refused 2 duplicate-node",
+        ),
+        (
+            &["play"],
+            b"node c centre 00124B0000000001 0000 4 2\nnode d device 00124B0000000001 1A2B 4 2\n\
+              ",
+            "refused 2 duplicate-node",
+        ),
+        (
+            &["play"],
+            b"node c centre 00124B0000000001 0000 4 2\nnetkey d 000102030405060708090A0B0C0D0E0F 0\n\
+              ",
+            "refused 2 unknown-node",
+        ),
+        (
+            &["play"],
+            b"node c centre 00124B0000000001 0000 4 2\nnetkey c 5A6967426565416C6C69616E63653039 0\n\
+              ",
+            "refused 2 draw-repeated",
+        ),
+        (
+            &["play"],
+            b"node c centre 00124B0000000001 0000 4 2\nnetkey c 000102030405060708090A0B0C0D0E0F 256\n\
+              ",
+            "refused 2 syntax",
+        ),
+        (
+            &["play"],
+            b"node c centre 00124B0000000001 0000 4 2\nsay c 0000 -\n\
+              node d device 00124B0000000002 1A2B 4 2\n",
+            "refused 3 syntax",
+        ),
+        (
+            &["play"],
+            b"node c centre 00124B0000000001 0000 4 2\nsay d 0000 -\n",
+            "refused 2 unknown-node",
+        ),
+        (
+            &["play"],
+            b"node c centre 00124B0000000001 0000 4 2\r\r\n",
+            "refused 1 syntax",
+        ),
+        (
+            &["play"],
+            b"node c centre 00124B0000000001 0000 4 2\nboom c\nsay d 0000 -\n",
+            "refused 2 syntax",
+        ),
+        (
+            &["play"],
+            b"node c centre 00124B0000000001 0000 4 2\ncounter c nwk 0\nboom\n",
+            "refused 3 syntax",
+        ),
+        (
+            &["play"],
+            b"node c centre 00124B0000000001 0000 4 2\nsay d 0000 -\ntimer c\n",
+            "refused 2 unknown-node",
+        ),
+        (&["play"], b"#\n\nboom c\n", "refused 3 syntax"),
+        (
+            &["play"],
+            b"#\n#\n#\n#\n#\n#\n#\ndraw A0A1A2A3A4A5A6A7A8A9AAABACADAEAF\n\
+              draw A0A1A2A3A4A5A6A7A8A9AAABACADAEAF\n",
+            "refused 9 draw-repeated",
+        ),
+        (&[], b"", "usage"),
+        (&["play", "now"], b"", "usage"),
+        (&["install"], b"", "usage"),
+        (&["install", "00", "00"], b"", "usage"),
+        (&["help"], b"", "usage"),
+        (&["Play"], b"", "usage"),
+        (&["make"], b"", "usage"),
+        (&["make", "0"], b"", "usage"),
+        (&["make", "61"], b"", "usage"),
+        (&["make", "061"], b"", "usage"),
+        (&["make", ""], b"", "usage"),
+        (&["make", "4294967297"], b"", "usage"),
+        (&["make", "1", "1"], b"", "usage"),
+        (&["inspect"], b"", "usage"),
+        (&["inspect", "0"], b"", "usage"),
+        (&["inspect", "65"], b"", "usage"),
+        (&["inspect", "1", "1"], b"", "usage"),
+        (&["sniff"], b"", "usage"),
+        (&["sniff", "0"], b"", "usage"),
+        // half a key, and an install code with another check
+        (&["sniff", "1", "0001020304050607"], b"", "usage"),
+        (
+            &["sniff", "1", "83FED3407A939723A5C639B26916D505C3B4"],
+            b"",
+            "usage",
+        ),
+        (
+            &["install", "83FED3407A939723A5C639B26916D505C3B4"],
+            b"",
+            "refused 1 crc B4C3 B5C3",
+        ),
+        (
+            &["install", "83FED3407A939723A5C639B26916D505C3"],
+            b"",
+            "refused 1 length 17",
+        ),
+        (
+            &["install", "83FED3407A939723A5C639B26916D505C3B"],
+            b"",
+            "refused 1 not-hex 35",
+        ),
+        (
+            &["install", "83FED3407A932B7G"],
+            b"",
+            "refused 1 not-hex 15",
+        ),
+        (&["install", ""], b"", "refused 1 length 0"),
+        (&["sniff", "1", KEY], b"\xD4\xC3\xB2\xA1", "refused 0 magic"),
+        (
+            &["sniff", "1", KEY],
+            b"\xD4\xC3\xB2\xA1\x02\x00\x04\x00\x00\x00\x00\x00\x00\x00\x00\x00\x00\x00\x00\x00\xE6\x00\x00\x00\x00",
+            "refused 1 cut",
+        ),
+    ];
+    for (words, input, text) in runs {
+        let ran = over(&rt, words, input, &[], &[])?;
+        assert!(rt; ran.status.text().as_str() == text && ran.sink.taken().is_empty());
+    }
+    Ok(())
+}
+
+#[test]
+fn a_source_or_a_sink_that_fails_ends_the_run(rt: HostRuntime) -> Result<(), Fail> {
+    // words, the input, the calls of the source and of the sink that fail, the end, and what the sink has a front of
+    let runs: [(&[&str], &[u8], &[u32], &[u32], Status, &[u8]); 5] = [
+        (&["play"], TWO_FRAMES, &[2], &[], Status::ReadFault, b""),
+        (&["play"], TWO_FRAMES, &[], &[1], Status::WriteFault, b""),
+        (
+            &["play"],
+            TWO_FRAMES,
+            &[],
+            &[4],
+            Status::WriteFault,
+            TWO_FRAMES_PLAYED,
+        ),
+        (&["install", CODE], b"", &[], &[1], Status::WriteFault, b""),
+        (&["make", "1"], b"", &[], &[1], Status::WriteFault, b""),
+    ];
+    for (words, input, fails, sink_fails, status, output) in runs {
+        let ran = over(&rt, words, input, fails, sink_fails)?;
+        assert!(rt; ran.status == status && output.starts_with(ran.sink.taken()));
+    }
+    Ok(())
+}
+
+/// Whether words end a run over the longest input of line feeds as a text says, with this output, and are told that one
+/// byte more is too long.
+fn take_the_longest<H: AllocGlobal + Threads + Sync>(
+    rt: &H,
+    words: &[&str],
+    text: &str,
+    output: &[u8],
+) -> Result<bool, Fail> {
+    let mut input = vec![in rt.alloc(); 10u8; 16_777_217]?;
+    let long = over(rt, words, input.as_slice(), &[], &[])?;
+    let _ = input.pop();
+    let longest = over(rt, words, input.as_slice(), &[], &[])?;
+    Ok(
+        long.status == Status::TooLong { limit: 16_777_216 }
+            && longest.status.text().as_str() == text
+            && longest.sink.taken() == output,
+    )
+}
+
+#[test]
+fn a_schedule_is_too_long_past_the_longest(rt: HostRuntime) -> Result<(), Fail> {
+    assert!(rt; take_the_longest(&rt, &["play"], "refused 16777217 no-centre", b"")?);
+    Ok(())
+}
+
+#[test]
+fn a_capture_is_too_long_past_the_longest(rt: HostRuntime) -> Result<(), Fail> {
+    assert!(rt; take_the_longest(&rt, &["inspect", "2"], "", b"end 0 0 1\n")?);
+    Ok(())
+}
+
+/// A frame behind its key, more bytes than come in before several jobs begin, and the frame again.
+fn long_capture<H: AllocGlobal>(rt: &H, byte: u8, last: &[u8]) -> Result<Vec<u8>, Fail> {
+    let mut text = Vec::from_slice(
+        rt.alloc(),
+        b"key 000102030405060708090A0B0C0D0E0F
+frame 08022B1A00001E00280000000001000000004B12000063DD603D8198631D3B765B34BA85
+#",
+    )?;
+    text.resize(5_000_000, byte)?;
+    text.extend_from_slice(
+        b"
+frame 08022B1A00001E00280000000001000000004B12000063DD603D8198631D3B765B34BA85
+",
+    )?;
+    text.extend_from_slice(last)?;
+    Ok(text)
+}
+
+#[test]
+fn a_long_capture_is_read_alike_by_each_number_of_jobs(rt: HostRuntime) -> Result<(), Fail> {
+    let report = b"1 nwk key 1 00124B0000000001 0 00010000040101000102
+1 aps not-secured
+2 nwk key 1 00124B0000000001 0 00010000040101000102
+2 aps not-secured
+key 1 000102030405060708090A0B0C0D0E0F given
+end 2 1 1
+";
+    // a line of many bytes, and many lines
+    for byte in [b'.', b'\n'] {
+        let text = long_capture(&rt, byte, b"")?;
+        for jobs in ["1", "2", "64"] {
+            let ran = over(&rt, &["inspect", jobs], text.as_slice(), &[], &[])?;
+            assert!(rt; ran.status == Status::Ok && ran.sink.taken() == report.as_slice());
+        }
+    }
+    Ok(())
+}
+
+#[test]
+fn a_long_capture_is_refused_alike_by_each_number_of_jobs(rt: HostRuntime) -> Result<(), Fail> {
+    // what fills it, its last line, a call of the source that fails, and how it ends
+    let captures: [(u8, &[u8], &[u32], &str); 5] = [
+        (b'.', b"boom", &[], "refused 5 syntax"),
+        (b'\n', b"code 00\nboom", &[], "refused 4999888 bad-code"),
+        (b'.', b"", &[1], "read fault"),
+        (b'.', b"", &[300], "read fault"),
+        (b'\n', b"boom", &[307], "read fault"),
+    ];
+    for (byte, last, fails, ended) in captures {
+        let text = long_capture(&rt, byte, last)?;
+        for jobs in ["1", "2", "64"] {
+            let ran = over(&rt, &["inspect", jobs], text.as_slice(), fails, &[])?;
+            assert!(rt; ran.status.text().as_str() == ended && ran.sink.taken().is_empty());
+        }
+    }
+    Ok(())
+}

@@ -1,0 +1,62 @@
+-- The commands of the program, by the words after its name.
+use Rattle.std.specs.Prelude.{ℕ, ◌==◌, ◌∷◌, [], ◌&&◌, nat_lt, nat_le, if◌then◌else◌, List, length, codes, bytes_eq, Option, Some, None}
+use Rattle.zb_model.specs.Data.{Bytes}
+use Rattle.zb_base.specs.declared.key.Key.{Key}
+use Rattle.zb_text.specs.Numbers.{number_of}
+use Rattle.zb_command.specs.KeyWords.{all_keys, keys_in}
+
+-- `play` plays the schedule on its input; `install CODE` writes the link key of an install code; `make N` writes the made
+-- schedule for N routers and devices; `inspect JOBS` writes the report on the capture on its input, worked out by so many jobs;
+-- `sniff JOBS KEY ..` does that for the frames of the capture file on its input, under at most 256 keys
+pub data Task : Type 0 where
+  Playing : Task
+  Installing : (code : Bytes) → Task
+  Making : (count : ℕ) → Task
+  Inspecting : (jobs : ℕ) → Task
+  Sniffing : (jobs : ℕ) (keys : List Key) → Task
+
+-- a number from 1 on
+abbrev pub positive : Option ℕ → Option ℕ
+positive None = None
+positive (Some number) = if number == 0 then None else Some number
+
+-- a number from 1 to `limit`, in decimal digits without leading zeros
+abbrev pub count_of : ℕ → Bytes → Option ℕ
+count_of limit word = positive (number_of limit word)
+
+abbrev pub making : Option ℕ → Option Task
+making None = None
+making (Some count) = Some (Making count)
+
+abbrev pub inspecting : Option ℕ → Option Task
+inspecting None = None
+inspecting (Some jobs) = Some (Inspecting jobs)
+
+abbrev pub sniffing : List Key → Option ℕ → Option Task
+sniffing keys None = None
+sniffing keys (Some jobs) = Some (Sniffing jobs keys)
+
+abbrev pub sniff_words : Bytes → List Bytes → Option Task
+sniff_words operand words =
+    if nat_le (length words) 256 && all_keys words then sniffing (keys_in words) (count_of 64 operand) else None
+
+abbrev pub lone_word : Bytes → Option Task
+lone_word word = if bytes_eq word (codes "play") then Some Playing else None
+
+-- a code has fewer than 2^32 - 1 bytes; a longer word is none
+abbrev pub word_and_operand : Bytes → Bytes → Option Task
+word_and_operand word operand =
+    if bytes_eq word (codes "install") && nat_lt (length operand) 4294967295 then Some (Installing operand)
+    else if bytes_eq word (codes "make") then making (count_of 60 operand)
+    else if bytes_eq word (codes "inspect") then inspecting (count_of 64 operand)
+    else None
+
+abbrev pub word_and_more : Bytes → Bytes → List Bytes → Option Task
+word_and_more word operand [] = word_and_operand word operand
+word_and_more word operand (key ∷ more) = None
+
+-- None where the words are no command
+abbrev pub task_of : List Bytes → Option Task
+task_of [] = None
+task_of (word ∷ []) = lone_word word
+task_of (word ∷ operand ∷ more) = if bytes_eq word (codes "sniff") then sniff_words operand more else word_and_more word operand more

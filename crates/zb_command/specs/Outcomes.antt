@@ -1,0 +1,88 @@
+-- What the ends of the program mean.
+use Rattle.std.specs.Prelude.{◌≡◌, ℕ, List, Option, Ok, IfSome}
+use Rattle.std.specs.Io.KnownBytes.{Appends, IsAtEnd, Keeps}
+use Rattle.zb_base.specs.Outside.{AppendsFront, Rose}
+use Rattle.zb_gen.specs.Made.{made_schedule}
+use Rattle.zb_model.specs.Data.{Bytes}
+use Rattle.zb_model.specs.Lines.{Line}
+use Rattle.zb_model.specs.FirstPath.{Plan, Lawful, Fresh, Counted}
+use Rattle.zb_player.specs.Text.{text}
+use Rattle.zb_player.specs.Wire.{wire}
+use Rattle.zb_reader.specs.Reading.{schedule}
+use Rattle.zb_sched.specs.Schedules as sched
+use Rattle.zb_sched.specs.Printed.{printed}
+use Rattle.zb_sched.specs.Reading.{schedule_in}
+use Rattle.zb_sched.specs.Valid.{IsSchedule}
+use Rattle.zb_command.specs.Answers.{Answer, Writes, Refuses, Exceeds, longest, output_of}
+use Rattle.zb_command.specs.Commands.{Task, Playing, Installing, Making, Inspecting, Sniffing}
+use Rattle.zb_command.specs.declared.status.Status.{Status}
+use Rattle.zb_command.specs.declared.status.Status.TheVariants as status
+
+-- The answer is an output, and that was written.
+abbrev pub IsWritten : Answer → Option Bytes → Option Bytes → Type 0
+IsWritten (Writes output) before after = Appends before after output
+IsWritten (Refuses line cause) before after = ⊥
+IsWritten Exceeds before after = ⊥
+
+-- A front of the answer's output was written.
+abbrev pub IsBegun : Answer → Option Bytes → Option Bytes → Type 0
+IsBegun answer before after = AppendsFront before after (output_of answer)
+
+-- How a command ends whose answer is wanted, where that is known: what the sink took before and after, and its count of
+-- faults.
+abbrev pub Ends : Status → Option Answer → Option Bytes → Option Bytes → ℕ → ℕ → Type 0
+Ends status.Ok wanted before after old new = IfSome wanted (λ answer. IsWritten answer before after)
+Ends status.Usage wanted before after old new = ⊥
+Ends status.ReadFault wanted before after old new = Keeps before after
+Ends status.WriteFault wanted before after old new = IfSome wanted (λ answer. IsBegun answer before after) × Rose old new
+Ends (status.Refused line cause) wanted before after old new = IfSome wanted (λ answer. answer ≡ Refuses line cause) × Keeps before after
+Ends status.NoMemory wanted before after old new = IfSome wanted (λ answer. IsBegun answer before after)
+Ends (status.TooLong limit) wanted before after old new = (limit ≡ longest) × IfSome wanted (λ answer. answer ≡ Exceeds) × Keeps before after
+
+-- Nothing is left to come of the input of a command that has one.
+abbrev pub ReadsToEnd : Task → Option Bytes → Type 0
+ReadsToEnd Playing left = IsAtEnd left
+ReadsToEnd (Installing code) left = Unit {0}
+ReadsToEnd (Making count) left = Unit {0}
+ReadsToEnd (Inspecting jobs) left = IsAtEnd left
+ReadsToEnd (Sniffing jobs keys) left = IsAtEnd left
+
+-- What the statuses say of the bytes written: nothing was, or a front of the output.
+abbrev pub WritesNothing : Status → Option Bytes → Option Bytes → Type 0
+WritesNothing status.Ok before after = Unit {0}
+WritesNothing status.Usage before after = Keeps before after
+WritesNothing status.ReadFault before after = Keeps before after
+WritesNothing status.WriteFault before after = Unit {0}
+WritesNothing (status.Refused line cause) before after = Keeps before after
+WritesNothing status.NoMemory before after = Unit {0}
+WritesNothing (status.TooLong limit) before after = Keeps before after
+
+abbrev pub WritesFront : Status → Answer → Option Bytes → Option Bytes → Type 0
+WritesFront status.WriteFault answer before after = IsBegun answer before after
+WritesFront status.NoMemory answer before after = IsBegun answer before after
+WritesFront s answer before after = Unit {0}
+
+-- A schedule was played: what was written is the text of lines that are a lawful run of it, in which no node seals twice
+-- under one key and nonce, and each seal has its node's next counter.
+pub record IsRun (plan : Plan) (written : Bytes) : Type 0 where
+  pub lines : List Line
+  pub text_of : written ≡ text lines
+  pub lawful : Lawful wire plan lines
+  pub fresh : Fresh lines
+  pub counted : Counted lines
+
+-- The input is a schedule, and its run was written.
+pub record Played (input : Bytes) (before after : Option Bytes) : Type 0 where
+  pub plan : Plan
+  pub output : Bytes
+  pub reads : schedule input ≡ Ok plan
+  pub run : IsRun plan output
+  pub written : Appends before after output
+
+-- A schedule was made, and its printed text was written, which is a text that reads as that schedule.
+pub record Made (count : ℕ) (before after : Option Bytes) : Type 0 where
+  pub plan : sched.Schedule
+  pub is : made_schedule 0 count ≡ Ok plan
+  pub valid : IsSchedule plan
+  pub reads : schedule_in (printed plan) ≡ Ok plan
+  pub written : Appends before after (printed plan)

@@ -1,0 +1,100 @@
+//! The words of the command line.
+ghost use Rattle.std.specs.Prelude.{◌≡◌, map, string_bytes, IfSome, ◌≤◌};
+ghost use Rattle.std.specs.Option.{option_map};
+ghost use Rattle.zb_command.specs.Commands.{count_of, lone_word, sniff_words, task_of, word_and_operand};
+ghost use Rattle.zb_command.specs.Words.{task, Fits};
+
+use crate::keys::are_keys;
+use zb_text::numbers::number;
+
+/// Is a command of the program.
+#[derive(Drop)]
+pub(crate) enum Command<'a> {
+    /// Plays the schedule on the input, and writes its transcript.
+    Play,
+    /// Writes the link key of an install code.
+    Install {
+        /// The digits of the code.
+        code: &'a str,
+    },
+    /// Writes the made schedule for so many routers and devices.
+    Make {
+        /// How many routers and devices there are.
+        count: u32,
+    },
+    /// Writes the report on the capture on the input, worked out by so many jobs.
+    Inspect {
+        /// How many jobs there are.
+        jobs: u32,
+    },
+    /// Writes the report on the capture file on the input, under the keys that the words stand for.
+    Sniff {
+        /// How many jobs there are.
+        jobs: u32,
+        /// The words that stand for keys.
+        words: &'a [String],
+    },
+}
+
+/// Reads the words after the program's name as a command.
+pub(crate) fn read_words<'a>(words: &'a [String]) -> Option<Command<'a>>
+    ensures value { option_map task result ≡ task_of (map string_bytes words.now) }
+    ensures fits { IfSome result Fits }
+{
+    match words {
+        [word] => lone(word.as_str()),
+        [word, operand, keys @ ..] if word.as_str() == "sniff" => sniff(operand.as_str(), keys),
+        [word, operand] => with_operand(word.as_str(), operand.as_str()),
+        _ => None,
+    }
+}
+
+fn sniff<'a>(operand: &str, words: &'a [String]) -> Option<Command<'a>>
+    ensures value { option_map task result ≡ sniff_words operand.now (map string_bytes words.now) }
+    ensures fits { IfSome result Fits }
+{
+    if words.len() > 256 || !are_keys(words) {
+        return None;
+    }
+    let jobs = count(operand, 64)?;
+    Some(Command::Sniff { jobs, words })
+}
+
+fn lone<'a>(word: &str) -> Option<Command<'a>>
+    ensures value { option_map task result ≡ lone_word word.now }
+    ensures fits { IfSome result Fits }
+{
+    if word == "play" {
+        Some(Command::Play)
+    } else {
+        None
+    }
+}
+
+fn with_operand<'a>(word: &str, operand: &'a str) -> Option<Command<'a>>
+    ensures value { option_map task result ≡ word_and_operand word.now operand.now }
+    ensures fits { IfSome result Fits }
+{
+    if word == "install" && operand.len() < 4_294_967_295 {
+        Some(Command::Install { code: operand })
+    } else if word == "make" {
+        let count = count(operand, 60)?;
+        Some(Command::Make { count })
+    } else if word == "inspect" {
+        let jobs = count(operand, 64)?;
+        Some(Command::Inspect { jobs })
+    } else {
+        None
+    }
+}
+
+/// Reads a word as a number from 1 to `limit`.
+fn count(word: &str, limit: u32) -> Option<u32>
+    ensures value { result ≡ count_of limit word.now }
+    ensures range { IfSome result (λ count. (1 ≤ count) × (count ≤ limit)) }
+{
+    match number(limit, word.as_bytes()) {
+        Some(0) | None => None,
+        Some(count) => Some(count),
+    }
+}

@@ -1,0 +1,20 @@
+//! The commands of the program, and `run`, which carries out one of them over a source and a sink.
+#![tactic(auto)]
+
+mod capture;
+mod command;
+mod incoming;
+mod input;
+mod inspect;
+mod install;
+mod keys;
+mod make;
+mod play;
+mod process;
+mod program;
+mod sniff;
+mod status;
+
+pub use process::run_process;
+pub use program::run;
+pub use status::{Cause, Status};

@@ -1,0 +1,58 @@
+//! The run of the process: the words of its command line, its standard input and its standard output.
+
+use crate::program::run;
+use crate::status::Status;
+use std::env;
+use std::io::{self, BufWriter, Write};
+use std::rt::Env;
+use std::thread::Threads;
+use zb_base::{Failed, Sink, StdSink, StdSource};
+
+/// Runs the command that the words of the process are, over its standard input and output.
+///
+/// Where it didn't end well it says so on standard output. What standard output holds back is handed on at the end, and
+/// fails as a write does.
+pub fn run_process<H: Env + Input + Print + AllocGlobal + Threads + Sync>(rt: &H) -> Status {
+    let Ok(writer) = BufWriter::with_capacity(rt.alloc(), 65_536, io::writer(rt)) else {
+        return Status::NoMemory;
+    };
+    let mut output = StdSink::new(writer);
+    let status = run_words(rt, &mut output);
+    let told = tell(&status, &mut output);
+    if told.is_err() || output.flush().is_err() {
+        return Status::WriteFault;
+    }
+    status
+}
+
+/// Runs the command, and writes into `output`.
+fn run_words<H: Env + Input + AllocGlobal + Threads + Sync, W: Write>(
+    rt: &H,
+    output: &mut StdSink<W>,
+) -> Status {
+    let Ok(words) = words_after_name(rt) else {
+        return Status::NoMemory;
+    };
+    let mut input = StdSource::new(rt.reader());
+    run(rt, rt.alloc(), words.as_slice(), &mut input, output)
+}
+
+/// Gives the words after the program's name.
+fn words_after_name<H: Env + AllocGlobal>(rt: &H) -> io::Result<Vec<String>> {
+    let mut words = Vec::new(rt.alloc());
+    for word in env::args(rt)?.skip(1) {
+        words.push(word)?;
+    }
+    Ok(words)
+}
+
+/// Writes the text of a status, with a line feed, but for those of which nothing is said.
+fn tell<W: Sink>(status: &Status, output: &mut W) -> Result<(), Failed> {
+    match status {
+        Status::Ok | Status::WriteFault => Ok(()),
+        _ => {
+            output.write(status.text().as_str().as_bytes())?;
+            output.write(b"\n")
+        }
+    }
+}

@@ -1,0 +1,100 @@
+//! The top call: one command over a source and a sink.
+ghost use Rattle.std.specs.Prelude.{◌≡◌, ◌⊎◌, ℕ, Some, None, IfSome, map, string_bytes};
+ghost use Rattle.std.specs.Io.KnownBytes.{IsAtEnd};
+ghost use Rattle.zb_base.specs.Outside.{Rose};
+ghost use Rattle.zb_command.specs.Answers.{Answer, Refuses, Exceeds, longest, status_of, wanted};
+ghost use Rattle.zb_command.specs.Commands.{Task, Playing, Making, task_of};
+ghost use Rattle.zb_command.specs.Inputs.{TakesAtMost};
+ghost use Rattle.zb_command.specs.Outcomes.{Ends, IsWritten, Made, Played, ReadsToEnd, WritesFront, WritesNothing};
+ghost use Rattle.zb_command.specs.Words.{task, Fits};
+ghost use Rattle.zb_command.specs.declared.status.Cause.{Cause};
+
+use crate::command::{Command, read_words};
+use crate::inspect::inspect_input;
+use crate::install::install_code;
+use crate::make::make_schedule;
+use crate::play::play_input;
+use crate::sniff::sniff_input;
+use crate::status::Status;
+use std::alloc::Global;
+use std::thread::Threads;
+use zb_base::{Sink, Source};
+
+/// Runs the command that the words after the program's name are.
+pub fn run<T: Threads + Sync, R: Source, W: Sink>(
+    rt: &T,
+    alloc: Global,
+    words: &[String],
+    input: &mut R,
+    output: &mut W,
+) -> Status
+    // `Usage` comes exactly where the words are no command.
+    ensures usage { result ≡ Status.Usage → task_of (map string_bytes words.now) ≡ None }
+    ensures no_command { task_of (map string_bytes words.now) ≡ None → result ≡ Status.Usage }
+    // At Ok the output that is wanted of the command was written, and its input was read to its end.
+    ensures done { (job : Task) → task_of (map string_bytes words.now) ≡ Some job → result ≡ Status.Ok
+        → IfSome (wanted job (R.rest input.old))
+        (λ answer. IsWritten answer (W.taken output.old) (W.taken output.new)) }
+    ensures end { (job : Task) → task_of (map string_bytes words.now) ≡ Some job → result ≡ Status.Ok
+        → ReadsToEnd job (R.rest input.new) }
+    // It takes no more of the input than one byte past the longest.
+    ensures few { TakesAtMost (R.rest input.old) (R.rest input.new) 16777217 }
+    // What `play` wrote is a lawful run of the schedule that its input is.
+    ensures played { task_of (map string_bytes words.now) ≡ Some Playing → result ≡ Status.Ok
+        → IfSome (R.rest input.old) (λ bytes. Played bytes (W.taken output.old) (W.taken output.new)) }
+    // What `make` wrote is the made schedule, and reads as that.
+    ensures made { (count : ℕ) → task_of (map string_bytes words.now) ≡ Some (Making count) → result ≡ Status.Ok
+        → Made count (W.taken output.old) (W.taken output.new) }
+    // The cause of each other answer.
+    ensures read_fault { result ≡ Status.ReadFault → Rose (R.faults input.old) (R.faults input.new) }
+    ensures write_fault { result ≡ Status.WriteFault → Rose (W.faults output.old) (W.faults output.new) }
+    ensures refused { (job : Task) (line : ℕ) (cause : Cause) → task_of (map string_bytes words.now) ≡ Some job
+        → result ≡ Status.Refused line cause
+        → IfSome (wanted job (R.rest input.old)) (λ answer. answer ≡ Refuses line cause) }
+    ensures too_long { (job : Task) (limit : ℕ) → task_of (map string_bytes words.now) ≡ Some job → result
+        ≡ Status.TooLong limit
+        → (limit ≡ longest) × IfSome (wanted job (R.rest input.old)) (λ answer. answer ≡ Exceeds) }
+    // What was written at these.
+    ensures nothing { WritesNothing result (W.taken output.old) (W.taken output.new) }
+    ensures front { (job : Task) → task_of (map string_bytes words.now) ≡ Some job
+        → IfSome (wanted job (R.rest input.old))
+        (λ answer. WritesFront result answer (W.taken output.old) (W.taken output.new)) }
+    // Where neither the source nor the sink fails, only the status of the answer comes, or want of memory.
+    ensures complete { (job : Task) (answer : Answer) → task_of (map string_bytes words.now) ≡ Some job → wanted job
+        (R.rest input.old) ≡ Some answer
+        → (Rose (R.faults input.old) (R.faults input.new) → ⊥) → (Rose (W.faults output.old) (W.faults output.new) → ⊥)
+        → (result ≡ status_of answer) ⊎ (result ≡ Status.NoMemory) }
+{
+    match read_words(words) {
+        None => Status::Usage,
+        Some(command) => carry_out(rt, alloc, command, input, output),
+    }
+}
+
+/// Carries out a command.
+fn carry_out<T: Threads + Sync, R: Source, W: Sink>(
+    rt: &T,
+    alloc: Global,
+    command: Command,
+    input: &mut R,
+    output: &mut W,
+) -> Status
+    requires { Fits command }
+    ensures ends { Ends result (wanted (task command.entry) (R.rest input.old)) (W.taken output.old)
+        (W.taken output.new) (W.faults output.old) (W.faults output.new) }
+    ensures end { result ≡ Status.Ok → ReadsToEnd (task command.entry) (R.rest input.new) }
+    ensures few { TakesAtMost (R.rest input.old) (R.rest input.new) 16777217 }
+    ensures played { task command.entry ≡ Playing → result ≡ Status.Ok
+        → IfSome (R.rest input.old) (λ bytes. Played bytes (W.taken output.old) (W.taken output.new)) }
+    ensures made { (count : ℕ) → task command.entry ≡ Making count → result ≡ Status.Ok
+        → Made count (W.taken output.old) (W.taken output.new) }
+    ensures read_fault { result ≡ Status.ReadFault → Rose (R.faults input.old) (R.faults input.new) }
+{
+    match command {
+        Command::Play => play_input(alloc, input, output),
+        Command::Install { code } => install_code(alloc, code, output),
+        Command::Make { count } => make_schedule(alloc, count, output),
+        Command::Inspect { jobs } => inspect_input(rt, alloc, jobs, input, output),
+        Command::Sniff { jobs, words } => sniff_input(rt, alloc, jobs, words, input, output),
+    }
+}
