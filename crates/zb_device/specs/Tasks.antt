@@ -1,0 +1,15 @@
+-- The tasks of the policy that an event of a device or router stands for.
+use Rattle.std.specs.Prelude.{◌≡◌, Option}
+use Rattle.zb_device.specs.declared.event.DeviceEvent.{DeviceEvent}
+use Rattle.zb_device.specs.declared.event.DeviceEvent.TheVariants.{Knock, Rejoin, Deliver, Timer, Say, Ask, Tell}
+use Rattle.zb_model.specs.Data.{Bytes, Task, SayTo, TellTo, DoKnock, DoRejoin, DoTimer, AskFor, Received}
+
+-- one task, but for a delivery: since only the centre draws, it stands for the delivery with any draw
+abbrev pub IsTaskOf : DeviceEvent → Task → Type 0
+IsTaskOf Knock task = task ≡ DoKnock
+IsTaskOf Rejoin task = task ≡ DoRejoin
+IsTaskOf (Deliver bytes) task = (draw : Option Bytes) × (task ≡ Received bytes.items draw)
+IsTaskOf Timer task = task ≡ DoTimer
+IsTaskOf (Say to bytes) task = task ≡ SayTo to.0 bytes.items
+IsTaskOf (Ask partner) task = task ≡ AskFor partner.0
+IsTaskOf (Tell partner bytes) task = task ≡ TellTo partner.0 bytes.items

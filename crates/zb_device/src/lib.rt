@@ -1,0 +1,10 @@
+//! What a device does at each event: the core of a device over its rules, and the plans that routers share.
+#![tactic(auto)]
+
+mod device;
+mod event;
+mod member;
+
+pub use device::Device;
+pub use event::DeviceEvent;
+pub use member::plan_member;
