@@ -1,0 +1,11 @@
+-- The tasks of the policy that an event of a router stands for.
+use Rattle.std.specs.Prelude.{◌≡◌}
+use Rattle.zb_device.specs.Tasks as device
+use Rattle.zb_model.specs.Data.{Task, HasChild}
+use Rattle.zb_router.specs.declared.event.RouterEvent.{RouterEvent}
+use Rattle.zb_router.specs.declared.event.RouterEvent.TheVariants.{Own, Child}
+
+-- those of a device, and a child that knocks or wants to come back
+abbrev pub IsTaskOf : RouterEvent → Task → Type 0
+IsTaskOf (Own event) task = device.IsTaskOf event task
+IsTaskOf (Child child rejoin) task = task ≡ HasChild child.0 rejoin

@@ -1,0 +1,57 @@
+//! The plan of a router for each of its events.
+ghost use Rattle.std.specs.Prelude.{◌≡◌, false};
+ghost use Rattle.zb_model.specs.Answer.{answer};
+ghost use Rattle.zb_model.specs.Data.{HasChild, Task};
+ghost use Rattle.zb_model.specs.State.{is_centre};
+ghost use Rattle.zb_model_real.specs.Real.{real};
+ghost use Rattle.zb_plan.specs.Answers.{IsAnswer};
+ghost use Rattle.zb_router.specs.Tasks.{IsTaskOf};
+
+use crate::event::RouterEvent;
+use zb_base::Eui;
+use zb_core::NodeCore;
+use zb_device::plan_member;
+use zb_host::{Outcome, Plan};
+use zb_keys::Tables;
+use zb_member_rules::child_of_router;
+use zb_network::Network;
+use zb_node_types::Refusal;
+use zb_plan::plan_own;
+use zb_seal::{KeyMemo, Term};
+
+/// Plans what a child leads to that knocks, or asks to be let in again.
+///
+/// Requires a node that isn't the centre.
+fn plan_child(
+    network: &Network,
+    tables: &Tables,
+    memo: &KeyMemo,
+    child: Eui,
+    rejoin: bool,
+) -> Plan<Outcome<Term, Refusal>>
+    requires { is_centre network.now.me.role ≡ false }
+    ensures { IsAnswer result (answer real network.now tables.now (HasChild child.0 rejoin)) }
+{
+    plan_own(
+        network,
+        tables,
+        memo,
+        child_of_router(network, tables, child, rejoin),
+    )
+}
+
+/// Plans an event of a router, by the rule of the event.
+///
+/// Requires a node that isn't the centre.
+pub(crate) fn plan_router(node: &NodeCore, event: &RouterEvent) -> Plan<Outcome<Term, Refusal>>
+    requires { is_centre node.now.setting.me.role ≡ false }
+    ensures { (task : Task) → IsTaskOf event.now task
+        → IsAnswer result (answer real node.now.setting node.now.tables task) }
+{
+    match event {
+        RouterEvent::Own(own) => plan_member(node, own),
+        RouterEvent::Child { device, rejoin } => {
+            plan_child(node.network(), node.tables(), node.memo(), *device, *rejoin)
+        }
+    }
+}
