@@ -1,17 +1,14 @@
-//! The host of a sealing centre: crashes at each device call, records of the first version, and bad disks.
-ghost use Rattle.std.specs.Prelude.{◌≤◌};
-ghost use Rattle.zb_base.specs.Config.{IsConfig};
-ghost use Rattle.zb_model.specs.Data.{Centre};
-ghost use Rattle.zb_stored_tables.specs.Cores.{IsOfRole};
+//! The host of a trust centre: crashes at each device call, records of the first version, and bad disks.
 
-use crate::sealer::{Sealer, SealerEvent};
-use arrayvec::ArrayVec;
+use crate::network::alone;
 use std::alloc::Global;
 use std::process::Abort;
 use std::test::Fail;
-use zb_base::{Config, Eui, Layer, Name, Peer, Role, Short};
+use zb_base::{Layer, Short};
+use zb_centre::{Centre, CentreEvent};
 use zb_disk::{Disk, MemDisk, TrailDisk};
 use zb_host::{Host, HostFault};
+use zb_send::Payload;
 use zb_store::Store;
 
 // A record of version 1: a centre with the NWK limit 8, and one network key, which is live and active.
@@ -33,29 +30,6 @@ const LIMIT: usize = 34;
 
 // An entry: NWK counters are reserved up to 16.
 const RESERVED: [u8; 7] = [1, 1, 0, 16, 0, 0, 0];
-
-// A network of one centre, which reserves so many counters at once.
-#[tactic(auto, unfolding(zb_network::specs::Settings::setting_for))]
-fn alone(block: u32) -> Config
-    requires least { 1 ≤ block }
-    requires most { block ≤ 65536 }
-    ensures config { IsConfig result }
-    ensures role { IsOfRole Centre result }
-{
-    let mut peers = ArrayVec::new();
-    peers.push(Peer {
-        name: Name::new(),
-        eui: Eui(0x0012_4B00_0000_0001),
-        short: Short(0),
-        role: Role::Centre,
-    });
-    Config {
-        me: 0,
-        peers,
-        out_block: block,
-        in_block: 1,
-    }
-}
 
 // A slot that stands open: a record, and entries.
 fn slot(alloc: Global, generation: u64, record: &[u8], entries: &[&[u8]]) -> Result<Vec<u8>, Fail> {
@@ -80,15 +54,15 @@ fn disk_of(rt: &(impl AllocGlobal + Abort), bytes: &[u8]) -> Result<MemDisk, Fai
 }
 
 // The NWK limit of a host's tables.
-fn limit_of(rt: &impl Abort, host: &Host<Sealer>) -> u32 {
+fn limit_of(rt: &impl Abort, host: &Host<Centre>) -> u32 {
     assert!(rt; host.is_up());
-    host.core().tables().tables().outgoing(Layer::Nwk, 1).limit
+    host.core().node().tables().outgoing(Layer::Nwk, 1).limit
 }
 
 // The NWK limit with which a host boots on these bytes, or why it doesn't.
 fn booted(rt: &(impl AllocGlobal + Abort), bytes: &[u8]) -> Result<Result<u32, HostFault>, Fail> {
     let mut disk = disk_of(rt, bytes)?;
-    let booted: Result<Host<Sealer>, HostFault> = Host::boot(rt.alloc(), &alone(4), &mut disk);
+    let booted: Result<Host<Centre>, HostFault> = Host::boot(rt.alloc(), &alone(4), &mut disk);
     match booted {
         Ok(host) => Ok(Ok(limit_of(rt, &host))),
         Err(HostFault::NoMemory) => Err(HostFault::NoMemory)?,
@@ -106,16 +80,20 @@ fn booted_on(
     booted(rt, bytes.as_slice())
 }
 
-// The counter of the host's next seal.
+// The counter under which the centre says nothing to all, if it can.
 fn seal<D: Disk>(
     rt: &impl Abort,
-    host: &mut Host<Sealer>,
+    host: &mut Host<Centre>,
     disk: &mut D,
 ) -> Result<Option<u32>, HostFault> {
+    let event = CentreEvent::Say {
+        to: Short(0xFFFF),
+        bytes: Payload::new(),
+    };
     assert!(rt; host.is_up());
-    let (_, seal) = host.handle(disk, &SealerEvent::Seal)?;
-    match seal {
-        Some(seal) => Ok(Some(seal.counter)),
+    let (_, outcome) = host.handle(disk, &event)?;
+    match outcome.sealed_nwk {
+        Some(term) => Ok(Some(term.counter)),
         None => Ok(None),
     }
 }
@@ -126,7 +104,7 @@ fn seal_on<D: Disk>(rt: &(impl AllocGlobal + Abort), disk: &mut D) -> Result<u32
     let mut record = THIRD;
     record[LIMIT] = 0;
     let _ = Store::format(rt.alloc(), disk, &record)?;
-    let mut host: Host<Sealer> = Host::boot(rt.alloc(), &alone(1), disk)?;
+    let mut host: Host<Centre> = Host::boot(rt.alloc(), &alone(1), disk)?;
     for event in 0..40 {
         match seal(rt, &mut host, disk) {
             Ok(counter) => assert_eq!(rt; counter, Some(event)),
@@ -160,7 +138,7 @@ fn goes_on_after_a_crash_at_each_call(rt: HostRuntime) -> Result<(), Fail> {
         let mut trail = TrailDisk::new(rt.alloc(), &[], calls, 8_192)?;
         let out = seal_on(&rt, &mut trail)?;
         let mut disk = disk_of(&rt, trail.bytes())?;
-        let mut host: Host<Sealer> = Host::boot(rt.alloc(), &alone(1), &mut disk)?;
+        let mut host: Host<Centre> = Host::boot(rt.alloc(), &alone(1), &mut disk)?;
         let next = seal(&rt, &mut host, &mut disk)?.unwrap_or(0);
         assert_eq!(rt; (out, next), expected(calls), "at {calls}");
     }
@@ -181,10 +159,10 @@ fn writes_the_whole_record_over_a_first_version(rt: HostRuntime) -> Result<(), F
     for (entries, declared, limit) in stores {
         let bytes = slot(rt.alloc(), 1, &FIRST, entries)?;
         let mut disk = disk_of(&rt, bytes.as_slice())?;
-        let mut host: Host<Sealer> = Host::boot(rt.alloc(), &alone(4), &mut disk)?;
+        let mut host: Host<Centre> = Host::boot(rt.alloc(), &alone(4), &mut disk)?;
         assert!(rt; host.is_up());
-        let (_, none) = host.handle(&mut disk, &SealerEvent::Rest)?;
-        assert!(rt; none.is_none() && disk.bytes() == bytes.as_slice());
+        let (_, outcome) = host.handle(&mut disk, &CentreEvent::Timer)?;
+        assert!(rt; outcome.refused.is_some() && disk.bytes() == bytes.as_slice());
         let mut record = THIRD;
         record[DECLARED] = declared;
         record[LIMIT] = limit.saturating_add(4);

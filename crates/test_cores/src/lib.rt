@@ -1,0 +1,14 @@
+//! Tests of the three cores over their hosts, each on a disk in memory: a join, hostile frames, crashes at each device
+//! call, records of the first version.
+#![tactic(auto)]
+
+#[cfg(test)]
+mod air;
+#[cfg(test)]
+mod crashes;
+#[cfg(test)]
+mod hostile;
+#[cfg(test)]
+mod join;
+#[cfg(test)]
+mod network;

@@ -1,2 +1,0 @@
-pub mod Sealers
-pub mod SealerLaws
