@@ -1,5 +1,9 @@
-//! That the model's stops and failures are those of the store. The function here says laws and does nothing.
-ghost use Rattle.std.specs.Prelude.{◌≡◌, ◌+◌, ◌%◌, ◌==◌, ◌&&◌, nat_eq, List, ℕ, Bool, true};
+//! That the model's stops and failures are those of the store. Each function here says laws and does
+//! nothing.
+ghost use Rattle.std.specs.Prelude.{◌≡◌, ◌+◌, ◌%◌, ◌==◌, ◌&&◌, List, ℕ, Bool, true, false};
+ghost use Rattle.zb_disk.specs.Memory.{Medium, memory_view};
+ghost use Rattle.zb_store.specs.Layout.{Standing};
+ghost use Rattle.zb_store.specs.Store.{IsHeld, both_gates_open};
 ghost use Rattle.zb_store.specs.Power.{stop_commits, failure_commits, stop_opens_both, failure_opens_both, open_stop_leaves_both, open_failure_leaves_both};
 ghost use Rattle.zb_model.specs.Play.{StopAfter, FailAt, BootCalls, falls, stands, leaves_both, commit_calls};
 ghost use Rattle.zb_driven.specs.Arms.{commit_of};
@@ -25,4 +29,10 @@ pub fn stops_and_failures()
         → leaves_both (FailAt call) (BootCalls true) ≡ open_failure_leaves_both call }
     ensures full_is { (entries commits : ℕ) → entries ≡ commits % 33
         → commit_calls commits ≡ commit_of (entries == 32) }
+{}
+
+/// Says that the gates of both slots aren't open where a record is held, as after a commit and after a boot.
+#[tactic(auto, using(crate::proofs::Resets::one_open))]
+pub fn one_gate_stands_open()
+    ensures { (s : Standing) (m : Medium) → IsHeld s (memory_view m) → both_gates_open m.bytes ≡ false }
 {}

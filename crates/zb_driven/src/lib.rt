@@ -4,7 +4,17 @@
 #![tactic(auto)]
 
 mod arms;
+mod boot;
+mod event;
+mod fall;
 mod law;
+mod reset;
+mod shown;
 
 pub use crate::arms::Arms;
-pub use crate::law::stops_and_failures;
+pub use crate::boot::boot_armed;
+pub use crate::event::run;
+pub use crate::fall::{Fall, Fallen};
+pub use crate::law::{one_gate_stands_open, stops_and_failures};
+pub use crate::reset::restart;
+pub use crate::shown::dump;
