@@ -1,5 +1,5 @@
 -- What arming and disarming leave of a disk in memory, and what an armed one does to a run of calls.
-use Rattle.std.proofs.Common.{◌≡◌, ◌+◌, ◌≤◌, ◌<◌, ℕ, List, Bool, true, false, nat_lt, nat_le, if◌then◌else◌, refl, sym, ◌∙◌, ap, arith}
+use Rattle.std.proofs.Common.{◌≡◌, ◌+◌, ◌≤◌, ◌<◌, ℕ, List, Bool, true, false, if◌then◌else◌, refl, sym, ◌∙◌, ap, arith}
 use Rattle.std.proofs.lemmas.Bool.{false≢true, lt-leb, le-ltb}
 use Rattle.zb_disk.specs.declared.memory.Arming.{Arming}
 use Rattle.zb_disk.specs.declared.memory.Arming.TheVariants.{Unarmed, Stop, Fail, Stopped}
@@ -120,3 +120,6 @@ pub unarmed_then : (a : Armed) (run : ℕ) (old m : Medium) → IsUnarmed old �
 unarmed_then NotArmed run old m quiet went = λ k. went.later refl k ∙ quiet (k + run)
 unarmed_then (StopAfter calls torn) run old m quiet went = taken_back m.arming (still_on run (armed_medium (StopAfter calls torn) old) m went)
 unarmed_then (FailAt call) run old m quiet went = taken_back m.arming (still_on run (armed_medium (FailAt call) old) m went)
+
+pub unarmed_stays : (run : ℕ) (old new : Medium) → IsUnarmed old → WentThrough memory_tells run (memory_view old) (memory_view new) → IsUnarmed new
+unarmed_stays run old new quiet went = unarmed_then NotArmed run old new quiet went

@@ -1,5 +1,5 @@
 -- A boot: nothing falls, or something falls on it.
-use Rattle.std.proofs.Common.{◌≡◌, ◌+◌, ◌≤◌, ◌<◌, ◌==◌, ◌&&◌, ℕ, List, get_or, Bool, true, false, Option, Some, None, Ok, if◌then◌else◌, refl, sym, ◌∙◌, ap, subst, arith}
+use Rattle.std.proofs.Common.{◌≡◌, ◌==◌, ℕ, List, get_or, Bool, true, false, Option, Some, None, Ok, refl, sym, ◌∙◌, ap, subst}
 use Rattle.std.specs.List.{concat}
 use Rattle.std.proofs.lemmas.Bool.{false≢true, lt-ltb, le-leb}
 use Rattle.zb_base.specs.Outside.{risen}
@@ -10,22 +10,22 @@ use Rattle.zb_disk.specs.View.{Only}
 use Rattle.zb_disk.specs.Memory.{Medium, is_stopped, powered, memory_tells, memory_view}
 use Rattle.zb_store.specs.Layout.{Standing, IsWhole}
 use Rattle.zb_store.specs.Layout.{stands as stands_on}
-use Rattle.zb_store.specs.Steps.{WentThrough, StoppedWithin}
-use Rattle.zb_store.specs.Store.{AllWhole, OpenStop, both_gates_open, open_calls, place_of}
-use Rattle.zb_store.specs.Power.{StopFell, FailureFell, open_stop_leaves_both, open_failure_leaves_both}
+use Rattle.zb_store.specs.Steps.{WentThrough}
+use Rattle.zb_store.specs.Store.{AllWhole, OpenStop, both_gates_open, open_calls}
+use Rattle.zb_store.specs.Power.{StopFell, FailureFell}
 use Rattle.zb_store.proofs.Powers.{open_stands, open_failure_stands, open_gates, open_failure_gates, open_closed, open_within, stop_falls, failure_falls}
 use Rattle.zb_host.specs.declared.fault.HostFault.{HostFault}
 use Rattle.zb_host.specs.declared.fault.HostFault.TheVariants.{Disk, NoMemory, NoRecord, BadRecord, Worn}
 use Rattle.zb_host.specs.Plans.{Restored, gives, bad}
-use Rattle.zb_host.specs.Hosts.{Restoring, Gives, Hosted, IsCurrent}
+use Rattle.zb_host.specs.Hosts.{Restoring, Hosted}
 use Rattle.zb_host.specs.HostFaults.{IsBootFault}
 use Rattle.zb_host.specs.Calls.{Words, IsBooted}
 use Rattle.zb_host.proofs.Lives.{same_standing, same_record}
 use Rattle.zb_model.specs.Play.{Armed, NotArmed, StopAfter, FailAt, BootCalls, count_of, falls, leaves_both}
 use Rattle.zb_driven.specs.declared.fall.Fall.{Fall}
 use Rattle.zb_driven.specs.declared.fall.Fall.TheVariants.{Failed}
-use Rattle.zb_driven.specs.Arms.{IsArming, IsUnarmed, armed_medium, disarmed_medium, fallen_calls}
-use Rattle.zb_driven.specs.Driven.{memory_words, IsAtRest, IsDown, WasBooted, HasFallenAtBoot, boot_cause, fall_of, fall_seen}
+use Rattle.zb_driven.specs.Arms.{armed_medium, disarmed_medium}
+use Rattle.zb_driven.specs.Driven.{memory_words, IsAtRest, IsDown, WasBooted, HasFallenAtBoot, boot_cause, fall_seen}
 use Rattle.zb_driven.proofs.Ties.{boot_stop_leaves, boot_fail_leaves}
 use Rattle.zb_driven.proofs.Armings.{on, taken_back, on_once_powered, powered_calls, armed_bytes, armed_calls, disarmed_calls, armed_only, disarmed_current, missed, unarmed_then}
 

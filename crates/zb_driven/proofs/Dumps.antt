@@ -1,5 +1,5 @@
 -- What a node that is down shows.
-use Rattle.std.proofs.Common.{◌≡◌, ℕ, List, Bool, true, false, Option, Some, None, Result, Ok, Err, IfOk, [], refl, sym, ◌∙◌, ap, subst}
+use Rattle.std.proofs.Common.{◌≡◌, ℕ, List, false, Option, Some, None, Result, Ok, Err, IfOk, [], refl, sym, ◌∙◌, ap, subst}
 use Rattle.std.proofs.lemmas.Bool.{false≢true}
 use Rattle.std.specs.List.{concat}
 use Rattle.zb_base.specs.declared.fault.OrMemory.{OrMemory}
@@ -7,11 +7,11 @@ use Rattle.zb_base.specs.declared.fault.OrMemory.TheVariants.{Fault, NoMemory as
 use Rattle.zb_node_types.specs.declared.fault.KeyError.{KeyError}
 use Rattle.zb_node_types.specs.declared.fault.KeyError.TheVariants.{KeyOld, KeysFull, RowsFull, KeyInUse, NoRow, WrongHash, BadRecord}
 use Rattle.zb_disk.specs.View.{View}
-use Rattle.zb_disk.specs.Memory.{Medium, off_after, memory_tells, memory_view}
+use Rattle.zb_disk.specs.Memory.{Medium, memory_tells, memory_view}
 use Rattle.zb_disk.proofs.Calls.{off_now}
 use Rattle.zb_store.specs.declared.fault.StoreFault.{StoreFault}
 use Rattle.zb_store.specs.declared.fault.StoreFault.TheVariants as store
-use Rattle.zb_store.specs.Layout.{Standing, stands}
+use Rattle.zb_store.specs.Layout.{Standing}
 use Rattle.zb_store.specs.Reading.{AreContents}
 use Rattle.zb_store.specs.Faults.{OnlyReads, IsReadFault}
 use Rattle.zb_host.specs.Plans.{Restored, gives, bad, IsRestoreFault}

@@ -1,5 +1,5 @@
 -- An event of a node that is up: nothing falls, or something falls on its commit.
-use Rattle.std.proofs.Common.{◌≡◌, ◌≢◌, ◌⊎◌, inl, inr, ◌+◌, ◌≤◌, ◌<◌, ◌&&◌, ℕ, List, [], ◌∷◌, Option, Some, None, Bool, true, false, if◌then◌else◌, refl, sym, ◌∙◌, ap, subst, arith}
+use Rattle.std.proofs.Common.{◌≡◌, ◌≢◌, ◌⊎◌, inl, inr, ◌&&◌, ℕ, List, [], ◌∷◌, Option, Some, None, Bool, true, false, if◌then◌else◌, refl, sym, ◌∙◌, ap, subst, arith}
 use Rattle.std.proofs.lemmas.Bool.{false≢true, lt-ltb, le-leb}
 use Rattle.arrayvec.specs.declared.array_vec.ArrayVec.{ArrayVec}
 use Rattle.zb_base.specs.Outside.{risen}
@@ -10,17 +10,17 @@ use Rattle.zb_store.specs.Layout.{Standing, IsWhole}
 use Rattle.zb_store.specs.Steps.{WentThrough, StoppedWithin}
 use Rattle.zb_store.specs.Store.{Place, both_gates_open}
 use Rattle.zb_store.specs.Power.{stop_commits, failure_commits, stop_opens_both, failure_opens_both, StopFell, FailureFell}
-use Rattle.zb_store.proofs.Powers.{append_stands, append_failure_stands, append_gates, put_stands, put_failure_stands, put_gates, put_failure_gates, append_within, put_within, stop_falls, failure_falls, unarmed_none}
+use Rattle.zb_store.proofs.Powers.{append_stands, append_failure_stands, append_gates, put_stands, put_failure_stands, put_gates, put_failure_gates, append_within, put_within, stop_falls, failure_falls}
 use Rattle.zb_host.specs.declared.fault.HostFault.{HostFault}
 use Rattle.zb_host.specs.declared.fault.HostFault.TheVariants.{Disk, NoMemory, NoRecord, BadRecord, Worn}
 use Rattle.zb_host.specs.Hosts.{Gives, Hosted, IsCurrent, writes_whole, next_standing, CommitStop, HasStopped, commit_calls}
 use Rattle.zb_host.specs.HostFaults.{IsHandleFault}
 use Rattle.zb_host.specs.Calls.{Words}
 use Rattle.zb_host.proofs.Stops.{stands_then, within_then, gates_then}
-use Rattle.zb_model.specs.Play.{Armed, NotArmed, StopAfter, FailAt, Calls, count_of, falls, stands, leaves_both}
+use Rattle.zb_model.specs.Play.{Armed, NotArmed, StopAfter, FailAt, count_of, falls}
 use Rattle.zb_driven.specs.declared.fall.Fall.{Fall}
-use Rattle.zb_driven.specs.Arms.{IsArming, IsUnarmed, armed_medium, disarmed_medium, commit_of, calls_after, fallen_calls}
-use Rattle.zb_driven.specs.Driven.{IsAtRest, IsUp, WasHandled, HasFallen, IsTaken, fall_of, fall_seen}
+use Rattle.zb_driven.specs.Arms.{IsUnarmed, armed_medium, disarmed_medium, commit_of, calls_after}
+use Rattle.zb_driven.specs.Driven.{IsUp, WasHandled, HasFallen, IsTaken, fall_seen}
 use Rattle.zb_driven.proofs.Ties.{stop_stands, fail_stands, stop_leaves, fail_leaves}
 use Rattle.zb_driven.proofs.Armings.{taken_back, on_once_powered, powered_calls, armed_calls, disarmed_calls, disarmed_current, rearmed, none_falls, missed, unarmed_then}
 

@@ -4,7 +4,7 @@ use Rattle.std.proofs.lemmas.Bool.{ne_eqb}
 use Rattle.zb_disk.specs.View.{Only}
 use Rattle.zb_disk.specs.declared.memory.Arming.TheVariants.{Unarmed}
 use Rattle.zb_disk.specs.MemoryLaws.{image_seen}
-use Rattle.zb_disk.specs.Memory.{Medium, is_stopped, refuses, torn_by, powered, settled, memory_view}
+use Rattle.zb_disk.specs.Memory.{Medium, refuses, torn_by, powered, memory_view}
 use Rattle.zb_store.specs.Layout.{Standing, IsWhole, slot, gate_of, open_gate}
 use Rattle.zb_store.specs.Store.{IsHeld, both_gates_open}
 use Rattle.zb_driven.specs.Arms.{IsUnarmed}

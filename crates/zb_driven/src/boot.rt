@@ -16,8 +16,8 @@ use zb_host::{Core, Host, HostFault};
 
 /// Boots a node that is down from its disk, with what is armed on that.
 ///
-/// Where what was armed falls, or the boot fails otherwise, the power of the disk is back, and nothing is armed. Requires
-/// a configuration of a node of the core's role.
+/// Where what was armed falls, or the boot fails otherwise, the power of the disk is back, and nothing is armed.
+/// Requires a configuration of a node of the core's role.
 ///
 /// Errors: how the boot ended; want of memory.
 pub fn boot_armed<C: Core>(

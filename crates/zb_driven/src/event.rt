@@ -1,5 +1,5 @@
 //! One event of a node that is up.
-ghost use Rattle.std.specs.Prelude.{◌≡◌, ◌≢◌, [], Bool, true, is_some, IsTrue, IfOk, IfErr, OnOk};
+ghost use Rattle.std.specs.Prelude.{◌≡◌, ◌≢◌, [], None, is_some, IsTrue, IfOk, IfErr, OnOk, OnErr};
 ghost use Rattle.zb_store.specs.Layout.{Standing};
 ghost use Rattle.zb_host.specs.declared.plan.Plan.{Plan as plan};
 ghost use Rattle.zb_driven.specs.Arms.{armed_of};
@@ -40,6 +40,7 @@ pub fn run<C: Core>(
         → HasFallen (memory_words C.restored C.recorded C.payload) s (armed_of arms.now)
         host.old disk.old e.changes.items e.fall host.new disk.new) }
     ensures up { OnOk result (IsTrue (is_some host.new.store)) }
+    ensures down { OnErr result (host.new.store ≡ None) }
 {
     arm(disk, arms);
     match host.handle(disk, event) {

@@ -8,13 +8,13 @@ mod boot;
 mod event;
 mod fall;
 mod law;
-mod reset;
+mod power;
 mod shown;
 
 pub use crate::arms::Arms;
 pub use crate::boot::boot_armed;
 pub use crate::event::run;
 pub use crate::fall::{Fall, Fallen};
-pub use crate::law::{one_gate_stands_open, stops_and_failures};
-pub use crate::reset::restart;
+pub use crate::law::{nothing_armed_stays, one_gate_stands_open, stops_and_failures};
+pub use crate::power::reset;
 pub use crate::shown::dump;

@@ -1,11 +1,11 @@
-use Rattle.std.proofs.Common.{◌≡◌, Some, Ok, refl, sym, ◌∙◌, ap, subst}
+use Rattle.std.proofs.Common.{Ok, refl, sym, ◌∙◌, ap, subst}
 use Rattle.zb_disk.specs.Memory.{Medium, memory_tells, memory_view}
 use Rattle.zb_store.specs.Layout.{stands}
 use Rattle.zb_store.specs.Steps.{WentThrough}
 use Rattle.zb_store.specs.Store.{AllWhole, OpenStop, open_calls}
 use Rattle.zb_host.specs.HostFaults.{IsBootFault}
 use Rattle.zb_host.specs.Calls.{IsBooted}
-use Rattle.zb_driven.specs.Arms.{armed_of, armed_medium}
+use Rattle.zb_driven.specs.Arms.{armed_of}
 use Rattle.zb_driven.specs.Driven.{memory_words, WasBooted, HasFallenAtBoot}
 use Rattle.zb_driven.proofs.Armings.{on}
 use Rattle.zb_driven.proofs.Boots.{armed_stands, all_whole, was_booted, has_fallen_at_boot}

@@ -1,10 +1,9 @@
-use Rattle.std.proofs.Common.{◌≡◌, List, [], refl, sym, ◌∙◌, subst}
-use Rattle.zb_node_types.specs.declared.change.Change.{Change}
+use Rattle.std.proofs.Common.{refl, sym, ◌∙◌, subst}
 use Rattle.zb_disk.specs.Memory.{Medium, memory_tells, memory_view}
 use Rattle.zb_store.specs.Steps.{WentThrough}
 use Rattle.zb_host.specs.HostFaults.{IsHandleFault}
 use Rattle.zb_host.specs.Hosts.{IsCurrent, writes_whole, commit_calls, HasStopped}
-use Rattle.zb_driven.specs.Arms.{armed_of, armed_medium}
+use Rattle.zb_driven.specs.Arms.{armed_of}
 use Rattle.zb_driven.specs.Driven.{memory_words, WasHandled, HasFallen}
 use Rattle.zb_driven.proofs.Armings.{on, armed_current}
 use Rattle.zb_driven.proofs.Events.{was_handled, fallen_by, told_by}
@@ -43,6 +42,9 @@ returns-in-Err-clause-fallen g c = λ s up.
     (subst (λ (x : Medium). IsHandleFault (writes_whole before) before.store (memory_view x) (memory_view m) c.in-Err.fault) is c.in-Err.ensures.faults) c.in-Err.ensures.changed
     (λ changes fault. subst (λ (x : Medium). HasStopped memory_tells g.C.Core.restored (writes_whole before) s (g.C.Core.recorded after.core) (g.C.Core.payload changes.items) (memory_view x) (memory_view m)) is
     (c.in-Err.ensures.stopped changes fault s current refl refl)) c.recover-fall.ensures.fall c.recover-fall.ensures.only)
+
+pub returns-in-Err-clause-down : goal.returns-in-Err-clause-down
+returns-in-Err-clause-down g c = c.in-Err.ensures.step.down
 
 pub returns-in-Err-clause-planned : goal.returns-in-Err-clause-planned
 returns-in-Err-clause-planned g c =

@@ -1,10 +1,10 @@
-use Rattle.std.proofs.Common.{◌≡◌, sym, ◌∙◌, ap, subst}
+use Rattle.std.proofs.Common.{sym, ◌∙◌, ap, subst}
 use Rattle.zb_disk.specs.View.{Only}
 use Rattle.zb_disk.specs.Memory.{Medium, memory_view}
 use Rattle.zb_driven.specs.Driven.{IsAtRest}
 use Rattle.zb_driven.proofs.Armings.{powered_calls}
 use Rattle.zb_driven.proofs.Resets.{bytes_stay, at_rest}
-use Rattle.zb_driven.proofs.reset.restart.Goals as goal
+use Rattle.zb_driven.proofs.power.reset.Goals as goal
 
 pub returns-clause-rest : goal.returns-clause-rest
 returns-clause-rest c = λ s held quiet.
