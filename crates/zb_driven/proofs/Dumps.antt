@@ -11,13 +11,13 @@ use Rattle.zb_disk.specs.Memory.{Medium, memory_tells, memory_view}
 use Rattle.zb_disk.proofs.Calls.{off_now}
 use Rattle.zb_store.specs.declared.fault.StoreFault.{StoreFault}
 use Rattle.zb_store.specs.declared.fault.StoreFault.TheVariants as store
-use Rattle.zb_store.specs.Layout.{Standing}
+use Rattle.zb_store.specs.Layout.{Standing, stands}
 use Rattle.zb_store.specs.Reading.{AreContents}
 use Rattle.zb_store.specs.Faults.{OnlyReads, IsReadFault}
 use Rattle.zb_host.specs.Plans.{Restored, gives, bad, IsRestoreFault}
 use Rattle.zb_host.specs.Hosts.{Restoring, Gives}
 use Rattle.zb_host.proofs.Lives.{same_standing}
-use Rattle.zb_driven.specs.Driven.{IsAtRest, IsShown, lacks_memory, core_lacks_memory}
+use Rattle.zb_driven.specs.Driven.{IsAtRest, IsShown, lacks_memory, core_lacks_memory, IsRecordIn, IsRecordOf}
 use Rattle.zb_driven.proofs.Armings.{on}
 
 abbrev IsThere : Option Standing → Type 0
@@ -47,6 +47,9 @@ unread (Fault (BadRecord at)) given w lacks of_fault is = subst IsGood (sym is �
 pub written : (given : Restored) (bytes v w : List ℕ) → bytes ≡ v → given ≡ gives v → given ≡ gives w → bytes ≡ w
 written given bytes v w are one other = are ∙ ap value (sym one ∙ other)
 
+pub given_again : (given : Restored) (bytes v : List ℕ) → bytes ≡ v → given ≡ gives v → given ≡ gives bytes
+given_again given bytes v are is = is ∙ ap gives (sym are)
+
 -- a disk at rest is read
 pub unopened : {T : Type 0} (s : Standing) (m : Medium) (new : View) (fault : StoreFault) → IsAtRest s m → lacks_memory fault ≡ false
     → OnlyReads {T = T} memory_tells (memory_view m) new (Err fault) → IsReadFault memory_tells (memory_view m) new fault → ⊥
@@ -65,3 +68,15 @@ shown_then restored m content payloads room (Ok r) read shown = λ s w rest give
     let same = same_standing read.0 s m.bytes read.1 rest.whole.stands in
     let there = ap (λ (c : List ℕ). restored c payloads) (read.2 ∙ ap (λ (x : Standing). x.content) same) in
     shown w (there ∙ ap (λ (q : List ℕ). restored s.content q) (read.3 ∙ ap (λ (x : Standing). concat x.payloads) same) ∙ given)
+
+pub record_then : {E : Type 0} (restored : Restoring) (m : Medium) (content payloads room : List ℕ) (result : Result (Option ℕ) E) → AreContents content payloads m.bytes
+    → IfOk result (λ r. IsRecordIn (restored content payloads) r room) → IfOk result (λ r. IsRecordOf restored (stands m.bytes) r room)
+record_then restored m content payloads room (Err e) read shown = tt
+record_then restored m content payloads room (Ok None) read shown = nothing (stands m.bytes)
+  where
+    nothing : (found : Option Standing) → IsRecordOf restored found None room
+    nothing None = tt
+    nothing (Some s) = tt
+record_then restored m content payloads room (Ok (Some len)) read shown =
+    subst (λ (found : Option Standing). IsRecordOf restored found (Some len) room) (sym read.1)
+    (sym (ap (λ (c : List ℕ). restored c payloads) read.2 ∙ ap (λ (q : List ℕ). restored read.0.content q) read.3) ∙ shown)

@@ -1,5 +1,6 @@
 -- What a call of a node's host leaves of the host and of the disk, in the model's words.
 use Rattle.std.specs.Prelude.{ℕ, ◌≡◌, ◌≢◌, ◌<◌, ◌==◌, get_or, take, Option, Some, None, List, [], ◌∷◌, Bool, true, false, if◌then◌else◌}
+use Rattle.std.specs.List.{concat}
 use Rattle.zb_base.specs.Outside.{risen}
 use Rattle.zb_base.specs.declared.fault.OrMemory.{OrMemory}
 use Rattle.zb_base.specs.declared.fault.OrMemory.TheVariants.{Fault, NoMemory as Lacking}
@@ -13,6 +14,7 @@ use Rattle.zb_store.specs.declared.fault.StoreFault.{StoreFault}
 use Rattle.zb_store.specs.declared.fault.StoreFault.TheVariants as store
 use Rattle.zb_host.specs.declared.fault.HostFault.{HostFault}
 use Rattle.zb_host.specs.declared.fault.HostFault.TheVariants.{Disk, NoMemory, NoRecord, BadRecord, Worn}
+use Rattle.zb_host.specs.Plans.{Restored, gives}
 use Rattle.zb_host.specs.Hosts.{Restoring, Gives, Hosted, IsCurrent, writes_whole, next_standing}
 use Rattle.zb_host.specs.Calls.{Words, words_of}
 use Rattle.zb_model.specs.Play.{Armed, NotArmed, StopAfter, FailAt, Calls, NoCalls, BootCalls, falls, stands, leaves_both}
@@ -125,6 +127,17 @@ pub record HasFallenAtBoot (s : Standing) (a : Armed) (old : Medium) (fall : Fal
 abbrev pub IsShown : Option ℕ → List ℕ → List ℕ → Type 0
 IsShown None room w = ⊥
 IsShown (Some len) room w = take len room ≡ w
+
+-- what is shown, if anything is, is the record of the core that these bytes give
+abbrev pub IsRecordIn : Restored → Option ℕ → List ℕ → Type 0
+IsRecordIn given None room = Unit {0}
+IsRecordIn given (Some len) room = given ≡ gives (take len room)
+
+-- and of what stands, if anything does
+abbrev pub IsRecordOf : Restoring → Option Standing → Option ℕ → List ℕ → Type 0
+IsRecordOf restored found None room = Unit {0}
+IsRecordOf restored None (Some len) room = ⊥
+IsRecordOf restored (Some s) (Some len) room = restored s.content (concat s.payloads) ≡ gives (take len room)
 
 -- whether a call of a store, or of a core, lacked memory
 abbrev pub lacks_memory : StoreFault → Bool

@@ -3,11 +3,11 @@ ghost use Rattle.std.specs.Prelude.{◌≡◌, ◌≤◌, List, ℕ, length, IfO
 ghost use Rattle.zb_base.specs.Config.{IsConfig};
 ghost use Rattle.zb_disk.specs.View.{IsStill};
 ghost use Rattle.zb_disk.specs.Memory.{memory_view};
-ghost use Rattle.zb_store.specs.Layout.{Standing};
+ghost use Rattle.zb_store.specs.Layout.{Standing, stands};
 ghost use Rattle.zb_store.specs.Sizes.{record_room, payloads_room};
 ghost use Rattle.zb_host.specs.Plans.{gives};
 ghost use Rattle.zb_host.specs.Hosts.{Gives};
-ghost use Rattle.zb_driven.specs.Driven.{IsAtRest, IsShown, lacks_memory, core_lacks_memory};
+ghost use Rattle.zb_driven.specs.Driven.{IsAtRest, IsShown, IsRecordIn, IsRecordOf, lacks_memory, core_lacks_memory};
 
 use std::alloc::Global;
 use zb_base::{Config, NoMemory, OrMemory};
@@ -22,7 +22,7 @@ use zb_store::{Store, StoreFault};
 /// Requires a configuration of a node of the core's role, and room for `RECORD_ROOM` bytes.
 ///
 /// Errors: `NoMemory`.
-#[tactic(auto, using(crate::proofs::Dumps::unopened, crate::proofs::Dumps::shown_then))]
+#[tactic(auto, using(crate::proofs::Dumps::unopened, crate::proofs::Dumps::shown_then, crate::proofs::Dumps::record_then))]
 pub fn dump<C: Core>(
     alloc: Global,
     config: &Config,
@@ -33,6 +33,7 @@ pub fn dump<C: Core>(
     requires role { C.is_of_role config.now }
     requires room { record_room ≤ length room.old }
     ensures still { IsStill (memory_view disk.old) (memory_view disk.new) }
+    ensures exact { IfOk result (λ r. IsRecordOf C.restored (stands disk.old.bytes) r room.new) }
     ensures shown { IfOk result (λ r. (s : Standing) (w : List ℕ) → IsAtRest s disk.old → Gives C.restored s w
         → IsShown r room.new w) }
 {
@@ -48,7 +49,7 @@ pub fn dump<C: Core>(
 }
 
 // Writes the record of the core that a record and the payloads behind it give.
-#[tactic(auto, using(crate::proofs::Dumps::unread, crate::proofs::Dumps::written))]
+#[tactic(auto, using(crate::proofs::Dumps::unread, crate::proofs::Dumps::written, crate::proofs::Dumps::given_again))]
 fn read_record<C: Core>(
     alloc: Global,
     config: &Config,
@@ -61,7 +62,8 @@ fn read_record<C: Core>(
     requires record_size { length content.now ≤ record_room }
     requires payloads_size { length payloads.now ≤ payloads_room }
     requires room { record_room ≤ length room.old }
-    ensures { IfOk result (λ r. (w : List ℕ) → C.restored content.now payloads.now ≡ gives w
+    ensures exact { IfOk result (λ r. IsRecordIn (C.restored content.now payloads.now) r room.new) }
+    ensures shown { IfOk result (λ r. (w : List ℕ) → C.restored content.now payloads.now ≡ gives w
         → IsShown r room.new w) }
 {
     match C::restore(alloc, config, content, payloads, room) {
