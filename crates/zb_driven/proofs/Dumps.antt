@@ -80,3 +80,6 @@ record_then restored m content payloads room (Ok None) read shown = nothing (sta
 record_then restored m content payloads room (Ok (Some len)) read shown =
     subst (λ (found : Option Standing). IsRecordOf restored found (Some len) room) (sym read.1)
     (sym (ap (λ (c : List ℕ). restored c payloads) read.2 ∙ ap (λ (q : List ℕ). restored read.0.content q) read.3) ∙ shown)
+
+-- what the proof of `dump` uses
+pub ruleset dumps = (unopened, shown_then, record_then)

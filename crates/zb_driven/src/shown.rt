@@ -22,7 +22,7 @@ use zb_store::{Store, StoreFault};
 /// Requires a configuration of a node of the core's role, and room for `RECORD_ROOM` bytes.
 ///
 /// Errors: `NoMemory`.
-#[tactic(auto, using(crate::proofs::Dumps::unopened, crate::proofs::Dumps::shown_then, crate::proofs::Dumps::record_then))]
+#[tactic(auto, using(crate::proofs::Dumps::dumps))]
 pub fn dump<C: Core>(
     alloc: Global,
     config: &Config,
