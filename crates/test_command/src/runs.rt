@@ -3,6 +3,7 @@ use std::test::Fail;
 use std::thread::Threads;
 use zb_base::{MemSink, MemSource};
 use zb_command::{Status, run};
+use zb_disk::MemDisk;
 
 const TWO_FRAMES: &[u8] = b"node c centre 00124B0000000001 0000 4 2
 node d device 00124B0000000002 1A2B 4 2
@@ -16,6 +17,8 @@ const TWO_FRAMES_PLAYED: &[u8] = b"0 node c centre 00124B0000000001 0000 4 2
 0 node d device 00124B0000000002 1A2B 4 2
 0 given c net 000102030405060708090A0B0C0D0E0F 0
 0 given d net 000102030405060708090A0B0C0D0E0F 0
+1 reserve c nwk 4
+1 commit c
 1 seal c nwk network 000102030405060708090A0B0C0D0E0F 00124B0000000001 0 2D \
               08022B1A00001E002D0000000001000000004B120000 00010000040101000102
 1 send c 1 08022B1A00001E00280000000001000000004B12000063DD603D8198631D3B765B34BA85
@@ -36,6 +39,8 @@ say d 0000 -
 const WITHOUT_A_KEY_PLAYED: &[u8] = b"0 node c centre 00124B0000000001 0000 4 2
 0 node d device 00124B0000000002 1A2B 4 2
 0 given c net 000102030405060708090A0B0C0D0E0F 0
+1 reserve c nwk 4
+1 commit c
 1 seal c nwk network 000102030405060708090A0B0C0D0E0F 00124B0000000001 0 2D \
               08022B1A00001E002D0000000001000000004B120000 00010000040101000102
 1 send c 1 08022B1A00001E00280000000001000000004B12000063DD603D8198631D3B765B34BA85
@@ -151,7 +156,15 @@ fn over<H: AllocGlobal + Threads + Sync>(
     }
     let mut source = MemSource::new(rt.alloc(), input, fails)?;
     let mut sink = MemSink::new(rt.alloc(), 65_536, sink_fails)?;
-    let status = run(rt, rt.alloc(), texts.as_slice(), &mut source, &mut sink);
+    let mut store = MemDisk::new(rt.alloc(), &[])?;
+    let status = run(
+        rt,
+        rt.alloc(),
+        texts.as_slice(),
+        &mut source,
+        &mut sink,
+        &mut store,
+    );
     Ok(Ran { status, sink })
 }
 

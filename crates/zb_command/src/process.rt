@@ -3,16 +3,20 @@
 use crate::program::run;
 use crate::status::Status;
 use std::env;
+use std::fs::Files;
 use std::io::{self, BufWriter, Write};
 use std::rt::Env;
 use std::thread::Threads;
 use zb_base::{Failed, Sink, StdSink, StdSource};
+use zb_disk::FileDisk;
 
 /// Runs the command that the words of the process are, over its standard input and output.
 ///
 /// Where it didn't end well it says so on standard output. What standard output holds back is handed on at the end, and
 /// fails as a write does.
-pub fn run_process<H: Env + Input + Print + AllocGlobal + Threads + Sync>(rt: &H) -> Status {
+pub fn run_process<H: Env + Input + Print + Files + AllocGlobal + Threads + Sync + Drop>(
+    rt: &H,
+) -> Status {
     let Ok(writer) = BufWriter::with_capacity(rt.alloc(), 65_536, io::writer(rt)) else {
         return Status::NoMemory;
     };
@@ -26,15 +30,33 @@ pub fn run_process<H: Env + Input + Print + AllocGlobal + Threads + Sync>(rt: &H
 }
 
 /// Runs the command, and writes into `output`.
-fn run_words<H: Env + Input + AllocGlobal + Threads + Sync, W: Write>(
+fn run_words<H: Env + Input + Files + AllocGlobal + Threads + Sync + Drop, W: Write>(
     rt: &H,
     output: &mut StdSink<W>,
 ) -> Status {
     let Ok(words) = words_after_name(rt) else {
         return Status::NoMemory;
     };
+    let Ok(mut store) = FileDisk::new(rt, path_in(words.as_slice())) else {
+        return Status::NoMemory;
+    };
     let mut input = StdSource::new(rt.reader());
-    run(rt, rt.alloc(), words.as_slice(), &mut input, output)
+    run(
+        rt,
+        rt.alloc(),
+        words.as_slice(),
+        &mut input,
+        output,
+        &mut store,
+    )
+}
+
+/// Answers the path of the store: the second word, or an empty path.
+fn path_in(words: &[String]) -> &str {
+    match words {
+        [_, path, ..] => path.as_str(),
+        _ => "",
+    }
 }
 
 /// Gives the words after the program's name.

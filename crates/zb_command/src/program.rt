@@ -19,14 +19,16 @@ use crate::status::Status;
 use std::alloc::Global;
 use std::thread::Threads;
 use zb_base::{Sink, Source};
+use zb_disk::Disk;
 
-/// Runs the command that the words after the program's name are.
-pub fn run<T: Threads + Sync, R: Source, W: Sink>(
+/// Runs the command that the words after the program's name are. No command uses the store yet.
+pub fn run<T: Threads + Sync, R: Source, W: Sink, D: Disk>(
     rt: &T,
     alloc: Global,
     words: &[String],
     input: &mut R,
     output: &mut W,
+    _store: &mut D,
 ) -> Status
     // `Usage` comes exactly where the words are no command.
     ensures usage { result ≡ Status.Usage → task_of (map string_bytes words.now) ≡ None }

@@ -1,5 +1,1 @@
-pub mod Views
-pub mod Wire
-pub mod Text
-pub mod Stands
 pub mod FaultTexts

@@ -5,7 +5,7 @@ ghost use Rattle.zb_player.specs.declared.fault.PlayFault.TheVariants.{Write as 
 use std::alloc::{AllocError, AllocFailed};
 use std::error::Error;
 use std::fmt;
-use zb_base::Failed;
+use zb_base::{Failed, NoMemory};
 
 /// The faults of `play`.
 #[derive(Clone, Copy, Debug, PartialEq, Eq)]
@@ -52,6 +52,14 @@ impl<T: Drop> From<AllocFailed<T>> for PlayFault {
     ghost from_gives = { λ _ e. e ≡ lacks };
 
     fn from(_error: AllocFailed<T>) -> PlayFault {
+        PlayFault::NoMemory
+    }
+}
+
+impl From<NoMemory> for PlayFault {
+    ghost from_gives = { λ _ e. e ≡ lacks };
+
+    fn from(_error: NoMemory) -> PlayFault {
         PlayFault::NoMemory
     }
 }

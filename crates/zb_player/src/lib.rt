@@ -1,15 +1,17 @@
-//! Plays a schedule: each node seals a network frame for each of its `say` events, and what happens is written as a
-//! transcript, line by line.
+//! Plays a schedule: each node is a host over a disk of its own, each event is answered by the node that it is of, and
+//! what happens is written as a transcript, line by line.
 #![tactic(auto)]
 
+mod bench;
 mod fault;
-mod frames;
-mod lines;
-mod network;
+mod node_events;
+mod outside;
 mod player;
-mod script;
-mod sealer;
+mod run;
+mod summary;
+mod tasks;
 
+pub use bench::{Bench, Still};
 pub use fault::PlayFault;
 pub use player::play;
-pub use script::{NetworkKey, Node, Say, Script};
+pub use summary::Summary;

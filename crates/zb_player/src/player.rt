@@ -1,107 +1,67 @@
 //! A whole run.
-ghost use Rattle.std.specs.Prelude.{◌≡◌, ◌≤◌, ◌++◌, [], ◌+◌, List, OnOk, OnErr, Err, length};
-ghost use Rattle.std.specs.Io.KnownBytes.{Appends};
-ghost use Rattle.zb_base.specs.Outside.{AppendsFront, Rose};
-ghost use Rattle.zb_model.specs.FirstPath.{transcript};
-ghost use Rattle.zb_model.specs.Lines.{Line};
-ghost use Rattle.zb_player.specs.Stands.{nodes_of, IsBelow, AnswersAll, PrintsAll, start_text, node_text, given_text};
-ghost use Rattle.zb_player.specs.Text.{text};
-ghost use Rattle.zb_player.specs.Views.{plan_of, IsPlayable};
-ghost use Rattle.zb_player.specs.Wire.{wire};
-ghost use Rattle.std.specs.List.{flat_map};
-
-use crate::PlayFault;
-use crate::lines::{put_end, put_given, put_node};
-use crate::network::Network;
-use crate::script::{Node, Say, Script};
-use std::alloc::{AllocError, Global};
-use zb_base::Sink;
+use crate::bench::Bench;
+use crate::fault::PlayFault;
+use crate::run::Run;
+use crate::summary::Summary;
+use std::alloc::Global;
+use zb_base::{NoMemory, Sink};
+use zb_disk::MemDisk;
+use zb_sched::{Event, Schedule};
 use zb_text::page::hand_out;
+use zb_trace::put_line;
 
 /// Plays a schedule and writes its transcript.
-pub fn play<W: Sink>(alloc: Global, script: &Script, out: &mut W) -> Result<(), PlayFault>
-    requires { IsPlayable (plan_of script.now) }
-    ensures whole { OnOk result (Appends (W.taken out.old) (W.taken out.new) (text (transcript wire (plan_of
-        script.now)))) }
-    ensures front { OnErr result (AppendsFront (W.taken out.old) (W.taken out.new) (text (transcript wire (plan_of
-        script.now)))) }
-    ensures later { W.faults out.old ≤ W.faults out.new }
-    ensures cause { result ≡ Err PlayFault.Write → Rose (W.faults out.old) (W.faults out.new) }
-{
-    let nodes = script.nodes.as_slice();
-    let says = script.says.as_slice();
-    let mut page = Vec::new(alloc);
-    put_start(&mut page, nodes)?;
-    hand_out(&mut page, out)?;
-    let mut network = Network::new(alloc, nodes)?;
-    answer_all(&mut network, says, &mut page, out)?;
-    put_end(
-        &mut page,
-        says.len() as u32,
-        network.frames,
-        network.refusals,
-    )?;
-    hand_out(&mut page, out)?;
-    Ok(())
-}
-
-/// Prints the start: the nodes, then the network keys that they hold.
-fn put_start(page: &mut Vec<u8>, nodes: &[Node]) -> Result<(), AllocError>
-    ensures { OnOk result (page.new.items ≡ page.old.items ++ start_text nodes.now) }
-{
-    put_nodes(page, nodes)?;
-    put_keys(page, nodes)?;
-    Ok(())
-}
-
-fn put_nodes(page: &mut Vec<u8>, nodes: &[Node]) -> Result<(), AllocError>
-    ensures { OnOk result (page.new.items ≡ page.old.items ++ flat_map node_text nodes.now) }
-{
-    for node in nodes {
-        put_node(page, node)?;
-    }
-    Ok(())
-}
-
-fn put_keys(page: &mut Vec<u8>, nodes: &[Node]) -> Result<(), AllocError>
-    ensures { OnOk result (page.new.items ≡ page.old.items ++ flat_map given_text nodes.now) }
-{
-    for node in nodes {
-        put_key(page, node)?;
-    }
-    Ok(())
-}
-
-fn put_key(page: &mut Vec<u8>, node: &Node) -> Result<(), AllocError>
-    ensures { OnOk result (page.new.items ≡ page.old.items ++ given_text node.now) }
-{
-    if let Some(network) = &node.network {
-        put_given(page, node, network)?;
-    }
-    Ok(())
-}
-
-/// Answers all events, and writes the lines of each as soon as they are known.
-fn answer_all<W: Sink>(
-    network: &mut Network,
-    says: &[Say],
-    page: &mut Vec<u8>,
+///
+/// The disks of the nodes are added to `disks`, in the order of the nodes. After a fault nothing is said of them.
+///
+/// Errors: `Write` where the sink fails; `NoMemory`.
+pub fn play<B: Bench, W: Sink>(
+    alloc: Global,
+    schedule: &Schedule,
+    disks: &mut Vec<MemDisk>,
+    bench: &mut B,
     out: &mut W,
-) -> Result<(), PlayFault>
-    requires empty { page.old.items ≡ [] }
-    requires few { length says.now ≤ 100000 }
-    requires below { IsBelow 1 network.old }
-    ensures empty { OnOk result (page.new.items ≡ []) }
-    ensures whole { OnOk result ((h : List Line)
-        → AnswersAll h network.old says.now network.new (W.taken out.old) (W.taken out.new)) }
-    ensures front { OnErr result ((h : List Line)
-        → PrintsAll h network.old says.now (W.taken out.old) (W.taken out.new)) }
-    ensures later { W.faults out.old ≤ W.faults out.new }
-    ensures cause { result ≡ Err PlayFault.Write → Rose (W.faults out.old) (W.faults out.new) }
-{
-    for (index, say) in says.iter().enumerate() {
-        network.answer(index as u32 + 1, say, page)?;
-        hand_out(page, out)?;
+) -> Result<Summary, PlayFault> {
+    let events = schedule.events.as_slice();
+    let mut run = Run::start(alloc, schedule, disks)?;
+    hand_out(&mut run.page, out)?;
+    answer_all(&mut run, disks, bench, events, out)?;
+    let summary = Summary::of(&run.scribe, events.len() as u32);
+    put_line(&mut run.page, &summary.line())?;
+    hand_out(&mut run.page, out)?;
+    Ok(summary)
+}
+
+// Answers all events, and writes the lines of each as soon as they are known.
+fn answer_all<'a, B: Bench, W: Sink>(
+    run: &mut Run<'a>,
+    disks: &mut [MemDisk],
+    bench: &mut B,
+    events: &[Event],
+    out: &mut W,
+) -> Result<(), PlayFault> {
+    for (index, event) in events.iter().enumerate() {
+        answer(run, disks, bench, index as u32 + 1, event)?;
+        hand_out(&mut run.page, out)?;
     }
     Ok(())
+}
+
+// Answers one event.
+fn answer<'a, B: Bench>(
+    run: &mut Run<'a>,
+    disks: &mut [MemDisk],
+    bench: &mut B,
+    number: u32,
+    event: &Event,
+) -> Result<(), NoMemory> {
+    match run.place_of(event) {
+        None => run.answer_outside(number, event),
+        Some(place) => {
+            if let Some(disk) = bench.swap(number, place as u8) {
+                disks[place] = disk;
+            }
+            run.answer_at(&mut disks[place], number, place, event)
+        }
+    }
 }

@@ -1,0 +1,7 @@
+//! The frames that an outsider forges under keys that it knows, in the fields of a node's own frames.
+#![tactic(auto)]
+
+mod frames;
+mod headers;
+
+pub use frames::{aps_command, clear_frame, nwk_frame};

@@ -1,0 +1,12 @@
+//! A node of a run: the host of its role while it has power, over a disk in memory on which a stop or a failure may be
+//! armed.
+#![tactic(auto)]
+
+mod machine;
+mod node;
+mod roles;
+mod task;
+
+pub use machine::Machine;
+pub use node::{Handled, Node};
+pub use task::Task;

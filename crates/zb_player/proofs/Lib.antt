@@ -1,4 +1,0 @@
-pub mod Headers
-pub mod Seats
-pub mod Names
-pub mod Runs

@@ -1,0 +1,22 @@
+//! What may put another disk under a node.
+use zb_disk::MemDisk;
+
+/// Puts other disks under the nodes of a run.
+///
+/// It is asked once before each event of a node, and before what is armed counts.
+pub trait Bench {
+    /// Answers the disk that takes the place of the node's, or none where that one stays.
+    ///
+    /// The event has the number `event`, from 1; the node is the one at the place `node`, from 0.
+    fn swap(&mut self, event: u32, node: u8) -> Option<MemDisk>;
+}
+
+/// Leaves each node its disk.
+#[derive(Clone, Copy, Debug, PartialEq, Eq)]
+pub struct Still;
+
+impl Bench for Still {
+    fn swap(&mut self, _event: u32, _node: u8) -> Option<MemDisk> {
+        None
+    }
+}
