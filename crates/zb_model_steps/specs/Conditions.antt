@@ -2,9 +2,9 @@
 -- is armed on its disk; and what becomes of it at an event.
 use Rattle.std.specs.Prelude.{ℕ, ◌+◌, Bool, true, false, if◌then◌else◌, List, [], ◌∷◌}
 use Rattle.zb_model.specs.Answer.{Answer, answered}
-use Rattle.zb_model.specs.Data.{Role, Edit}
+use Rattle.zb_model.specs.Data.{Edit}
 use Rattle.zb_model.specs.Lines.{Line}
-use Rattle.zb_model.specs.Play.{Schedule, Disk, DiskState, Armed, NotArmed, Calls, NoCalls, BootCalls, commit_calls, disk_of, falls, stands, leaves_both, setting_of}
+use Rattle.zb_model.specs.Play.{Schedule, Disk, DiskState, Armed, NotArmed, Calls, NoCalls, BootCalls, commit_calls, disk_of, stands, leaves_both, setting_of}
 use Rattle.zb_model.specs.Readings.{commits_of, is_up, state_of}
 use Rattle.zb_model.specs.Rules.{Setting}
 use Rattle.zb_model.specs.State.{NodeState, after_boot, applied_all}

@@ -1,1 +1,3 @@
 pub mod FaultTexts
+pub mod Playing
+pub mod Runs

@@ -4,12 +4,9 @@
 
 mod bench;
 mod fault;
-mod node_events;
-mod outside;
 mod player;
 mod run;
 mod summary;
-mod tasks;
 
 pub use bench::{Bench, Still};
 pub use fault::PlayFault;

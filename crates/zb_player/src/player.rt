@@ -1,10 +1,18 @@
 //! A whole run.
+ghost use Rattle.std.specs.Prelude.{◌≡◌, ◌≤◌, ◌+◌, [], true, IfOk, OnOk, OnErr, Err, length, map};
+ghost use Rattle.zb_base.specs.Outside.{Rose};
+ghost use Rattle.zb_events.specs.Told.{lines_told};
+ghost use Rattle.zb_player.specs.Runs.{AnswersAll, IsFront, IsWhole, Played, PrintsAll, Sums};
+ghost use Rattle.zb_sched.specs.Schedules as sched;
+ghost use Rattle.zb_sched.specs.Valid.{IsSchedule};
+ghost use Rattle.zb_sched_line.specs.Views.{event_of};
+
 use crate::bench::Bench;
 use crate::fault::PlayFault;
 use crate::run::Run;
 use crate::summary::Summary;
 use std::alloc::Global;
-use zb_base::{NoMemory, Sink};
+use zb_base::Sink;
 use zb_disk::MemDisk;
 use zb_sched::{Event, Schedule};
 use zb_text::page::hand_out;
@@ -12,7 +20,8 @@ use zb_trace::put_line;
 
 /// Plays a schedule and writes its transcript.
 ///
-/// The disks of the nodes are added to `disks`, in the order of the nodes. After a fault nothing is said of them.
+/// Requires a schedule that a text gives, and no disks. The disks of the nodes are added to `disks`, in the order of
+/// the nodes. After a fault nothing is said of them.
 ///
 /// Errors: `Write` where the sink fails; `NoMemory`.
 pub fn play<B: Bench, W: Sink>(
@@ -21,14 +30,30 @@ pub fn play<B: Bench, W: Sink>(
     disks: &mut Vec<MemDisk>,
     bench: &mut B,
     out: &mut W,
-) -> Result<Summary, PlayFault> {
+) -> Result<Summary, PlayFault>
+    requires schedule { IsSchedule (sched.schedule_of schedule.now) }
+    requires none { disks.old.items ≡ [] }
+
+    // Over the disks of the run itself, what is written is the model's transcript of the schedule, or a front of it;
+    // the summary is its last line; and each disk stands for the record that the transcript gives its node.
+    ensures whole { B.still bench.old ≡ true → OnOk result (IsWhole (sched.schedule_of schedule.now)
+        (W.taken out.old) (W.taken out.new)) }
+    ensures front { B.still bench.old ≡ true → OnErr result (IsFront (sched.schedule_of schedule.now)
+        (W.taken out.old) (W.taken out.new)) }
+    ensures summary { B.still bench.old ≡ true → IfOk result (Sums (sched.schedule_of schedule.now)) }
+    ensures disks { B.still bench.old ≡ true → OnOk result (Played (sched.schedule_of schedule.now) disks.new.items) }
+
+    // Whatever the disks are, a fault has its cause.
+    ensures later { W.faults out.old ≤ W.faults out.new }
+    ensures cause { result ≡ Err PlayFault.Write → Rose (W.faults out.old) (W.faults out.new) }
+{
     let events = schedule.events.as_slice();
     let mut run = Run::start(alloc, schedule, disks)?;
-    hand_out(&mut run.page, out)?;
+    hand_out(&mut run.ledger.page, out)?;
     answer_all(&mut run, disks, bench, events, out)?;
-    let summary = Summary::of(&run.scribe, events.len() as u32);
-    put_line(&mut run.page, &summary.line())?;
-    hand_out(&mut run.page, out)?;
+    let summary = Summary::of(&run.ledger.scribe, events.len() as u32);
+    put_line(&mut run.ledger.page, &summary.line())?;
+    hand_out(&mut run.ledger.page, out)?;
     Ok(summary)
 }
 
@@ -39,29 +64,21 @@ fn answer_all<'a, B: Bench, W: Sink>(
     bench: &mut B,
     events: &[Event],
     out: &mut W,
-) -> Result<(), PlayFault> {
+) -> Result<(), PlayFault>
+    requires empty { run.old.ledger.page.items ≡ [] }
+    requires few { length events.now ≤ 100000 }
+    requires room { lines_told run.old.ledger ≤ 400 }
+    ensures empty { OnOk result (run.new.ledger.page.items ≡ []) }
+    ensures whole { OnOk result (B.still bench.old ≡ true → AnswersAll run.old disks.old
+        (map event_of events.now) run.new disks.new (W.taken out.old) (W.taken out.new)) }
+    ensures front { OnErr result (B.still bench.old ≡ true → PrintsAll run.old disks.old (map event_of events.now)
+        (W.taken out.old) (W.taken out.new)) }
+    ensures later { W.faults out.old ≤ W.faults out.new }
+    ensures cause { result ≡ Err PlayFault.Write → Rose (W.faults out.old) (W.faults out.new) }
+{
     for (index, event) in events.iter().enumerate() {
-        answer(run, disks, bench, index as u32 + 1, event)?;
-        hand_out(&mut run.page, out)?;
+        run.answer(disks, bench, index as u32 + 1, event)?;
+        hand_out(&mut run.ledger.page, out)?;
     }
     Ok(())
-}
-
-// Answers one event.
-fn answer<'a, B: Bench>(
-    run: &mut Run<'a>,
-    disks: &mut [MemDisk],
-    bench: &mut B,
-    number: u32,
-    event: &Event,
-) -> Result<(), NoMemory> {
-    match run.place_of(event) {
-        None => run.answer_outside(number, event),
-        Some(place) => {
-            if let Some(disk) = bench.swap(number, place as u8) {
-                disks[place] = disk;
-            }
-            run.answer_at(&mut disks[place], number, place, event)
-        }
-    }
 }

@@ -1,111 +1,123 @@
 //! A run while it goes on.
+ghost use Rattle.std.specs.Prelude.{◌≡◌, ◌≤◌, ◌+◌, ◌<◌, [], ℕ, List, Some, true, IfOk, OnOk, map};
+ghost use Rattle.zb_base.specs.declared.key.Key.{Key as key};
+ghost use Rattle.zb_model.specs.Lines.{Line};
+ghost use Rattle.zb_model.specs.Play as model;
+ghost use Rattle.zb_model.specs.Play.{Disk, stations, step};
+ghost use Rattle.zb_model_real.specs.Real.{real};
+ghost use Rattle.zb_model_schedules.specs.Schedules.{event_for, schedule_of, stations_for};
+ghost use Rattle.zb_events.specs.Told.{HasRoom, lines_told};
+ghost use Rattle.zb_player.specs.Playing.{RunGoes, RunStands, step_of};
+ghost use Rattle.zb_player.specs.Runs.{text_in};
+ghost use Rattle.zb_sched.specs.Schedules as sched;
+ghost use Rattle.zb_sched.specs.Valid.{FitsSchedule, IsSchedule};
+ghost use Rattle.zb_sched_line.specs.Views.{event_of};
+
+use crate::bench::Bench;
 use std::alloc::Global;
-use std::collections::BTreeMap;
-use zb_base::{Eui, Key, Name, NoMemory, Role};
+use zb_base::{Key, NoMemory};
 use zb_disk::MemDisk;
+use zb_events::{Act, Ledger, Seat, Seats};
 use zb_node::Node;
-use zb_node_types::Refusal;
-use zb_sched::Schedule;
+use zb_sched::{Event, Schedule};
 use zb_scribe::Scribe;
 use zb_start::{start_nodes, tell_start};
-use zb_trace::Line;
 
-/// Holds the nodes of a run, what is known of its lines, and the lines of the event that is being answered.
+/// Holds the nodes of a run, the supply of keys, and what is told.
 #[derive(Drop)]
 pub(crate) struct Run<'a> {
-    pub alloc: Global,
     pub nodes: Vec<Node>,
-    // Where the node of each name stands.
-    places: BTreeMap<Name, usize>,
-    centre: usize,
-    draws: &'a [Key],
-    pub scribe: Scribe,
-    pub page: Vec<u8>,
-}
-
-// Answers where the node of each name stands.
-fn places_of(alloc: Global, nodes: &[Node]) -> Result<BTreeMap<Name, usize>, NoMemory> {
-    let mut places = BTreeMap::new(alloc);
-    for (place, node) in nodes.iter().enumerate() {
-        places.insert(node.name(), place)?;
-    }
-    Ok(places)
-}
-
-// Answers where the centre stands.
-fn centre_of(nodes: &[Node]) -> usize {
-    match nodes.iter().position(|node| node.role() == Role::Centre) {
-        Some(place) => place,
-        None => 0,
-    }
+    pub seats: Seats,
+    pub draws: &'a [Key],
+    pub ledger: Ledger,
 }
 
 impl<'a> Run<'a> {
-    /// Starts the run of a schedule. The start lines are on its page.
+    /// Starts the run of a schedule. The start lines are on its page, and the disks of its nodes are added to `disks`.
     ///
     /// Errors: `NoMemory`.
     pub fn start(
         alloc: Global,
         schedule: &'a Schedule,
         disks: &mut Vec<MemDisk>,
-    ) -> Result<Run<'a>, NoMemory> {
+    ) -> Result<Run<'a>, NoMemory>
+        requires schedule { IsSchedule (sched.schedule_of schedule.now) }
+        requires none { disks.old.items ≡ [] }
+        ensures stands { IfOk result (λ run. RunStands (sched.schedule_of schedule.now)
+            (model.start (schedule_of (sched.schedule_of schedule.now))) [] 1 run disks.new.items) }
+        ensures page { IfOk result (λ run. run.ledger.page.items ≡ text_in (sched.schedule_of schedule.now)
+            (model.start (schedule_of (sched.schedule_of schedule.now)))) }
+        ensures few { IfOk result (λ run. lines_told run.ledger ≤ 400) }
+    {
         let declared = schedule.nodes.as_slice();
         let nodes = start_nodes(alloc, declared, disks)?;
-        let places = places_of(alloc, nodes.as_slice())?;
-        let centre = centre_of(nodes.as_slice());
+        let seats = Seats::new(alloc, declared)?;
         let mut scribe = Scribe::new(alloc)?;
         let mut page = Vec::new(alloc);
         tell_start(alloc, &mut scribe, &mut page, declared)?;
         Ok(Run {
-            alloc,
             nodes,
-            places,
-            centre,
+            seats,
             draws: schedule.draws.as_slice(),
-            scribe,
-            page,
+            ledger: Ledger {
+                alloc,
+                scribe,
+                page,
+            },
         })
     }
 
-    /// Answers where the centre stands.
-    pub fn centre(&self) -> usize {
-        self.centre
-    }
-
-    /// Answers where the node of a name stands. Requires that one is declared.
-    pub fn place(&self, name: &Name) -> usize {
-        match self.places.get(name) {
-            Some(place) => *place,
-            None => 0,
+    /// Answers an event. A bench may put another disk under its node first.
+    ///
+    /// Errors: `NoMemory`.
+    pub fn answer<B: Bench>(
+        &mut self,
+        disks: &mut [MemDisk],
+        bench: &mut B,
+        number: u32,
+        event: &Event,
+    ) -> Result<(), NoMemory>
+        requires room { HasRoom self.old.ledger }
+        ensures few { OnOk result (lines_told self.new.ledger ≤ lines_told self.old.ledger + 24) }
+        ensures still { B.still bench.old ≡ true → B.still bench.new ≡ true }
+        ensures goes { OnOk result (B.still bench.old ≡ true → (p : sched.Schedule) (h : List Line) (ds : List Disk)
+            → IsSchedule p → FitsSchedule p (event_of event.now) → RunStands p h ds number self.old disks.old
+            → RunGoes p (step_of p h ds number (event_for (stations_for p) (event_of event.now))) h number
+            self.old self.new disks.new) }
+    {
+        match self.seats.of_event(event) {
+            None => self.ledger.answer_outside(number, event),
+            Some(seat) => {
+                swap(disks, bench, number, seat);
+                let act = self.seats.act_of(event);
+                self.answer_at(disks, number, seat.place, act)
+            }
         }
     }
 
-    /// Answers the address of the node of a name. Requires that one is declared.
-    pub fn eui(&self, name: &Name) -> Eui {
-        self.nodes[self.place(name)].eui()
+    // Answers an event of the node at a place, over its disk.
+    fn answer_at(
+        &mut self,
+        disks: &mut [MemDisk],
+        number: u32,
+        place: usize,
+        act: Act,
+    ) -> Result<(), NoMemory> {
+        if place >= self.nodes.len() || place >= disks.len() {
+            return Ok(());
+        }
+        let node = &mut self.nodes[place];
+        let disk = &mut disks[place];
+        self.ledger
+            .answer_node(self.draws, node, disk, number, act)
     }
+}
 
-    /// Answers the next key of the supply.
-    pub fn draw(&self) -> Option<Key> {
-        self.draws.get(self.scribe.used()).copied()
-    }
-
-    /// Tells a line of the event.
-    ///
-    /// Errors: `NoMemory`.
-    pub fn tell(&mut self, line: &Line) -> Result<(), NoMemory> {
-        self.scribe.tell(self.alloc, &mut self.page, line)
-    }
-
-    /// Tells that an event of the node at a place is refused.
-    ///
-    /// Errors: `NoMemory`.
-    pub fn refuse(&mut self, event: u32, place: usize, refusal: Refusal) -> Result<(), NoMemory> {
-        let node = self.nodes[place].name();
-        self.tell(&Line::Refuse {
-            event,
-            node,
-            refusal,
-        })
+// Puts the disk of a bench under a node, where it has one.
+fn swap<B: Bench>(disks: &mut [MemDisk], bench: &mut B, number: u32, seat: Seat) {
+    if let Some(disk) = bench.swap(number, seat.place as u8) {
+        if seat.place < disks.len() {
+            disks[seat.place] = disk;
+        }
     }
 }

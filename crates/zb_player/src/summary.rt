@@ -1,4 +1,14 @@
 //! What a run comes to.
+ghost use Rattle.std.specs.Prelude.{◌≡◌, ℕ, List};
+ghost use Rattle.zb_model.specs.Data.{Station};
+ghost use Rattle.zb_model.specs.Lines.{Line as log};
+ghost use Rattle.zb_model.specs.Transcript.{end_line as last};
+ghost use Rattle.zb_model_real.specs.Real.{real};
+ghost use Rattle.zb_player.specs.Runs.{last_line};
+ghost use Rattle.zb_said.specs.Said.{IsLineOf};
+ghost use Rattle.zb_scribe.specs.Kept.{Kept};
+
+use zb_said::end_line;
 use zb_scribe::Scribe;
 use zb_trace::Line;
 
@@ -21,7 +31,9 @@ pub struct Summary {
 
 impl Summary {
     /// Makes the summary of a run of so many events, of which a scribe told all lines.
-    pub(crate) fn of(scribe: &Scribe, events: u32) -> Summary {
+    pub(crate) fn of(scribe: &Scribe, events: u32) -> Summary
+        ensures { (h : List log) → Kept h scribe.now → last_line result ≡ last real events h }
+    {
         Summary {
             events,
             seals: scribe.seals(),
@@ -33,14 +45,16 @@ impl Summary {
     }
 
     /// Makes the line that ends the transcript.
-    pub(crate) fn line(&self) -> Line {
-        Line::End {
-            events: self.events,
-            seals: self.seals,
-            accepts: self.accepts,
-            refusals: self.refusals,
-            ideal: self.ideal,
-            private: self.private,
-        }
+    pub(crate) fn line(&self) -> Line
+        ensures { (known : List Station) → IsLineOf known result (last_line self.now) }
+    {
+        end_line(
+            self.events,
+            self.seals,
+            self.accepts,
+            self.refusals,
+            self.ideal,
+            self.private,
+        )
     }
 }

@@ -1,0 +1,3 @@
+pub mod Seats
+pub mod Acts
+pub mod Told

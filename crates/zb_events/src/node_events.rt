@@ -1,0 +1,219 @@
+//! The events of a node.
+ghost use Rattle.std.specs.Prelude.{◌≡◌, ◌≤◌, ◌+◌, ℕ, List, None, OnOk, map, true};
+ghost use Rattle.zb_base.specs.declared.key.Key.{Key as key};
+ghost use Rattle.zb_disk.specs.Memory.{Medium as medium};
+ghost use Rattle.zb_model.specs.Answer.{counting_of};
+ghost use Rattle.zb_model.specs.Data.{AtEvent, Down as model_down, NoFrame as model_no_frame, Received, WrongState as model_wrong_state};
+ghost use Rattle.zb_node_types.specs.Changes.{model_place, place_of, reason};
+ghost use Rattle.zb_model.specs.Lines as log;
+ghost use Rattle.zb_model.specs.Play as model;
+ghost use Rattle.zb_model.specs.Play.{Disk, Schedule, deliver_step, frame_at, setting_of, step, supply, task_step};
+ghost use Rattle.zb_model_real.specs.Real.{real};
+ghost use Rattle.zb_node.specs.Tasks.{model_task, suits};
+ghost use Rattle.zb_events.specs.Told.{Before, Goes, HasRoom, IsFallen, lines_told};
+
+use crate::ledger::Ledger;
+use zb_base::{Frame, Key, List, Name, NoMemory, Place};
+use zb_disk::MemDisk;
+use zb_driven::Fall;
+use zb_node::{Handled, Node, Task};
+use zb_node_types::Refusal;
+use zb_said::{boot_line, disk_line, dump_line, reset_line, stopped_line};
+use zb_trace::Line;
+
+// Makes the line of a node on whose call a stop or a failure fell.
+fn fallen_line(event: u32, node: Name, fall: Fall) -> Line
+    ensures { IsFallen result event node.bytes fall }
+{
+    match fall {
+        Fall::Stopped => stopped_line(event, node),
+        Fall::Failed => disk_line(event, node),
+    }
+}
+
+impl Ledger {
+    /// Answers an event of a node's own, over its disk.
+    ///
+    /// Errors: `NoMemory`.
+    pub fn handle(
+        &mut self,
+        node: &mut Node,
+        disk: &mut MemDisk,
+        event: u32,
+        task: Task,
+    ) -> Result<(), NoMemory>
+        requires room { HasRoom self.old }
+        ensures few { OnOk result (lines_told self.new ≤ lines_told self.old + 24) }
+        ensures goes { OnOk result ((w : Schedule) (h : List log.Line) (ds : List Disk) (n : ℕ)
+            → Before w h ds event n self.old node.old disk.old
+            → suits (setting_of w n).me.role (model_task task) ≡ true
+            → Goes w (task_step real counting_of w h ds event n (model_task task)) h event n
+            self.old self.new node.new disk.new) }
+        ensures seat { node.new.peer ≡ node.old.peer }
+    {
+        let name = node.name();
+        match node.handle(disk, task) {
+            Some(Handled::Whole { changes, out }) => {
+                self.scribe
+                    .stored(self.alloc, &mut self.page, event, name, &changes)?;
+                self.scribe
+                    .answered(self.alloc, &mut self.page, event, name, out)
+            }
+            Some(Handled::Cut { stored, fall }) => {
+                self.scribe
+                    .stored(self.alloc, &mut self.page, event, name, &stored)?;
+                self.tell(&fallen_line(event, name, fall))
+            }
+            None => self.refuse(event, name, down()),
+        }
+    }
+
+    /// Answers the arrival of a frame at a node. The frame is named by its number.
+    ///
+    /// Errors: `NoMemory`.
+    pub fn deliver(
+        &mut self,
+        node: &mut Node,
+        disk: &mut MemDisk,
+        draws: &[Key],
+        event: u32,
+        frame: u32,
+    ) -> Result<(), NoMemory>
+        requires room { HasRoom self.old }
+        ensures few { OnOk result (lines_told self.new ≤ lines_told self.old + 24) }
+        ensures goes { OnOk result ((w : Schedule) (h : List log.Line) (ds : List Disk) (n : ℕ)
+            → Before w h ds event n self.old node.old disk.old → map (λ (k : key). k.0) draws.now ≡ w.draws
+            → Goes w (deliver_step real counting_of w h ds event n (frame_at h frame)) h event n
+            self.old self.new node.new disk.new) }
+        ensures seat { node.new.peer ≡ node.old.peer }
+    {
+        match self.scribe.frame(frame) {
+            Some(bytes) => self.receive(node, disk, draws, event, bytes),
+            None => self.miss(node, event),
+        }
+    }
+
+    // The bytes of a frame reach a node.
+    fn receive(
+        &mut self,
+        node: &mut Node,
+        disk: &mut MemDisk,
+        draws: &[Key],
+        event: u32,
+        bytes: Frame,
+    ) -> Result<(), NoMemory>
+        requires room { HasRoom self.old }
+        ensures few { OnOk result (lines_told self.new ≤ lines_told self.old + 24) }
+        ensures seat { node.new.peer ≡ node.old.peer }
+        ensures goes { OnOk result ((w : Schedule) (h : List log.Line) (ds : List Disk) (n : ℕ)
+            → Before w h ds event n self.old node.old disk.old → map (λ (k : key). k.0) draws.now ≡ w.draws
+            → Goes w (task_step real counting_of w h ds event n (Received bytes.items (supply w h))) h event n
+            self.old self.new node.new disk.new) }
+    {
+        let draw = self.draw(draws);
+        self.handle(node, disk, event, Task::Deliver { bytes, draw })
+    }
+
+    // No frame of that number went on the air.
+    fn miss(&mut self, node: &mut Node, event: u32) -> Result<(), NoMemory>
+        requires room { HasRoom self.old }
+        ensures few { OnOk result (lines_told self.new ≤ lines_told self.old + 24) }
+        ensures node { node.new ≡ node.old }
+        ensures goes { OnOk result ((w : Schedule) (h : List log.Line) (ds : List Disk) (n : ℕ) (m : medium)
+            → Before w h ds event n self.old node.old m
+            → Goes w (deliver_step real counting_of w h ds event n None) h event n self.old self.new node.new m) }
+    {
+        let refusal = if node.is_up() { no_frame() } else { down() };
+        self.refuse(event, node.name(), refusal)
+    }
+
+    /// Answers the loss of a node's power.
+    ///
+    /// Errors: `NoMemory`.
+    pub fn reset(
+        &mut self,
+        node: &mut Node,
+        disk: &mut MemDisk,
+        event: u32,
+    ) -> Result<(), NoMemory>
+        requires room { HasRoom self.old }
+        ensures few { OnOk result (lines_told self.new ≤ lines_told self.old + 24) }
+        ensures seat { node.new.peer ≡ node.old.peer }
+        ensures goes { OnOk result ((w : Schedule) (h : List log.Line) (ds : List Disk) (n : ℕ)
+            → Before w h ds event n self.old node.old disk.old
+            → Goes w (step real w h ds event (model.Reset n)) h event n self.old self.new node.new disk.new) }
+    {
+        let name = node.name();
+        if !node.is_up() {
+            return self.refuse(event, name, down());
+        }
+        node.reset(disk);
+        self.tell(&reset_line(event, name))
+    }
+
+    /// Answers that a node gets power.
+    ///
+    /// Errors: `NoMemory`.
+    pub fn boot(
+        &mut self,
+        node: &mut Node,
+        disk: &mut MemDisk,
+        event: u32,
+    ) -> Result<(), NoMemory>
+        requires room { HasRoom self.old }
+        ensures few { OnOk result (lines_told self.new ≤ lines_told self.old + 24) }
+        ensures seat { node.new.peer ≡ node.old.peer }
+        ensures goes { OnOk result ((w : Schedule) (h : List log.Line) (ds : List Disk) (n : ℕ)
+            → Before w h ds event n self.old node.old disk.old
+            → Goes w (step real w h ds event (model.PowerOn n)) h event n self.old self.new node.new disk.new) }
+    {
+        let name = node.name();
+        if node.is_up() {
+            return self.refuse(event, name, wrong_state());
+        }
+        match node.boot(self.alloc, disk)? {
+            None => self.tell(&boot_line(event, name)),
+            Some(fall) => self.tell(&fallen_line(event, name, fall)),
+        }
+    }
+
+    /// Shows the record that a node's disk stands for.
+    ///
+    /// Errors: `NoMemory`.
+    pub fn dump(&mut self, node: &Node, disk: &mut MemDisk, event: u32) -> Result<(), NoMemory>
+        requires room { HasRoom self.old }
+        ensures few { OnOk result (lines_told self.new ≤ lines_told self.old + 24) }
+        ensures goes { OnOk result ((w : Schedule) (h : List log.Line) (ds : List Disk) (n : ℕ)
+            → Before w h ds event n self.old node.now disk.old
+            → Goes w (step real w h ds event (model.ShowRecord n)) h event n self.old self.new node.now disk.new) }
+    {
+        let record = node.dump(self.alloc, disk)?;
+        self.tell(&dump_line(event, node.name(), List::from_vec(record)))
+    }
+}
+
+// The refusals before a node is asked.
+
+fn down() -> Refusal
+    ensures { (model_place (place_of result) ≡ AtEvent) × (reason result ≡ model_down) }
+{
+    Refusal::Down {
+        place: Place::Event,
+    }
+}
+
+fn no_frame() -> Refusal
+    ensures { (model_place (place_of result) ≡ AtEvent) × (reason result ≡ model_no_frame) }
+{
+    Refusal::NoFrame {
+        place: Place::Event,
+    }
+}
+
+fn wrong_state() -> Refusal
+    ensures { (model_place (place_of result) ≡ AtEvent) × (reason result ≡ model_wrong_state) }
+{
+    Refusal::WrongState {
+        place: Place::Event,
+    }
+}

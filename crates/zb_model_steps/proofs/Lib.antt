@@ -1,0 +1,8 @@
+pub mod Disks
+pub mod Walks
+pub mod Spared
+pub mod Answered
+pub mod Others
+pub mod Starts
+pub mod Members
+pub mod Centre

@@ -1,0 +1,29 @@
+-- What a run is of the lines so far, and what an event makes of it.
+use Rattle.std.specs.Prelude.{◌≡◌, ℕ, ◌+◌, List, ◌++◌, map}
+use Rattle.zb_base.specs.declared.key.Key.{Key}
+use Rattle.zb_disk.specs.Memory.{Medium}
+use Rattle.zb_events.specs.Seats.{AreSeats}
+use Rattle.zb_events.specs.Told.{IsTold}
+use Rattle.zb_model.specs.Lines.{Line}
+use Rattle.zb_model.specs.Play.{Disk, Step, Event, stations, step}
+use Rattle.zb_model_real.specs.Real.{real}
+use Rattle.zb_model_schedules.specs.Schedules.{schedule_of}
+use Rattle.zb_node.specs.Nodes.{AllStand}
+use Rattle.zb_player.specs.declared.run.Run.{Run}
+use Rattle.zb_said.specs.Said.{text_of}
+use Rattle.zb_sched.specs.Schedules as sched
+
+-- The run of a schedule stands, after these lines and with these disks of the model, before the event of that number.
+pub record RunStands (p : sched.Schedule) (h : List Line) (ds : List Disk) (number : ℕ) (run : Run) (disks : List Medium) : Type 0 where
+  pub told : IsTold (schedule_of p) h run.ledger
+  pub nodes : AllStand (schedule_of p) h ds number (stations (schedule_of p)) run.nodes.items disks
+  pub seats : AreSeats run.seats (stations (schedule_of p))
+  pub draws : map (λ (k : Key). k.0) run.draws ≡ p.draws
+
+-- The run went on by a step.
+pub record RunGoes (p : sched.Schedule) (g : Step) (h : List Line) (number : ℕ) (old new : Run) (disks : List Medium) : Type 0 where
+  pub page : new.ledger.page.items ≡ old.ledger.page.items ++ text_of (stations (schedule_of p)) g.lines
+  pub stands : RunStands p (h ++ g.lines) g.disks (number + 1) new disks
+
+abbrev pub step_of : sched.Schedule → List Line → List Disk → ℕ → Event → Step
+step_of p h ds number act = step real (schedule_of p) h ds number act
