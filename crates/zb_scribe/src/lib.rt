@@ -4,9 +4,10 @@
 #![tactic(auto)]
 
 mod air;
-mod changes;
 mod group;
+mod laws;
 mod scribe;
 
 pub use air::Air;
+pub use laws::{lines_are_told_in_turn, no_lines_are_told};
 pub use scribe::Scribe;
