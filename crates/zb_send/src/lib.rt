@@ -6,7 +6,9 @@ mod part;
 mod sending;
 mod sent;
 
-pub use headers::{aps_control, aps_label, command_header, joined, low_byte, nwk_auxiliary, nwk_header};
+pub use headers::{
+    aps_control, aps_label, command_header, joined, low_byte, nwk_auxiliary, nwk_header,
+};
 pub use part::{Part, part_of};
 pub use sending::{Body, Payload, Sending};
 pub use sent::{Sent, may_seal, reserve, send_out};
