@@ -1,5 +1,5 @@
 -- What the scribe of a run keeps of the lines so far, and what it is that it told lines.
-use Rattle.std.specs.Prelude.{◌≡◌, ℕ, ◌+◌, List, ◌∷◌, [], ◌++◌, fold, length, Bool, true, false}
+use Rattle.std.specs.Prelude.{◌≡◌, ℕ, ◌+◌, List, ◌++◌, fold, length, Bool, true, false}
 use Rattle.zb_model.specs.Data.{Station}
 use Rattle.zb_model.specs.Lines as log
 use Rattle.zb_model.specs.Readings.{air, air_line, draw_line, draws_used, stations_of}
@@ -41,4 +41,4 @@ declares_node _ = false
 pub record Tells (known : List Station) (lines : List log.Line) (old : Scribe) (before : List ℕ) (new : Scribe) (after : List ℕ) : Type 0 where
   pub page : after ≡ before ++ text_of known lines
   pub kept : (h : List log.Line) → stations_of h ≡ known → Kept h old → Kept (h ++ lines) new
-  pub known : (h : List log.Line) → stations_of h ≡ known → stations_of (h ++ lines) ≡ known
+  pub nodes : (h : List log.Line) → stations_of h ≡ known → stations_of (h ++ lines) ≡ known

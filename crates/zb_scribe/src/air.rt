@@ -1,6 +1,5 @@
 //! The frames on the air, looked up by number.
-ghost use Rattle.std.specs.Prelude.{◌≡◌, ◌≤◌, ◌<◌, ◌-◌, ◌∷◌, ℕ, List, length, get_or, take, drop, slice_get, option_map};
-ghost use Rattle.arrayvec.specs.ArrayVec.{ArrayVec};
+ghost use Rattle.std.specs.Prelude.{◌≡◌, ◌≤◌, ◌<◌, ◌-◌, ◌∷◌, length, get_or, take, drop, slice_get};
 ghost use Rattle.zb_scribe.specs.Frames.{AreEnds, frames_in};
 ghost use Rattle.zb_scribe.specs.Outcomes.{items_of};
 
@@ -83,14 +82,17 @@ impl Air {
 }
 
 // Answers the frame at a place, where there is one, of frames that stand one behind the other.
-#[tactic(auto, using(crate::proofs::FramesIn::is_at, crate::proofs::FramesIn::frame_is))]
+#[tactic(auto, using(crate::proofs::FramesIn::is_at, crate::proofs::FramesIn::frame_is, crate::proofs::FramesIn::no_frame))]
 fn frame_at(bytes: &[u8], ends: &[usize], place: usize) -> Option<Frame>
     requires { AreEnds (length bytes.now) 0 ends.now }
     ensures { items_of result ≡ slice_get (frames_in bytes.now 0 ends.now) place }
 {
-    let end = *ends.get(place)?;
-    let start = start_of(ends, place);
-    Some(frame_from(part(bytes, start, end)))
+    if place < ends.len() {
+        let start = start_of(ends, place);
+        Some(frame_from(part(bytes, start, ends[place])))
+    } else {
+        None
+    }
 }
 
 // Answers where the frame at a place begins.

@@ -37,7 +37,7 @@ impl Scribe {
         ensures tells { OnOk result ((known : List Station) (n : ℕ) → IsCalled known n node.bytes
             → AllByRecursion (λ (c : change). IsOfCentre known n (edit c)) changes.now.items
             → Tells known (change_lines event n (edits changes.now.items) ++ commit_lines event n (edits changes.now.items))
-              self.old page.old.items self.new page.new.items) }
+            self.old page.old.items self.new page.new.items) }
         ensures told { OnOk result (told self.new ≤ told self.old + 17) }
     {
         self.changed(alloc, page, event, node, changes.as_slice())?;
@@ -82,7 +82,7 @@ impl Scribe {
         ensures tells { OnOk result ((known : List Station) (n : ℕ) → IsCalled known n node.bytes
             → is_name node.bytes ≡ true
             → Tells known (out_lines event n (length self.old.air + 1) out)
-              self.old page.old.items self.new page.new.items) }
+            self.old page.old.items self.new page.new.items) }
         ensures told { OnOk result (told self.new ≤ told self.old + 6) }
     {
         let number = self.next_frame();
@@ -114,7 +114,7 @@ impl Scribe {
         requires { told self.old < 4294967295 }
         ensures tells { OnOk result ((known : List Station) (n : ℕ) → IsCalled known n node.bytes
             → Tells known (map (accept event n) (option_to_list (option_map model_term term)))
-              self.old page.old.items self.new page.new.items) }
+            self.old page.old.items self.new page.new.items) }
         ensures told { OnOk result (told self.new ≤ told self.old + 1) }
     {
         match term {
@@ -155,7 +155,7 @@ impl Scribe {
         requires { told self.old < 4294967295 }
         ensures tells { OnOk result ((known : List Station) (n : ℕ) → IsCalled known n node.bytes
             → Tells known (map (seal event n) (option_to_list (option_map model_term term)))
-              self.old page.old.items self.new page.new.items) }
+            self.old page.old.items self.new page.new.items) }
         ensures told { OnOk result (told self.new ≤ told self.old + 1) }
     {
         match term {
@@ -178,7 +178,7 @@ impl Scribe {
         ensures tells { OnOk result ((known : List Station) (n : ℕ) → IsCalled known n node.bytes
             → is_name node.bytes ≡ true
             → Tells known (send_lines event (Some n) number (items_of frame))
-              self.old page.old.items self.new page.new.items) }
+            self.old page.old.items self.new page.new.items) }
         ensures told { OnOk result (told self.new ≤ told self.old + 1) }
     {
         match frame {

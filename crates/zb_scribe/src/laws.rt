@@ -6,7 +6,6 @@ ghost use Rattle.zb_scribe.specs.Kept.{Tells};
 ghost use Rattle.zb_scribe.specs.declared.scribe.Scribe.{Scribe};
 
 /// Says that lines told one after the other are all of them told.
-#[tactic(auto, using(crate::proofs::Telling::told_in_turn))]
 pub fn lines_are_told_in_turn()
     ensures { (known : List Station) (some more : List Line) (old between new : Scribe) (before page after : List ℕ)
         → Tells known some old before between page → Tells known more between page new after
@@ -14,7 +13,6 @@ pub fn lines_are_told_in_turn()
 {}
 
 /// Says that a scribe that did nothing told no lines.
-#[tactic(auto, using(crate::proofs::Telling::none_told))]
 pub fn no_lines_are_told()
     ensures { (known : List Station) (scribe : Scribe) (page : List ℕ) → Tells known [] scribe page scribe page }
 {}

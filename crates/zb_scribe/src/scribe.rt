@@ -74,15 +74,32 @@ impl Scribe {
         ensures told { OnOk result (told self.new ≤ told self.old + 1) }
     {
         match line {
-            Line::Draw { .. } => self.used += 1,
-            Line::Seal { .. } => self.seals += 1,
-            Line::Accept { .. } => self.accepts += 1,
-            Line::Refuse { .. } => self.refusals += 1,
-            Line::Send { bytes, .. } => self.air.push(bytes)?,
-            Line::Inject { bytes, .. } => self.air.push(bytes)?,
-            _ => {}
+            Line::Draw { .. } => {
+                self.used += 1;
+                Ok(())
+            }
+            Line::Seal { .. } => {
+                self.seals += 1;
+                Ok(())
+            }
+            Line::Accept { .. } => {
+                self.accepts += 1;
+                Ok(())
+            }
+            Line::Refuse { .. } => {
+                self.refusals += 1;
+                Ok(())
+            }
+            Line::Send { bytes, .. } => {
+                self.air.push(bytes)?;
+                Ok(())
+            }
+            Line::Inject { bytes, .. } => {
+                self.air.push(bytes)?;
+                Ok(())
+            }
+            _ => Ok(()),
         }
-        Ok(())
     }
 
     /// Answers the frame of a number, which counts from 1, where there is one.
