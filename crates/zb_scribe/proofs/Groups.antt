@@ -15,9 +15,8 @@ use Rattle.zb_node_types.specs.Changes.{edit, edits}
 use Rattle.zb_node_types.specs.declared.change.Change.{Change}
 use Rattle.zb_node_types.specs.declared.refusal.Refusal.{Refusal}
 use Rattle.zb_scribe.specs.Kept.{Tells}
-use Rattle.zb_scribe.specs.Outcomes.{items_of, out_lines, refused_lines, terms}
+use Rattle.zb_scribe.specs.Outcomes.{AreOfCentre, lines_of_edits, items_of, out_lines, refused_lines, terms}
 use Rattle.zb_scribe.specs.declared.scribe.Scribe.{Scribe}
-use Rattle.zb_said.specs.Said.{IsOfCentre}
 use Rattle.zb_scribe.proofs.Telling.{told_in_turn}
 use Rattle.zb_seal.specs.declared.term.Term.{Term}
 
@@ -40,16 +39,12 @@ commit_told : (known : List Station) (event n : ℕ) (changes : List Change) (ol
 commit_told known event n [] old new before after some tells = absurd (false≢true some)
 commit_told known event n (c ∷ changes) old new before after some tells = tells
 
--- A change whose line names no node is of the centre.
-abbrev pub Fitting : List Station → ℕ → List Change → Type 0
-Fitting known n changes = AllByRecursion (λ (c : Change). IsOfCentre known n (edit c)) changes
-
 pub stored_told : (known : List Station) (event n : ℕ) (slice changes : List Change) (old between new : Scribe) (before page after : List ℕ) → slice ≡ changes
-    → false ≡ (length changes == 0) → (Fitting known n slice → Tells known (change_lines event n (edits slice)) old before between page)
-    → Tells known (Commit event n ∷ []) between page new after → Fitting known n changes
-    → Tells known (change_lines event n (edits changes) ++ commit_lines event n (edits changes)) old before new after
+    → false ≡ (length changes == 0) → (AreOfCentre known n slice → Tells known (change_lines event n (edits slice)) old before between page)
+    → Tells known (Commit event n ∷ []) between page new after → AreOfCentre known n changes
+    → Tells known (lines_of_edits event n (edits changes)) old before new after
 stored_told known event n slice changes old between new before page after same some tells commits fit =
-    told_in_turn known _ _ _ _ _ _ _ _ (subst (λ (cs : List Change). Fitting known n cs → Tells known (change_lines event n (edits cs)) old before between page) same tells fit)
+    told_in_turn known _ _ _ _ _ _ _ _ (subst (λ (cs : List Change). AreOfCentre known n cs → Tells known (change_lines event n (edits cs)) old before between page) same tells fit)
     (commit_told known event n changes between new page after some commits)
 
 -- what else an answer gives

@@ -1,14 +1,26 @@
--- The lines of what an event gives beside its changes.
+-- The lines of what an event gives: its changes, and what else.
 use Rattle.std.specs.Prelude.{ℕ, List, [], ◌∷◌, ◌++◌, map, Option, Some, None, option_map, option_to_list}
+use Rattle.std.specs.List.{AllByRecursion}
 use Rattle.arrayvec.specs.ArrayVec.{ArrayVec}
 use Rattle.zb_host.specs.declared.outcome.Outcome.{Outcome}
 use Rattle.zb_model.specs.Data as model
+use Rattle.zb_model.specs.Data.{Station}
 use Rattle.zb_model.specs.Lines.{Line, Accept, Refuse, Seal}
-use Rattle.zb_model.specs.Play.{send_lines}
+use Rattle.zb_model.specs.Play.{change_lines, commit_lines, send_lines}
 use Rattle.zb_model_real.specs.Terms.{model_term}
-use Rattle.zb_node_types.specs.Changes.{model_place, place_of, reason}
+use Rattle.zb_node_types.specs.Changes.{edit, model_place, place_of, reason}
+use Rattle.zb_node_types.specs.declared.change.Change.{Change}
 use Rattle.zb_node_types.specs.declared.refusal.Refusal.{Refusal}
+use Rattle.zb_said.specs.Said.{IsOfCentre}
 use Rattle.zb_seal.specs.declared.term.Term.{Term}
+
+-- Each change whose line names no node is of the centre.
+abbrev pub AreOfCentre : List Station → ℕ → List Change → Type 0
+AreOfCentre known n changes = AllByRecursion (λ (c : Change). IsOfCentre known n (edit c)) changes
+
+-- changes, and that they are stored
+abbrev pub lines_of_edits : ℕ → ℕ → List model.Edit → List Line
+lines_of_edits event n edits = change_lines event n edits ++ commit_lines event n edits
 
 -- the terms of two layers, in this order
 abbrev pub terms : Option Term → Option Term → List model.Term

@@ -1,16 +1,13 @@
 //! The lines of an answer, in their order.
 ghost use Rattle.std.specs.Prelude.{◌≡◌, ◌+◌, ◌≤◌, ◌<◌, ◌++◌, ◌∷◌, [], ℕ, List, Some, true, length, map, OnOk, option_map, option_to_list};
-ghost use Rattle.std.specs.List.{AllByRecursion};
 ghost use Rattle.zb_model.specs.Data.{Station};
 ghost use Rattle.zb_model.specs.Lines.{Accept as accept, Seal as seal};
-ghost use Rattle.zb_model.specs.Play.{change_lines, commit_lines, send_lines};
+ghost use Rattle.zb_model.specs.Play.{change_lines, send_lines};
 ghost use Rattle.zb_model_real.specs.Terms.{model_term};
-ghost use Rattle.zb_node_types.specs.Changes.{edit, edits};
-ghost use Rattle.zb_node_types.specs.declared.change.Change.{Change as change};
+ghost use Rattle.zb_node_types.specs.Changes.{edits};
 ghost use Rattle.zb_said.specs.Naming.{IsCalled};
-ghost use Rattle.zb_said.specs.Said.{IsOfCentre};
 ghost use Rattle.zb_scribe.specs.Kept.{Tells, told};
-ghost use Rattle.zb_scribe.specs.Outcomes.{items_of, out_lines, refused_lines};
+ghost use Rattle.zb_scribe.specs.Outcomes.{AreOfCentre, items_of, lines_of_edits, out_lines, refused_lines};
 ghost use Rattle.zb_text.specs.Fields.{is_name};
 
 use crate::scribe::Scribe;
@@ -24,7 +21,8 @@ use zb_seal::Term;
 impl Scribe {
     /// Tells the changes of a node, and that they are stored, where there are any.
     ///
-    /// Requires that the count of lines has room for 17 more. Errors: `NoMemory`.
+    /// Requires that the count of lines has room for 17 more. Errors: `NoMemory`, after which the scribe isn't used
+    /// further.
     pub fn stored(
         &mut self,
         alloc: Global,
@@ -35,8 +33,8 @@ impl Scribe {
     ) -> Result<(), NoMemory>
         requires { told self.old + 17 ≤ 4294967295 }
         ensures tells { OnOk result ((known : List Station) (n : ℕ) → IsCalled known n node.bytes
-            → AllByRecursion (λ (c : change). IsOfCentre known n (edit c)) changes.now.items
-            → Tells known (change_lines event n (edits changes.now.items) ++ commit_lines event n (edits changes.now.items))
+            → AreOfCentre known n changes.now.items
+            → Tells known (lines_of_edits event n (edits changes.now.items))
             self.old page.old.items self.new page.new.items) }
         ensures told { OnOk result (told self.new ≤ told self.old + 17) }
     {
@@ -57,7 +55,7 @@ impl Scribe {
     ) -> Result<(), NoMemory>
         requires { told self.old + length changes.now ≤ 4294967295 }
         ensures tells { OnOk result ((known : List Station) (n : ℕ) → IsCalled known n node.bytes
-            → AllByRecursion (λ (c : change). IsOfCentre known n (edit c)) changes.now
+            → AreOfCentre known n changes.now
             → Tells known (change_lines event n (edits changes.now)) self.old page.old.items self.new page.new.items) }
         ensures told { OnOk result (told self.new ≤ told self.old + length changes.now) }
     {
@@ -69,7 +67,8 @@ impl Scribe {
 
     /// Tells what a node accepted, refused, sealed and sent, in this order.
     ///
-    /// Requires that the count of lines has room for 6 more. Errors: `NoMemory`.
+    /// Requires that the count of lines has room for 6 more. Errors: `NoMemory`, after which the scribe isn't used
+    /// further.
     pub fn answered(
         &mut self,
         alloc: Global,
