@@ -1,5 +1,5 @@
 -- What a node's calls leave, in the model's words.
-use Rattle.std.specs.Prelude.{ℕ, ◌≡◌, ◌≢◌, ◌+◌, ◌<◌, ◌^◌, Bool, true, false, if◌then◌else◌, List, [], Option, Some, None, Result, Ok, Err, is_some, Unit, ⊤}
+use Rattle.std.specs.Prelude.{ℕ, ◌≡◌, ◌≢◌, ◌+◌, ◌<◌, ◌^◌, Bool, true, false, if◌then◌else◌, List, [], Option, Some, None, Result, Ok, Err, is_some, ⊤}
 use Rattle.std.specs.List.{concat}
 use Rattle.arrayvec.specs.declared.array_vec.ArrayVec.{ArrayVec}
 use Rattle.zb_base.specs.declared.fault.OrMemory.{OrMemory}
@@ -17,7 +17,8 @@ use Rattle.zb_model.specs.Answer.{Answer, answer}
 use Rattle.zb_model.specs.Data.{Role}
 use Rattle.zb_model.specs.Data as model
 use Rattle.zb_model.specs.Play.{Armed, NotArmed, StopAfter, FailAt, BootCalls, falls, stands, new_disk}
-use Rattle.zb_model.specs.State.{after_boot, shown}
+use Rattle.zb_model.specs.Rules.{Setting}
+use Rattle.zb_model.specs.State.{NodeState, after_boot, shown}
 use Rattle.zb_model_real.specs.Real.{real}
 use Rattle.zb_model_steps.specs.Conditions.{Condition, calls_by, after_whole, after_cut, after_power_on, after_cut_boot}
 use Rattle.zb_network.specs.Settings.{setting_for}
@@ -83,16 +84,17 @@ abbrev pub HasBooted : NodeValue → Medium → Option Fall → NodeValue → Me
 HasBooted old m None new m' = (x : Condition) (number : ℕ) → IsIn x number old m → x.up ≡ false → IsUpAgain x number new m'
 HasBooted old m (Some fall) new m' = (x : Condition) (number : ℕ) → IsIn x number old m → x.up ≡ false → IsStillDown x number fall new m'
 
--- The condition of a node at the start, over a disk that holds its first record: a boot leaves that state as it is.
-pub record CanStart (x : Condition) (s : Standing) (config : Config) (m : Medium) : Type 0 where
-  pub setting : setting_for config ≡ x.setting
-  pub stored : IsStored x.setting.me.role x.state 0 1 s
-  pub booted : after_boot (shown x.state) ≡ shown x.state
+-- the condition of a node at the start: it is up, and made no commit
+abbrev pub start_condition : Setting → NodeState → Condition
+start_condition setting state = record { setting = setting; state = state; commits = 0; up = true; disk = new_disk }
+
+-- A state at the start, over a disk that holds its record: a boot leaves that state as it is.
+pub record CanStart (setting : Setting) (state : NodeState) (s : Standing) (config : Config) (m : Medium) : Type 0 where
+  pub setting_is : setting_for config ≡ setting
+  pub stored : IsStored setting.me.role state 0 0 s
+  pub booted : after_boot (shown state) ≡ shown state
   pub held : IsHeld s (memory_view m)
   pub unarmed : IsUnarmed m
-  pub commits : x.commits ≡ 0
-  pub up : x.up ≡ true
-  pub disk : x.disk ≡ new_disk
 
 -- ---- of a host
 

@@ -1,5 +1,5 @@
 -- A node and its disk in a condition of the model: what its disk stands for, what its host has, and what is armed.
-use Rattle.std.specs.Prelude.{ℕ, ◌≡◌, ◌≢◌, ◌≤◌, ◌%◌, Bool, true, false, List, [], ◌∷◌, length, get_or, Option, Some, None, Ok, ⊤}
+use Rattle.std.specs.Prelude.{ℕ, ◌≡◌, ◌≢◌, ◌≤◌, ◌+◌, ◌%◌, Bool, true, false, List, [], ◌∷◌, length, get_or, Option, Some, None, Ok, ⊤}
 use Rattle.std.specs.List.{concat}
 use Rattle.zb_disk.specs.Memory.{Medium, memory_view}
 use Rattle.zb_driven.specs.Arms.{armed_of, IsArming, IsUnarmed}
@@ -20,14 +20,14 @@ use Rattle.zb_store.specs.Store.{both_gates_open}
 use Rattle.zb_stored_tables.specs.Cores.{CoreValue}
 use Rattle.zb_stored_tables.specs.Stored.{restored, state_given}
 
--- What stands for the state of a node of this role: a boot reads it as what is shown of that state, an entry stands for
--- each commit since the last whole record, and no more commits were made than there were events before the one of this number.
+-- What stands for the state of a node of this role: a boot reads it as what is shown of that state, there is an entry for
+-- each commit since the last whole record, and no generation is without an event before the one of this number.
 pub record IsStored (role : Role) (t : NodeState) (commits number : ℕ) (s : Standing) : Type 0 where
   pub reads : state_given role s.content (concat s.payloads) ≡ Ok (after_boot (shown t))
   pub gives_it : Gives (restored role) s (record_of t)
   pub newest : get_or s.content 0 0 ≢ 1
   pub entries : length s.payloads ≡ commits % 33
-  pub generation : s.generation ≤ number
+  pub generation : s.generation ≤ number + 1
 
 -- what the laws on calls have of a core of this role
 abbrev pub words_for : Role → Words CoreValue Medium

@@ -1,5 +1,5 @@
 -- How contracts see a node: who it is, its configuration, its host while it has power, and what is armed on its disk.
-use Rattle.std.specs.Prelude.{◌≡◌, Option, Some, None, option_map, is_some, true, ⊤}
+use Rattle.std.specs.Prelude.{◌≡◌, Option, Some, None, is_some, true, ⊤}
 use Rattle.zb_base.specs.declared.node.Config.{Config}
 use Rattle.zb_base.specs.declared.node.Peer.{Peer}
 use Rattle.zb_base.specs.Config.{IsConfig}

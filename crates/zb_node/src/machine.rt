@@ -53,12 +53,7 @@ fn refuse() -> (Changes, Outcome<Term, Refusal>) {
 }
 
 // Handles an event of the centre.
-fn handle_centre(
-    host: &mut Host<Centre>,
-    disk: &mut MemDisk,
-    arms: &Arms,
-    task: Task,
-) -> Answered
+fn handle_centre(host: &mut Host<Centre>, disk: &mut MemDisk, arms: &Arms, task: Task) -> Answered
     requires up { IsTrue (is_some host.old.store) }
     ensures given { suits model.Centre (model_task task) ≡ true → HasGiven model.Centre (model_task task)
         (armed_of arms.now) host.old disk.old result host.new disk.new }
@@ -71,12 +66,7 @@ fn handle_centre(
 }
 
 // Handles an event of a router.
-fn handle_router(
-    host: &mut Host<Router>,
-    disk: &mut MemDisk,
-    arms: &Arms,
-    task: Task,
-) -> Answered
+fn handle_router(host: &mut Host<Router>, disk: &mut MemDisk, arms: &Arms, task: Task) -> Answered
     requires up { IsTrue (is_some host.old.store) }
     ensures given { suits model.Router (model_task task) ≡ true → HasGiven model.Router (model_task task)
         (armed_of arms.now) host.old disk.old result host.new disk.new }
@@ -89,12 +79,7 @@ fn handle_router(
 }
 
 // Handles an event of a device.
-fn handle_device(
-    host: &mut Host<Device>,
-    disk: &mut MemDisk,
-    arms: &Arms,
-    task: Task,
-) -> Answered
+fn handle_device(host: &mut Host<Device>, disk: &mut MemDisk, arms: &Arms, task: Task) -> Answered
     requires up { IsTrue (is_some host.old.store) }
     ensures given { suits model.Device (model_task task) ≡ true → HasGiven model.Device (model_task task)
         (armed_of arms.now) host.old disk.old result host.new disk.new }

@@ -1,12 +1,15 @@
 //! A node.
-ghost use Rattle.std.specs.Prelude.{◌≡◌, ◌+◌, ◌≤◌, ℕ, [], true, None, if◌then◌else◌, is_some, IfOk};
+ghost use Rattle.std.specs.Prelude.{◌≡◌, ◌+◌, ◌≤◌, ℕ, List, [], true, None, if◌then◌else◌, is_some, IfOk};
 ghost use Rattle.zb_base.specs.Config.{IsConfig};
 ghost use Rattle.zb_disk.specs.Memory.{Medium};
 ghost use Rattle.zb_driven.specs.Arms.{armed_of};
+ghost use Rattle.zb_driven.specs.Driven.{IsShown};
 ghost use Rattle.zb_model.specs.Play.{FailAt, StopAfter};
 ghost use Rattle.zb_model.specs.Record.{record_of};
+ghost use Rattle.zb_model.specs.Rules.{Setting};
+ghost use Rattle.zb_model.specs.State.{NodeState};
 ghost use Rattle.zb_model_steps.specs.Conditions.{Condition, after_arming, after_reset};
-ghost use Rattle.zb_node.specs.Answers.{CanStart, HasBooted, HasHandled, arms_stand};
+ghost use Rattle.zb_node.specs.Answers.{CanStart, HasBooted, HasHandled, arms_stand, start_condition};
 ghost use Rattle.zb_node.specs.Nodes.{IsIn};
 ghost use Rattle.zb_node.specs.Tasks.{model_task};
 ghost use Rattle.zb_node_types.specs.Changes.{model_role};
@@ -118,6 +121,16 @@ fn stored(arms: &Arms, changes: Changes) -> Changes
     }
 }
 
+// Keeps what is shown: so many bytes, or none where nothing is.
+fn keep_shown(room: &mut Vec<u8>, len: Option<u32>)
+    ensures { (bytes : List ℕ) → IsShown len room.old.items bytes → room.new.items ≡ bytes }
+{
+    match len {
+        Some(len) => room.truncate(len as usize),
+        None => room.clear(),
+    }
+}
+
 impl Node {
     /// Boots a node for the first time, from the record that stands on its disk.
     ///
@@ -133,8 +146,8 @@ impl Node {
         requires config { IsConfig config }
         requires role { IsOfRole (model_role peer.role) config }
         ensures names { IfOk result (λ node. (node.peer ≡ peer) × (node.config ≡ config)) }
-        ensures starts { IfOk result (λ node. (x : Condition) (s : Standing) → CanStart x s config disk.old
-            → IsIn x 1 node disk.new) }
+        ensures starts { IfOk result (λ node. (setting : Setting) (state : NodeState) (s : Standing)
+            → CanStart setting state s config disk.old → IsIn (start_condition setting state) 1 node disk.new) }
     {
         reset(disk);
         let mut node = Node {
@@ -259,10 +272,8 @@ impl Node {
     {
         let mut room = Vec::with_capacity(alloc, RECORD_ROOM)?;
         room.resize(RECORD_ROOM, 0)?;
-        match Machine::dump(alloc, self.peer.role, &self.config, disk, &mut room)? {
-            Some(len) => room.truncate(len as usize),
-            None => room.clear(),
-        }
+        let len = Machine::dump(alloc, self.peer.role, &self.config, disk, &mut room)?;
+        keep_shown(&mut room, len);
         Ok(room)
     }
 }
