@@ -1,6 +1,6 @@
 -- Lines told node by node.
-use Rattle.std.proofs.Common.{◌≡◌, ℕ, zero, suc, ◌+◌, ◌<◌, List, [], ◌∷◌, ◌++◌, map, take, get_or, length, refl, sym, ap, ◌∙◌, subst, arith, append_assoc}
-use Rattle.std.specs.Prelude.{flat_map}
+use Rattle.std.proofs.Common.{◌≡◌, ℕ, zero, suc, ◌+◌, ◌<◌, ◌≤◌, Result, Ok, Err, List, [], ◌∷◌, ◌++◌, map, take, get_or, length, refl, sym, ap, ◌∙◌, subst, arith, append_assoc}
+use Rattle.std.specs.Prelude.{flat_map, OnOk}
 use Rattle.std.specs.List.{AllByRecursion}
 use Rattle.std.proofs.lemmas.List.{append-nil, map_more, take_more}
 use Rattle.std.proofs.lemmas.List.Concat.{flat_map-cons}
@@ -63,3 +63,19 @@ node_kept ds i d within is between new kept more = subst (λ lines. Kept lines n
 pub no_text : (known : List Station) (page : List ℕ) → page ≡ page ++ text_of known []
 unfolding text_of
 no_text known page = sym (append-nil page)
+
+-- all nodes
+pub whole : {X : Type 0} (xs : List X) (i : ℕ) → length xs ≤ i → take i xs ≡ xs
+whole [] zero past = refl
+whole [] (suc i) past = refl
+whole (x ∷ xs) zero past = absurd (omega (arith, past))
+whole (x ∷ xs) (suc i) past = ap (λ zs. x ∷ zs) (whole xs i (omega (arith, past)))
+
+pub all_told : (f : CodeNode → List Line) (ds : List CodeNode) (i : ℕ) → length ds ≤ i → (known : List Station) (old new : Scribe) (before after : List ℕ)
+    → Tells known (flat_map f (take i ds)) old before new after → Tells known (flat_map f ds) old before new after
+all_told f ds i past known old new before after told = subst (λ xs. Tells known (flat_map f xs) old before new after) (whole ds i past) told
+
+-- what an Ok shows shows more
+pub ok_map : {A E P Q : Type 0} (r : Result A E) → (P → Q) → OnOk r P → OnOk r Q
+ok_map (Ok a) f p = f p
+ok_map (Err e) f p = tt

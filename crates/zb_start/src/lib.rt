@@ -3,5 +3,7 @@
 
 mod line;
 mod lines;
+mod nodes;
 
 pub use lines::tell_start;
+pub use nodes::start_nodes;
