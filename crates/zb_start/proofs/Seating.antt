@@ -1,6 +1,7 @@
 -- Each node of a schedule starts as the start lines say.
-use Rattle.std.proofs.Common.{◌≡◌, ℕ, zero, suc, ◌+◌, ◌<◌, ◌≤◌, List, [], ◌∷◌, ◌++◌, map, take, get_or, length, true, refl, sym, ap, ◌∙◌, subst, arith, Option, Some, None}
+use Rattle.std.proofs.Common.{◌≡◌, ℕ, zero, suc, ◌+◌, ◌<◌, ◌≤◌, List, [], ◌∷◌, ◌++◌, map, take, get_or, length, length-append, add-one, true, refl, sym, ap, ◌∙◌, subst, arith, Option, Some, None}
 use Rattle.std.specs.Prelude.{slice_get}
+use Rattle.std.proofs.lemmas.List.{length-map}
 use Rattle.std.proofs.lemmas.Option.{slice_get-get_or}
 use Rattle.zb_base.specs.declared.node.Config.{Config}
 use Rattle.zb_disk.specs.Memory.{Medium}
@@ -29,6 +30,7 @@ use Rattle.zb_sched.specs.declared.schedule.Node.{Node as CodeNode}
 use Rattle.zb_store.specs.Layout.{Standing}
 use Rattle.zb_store.specs.Store.{formatted}
 use Rattle.zb_start.specs.Seats.{IsStarted}
+use Rattle.zb_start.proofs.Turns.{whole}
 
 abbrev pub station : CodeNode → Station
 station d = station_for (node_of d)
@@ -128,13 +130,29 @@ taken_more [] i x at = absurd (cc)
 taken_more (y ∷ xs) zero x at = let same : y ≡ x = cc in ap (λ z. z ∷ []) same
 taken_more (y ∷ xs) (suc i) x at = ap (λ zs. y ∷ zs) (taken_more xs i x at)
 
-pub seated_more : (p : Schedule) (ds : List CodeNode) → AreNodesOf p ds → (me : ℕ) → me < length ds → (nodes : List NodeValue) (ms : List Medium) (node : NodeValue) (m : Medium)
+pub seated_more : (p : Schedule) (ds : List CodeNode) → AreNodesOf p ds → (me : ℕ) → me < length ds → (nodes more : List NodeValue) (ms others : List Medium) (node : NodeValue) (m : Medium)
+    → more ≡ nodes ++ node ∷ [] → others ≡ ms ++ m ∷ []
     → AllStand (schedule_of p) (start (schedule_of p)) [] 1 (take me (model.stations (schedule_of p))) nodes ms
     → ((s : Station) → slice_get (model.stations (schedule_of p)) me ≡ Some s → IsStarted (schedule_of p) s node m)
-    → AllStand (schedule_of p) (start (schedule_of p)) [] 1 (take (suc me) (model.stations (schedule_of p))) (nodes ++ node ∷ []) (ms ++ m ∷ [])
-seated_more p ds is me within nodes ms node m all each =
+    → AllStand (schedule_of p) (start (schedule_of p)) [] 1 (take (me + 1) (model.stations (schedule_of p))) more others
+seated_more p ds is me within nodes more ms others node m one two all each =
+    let w = schedule_of p in
     let there = some_at ds me within in
-    let found : slice_get (model.stations (schedule_of p)) me ≡ Some (station there.0) = station_at p ds is me there.0 there.1 in
-    let it : IsStarted (schedule_of p) (station there.0) node m = each (station there.0) found in
-    subst (λ ps. AllStand (schedule_of p) (start (schedule_of p)) [] 1 ps (nodes ++ node ∷ []) (ms ++ m ∷ [])) (sym (taken_more (model.stations (schedule_of p)) me (station there.0) found))
-    (all_stand_more (schedule_of p) (start (schedule_of p)) [] 1 (take me (model.stations (schedule_of p))) nodes ms (station there.0) node m all it.seat it.stands)
+    let s : Station = station there.0 in
+    let found : slice_get (model.stations w) me ≡ Some s = station_at p ds is me there.0 there.1 in
+    let it : IsStarted w s node m = each s found in
+    let taken : take (me + 1) (model.stations w) ≡ take me (model.stations w) ++ s ∷ [] = ap (λ n. take n (model.stations w)) (add-one me) ∙ taken_more (model.stations w) me s found in
+    subst (λ xs. AllStand w (start w) [] 1 (take (me + 1) (model.stations w)) more xs) (sym two)
+    (subst (λ xs. AllStand w (start w) [] 1 (take (me + 1) (model.stations w)) xs (ms ++ m ∷ [])) (sym one)
+    (subst (λ ps. AllStand w (start w) [] 1 ps (nodes ++ node ∷ []) (ms ++ m ∷ [])) (sym taken) (all_stand_more w (start w) [] 1 (take me (model.stations w)) nodes ms s node m all it.seat it.stands)))
+
+pub one_more : {X : Type 0} (xs more : List X) (x : X) (n : ℕ) → more ≡ xs ++ x ∷ [] → length xs ≡ n → length more ≡ n + 1
+one_more {X} xs more x n is count = ap (length {A = X}) is ∙ length-append xs (x ∷ []) ∙ ap (λ k. k + 1) count
+
+-- all nodes
+pub all_seated : (p : Schedule) (ds : List CodeNode) → AreNodesOf p ds → (me : ℕ) → length ds ≤ me → (nodes : List NodeValue) (ms : List Medium)
+    → AllStand (schedule_of p) (start (schedule_of p)) [] 1 (take me (model.stations (schedule_of p))) nodes ms
+    → AllStand (schedule_of p) (start (schedule_of p)) [] 1 (model.stations (schedule_of p)) nodes ms
+all_seated p ds is me past nodes ms all =
+    let count : length (model.stations (schedule_of p)) ≡ length ds = ap (length {A = Station}) (stations_are p ds is) ∙ length-map (map node_of ds) station_for ∙ length-map ds node_of in
+    subst (λ ps. AllStand (schedule_of p) (start (schedule_of p)) [] 1 ps nodes ms) (whole (model.stations (schedule_of p)) me (omega (arith, count, past))) all
