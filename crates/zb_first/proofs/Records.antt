@@ -53,13 +53,14 @@ unchanged t forgets = ap after_boot (sym forgets)
 
 -- on a disk where it stands
 pub first_disk_is : (role : Role) (t : NodeState) (m : Medium) → t.role ≡ role → keeps_rules t ≡ true → shown t ≡ t → FitsBytes t → after_boot t ≡ t
-    → IsHeld (formatted (record_of t)) (memory_view m) → IsUnarmed m → IsFirstDisk role t m
-first_disk_is role t m is rules forgets widths booted held unarmed =
+    → IsHeld (formatted (record_of t)) (memory_view m) → IsUnarmed m → m.calls ≡ 5 → IsFirstDisk role t m
+first_disk_is role t m is rules forgets widths booted held unarmed calls =
     let may = storable role t is rules forgets widths in
     let same : IsStoredAfter [] t t = unchanged t forgets in
     record {
       held = held;
       unarmed = unarmed;
+      calls = calls;
       given = state_keeps role t t [] may same ∙ ap (λ s. Ok (after_boot s)) (sym forgets);
       gives_it = core_keeps role t t [] may same;
       newest = core_newest t;
@@ -68,8 +69,8 @@ first_disk_is role t m is rules forgets widths booted held unarmed =
 
 -- the same of a call that may fail
 pub all_first : {E : Type 0} (role : Role) (t u : NodeState) (bytes : List ℕ) (r : Result Medium E) → t ≡ u → u.role ≡ role → keeps_rules t ≡ true → shown t ≡ t → FitsBytes u → after_boot t ≡ t → bytes ≡ record_of t
-    → IfOk r (λ m. IsHeld (formatted bytes) (memory_view m)) → IfOk r (λ m. IsUnarmed m) → IfOk r (λ m. IsFirstDisk role u m)
-all_first role t u bytes (Ok m) e is rules forgets widths booted same held unarmed =
+    → IfOk r (λ m. IsHeld (formatted bytes) (memory_view m)) → IfOk r (λ m. IsUnarmed m) → IfOk r (λ m. m.calls ≡ 5) → IfOk r (λ m. IsFirstDisk role u m)
+all_first role t u bytes (Ok m) e is rules forgets widths booted same held unarmed calls =
     subst (λ s. IsFirstDisk role s m) e
-    (first_disk_is role t m (ap (λ (s : NodeState). s.role) e ∙ is) rules forgets (subst FitsBytes (sym e) widths) booted (subst (λ b. IsHeld (formatted b) (memory_view m)) same held) unarmed)
-all_first role t u bytes (Err fault) e is rules forgets widths booted same held unarmed = tt
+    (first_disk_is role t m (ap (λ (s : NodeState). s.role) e ∙ is) rules forgets (subst FitsBytes (sym e) widths) booted (subst (λ b. IsHeld (formatted b) (memory_view m)) same held) unarmed calls)
+all_first role t u bytes (Err fault) e is rules forgets widths booted same held unarmed calls = tt

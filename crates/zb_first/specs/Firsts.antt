@@ -32,11 +32,12 @@ model_node node = node_for (node_of node)
 abbrev pub begins_with : ℕ → model.Node → NodeState
 begins_with centre m = first_state m.station.role m.network (code_with centre m.code) m.start_nwk m.start_aps
 
--- A disk in whose every image the record of these tables stands and nothing behind it, and on which nothing is armed. A node
--- of this role boots from it with these tables.
+-- A disk in whose every image the record of these tables stands and nothing behind it, and on which nothing is armed, after the
+-- five device calls that write it. A node of this role boots from it with these tables.
 pub record IsFirstDisk (role : Role) (t : NodeState) (m : Medium) : Type 0 where
   pub held : IsHeld (formatted (record_of t)) (memory_view m)
   pub unarmed : IsUnarmed m
+  pub calls : m.calls ≡ 5
   pub given : state_given role (record_of t) [] ≡ Ok (after_boot (shown t))
   pub gives_it : Gives (restored role) (formatted (record_of t)) (record_of t)
   pub newest : get_or (record_of t) 0 0 ≢ 1

@@ -87,11 +87,12 @@ fn declaration_of(centre: Eui, node: &Node) -> Declaration
     )
 }
 
-// Makes a disk on which a record stands. Requires at most `RECORD_ROOM` bytes.
+// Makes a disk on which a record stands, in five device calls. Requires at most `RECORD_ROOM` bytes.
 fn disk_with(alloc: Global, first: &[u8]) -> Result<MemDisk, NoMemory>
     requires { length first.now ≤ record_room }
     ensures held { IfOk result (λ m. IsHeld (formatted first.now) (memory_view m)) }
     ensures unarmed { IfOk result (λ m. IsUnarmed m) }
+    ensures calls { IfOk result (λ m. m.calls ≡ 5) }
 {
     let mut disk = MemDisk::new(alloc, &[])?;
     match Store::format(alloc, &mut disk, first) {

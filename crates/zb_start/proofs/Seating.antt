@@ -1,8 +1,10 @@
 -- Each node of a schedule starts as the start lines say.
 use Rattle.std.proofs.Common.{◌≡◌, ℕ, zero, suc, ◌+◌, ◌<◌, ◌≤◌, List, [], ◌∷◌, ◌++◌, map, take, get_or, length, length-append, add-one, true, refl, sym, ap, ◌∙◌, subst, arith, Option, Some, None}
 use Rattle.std.specs.Prelude.{slice_get}
+use Rattle.std.specs.List.{AllByRecursion}
 use Rattle.std.proofs.lemmas.List.{length-map}
 use Rattle.std.proofs.lemmas.Option.{slice_get-get_or}
+use Rattle.zb_base.specs.Outside.{risen}
 use Rattle.zb_base.specs.declared.node.Config.{Config}
 use Rattle.zb_disk.specs.Memory.{Medium}
 use Rattle.zb_first.specs.Firsts.{AreNodesOf, IsFirstDisk, begins_with, model_node}
@@ -20,16 +22,17 @@ use Rattle.zb_model.specs.State.{NodeState}
 use Rattle.zb_model_schedules.specs.Schedules.{node_for, schedule_of, station_for}
 use Rattle.zb_model_steps.specs.Conditions.{condition_of}
 use Rattle.zb_network.specs.Settings.{setting_for}
-use Rattle.zb_node.specs.Answers.{CanStart, start_condition}
+use Rattle.zb_node.specs.Answers.{CanStart, IsStarted, start_condition}
 use Rattle.zb_node.specs.Nodes.{AllStand, IsIn, IsSeat, IsStored}
 use Rattle.zb_node.specs.Values.{NodeValue}
 use Rattle.zb_node_types.specs.Changes.{model_role}
 use Rattle.zb_sched.specs.Schedules.{Schedule, node_of}
 use Rattle.zb_sched.specs.Valid.{IsSchedule}
 use Rattle.zb_sched.specs.declared.schedule.Node.{Node as CodeNode}
+use Rattle.zb_sched.proofs.Lists.{all_append}
 use Rattle.zb_store.specs.Layout.{Standing}
 use Rattle.zb_store.specs.Store.{formatted}
-use Rattle.zb_start.specs.Seats.{IsStarted}
+use Rattle.zb_start.specs.Seats.{IsSeated}
 use Rattle.zb_start.proofs.Turns.{whole}
 
 abbrev pub station : CodeNode → Station
@@ -88,24 +91,26 @@ Uncommitted = (w : model.Schedule) (n : ℕ) → commits_of (start w) n ≡ 0
 pub started : (p : Schedule) (ds : List CodeNode) → AreNodesOf p ds → (me : ℕ) (d : CodeNode) → slice_get ds me ≡ Some d → (centre : ℕ) → centre ≡ centre_of (model.stations (schedule_of p))
     → (config : Config) (node : NodeValue) (m new : Medium) → setting_for config ≡ setting_of (schedule_of p) d.peer.eui.0 → node.peer ≡ d.peer
     → IsFirstDisk (model_role d.peer.role) (begins_with centre (model_node d)) m
-    → ((setting : Setting) (state : NodeState) (s : Standing) → CanStart setting state s config m → IsIn (start_condition setting state) 1 node new)
-    → States → Powered → Uncommitted → IsStarted (schedule_of p) (station d) node new
+    → ((setting : Setting) (state : NodeState) (s : Standing) → CanStart setting state s config m → IsStarted setting state m node new)
+    → States → Powered → Uncommitted → IsSeated (schedule_of p) (station d) node new
 started p ds is me d at centre same config node m new setting peer first starts states powered uncommitted =
     let w = schedule_of p in
     let t : NodeState = begins_with centre (model_node d) in
     let state : state_of (start w) d.peer.eui.0 ≡ t = states p me (model_node d) is.valid (model_at p ds is me d at) ∙ ap (λ c. begins_with c (model_node d)) (sym same) in
     let may : CanStart (setting_of w d.peer.eui.0) t (formatted (record_of t)) config m = can_start (setting_of w d.peer.eui.0) (model_role d.peer.role) t config m setting (role_in p ds is me d at) first in
+    let boots : IsStarted (setting_of w d.peer.eui.0) t m node new = starts (setting_of w d.peer.eui.0) t (formatted (record_of t)) may in
     record {
       seat = record { name = ap (λ x. x.name.bytes) peer; eui = ap (λ x. x.eui.0) peer; role = ap (λ x. model_role x.role) peer };
-      stands = subst (λ x. IsIn x 1 node new) (start_condition_is w d.peer.eui.0 t state (powered w d.peer.eui.0) (uncommitted w d.peer.eui.0)) (starts (setting_of w d.peer.eui.0) t (formatted (record_of t)) may);
+      stands = subst (λ x. IsIn x 1 node new) (start_condition_is w d.peer.eui.0 t state (powered w d.peer.eui.0) (uncommitted w d.peer.eui.0)) boots.is;
+      calls = boots.calls ∙ ap (λ n. risen n 1) first.calls;
     }
 
 pub started_at : (p : Schedule) (ds : List CodeNode) → AreNodesOf p ds → (me : ℕ) (d : CodeNode) → slice_get ds me ≡ Some d → (s : Station) → slice_get (model.stations (schedule_of p)) me ≡ Some s
-    → (node : NodeValue) (m : Medium) → IsStarted (schedule_of p) (station d) node m → IsStarted (schedule_of p) s node m
+    → (node : NodeValue) (m : Medium) → IsSeated (schedule_of p) (station d) node m → IsSeated (schedule_of p) s node m
 started_at p ds is me d at s found node m it =
     let here : slice_get (model.stations (schedule_of p)) me ≡ Some (station d) = station_at p ds is me d at in
     let same : station d ≡ s = cc in
-    subst (λ x. IsStarted (schedule_of p) x node m) same it
+    subst (λ x. IsSeated (schedule_of p) x node m) same it
 
 -- one node more
 
@@ -133,18 +138,26 @@ taken_more (y ∷ xs) (suc i) x at = ap (λ zs. y ∷ zs) (taken_more xs i x at)
 pub seated_more : (p : Schedule) (ds : List CodeNode) → AreNodesOf p ds → (me : ℕ) → me < length ds → (nodes more : List NodeValue) (ms others : List Medium) (node : NodeValue) (m : Medium)
     → more ≡ nodes ++ node ∷ [] → others ≡ ms ++ m ∷ []
     → AllStand (schedule_of p) (start (schedule_of p)) [] 1 (take me (model.stations (schedule_of p))) nodes ms
-    → ((s : Station) → slice_get (model.stations (schedule_of p)) me ≡ Some s → IsStarted (schedule_of p) s node m)
+    → ((s : Station) → slice_get (model.stations (schedule_of p)) me ≡ Some s → IsSeated (schedule_of p) s node m)
     → AllStand (schedule_of p) (start (schedule_of p)) [] 1 (take (me + 1) (model.stations (schedule_of p))) more others
 seated_more p ds is me within nodes more ms others node m one two all each =
     let w = schedule_of p in
     let there = some_at ds me within in
     let s : Station = station there.0 in
     let found : slice_get (model.stations w) me ≡ Some s = station_at p ds is me there.0 there.1 in
-    let it : IsStarted w s node m = each s found in
+    let it : IsSeated w s node m = each s found in
     let taken : take (me + 1) (model.stations w) ≡ take me (model.stations w) ++ s ∷ [] = ap (λ n. take n (model.stations w)) (add-one me) ∙ taken_more (model.stations w) me s found in
     subst (λ xs. AllStand w (start w) [] 1 (take (me + 1) (model.stations w)) more xs) (sym two)
     (subst (λ xs. AllStand w (start w) [] 1 (take (me + 1) (model.stations w)) xs (ms ++ m ∷ [])) (sym one)
     (subst (λ ps. AllStand w (start w) [] 1 ps (nodes ++ node ∷ []) (ms ++ m ∷ [])) (sym taken) (all_stand_more w (start w) [] 1 (take me (model.stations w)) nodes ms s node m all it.seat it.stands)))
+
+pub calls_more : (p : Schedule) (ds : List CodeNode) → AreNodesOf p ds → (me : ℕ) → me < length ds → (ms others : List Medium) (node : NodeValue) (m : Medium) → others ≡ ms ++ m ∷ []
+    → AllByRecursion (λ (x : Medium). x.calls ≡ 6) ms → ((s : Station) → slice_get (model.stations (schedule_of p)) me ≡ Some s → IsSeated (schedule_of p) s node m)
+    → AllByRecursion (λ (x : Medium). x.calls ≡ 6) others
+calls_more p ds is me within ms others node m one all each =
+    let there = some_at ds me within in
+    let it : IsSeated (schedule_of p) (station there.0) node m = each (station there.0) (station_at p ds is me there.0 there.1) in
+    subst (λ xs. AllByRecursion (λ (x : Medium). x.calls ≡ 6) xs) (sym one) (all_append (λ (x : Medium). x.calls ≡ 6) ms m all it.calls)
 
 pub one_more : {X : Type 0} (xs more : List X) (x : X) (n : ℕ) → more ≡ xs ++ x ∷ [] → length xs ≡ n → length more ≡ n + 1
 one_more {X} xs more x n is count = ap (length {A = X}) is ∙ length-append xs (x ∷ []) ∙ ap (λ k. k + 1) count

@@ -1,5 +1,6 @@
 //! The nodes at the start, and their disks.
-ghost use Rattle.std.specs.Prelude.{◌≡◌, ◌<◌, ◌≤◌, [], Some, length, slice_get, vec_len, IfOk, OnOk};
+ghost use Rattle.std.specs.Prelude.{◌≡◌, ◌<◌, ◌≤◌, [], Some, length, slice_get, IfOk, OnOk};
+ghost use Rattle.std.specs.List.{AllByRecursion};
 ghost use Rattle.zb_first.specs.Firsts.{AreNodesOf, AreOfSchedule};
 ghost use Rattle.zb_model.specs.Data.{Station};
 ghost use Rattle.zb_model.specs.Play.{start, stations};
@@ -7,7 +8,7 @@ ghost use Rattle.zb_model.specs.Rules as rules;
 ghost use Rattle.zb_model_schedules.specs.Schedules.{schedule_of};
 ghost use Rattle.zb_node.specs.Nodes.{AllStand};
 ghost use Rattle.zb_sched.specs.Schedules.{Schedule};
-ghost use Rattle.zb_start.specs.Seats.{IsStarted};
+ghost use Rattle.zb_start.specs.Seats.{IsSeated};
 ghost use Rattle.zb_store.specs.Sizes.{record_room};
 
 use std::alloc::Global;
@@ -31,7 +32,7 @@ fn start_node(
     requires room { record_room ≤ length room.old }
     ensures { IfOk result (λ r. (p : Schedule) (s : Station) → AreNodesOf p declared.now
         → centre.0 ≡ rules.centre_of (stations (schedule_of p)) → slice_get (stations (schedule_of p)) me ≡ Some s
-        → IsStarted (schedule_of p) s r.0 r.1) }
+        → IsSeated (schedule_of p) s r.0 r.1) }
 {
     let node = &declared[me];
     let config = config_at(declared, me);
@@ -54,9 +55,11 @@ pub fn start_nodes(
     requires schedule { AreOfSchedule declared.now }
     requires empty { disks.old.items ≡ [] }
     ensures stand { IfOk result (λ nodes. (p : Schedule) → AreNodesOf p declared.now
-        → AllStand (schedule_of p) (start (schedule_of p)) [] 1 (stations (schedule_of p)) nodes.items disks.new.items) }
+        → AllStand (schedule_of p) (start (schedule_of p)) [] 1 (stations (schedule_of p))
+        nodes.items disks.new.items) }
     ensures nodes { IfOk result (λ nodes. length nodes.items ≡ length declared.now) }
     ensures disks { OnOk result (length disks.new.items ≡ length declared.now) }
+    ensures calls { OnOk result (AllByRecursion (λ m. m.calls ≡ 6) disks.new.items) }
 {
     let mut room = Vec::with_capacity(alloc, RECORD_ROOM)?;
     room.resize(RECORD_ROOM, 0)?;
