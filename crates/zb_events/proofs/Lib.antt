@@ -1,1 +1,5 @@
 pub mod SeatLemmas
+pub mod ActLemmas
+pub mod Telling
+mod Opening
+pub mod Going

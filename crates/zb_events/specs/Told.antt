@@ -3,6 +3,7 @@ use Rattle.std.specs.Prelude.{◌≡◌, ℕ, ◌+◌, ◌≤◌, ◌<◌, List,
 use Rattle.zb_disk.specs.Memory.{Medium}
 use Rattle.zb_driven.specs.declared.fall.Fall.{Fall}
 use Rattle.zb_driven.specs.declared.fall.Fall.TheVariants.{Stopped as stopped, Failed as failed}
+use Rattle.zb_model.specs.Data.{AtEvent, Reason}
 use Rattle.zb_model.specs.Lines.{Line, Stopped, DownDisk}
 use Rattle.zb_model.specs.Play.{Schedule, Disk, Step, setting_of, stations}
 use Rattle.zb_model.specs.Readings.{stations_of}
@@ -10,10 +11,12 @@ use Rattle.zb_model.specs.State.{is_centre}
 use Rattle.zb_model_steps.specs.Conditions.{condition_of}
 use Rattle.zb_node.specs.Nodes.{IsIn}
 use Rattle.zb_node.specs.Values.{NodeValue}
+use Rattle.zb_node_types.specs.Changes.{model_place, place_of, reason}
+use Rattle.zb_node_types.specs.declared.refusal.Refusal.{Refusal}
 use Rattle.zb_events.specs.declared.ledger.Ledger.{Ledger}
 use Rattle.zb_said.specs.Naming.{IsCalled}
 use Rattle.zb_said.specs.Said.{IsLineOf, text_of}
-use Rattle.zb_scribe.specs.Kept.{Kept, told}
+use Rattle.zb_scribe.specs.Kept.{Kept, Tells, told}
 use Rattle.zb_text.specs.Fields.{is_name}
 use Rattle.zb_trace.specs.declared.line.Line.{Line as Printed}
 use Rattle.zb_trace.specs.Views.{the_centre}
@@ -34,6 +37,14 @@ pub record IsTold (w : Schedule) (h : List Line) (k : Ledger) : Type 0 where
 pub record Adds (w : Schedule) (h lines : List Line) (old new : Ledger) : Type 0 where
   pub page : new.page.items ≡ old.page.items ++ text_of (stations w) lines
   pub told : IsTold w (h ++ lines) new
+
+-- These lines were told, whatever stood before: none of them declares a node.
+abbrev pub Writes : Schedule → List Line → Ledger → Ledger → Type 0
+Writes w lines old new = Tells (stations w) lines old.scribe old.page.items new.scribe new.page.items
+
+-- a refusal of the event itself, for this reason
+abbrev pub IsRefusedFor : Reason → Refusal → Type 0
+IsRefusedFor why refusal = (model_place (place_of refusal) ≡ AtEvent) × (reason refusal ≡ why)
 
 -- the line of a node on whose call a stop or a failure fell
 abbrev pub fall_line : Fall → ℕ → ℕ → Line

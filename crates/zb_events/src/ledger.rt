@@ -1,14 +1,14 @@
 //! What is told of a run: the scribe, and the lines of the event that is being answered.
-ghost use Rattle.std.specs.Prelude.{◌≡◌, ◌≤◌, ◌+◌, ℕ, List, OnOk, Some, false, map, slice_get, [], ◌∷◌};
+ghost use Rattle.std.specs.Prelude.{◌≡◌, ◌≤◌, ◌<◌, ◌+◌, ℕ, List, OnOk, Some, false, map, slice_get, [], ◌∷◌};
 ghost use Rattle.std.specs.Option.{option_map};
 ghost use Rattle.zb_base.specs.declared.key.Key.{Key as key};
 ghost use Rattle.zb_events.specs.Acts.{IsFor, act_for};
-ghost use Rattle.zb_events.specs.Told.{Adds, Before, Goes, HasRoom, IsTold, lines_told};
+ghost use Rattle.zb_events.specs.Told.{Before, Goes, HasRoom, IsRefusedFor, Writes, lines_told};
+ghost use Rattle.zb_model.specs.Data.{AtEvent, Reason as why_not};
 ghost use Rattle.zb_model.specs.Lines as log;
 ghost use Rattle.zb_model.specs.Play as model;
 ghost use Rattle.zb_model.specs.Play.{Disk, Schedule, setting_of, stations, step};
 ghost use Rattle.zb_model_real.specs.Real.{real};
-ghost use Rattle.zb_node_types.specs.Changes.{model_place, place_of, reason};
 ghost use Rattle.zb_said.specs.Naming.{IsCalled};
 ghost use Rattle.zb_said.specs.Said.{IsLineOf};
 ghost use Rattle.zb_scribe.specs.Kept.{declares_node};
@@ -44,10 +44,10 @@ impl Ledger {
     ///
     /// Errors: `NoMemory`.
     pub fn tell(&mut self, line: &Line) -> Result<(), NoMemory>
-        requires room { HasRoom self.old }
+        requires room { lines_told self.old < 4294967295 }
         ensures few { OnOk result (lines_told self.new ≤ lines_told self.old + 1) }
-        ensures adds { OnOk result ((w : Schedule) (h : List log.Line) (m : log.Line) → IsTold w h self.old
-            → IsLineOf (stations w) line.now m → declares_node m ≡ false → Adds w h (m ∷ []) self.old self.new) }
+        ensures writes { OnOk result ((w : Schedule) (m : log.Line) → IsLineOf (stations w) line.now m
+            → declares_node m ≡ false → Writes w (m ∷ []) self.old self.new) }
     {
         self.scribe.tell(self.alloc, &mut self.page, line)
     }
@@ -56,11 +56,10 @@ impl Ledger {
     ///
     /// Errors: `NoMemory`.
     pub fn refuse(&mut self, event: u32, node: Name, refusal: Refusal) -> Result<(), NoMemory>
-        requires room { HasRoom self.old }
+        requires room { lines_told self.old < 4294967295 }
         ensures few { OnOk result (lines_told self.new ≤ lines_told self.old + 1) }
-        ensures adds { OnOk result ((w : Schedule) (h : List log.Line) (n : ℕ) → IsTold w h self.old
-            → IsCalled (stations w) n node.bytes
-            → Adds w h (log.Refuse event n (model_place (place_of refusal)) (reason refusal) ∷ []) self.old self.new) }
+        ensures writes { OnOk result ((w : Schedule) (n : ℕ) (why : why_not) → IsCalled (stations w) n node.bytes
+            → IsRefusedFor why refusal → Writes w (log.Refuse event n AtEvent why ∷ []) self.old self.new) }
     {
         self.tell(&refuse_line(event, node, refusal))
     }

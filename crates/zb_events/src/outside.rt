@@ -1,5 +1,5 @@
 //! The events of the outside: bytes that are put on the air, and forged frames.
-ghost use Rattle.std.specs.Prelude.{◌≡◌, ◌≤◌, ◌+◌, ℕ, List, OnOk, codes, length, None, ◌∷◌, []};
+ghost use Rattle.std.specs.Prelude.{◌≡◌, ◌≤◌, ◌+◌, ℕ, List, OnOk, codes, length, true, ◌∷◌, []};
 ghost use Rattle.zb_model.specs.Data.{Station};
 ghost use Rattle.zb_model.specs.Lines as log;
 ghost use Rattle.zb_model.specs.Play.{Disk, Schedule, forged_both, forged_net, forged_open, stations, step};
@@ -8,20 +8,17 @@ ghost use Rattle.zb_model_real.specs.Real.{real};
 ghost use Rattle.zb_model_real.specs.Terms.{model_term};
 ghost use Rattle.zb_model_schedules.specs.Schedules.{event_for};
 ghost use Rattle.zb_events.specs.Told.{Adds, HasRoom, IsTold, lines_told};
-ghost use Rattle.zb_events.specs.Acts.{seat_for};
+ghost use Rattle.zb_events.specs.Acts.{is_of_outside};
 ghost use Rattle.zb_sched_line.specs.Views.{event_of};
 ghost use Rattle.zb_seal.specs.Wire.{wire_length};
 
 use crate::ledger::Ledger;
 use zb_base::{Frame, Name, NoMemory, Short};
 use zb_cursor::frame_from;
-use zb_forge::{aps_command, clear_frame, forged_control, nwk_frame};
+use zb_forge::{SECURED, aps_command, clear_frame, forged_control, nwk_frame, sealed};
 use zb_sched::Event;
 use zb_said::{forge_line, inject_line, send_line};
-use zb_seal::{Term, wire};
-
-/// The NWK frame control of a sealed data frame.
-const SECURED: u16 = 0x0208;
+use zb_seal::Term;
 
 // The name that stands for an outsider.
 fn nobody() -> Name
@@ -33,19 +30,6 @@ fn nobody() -> Name
     }
 }
 
-// Answers the bytes of a term on the air.
-#[tactic(auto, using(zb_model_real::proofs::SameTerms::same_wire))]
-fn sealed(term: &Term) -> Frame
-    requires { wire_length term.now ≤ 127 }
-    ensures text { result.items ≡ real.wire (model_term term.now) }
-    ensures len { length result.items ≡ wire_length term.now }
-{
-    match wire(term) {
-        Ok(bytes) => bytes,
-        Err(_) => Frame::new(),
-    }
-}
-
 impl Ledger {
     /// Answers an event of the outside.
     ///
@@ -54,7 +38,7 @@ impl Ledger {
         requires room { HasRoom self.old }
         ensures few { OnOk result (lines_told self.new ≤ lines_told self.old + 24) }
         ensures adds { OnOk result ((w : Schedule) (h : List log.Line) (ds : List Disk) (known : List Station)
-            → IsTold w h self.old → seat_for known (event_of what.now) ≡ None
+            → IsTold w h self.old → is_of_outside (event_of what.now) ≡ true
             → Adds w h (step real w h ds event (event_for known (event_of what.now))).lines self.old self.new) }
     {
         match what {
@@ -126,9 +110,10 @@ impl Ledger {
         ensures adds { OnOk result ((w : Schedule) (h : List log.Line) → IsTold w h self.old
             → Adds w h (forged_net real h event (model_term term)) self.old self.new) }
     {
+        let frame = self.scribe.next_frame();
         let bytes = sealed(&term);
         self.tell(&forge_line(event, term))?;
-        self.send(event, bytes)
+        self.tell(&send_line(event, nobody(), frame, bytes))
     }
 
     // And one with an APS command under a link key in it.
@@ -139,10 +124,11 @@ impl Ledger {
         ensures adds { OnOk result ((w : Schedule) (h : List log.Line) → IsTold w h self.old
             → Adds w h (forged_both real h event (model_term inner) (model_term term)) self.old self.new) }
     {
+        let frame = self.scribe.next_frame();
         let bytes = sealed(&term);
         self.tell(&forge_line(event, inner))?;
         self.tell(&forge_line(event, term))?;
-        self.send(event, bytes)
+        self.tell(&send_line(event, nobody(), frame, bytes))
     }
 
     // An APS command under a link key goes in a frame that isn't sealed.
@@ -159,20 +145,10 @@ impl Ledger {
         ensures adds { OnOk result ((w : Schedule) (h : List log.Line) → IsTold w h self.old
             → Adds w h (forged_open real h event to.0 from.0 (model_term inner)) self.old self.new) }
     {
+        let frame = self.scribe.next_frame();
         let part = sealed(&inner);
         let bytes = clear_frame(to, from, part.as_slice());
         self.tell(&forge_line(event, inner))?;
-        self.send(event, bytes)
-    }
-
-    // The frame goes on the air.
-    fn send(&mut self, event: u32, bytes: Frame) -> Result<(), NoMemory>
-        requires room { HasRoom self.old }
-        ensures few { OnOk result (lines_told self.new ≤ lines_told self.old + 1) }
-        ensures adds { OnOk result ((w : Schedule) (h : List log.Line) → IsTold w h self.old
-            → Adds w h (log.Send event None (length (air h) + 1) bytes.items ∷ []) self.old self.new) }
-    {
-        let frame = self.scribe.next_frame();
         self.tell(&send_line(event, nobody(), frame, bytes))
     }
 }
