@@ -2,6 +2,5 @@
 #![tactic(auto)]
 
 mod frames;
-mod headers;
 
-pub use frames::{aps_command, clear_frame, nwk_frame};
+pub use frames::{SECURED, aps_command, clear_frame, forged_control, nwk_frame, sealed};

@@ -1,17 +1,28 @@
 //! The lines of an answer, in their order.
-use crate::changes::change_line;
+ghost use Rattle.std.specs.Prelude.{◌≡◌, ◌+◌, ◌≤◌, ◌<◌, ◌++◌, ◌∷◌, [], ℕ, List, Some, true, length, map, OnOk, option_map, option_to_list};
+ghost use Rattle.zb_model.specs.Data.{Station};
+ghost use Rattle.zb_model.specs.Lines.{Accept as accept, Seal as seal};
+ghost use Rattle.zb_model.specs.Play.{change_lines, send_lines};
+ghost use Rattle.zb_model_real.specs.Terms.{model_term};
+ghost use Rattle.zb_node_types.specs.Changes.{edits};
+ghost use Rattle.zb_said.specs.Naming.{IsCalled};
+ghost use Rattle.zb_scribe.specs.Kept.{Tells, told};
+ghost use Rattle.zb_scribe.specs.Outcomes.{AreOfCentre, items_of, lines_of_edits, out_lines, refused_lines};
+ghost use Rattle.zb_text.specs.Fields.{is_name};
+
 use crate::scribe::Scribe;
 use std::alloc::Global;
 use zb_base::{Frame, Name, NoMemory};
 use zb_host::Outcome;
-use zb_node_types::{Changes, Refusal};
+use zb_node_types::{Change, Changes, Refusal};
+use zb_said::{accept_line, change_line, commit_line, refuse_line, seal_line, send_line};
 use zb_seal::Term;
-use zb_trace::Line;
 
 impl Scribe {
     /// Tells the changes of a node, and that they are stored, where there are any.
     ///
-    /// Errors: `NoMemory`.
+    /// Requires that the count of lines has room for 17 more. Errors: `NoMemory`, after which the scribe isn't used
+    /// further.
     pub fn stored(
         &mut self,
         alloc: Global,
@@ -19,19 +30,45 @@ impl Scribe {
         event: u32,
         node: Name,
         changes: &Changes,
-    ) -> Result<(), NoMemory> {
-        for change in changes.as_slice() {
-            self.tell(alloc, page, &change_line(event, node, change))?;
-        }
+    ) -> Result<(), NoMemory>
+        requires { told self.old + 17 ≤ 4294967295 }
+        ensures tells { OnOk result ((known : List Station) (n : ℕ) → IsCalled known n node.bytes
+            → AreOfCentre known n changes.now.items
+            → Tells known (lines_of_edits event n (edits changes.now.items))
+            self.old page.old.items self.new page.new.items) }
+        ensures told { OnOk result (told self.new ≤ told self.old + 17) }
+    {
+        self.changed(alloc, page, event, node, changes.as_slice())?;
         if !changes.is_empty() {
-            self.tell(alloc, page, &Line::Commit { event, node })?;
+            self.tell(alloc, page, &commit_line(event, node))?;
+        }
+        Ok(())
+    }
+
+    fn changed(
+        &mut self,
+        alloc: Global,
+        page: &mut Vec<u8>,
+        event: u32,
+        node: Name,
+        changes: &[Change],
+    ) -> Result<(), NoMemory>
+        requires { told self.old + length changes.now ≤ 4294967295 }
+        ensures tells { OnOk result ((known : List Station) (n : ℕ) → IsCalled known n node.bytes
+            → AreOfCentre known n changes.now
+            → Tells known (change_lines event n (edits changes.now)) self.old page.old.items self.new page.new.items) }
+        ensures told { OnOk result (told self.new ≤ told self.old + length changes.now) }
+    {
+        for change in changes {
+            self.tell(alloc, page, &change_line(event, node, *change))?;
         }
         Ok(())
     }
 
     /// Tells what a node accepted, refused, sealed and sent, in this order.
     ///
-    /// Errors: `NoMemory`.
+    /// Requires that the count of lines has room for 6 more. Errors: `NoMemory`, after which the scribe isn't used
+    /// further.
     pub fn answered(
         &mut self,
         alloc: Global,
@@ -39,7 +76,15 @@ impl Scribe {
         event: u32,
         node: Name,
         out: Outcome<Term, Refusal>,
-    ) -> Result<(), NoMemory> {
+    ) -> Result<(), NoMemory>
+        requires { told self.old + 6 ≤ 4294967295 }
+        ensures tells { OnOk result ((known : List Station) (n : ℕ) → IsCalled known n node.bytes
+            → is_name node.bytes ≡ true
+            → Tells known (out_lines event n (length self.old.air + 1) out)
+            self.old page.old.items self.new page.new.items) }
+        ensures told { OnOk result (told self.new ≤ told self.old + 6) }
+    {
+        let number = self.next_frame();
         let Outcome {
             accepted_nwk,
             accepted_aps,
@@ -53,7 +98,8 @@ impl Scribe {
         self.refused(alloc, page, event, node, refused)?;
         self.sealed(alloc, page, event, node, sealed_aps)?;
         self.sealed(alloc, page, event, node, sealed_nwk)?;
-        self.sent(alloc, page, event, node, frame)
+        self.sent(alloc, page, event, node, number, frame)?;
+        Ok(())
     }
 
     fn accepted(
@@ -63,36 +109,38 @@ impl Scribe {
         event: u32,
         node: Name,
         term: Option<Term>,
-    ) -> Result<(), NoMemory> {
+    ) -> Result<(), NoMemory>
+        requires { told self.old < 4294967295 }
+        ensures tells { OnOk result ((known : List Station) (n : ℕ) → IsCalled known n node.bytes
+            → Tells known (map (accept event n) (option_to_list (option_map model_term term)))
+            self.old page.old.items self.new page.new.items) }
+        ensures told { OnOk result (told self.new ≤ told self.old + 1) }
+    {
         match term {
-            Some(term) => self.tell(alloc, page, &Line::Accept { event, node, term }),
-            None => Ok(()),
+            Some(term) => self.tell(alloc, page, &accept_line(event, node, term))?,
+            None => {}
         }
+        Ok(())
     }
 
-    /// Tells why an event was refused, where it was.
-    ///
-    /// Errors: `NoMemory`.
-    pub fn refused(
+    fn refused(
         &mut self,
         alloc: Global,
         page: &mut Vec<u8>,
         event: u32,
         node: Name,
         refusal: Option<Refusal>,
-    ) -> Result<(), NoMemory> {
+    ) -> Result<(), NoMemory>
+        requires { told self.old < 4294967295 }
+        ensures tells { OnOk result ((known : List Station) (n : ℕ) → IsCalled known n node.bytes
+            → Tells known (refused_lines event n refusal) self.old page.old.items self.new page.new.items) }
+        ensures told { OnOk result (told self.new ≤ told self.old + 1) }
+    {
         match refusal {
-            Some(refusal) => self.tell(
-                alloc,
-                page,
-                &Line::Refuse {
-                    event,
-                    node,
-                    refusal,
-                },
-            ),
-            None => Ok(()),
+            Some(refusal) => self.tell(alloc, page, &refuse_line(event, node, refusal))?,
+            None => {}
         }
+        Ok(())
     }
 
     fn sealed(
@@ -102,39 +150,40 @@ impl Scribe {
         event: u32,
         node: Name,
         term: Option<Term>,
-    ) -> Result<(), NoMemory> {
+    ) -> Result<(), NoMemory>
+        requires { told self.old < 4294967295 }
+        ensures tells { OnOk result ((known : List Station) (n : ℕ) → IsCalled known n node.bytes
+            → Tells known (map (seal event n) (option_to_list (option_map model_term term)))
+            self.old page.old.items self.new page.new.items) }
+        ensures told { OnOk result (told self.new ≤ told self.old + 1) }
+    {
         match term {
-            Some(term) => self.tell(alloc, page, &Line::Seal { event, node, term }),
-            None => Ok(()),
+            Some(term) => self.tell(alloc, page, &seal_line(event, node, term))?,
+            None => {}
         }
+        Ok(())
     }
 
-    /// Tells that a frame went on the air, where one did.
-    ///
-    /// Errors: `NoMemory`.
-    pub fn sent(
+    fn sent(
         &mut self,
         alloc: Global,
         page: &mut Vec<u8>,
         event: u32,
         node: Name,
+        number: u32,
         frame: Option<Frame>,
-    ) -> Result<(), NoMemory> {
+    ) -> Result<(), NoMemory>
+        requires { told self.old < 4294967295 }
+        ensures tells { OnOk result ((known : List Station) (n : ℕ) → IsCalled known n node.bytes
+            → is_name node.bytes ≡ true
+            → Tells known (send_lines event (Some n) number (items_of frame))
+            self.old page.old.items self.new page.new.items) }
+        ensures told { OnOk result (told self.new ≤ told self.old + 1) }
+    {
         match frame {
-            Some(bytes) => {
-                let frame = self.next_frame();
-                self.tell(
-                    alloc,
-                    page,
-                    &Line::Send {
-                        event,
-                        node,
-                        frame,
-                        bytes,
-                    },
-                )
-            }
-            None => Ok(()),
+            Some(bytes) => self.tell(alloc, page, &send_line(event, node, number, bytes))?,
+            None => {}
         }
+        Ok(())
     }
 }

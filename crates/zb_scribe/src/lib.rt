@@ -1,12 +1,13 @@
-//! The scribe of a run: it prints each line of a transcript as soon as it is known, and keeps of the lines what the rest
-//! of the run needs: the frames on the air, how many draws are used, the counts and the words of the end. It keeps no
-//! line.
+//! The scribe of a run: it prints each line of a transcript as soon as it is known, and keeps of the lines what the
+//! rest of the run needs: the frames on the air, how many draws are used, the counts and the words of the end. It keeps
+//! no line.
 #![tactic(auto)]
 
 mod air;
-mod changes;
 mod group;
+mod laws;
 mod scribe;
 
 pub use air::Air;
+pub use laws::{lines_are_told_in_turn, no_lines_are_told};
 pub use scribe::Scribe;
