@@ -10,15 +10,13 @@ use Rattle.zb_inspect.specs.Report.{report_of}
 use Rattle.zb_install.specs.Code.{code_of_text, code_key}
 use Rattle.zb_install.specs.declared.code_error.CodeError.{CodeError}
 use Rattle.zb_model.specs.Data.{Bytes}
-use Rattle.zb_model.specs.FirstPath.{Plan, transcript}
 use Rattle.zb_pcap.specs.Extracts.{extracted}
 use Rattle.zb_pcap.specs.declared.extraction.Extraction.{Extraction}
 use Rattle.zb_pcap.specs.declared.fault.PcapError.{PcapError}
-use Rattle.zb_player.specs.Text.{text}
-use Rattle.zb_player.specs.Wire.{wire}
-use Rattle.zb_reader.specs.Reading.{schedule}
+use Rattle.zb_player.specs.Runs.{transcript_text}
 use Rattle.zb_sched.specs.Schedules as sched
 use Rattle.zb_sched.specs.Printed.{printed}
+use Rattle.zb_sched.specs.Reading.{schedule_in}
 use Rattle.zb_sched.specs.declared.error.SchedError.{SchedError}
 use Rattle.zb_command.specs.CountsLine.{counts_line}
 use Rattle.zb_command.specs.Commands.{Task, Playing, Installing, Making, Inspecting, Sniffing}
@@ -41,10 +39,10 @@ longest = 16777216
 abbrev pub within_limit : Bytes → Answer → Answer
 within_limit input answer = if nat_lt longest (length input) then Exceeds else answer
 
--- ---- `play`: the transcript of the schedule that the input is
+-- ---- `play`: the text of the transcript that the policy gives of the schedule that the input is
 
-abbrev pub play_answer : Result Plan SchedError → Answer
-play_answer (Ok plan) = Writes (text (transcript wire plan))
+abbrev pub play_answer : Result sched.Schedule SchedError → Answer
+play_answer (Ok plan) = Writes (transcript_text plan)
 play_answer (Err e) = Refuses e.line (schedule_cause e.cause)
 
 -- ---- `install`: the 32 digits of the code's link key, and a line feed
@@ -76,7 +74,7 @@ sniff_answer (Err e) = Refuses e.place (pcap_cause e.cause)
 
 -- What a command answers to an input. Only `play`, `inspect` and `sniff` look at it.
 abbrev pub answer : Task → Bytes → Answer
-answer Playing input = within_limit input (play_answer (schedule input))
+answer Playing input = within_limit input (play_answer (schedule_in input))
 answer (Installing code) input = install_answer (code_of_text code)
 answer (Making count) input = make_answer (made_schedule 0 count)
 answer (Inspecting jobs) input = within_limit input (inspect_answer (captured input))

@@ -1,14 +1,12 @@
 -- What the ends of the program mean.
-use Rattle.std.specs.Prelude.{◌≡◌, ℕ, List, Option, Ok, IfSome}
+use Rattle.std.specs.Prelude.{◌≡◌, ℕ, Option, Ok, IfSome}
 use Rattle.std.specs.Io.KnownBytes.{Appends, IsAtEnd, Keeps}
 use Rattle.zb_base.specs.Outside.{AppendsFront, Rose}
 use Rattle.zb_gen.specs.Made.{made_schedule}
 use Rattle.zb_model.specs.Data.{Bytes}
-use Rattle.zb_model.specs.Lines.{Line}
-use Rattle.zb_model.specs.FirstPath.{Plan, Lawful, Fresh, Counted}
-use Rattle.zb_player.specs.Text.{text}
-use Rattle.zb_player.specs.Wire.{wire}
-use Rattle.zb_reader.specs.Reading.{schedule}
+use Rattle.zb_model_headline.specs.Headline.{Holds}
+use Rattle.zb_model_schedules.specs.Schedules.{schedule_of}
+use Rattle.zb_player.specs.Runs.{transcript_text}
 use Rattle.zb_sched.specs.Schedules as sched
 use Rattle.zb_sched.specs.Printed.{printed}
 use Rattle.zb_sched.specs.Reading.{schedule_in}
@@ -62,22 +60,13 @@ WritesFront status.WriteFault answer before after = IsBegun answer before after
 WritesFront status.NoMemory answer before after = IsBegun answer before after
 WritesFront s answer before after = Unit {0}
 
--- A schedule was played: what was written is the text of lines that are a lawful run of it, in which no node seals twice
--- under one key and nonce, and each seal has its node's next counter.
-pub record IsRun (plan : Plan) (written : Bytes) : Type 0 where
-  pub lines : List Line
-  pub text_of : written ≡ text lines
-  pub lawful : Lawful wire plan lines
-  pub fresh : Fresh lines
-  pub counted : Counted lines
-
--- The input is a schedule, and its run was written.
+-- The input is a schedule, and the text of its transcript was written. Everything holds of that transcript that the laws over
+-- runs say, and it is the only list of lines that the schedule gives.
 pub record Played (input : Bytes) (before after : Option Bytes) : Type 0 where
-  pub plan : Plan
-  pub output : Bytes
-  pub reads : schedule input ≡ Ok plan
-  pub run : IsRun plan output
-  pub written : Appends before after output
+  pub plan : sched.Schedule
+  pub reads : schedule_in input ≡ Ok plan
+  pub written : Appends before after (transcript_text plan)
+  pub holds : Holds (schedule_of plan)
 
 -- A schedule was made, and its printed text was written, which is a text that reads as that schedule.
 pub record Made (count : ℕ) (before after : Option Bytes) : Type 0 where

@@ -1,23 +1,40 @@
 //! The command `play`.
+ghost use Rattle.std.specs.Prelude.{◌≡◌, Some, IfSome};
+ghost use Rattle.std.specs.Io.KnownBytes.{IsAtEnd};
+ghost use Rattle.zb_base.specs.Outside.{Rose};
+ghost use Rattle.zb_command.specs.Answers.{wanted, Writes};
+ghost use Rattle.zb_command.specs.Commands.{Playing};
+ghost use Rattle.zb_command.specs.Inputs.{TakesAtMost};
+ghost use Rattle.zb_command.specs.Outcomes.{Ends, Played};
+ghost use Rattle.zb_player.specs.Runs.{transcript_text};
+ghost use Rattle.zb_sched.specs.Schedules as sched;
+ghost use Rattle.zb_sched.specs.Valid.{IsSchedule};
+
 use crate::input::{InputFault, LONGEST, read_input};
 use crate::status::{Cause, Status};
 use std::alloc::Global;
 use zb_base::{OrMemory, Sink, Source};
+use zb_model_schedules::each_schedule_holds;
 use zb_player::{PlayFault, Still, play};
 use zb_sched::{Schedule, read};
 
 /// Plays the schedule on the input, and writes its transcript.
-pub(crate) fn play_input<R: Source, W: Sink>(
-    alloc: Global,
-    input: &mut R,
-    output: &mut W,
-) -> Status {
+pub(crate) fn play_input<R: Source, W: Sink>(alloc: Global, input: &mut R, output: &mut W) -> Status
+    ensures ends { Ends result (wanted Playing (R.rest input.old)) (W.taken output.old) (W.taken output.new)
+        (W.faults output.old) (W.faults output.new) }
+    ensures end { result ≡ Status.Ok → IsAtEnd (R.rest input.new) }
+    ensures few { TakesAtMost (R.rest input.old) (R.rest input.new) 16777217 }
+    ensures played { result ≡ Status.Ok → IfSome (R.rest input.old)
+        (λ bytes. Played bytes (W.taken output.old) (W.taken output.new)) }
+    ensures read_fault { result ≡ Status.ReadFault → Rose (R.faults input.old) (R.faults input.new) }
+{
     let bytes = match read_input(alloc, input) {
         Ok(bytes) => bytes,
         Err(InputFault::Read) => return Status::ReadFault,
         Err(InputFault::TooLong) => return Status::TooLong { limit: LONGEST },
         Err(InputFault::NoMemory) => return Status::NoMemory,
     };
+    each_schedule_holds();
     match read(alloc, bytes.as_slice()) {
         Ok(schedule) => play_schedule(alloc, &schedule, output),
         Err(OrMemory::Fault(fault)) => Status::Refused {
@@ -29,7 +46,12 @@ pub(crate) fn play_input<R: Source, W: Sink>(
 }
 
 /// Plays a schedule on disks of its own.
-fn play_schedule<W: Sink>(alloc: Global, schedule: &Schedule, output: &mut W) -> Status {
+fn play_schedule<W: Sink>(alloc: Global, schedule: &Schedule, output: &mut W) -> Status
+    requires { IsSchedule (sched.schedule_of schedule.now) }
+    ensures ends { Ends result (Some (Writes (transcript_text (sched.schedule_of schedule.now)))) (W.taken output.old)
+        (W.taken output.new) (W.faults output.old) (W.faults output.new) }
+    ensures read_fault { result ≡ Status.ReadFault → ⊥ }
+{
     let mut disks = Vec::new(alloc);
     match play(alloc, schedule, &mut disks, &mut Still, output) {
         Ok(_) => Status::Ok,

@@ -1,4 +1,4 @@
--- What a node that is down shows.
+-- What the disk of a node shows.
 use Rattle.std.proofs.Common.{◌≡◌, ℕ, List, false, Option, Some, None, Result, Ok, Err, IfOk, [], refl, sym, ◌∙◌, ap, subst}
 use Rattle.std.proofs.lemmas.Bool.{false≢true}
 use Rattle.std.specs.List.{concat}
@@ -11,13 +11,14 @@ use Rattle.zb_disk.specs.Memory.{Medium, memory_tells, memory_view}
 use Rattle.zb_disk.proofs.Calls.{off_now}
 use Rattle.zb_store.specs.declared.fault.StoreFault.{StoreFault}
 use Rattle.zb_store.specs.declared.fault.StoreFault.TheVariants as store
-use Rattle.zb_store.specs.Layout.{Standing, stands}
+use Rattle.zb_store.specs.Layout.{Standing, IsWhole, stands}
 use Rattle.zb_store.specs.Reading.{AreContents}
 use Rattle.zb_store.specs.Faults.{OnlyReads, IsReadFault}
 use Rattle.zb_host.specs.Plans.{Restored, gives, bad, IsRestoreFault}
 use Rattle.zb_host.specs.Hosts.{Restoring, Gives}
 use Rattle.zb_host.proofs.Lives.{same_standing}
-use Rattle.zb_driven.specs.Driven.{IsAtRest, IsShown, lacks_memory, core_lacks_memory, IsRecordIn, IsRecordOf}
+use Rattle.zb_driven.specs.Arms.{IsUnarmed}
+use Rattle.zb_driven.specs.Driven.{IsShown, lacks_memory, core_lacks_memory, IsRecordIn, IsRecordOf}
 use Rattle.zb_driven.proofs.Armings.{on}
 
 abbrev IsThere : Option Standing → Type 0
@@ -50,22 +51,22 @@ written given bytes v w are one other = are ∙ ap value (sym one ∙ other)
 pub given_again : (given : Restored) (bytes v : List ℕ) → bytes ≡ v → given ≡ gives v → given ≡ gives bytes
 given_again given bytes v are is = is ∙ ap gives (sym are)
 
--- a disk at rest is read
-pub unopened : {T : Type 0} (s : Standing) (m : Medium) (new : View) (fault : StoreFault) → IsAtRest s m → lacks_memory fault ≡ false
+-- a disk on which something stands and nothing is armed is read
+pub unopened : {T : Type 0} (s : Standing) (m : Medium) (new : View) (fault : StoreFault) → IsWhole s m.bytes → IsUnarmed m → lacks_memory fault ≡ false
     → OnlyReads {T = T} memory_tells (memory_view m) new (Err fault) → IsReadFault memory_tells (memory_view m) new fault → ⊥
-unopened s m new store.Disk rest lacks reads of_fault = false≢true (sym (on m rest.unarmed) ∙ sym (off_now m.arming) ∙ reads.refusal refl refl)
-unopened s m new store.NoRecord rest lacks reads of_fault = subst IsThere (sym rest.whole.stands ∙ of_fault refl) tt
-unopened s m new (store.TooLarge len) rest lacks reads of_fault = of_fault
-unopened s m new store.NoMemory rest lacks reads of_fault = false≢true (sym lacks)
-unopened s m new store.Worn rest lacks reads of_fault = of_fault
+unopened s m new store.Disk whole quiet lacks reads of_fault = false≢true (sym (on m quiet) ∙ sym (off_now m.arming) ∙ reads.refusal refl refl)
+unopened s m new store.NoRecord whole quiet lacks reads of_fault = subst IsThere (sym whole.stands ∙ of_fault refl) tt
+unopened s m new (store.TooLarge len) whole quiet lacks reads of_fault = of_fault
+unopened s m new store.NoMemory whole quiet lacks reads of_fault = false≢true (sym lacks)
+unopened s m new store.Worn whole quiet lacks reads of_fault = of_fault
 
 -- what is shown of what is read is shown of what stands
 pub shown_then : {E : Type 0} (restored : Restoring) (m : Medium) (content payloads room : List ℕ) (result : Result (Option ℕ) E) → AreContents content payloads m.bytes
     → IfOk result (λ r. (w : List ℕ) → restored content payloads ≡ gives w → IsShown r room w)
-    → IfOk result (λ r. (s : Standing) (w : List ℕ) → IsAtRest s m → Gives restored s w → IsShown r room w)
+    → IfOk result (λ r. (s : Standing) (w : List ℕ) → IsWhole s m.bytes → IsUnarmed m → Gives restored s w → IsShown r room w)
 shown_then restored m content payloads room (Err e) read shown = tt
-shown_then restored m content payloads room (Ok r) read shown = λ s w rest given.
-    let same = same_standing read.0 s m.bytes read.1 rest.whole.stands in
+shown_then restored m content payloads room (Ok r) read shown = λ s w whole quiet given.
+    let same = same_standing read.0 s m.bytes read.1 whole.stands in
     let there = ap (λ (c : List ℕ). restored c payloads) (read.2 ∙ ap (λ (x : Standing). x.content) same) in
     shown w (there ∙ ap (λ (q : List ℕ). restored s.content q) (read.3 ∙ ap (λ (x : Standing). concat x.payloads) same) ∙ given)
 

@@ -1,5 +1,5 @@
 //! The boot of a node that is down.
-ghost use Rattle.std.specs.Prelude.{◌≡◌, List, ℕ, IfOk, IfErr};
+ghost use Rattle.std.specs.Prelude.{◌≡◌, List, ℕ, IfOk, IfErr, IsTrue, is_some};
 ghost use Rattle.std.specs.List.{concat};
 ghost use Rattle.zb_base.specs.Config.{IsConfig};
 ghost use Rattle.zb_store.specs.Layout.{Standing};
@@ -42,6 +42,7 @@ pub fn boot_armed<C: Core>(
     ensures fallen { IfErr result (λ e. (fall : _) → e ≡ OrMemory.Fault fall → (s : Standing) (w : List ℕ)
         → IsDown (memory_words C.restored C.recorded C.payload) s w (armed_of arms.now) disk.old
         → HasFallenAtBoot s (armed_of arms.now) disk.old fall disk.new) }
+    ensures up { IfOk result (λ h. IsTrue (is_some h.store)) }
 {
     arm(disk, arms);
     match Host::boot(alloc, config, disk) {

@@ -1,13 +1,14 @@
-//! The record that the disk of a node that is down stands for.
+//! The record that a node's disk stands for.
 ghost use Rattle.std.specs.Prelude.{◌≡◌, ◌≤◌, List, ℕ, length, IfOk};
 ghost use Rattle.zb_base.specs.Config.{IsConfig};
 ghost use Rattle.zb_disk.specs.View.{IsStill};
 ghost use Rattle.zb_disk.specs.Memory.{memory_view};
-ghost use Rattle.zb_store.specs.Layout.{Standing, stands};
+ghost use Rattle.zb_store.specs.Layout.{Standing, IsWhole, stands};
 ghost use Rattle.zb_store.specs.Sizes.{record_room, payloads_room};
 ghost use Rattle.zb_host.specs.Plans.{gives};
 ghost use Rattle.zb_host.specs.Hosts.{Gives};
-ghost use Rattle.zb_driven.specs.Driven.{IsAtRest, IsShown, IsRecordIn, IsRecordOf, lacks_memory, core_lacks_memory};
+ghost use Rattle.zb_driven.specs.Arms.{IsUnarmed};
+ghost use Rattle.zb_driven.specs.Driven.{IsShown, IsRecordIn, IsRecordOf, lacks_memory, core_lacks_memory};
 
 use std::alloc::Global;
 use zb_base::{Config, NoMemory, OrMemory};
@@ -16,7 +17,7 @@ use zb_host::Core;
 use zb_node_types::KeyError;
 use zb_store::{Store, StoreFault};
 
-/// Writes the record that the disk of a node that is down stands for, and answers its length.
+/// Writes the record that the disk of a node stands for, up or down, and answers its length.
 ///
 /// It answers None where the disk fails or stands for no record of such a node, and changes nothing on the disk.
 /// Requires a configuration of a node of the core's role, and room for `RECORD_ROOM` bytes.
@@ -34,8 +35,8 @@ pub fn dump<C: Core>(
     requires room { record_room ≤ length room.old }
     ensures still { IsStill (memory_view disk.old) (memory_view disk.new) }
     ensures exact { IfOk result (λ r. IsRecordOf C.restored (stands disk.old.bytes) r room.new) }
-    ensures shown { IfOk result (λ r. (s : Standing) (w : List ℕ) → IsAtRest s disk.old → Gives C.restored s w
-        → IsShown r room.new w) }
+    ensures shown { IfOk result (λ r. (s : Standing) (w : List ℕ) → IsWhole s disk.old.bytes → IsUnarmed disk.old
+        → Gives C.restored s w → IsShown r room.new w) }
 {
     match Store::peek(alloc, disk) {
         Ok((content, payloads)) => read_record::<C>(alloc, config, &content, &payloads, room),

@@ -2,11 +2,13 @@
 //! armed.
 #![tactic(auto)]
 
+mod law;
 mod machine;
 mod node;
 mod roles;
 mod task;
 
+pub use law::{a_host_has_power, a_later_event};
 pub use machine::Machine;
 pub use node::{Handled, Node};
 pub use task::Task;

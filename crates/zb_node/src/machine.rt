@@ -1,4 +1,21 @@
 //! The host of a node, of whichever role it is.
+ghost use Rattle.std.specs.Prelude.{◌≡◌, ◌≤◌, ℕ, List, true, is_some, length, option_map, IfOk, IsTrue, OnOk};
+ghost use Rattle.zb_base.specs.Config.{IsConfig};
+ghost use Rattle.zb_disk.specs.View.{IsStill};
+ghost use Rattle.zb_disk.specs.Memory.{memory_view};
+ghost use Rattle.zb_driven.specs.Arms.{IsUnarmed, armed_of};
+ghost use Rattle.zb_driven.specs.Driven.{IsShown};
+ghost use Rattle.zb_host.specs.Hosts.{Gives};
+ghost use Rattle.zb_model.specs.Data as model;
+ghost use Rattle.zb_node.specs.Answers.{HasGiven, HasMade, made};
+ghost use Rattle.zb_node.specs.Tasks.{model_task, suits};
+ghost use Rattle.zb_node.specs.Values.{running};
+ghost use Rattle.zb_node_types.specs.Changes.{model_role};
+ghost use Rattle.zb_store.specs.Layout.{IsWhole, Standing};
+ghost use Rattle.zb_store.specs.Sizes.{record_room};
+ghost use Rattle.zb_stored_tables.specs.Cores.{IsOfRole};
+ghost use Rattle.zb_stored_tables.specs.Stored.{restored};
+
 use crate::roles::{centre_event, device_event, router_event};
 use crate::task::Task;
 use std::alloc::Global;
@@ -7,7 +24,7 @@ use zb_centre::Centre;
 use zb_device::Device;
 use zb_disk::MemDisk;
 use zb_driven::{Arms, Fall, Fallen, boot_armed, dump, run};
-use zb_host::{Core, Host, Outcome};
+use zb_host::{Host, Outcome};
 use zb_node_types::{Changes, Refusal};
 use zb_router::Router;
 use zb_seal::Term;
@@ -35,15 +52,41 @@ fn refuse() -> (Changes, Outcome<Term, Refusal>) {
     (Changes::new(), out)
 }
 
-// Handles an event of a node of one role, where that has such ones.
-fn handle_at<C: Core<Out = Outcome<Term, Refusal>>>(
-    host: &mut Host<C>,
-    disk: &mut MemDisk,
-    arms: &Arms,
-    event: Option<&C::Event>,
-) -> Answered {
-    match event {
-        Some(event) => run(host, disk, arms, event),
+// Handles an event of the centre.
+fn handle_centre(host: &mut Host<Centre>, disk: &mut MemDisk, arms: &Arms, task: Task) -> Answered
+    requires up { IsTrue (is_some host.old.store) }
+    ensures given { suits model.Centre (model_task task) ≡ true → HasGiven model.Centre (model_task task)
+        (armed_of arms.now) host.old disk.old result host.new disk.new }
+    ensures up { OnOk result (IsTrue (is_some host.new.store)) }
+{
+    match centre_event(task) {
+        Some(event) => run(host, disk, arms, &event),
+        None => Ok(refuse()),
+    }
+}
+
+// Handles an event of a router.
+fn handle_router(host: &mut Host<Router>, disk: &mut MemDisk, arms: &Arms, task: Task) -> Answered
+    requires up { IsTrue (is_some host.old.store) }
+    ensures given { suits model.Router (model_task task) ≡ true → HasGiven model.Router (model_task task)
+        (armed_of arms.now) host.old disk.old result host.new disk.new }
+    ensures up { OnOk result (IsTrue (is_some host.new.store)) }
+{
+    match router_event(task) {
+        Some(event) => run(host, disk, arms, &event),
+        None => Ok(refuse()),
+    }
+}
+
+// Handles an event of a device.
+fn handle_device(host: &mut Host<Device>, disk: &mut MemDisk, arms: &Arms, task: Task) -> Answered
+    requires up { IsTrue (is_some host.old.store) }
+    ensures given { suits model.Device (model_task task) ≡ true → HasGiven model.Device (model_task task)
+        (armed_of arms.now) host.old disk.old result host.new disk.new }
+    ensures up { OnOk result (IsTrue (is_some host.new.store)) }
+{
+    match device_event(task) {
+        Some(event) => run(host, disk, arms, &event),
         None => Ok(refuse()),
     }
 }
@@ -54,35 +97,46 @@ impl Machine {
     /// Requires a configuration of a node of that role.
     ///
     /// Errors: how the boot ended; want of memory.
-    pub fn boot(
+    pub(crate) fn boot(
         alloc: Global,
         role: Role,
         config: &Config,
         disk: &mut MemDisk,
         arms: &Arms,
-    ) -> Result<Machine, OrMemory<Fall>> {
+    ) -> Result<Machine, OrMemory<Fall>>
+        requires config { IsConfig config.now }
+        requires role { IsOfRole (model_role role) config.now }
+        ensures { HasMade (model_role role) config.now (armed_of arms.now) disk.old (made result) disk.new }
+    {
         match role {
-            Role::Centre => Ok(Machine::Centre(boot_armed(alloc, config, disk, arms)?)),
-            Role::Router => Ok(Machine::Router(boot_armed(alloc, config, disk, arms)?)),
-            Role::Device => Ok(Machine::Device(boot_armed(alloc, config, disk, arms)?)),
+            Role::Centre => {
+                let host = boot_armed(alloc, config, disk, arms)?;
+                Ok(Machine::Centre(host))
+            }
+            Role::Router => {
+                let host = boot_armed(alloc, config, disk, arms)?;
+                Ok(Machine::Router(host))
+            }
+            Role::Device => {
+                let host = boot_armed(alloc, config, disk, arms)?;
+                Ok(Machine::Device(host))
+            }
         }
     }
 
     /// Handles an event of a node that is up, over its disk, with what is armed on that.
-    pub(crate) fn handle(&mut self, disk: &mut MemDisk, arms: &Arms, task: Task) -> Answered {
+    pub(crate) fn handle(&mut self, disk: &mut MemDisk, arms: &Arms, task: Task) -> Answered
+        requires up { IsTrue (is_some (running self.old).host.store) }
+        ensures given { suits (running self.old).role (model_task task) ≡ true
+            → HasGiven (running self.old).role (model_task task) (armed_of arms.now)
+            (running self.old).host disk.old result (running self.new).host disk.new }
+        ensures role { (running self.new).role ≡ (running self.old).role }
+        ensures up { OnOk result (IsTrue (is_some (running self.new).host.store)) }
+    {
         match self {
-            Machine::Centre(host) => {
-                let event = centre_event(task);
-                handle_at(host, disk, arms, event.as_ref())
-            }
-            Machine::Router(host) => {
-                let event = router_event(task);
-                handle_at(host, disk, arms, event.as_ref())
-            }
-            Machine::Device(host) => {
-                let event = device_event(task);
-                handle_at(host, disk, arms, event.as_ref())
-            }
+            Machine::Centre(host) => handle_centre(host, disk, arms, task),
+            Machine::Router(host) => handle_router(host, disk, arms, task),
+            Machine::Device(host) => handle_device(host, disk, arms, task),
         }
     }
 
@@ -92,13 +146,20 @@ impl Machine {
     /// of that role, and room for a record.
     ///
     /// Errors: `NoMemory`.
-    pub fn dump(
+    pub(crate) fn dump(
         alloc: Global,
         role: Role,
         config: &Config,
         disk: &mut MemDisk,
         room: &mut [u8],
-    ) -> Result<Option<u32>, NoMemory> {
+    ) -> Result<Option<u32>, NoMemory>
+        requires config { IsConfig config.now }
+        requires role { IsOfRole (model_role role) config.now }
+        requires room { record_room ≤ length room.old }
+        ensures still { IsStill (memory_view disk.old) (memory_view disk.new) }
+        ensures shown { IfOk result (λ r. (s : Standing) (w : List ℕ) → IsWhole s disk.old.bytes
+            → IsUnarmed disk.old → Gives (restored (model_role role)) s w → IsShown r room.new w) }
+    {
         match role {
             Role::Centre => dump::<Centre>(alloc, config, disk, room),
             Role::Router => dump::<Router>(alloc, config, disk, room),

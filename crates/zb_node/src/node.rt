@@ -1,11 +1,30 @@
 //! A node.
+ghost use Rattle.std.specs.Prelude.{◌≡◌, ◌+◌, ◌≤◌, ℕ, List, [], true, None, if◌then◌else◌, is_some, IfOk};
+ghost use Rattle.zb_base.specs.Config.{IsConfig};
+ghost use Rattle.zb_disk.specs.Memory.{Medium};
+ghost use Rattle.zb_driven.specs.Arms.{armed_of};
+ghost use Rattle.zb_driven.specs.Driven.{IsShown};
+ghost use Rattle.zb_model.specs.Play.{FailAt, StopAfter};
+ghost use Rattle.zb_model.specs.Record.{record_of};
+ghost use Rattle.zb_model.specs.Rules.{Setting};
+ghost use Rattle.zb_model.specs.State.{NodeState};
+ghost use Rattle.zb_model_steps.specs.Conditions.{Condition, after_arming, after_reset};
+ghost use Rattle.zb_node.specs.Answers.{CanStart, HasBooted, HasHandled, arms_stand, start_condition};
+ghost use Rattle.zb_node.specs.Nodes.{IsIn};
+ghost use Rattle.zb_node.specs.Tasks.{model_task};
+ghost use Rattle.zb_node_types.specs.Changes.{model_role};
+ghost use Rattle.zb_store.specs.Layout.{Standing, open_gate};
+ghost use Rattle.zb_store.specs.Power.{reads_open, stop_commits};
+ghost use Rattle.zb_stored_tables.specs.Cores.{IsOfRole};
+
 use crate::machine::Machine;
 use crate::task::Task;
 use arrayvec::ArrayVec;
 use std::alloc::Global;
+use std::marker::Model;
 use zb_base::{Config, Eui, Name, NoMemory, OrMemory, Peer, Role};
 use zb_disk::MemDisk;
-use zb_driven::{Arms, Fall, Fallen, reset};
+use zb_driven::{Arms, Fall, reset};
 use zb_host::Outcome;
 use zb_node_types::{Changes, Refusal};
 use zb_seal::Term;
@@ -39,27 +58,83 @@ pub struct Node {
     arms: Arms,
 }
 
+impl Model for Node {
+    ghost use Rattle.zb_node.specs.Values.{NodeValue, IsNode, running};
+    ghost use Rattle.std.specs.Prelude.{option_map};
+
+    ghost Value = { NodeValue };
+
+    ghost view = { λ n. record {
+      peer = n.peer;
+      config = n.config;
+      machine = option_map running n.machine;
+      arms = n.arms;
+    } };
+
+    ghost invariant = { λ n. IsNode (record {
+      peer = n.peer;
+      config = n.config;
+      machine = option_map running n.machine;
+      arms = n.arms;
+    }) };
+}
+
 // Whether a commit stands on which what is armed fell.
-fn stands(arms: &Arms) -> bool {
+fn stands(arms: &Arms) -> bool
+    ensures { result ≡ arms_stand (armed_of arms.now) }
+{
     match arms {
         Arms::Unarmed => false,
-        Arms::Stop { calls, torn } => *calls >= 4 || (*calls == 3 && opens(torn.as_slice())),
-        Arms::Fail { call } => *call >= 4,
+        Arms::Stop { calls, torn } => stop_stands(*calls, torn.as_slice()),
+        Arms::Fail { call } => *call > 3,
     }
 }
 
-// Whether a gate that was written and not synced reads open after a stop.
-fn opens(torn: &[u8]) -> bool {
+// Whether one stands that a stop ended after so many calls, where it left these bytes.
+fn stop_stands(calls: u8, torn: &[u8]) -> bool
+    ensures { result ≡ stop_commits calls torn.now }
+{
+    if calls == 3 {
+        return opens(torn);
+    }
+    calls > 3
+}
+
+// Whether a gate that was written open and not synced reads open after a stop.
+fn opens(torn: &[u8]) -> bool
+    ensures { result ≡ reads_open torn.now open_gate }
+{
     match torn {
         [] => true,
         [first, ..] => *first == 0xa5,
     }
 }
 
+// Answers the changes of a fallen event that are stored: all or none.
+fn stored(arms: &Arms, changes: Changes) -> Changes
+    ensures { result.items ≡ (if arms_stand (armed_of arms.now) then changes.items else []) }
+{
+    if stands(arms) {
+        changes
+    } else {
+        Changes::new()
+    }
+}
+
+// Keeps what is shown: so many bytes, or none where nothing is.
+fn keep_shown(room: &mut Vec<u8>, len: Option<u32>)
+    ensures { (bytes : List ℕ) → IsShown len room.old.items bytes → room.new.items ≡ bytes }
+{
+    match len {
+        Some(len) => room.truncate(len as usize),
+        None => room.clear(),
+    }
+}
+
 impl Node {
-    /// Boots a node for the first time, from the record that stands on its disk. Requires a configuration of this node.
+    /// Boots a node for the first time, from the record that stands on its disk.
     ///
-    /// It answers None where the disk holds no record of such a node.
+    /// Requires a configuration of this node. Where the disk holds no record of such a node it stays down.
     ///
     /// Errors: `NoMemory`.
     pub fn start(
@@ -67,7 +142,14 @@ impl Node {
         peer: Peer,
         config: Config,
         disk: &mut MemDisk,
-    ) -> Result<Node, NoMemory> {
+    ) -> Result<Node, NoMemory>
+        requires config { IsConfig config }
+        requires role { IsOfRole (model_role peer.role) config }
+        ensures names { IfOk result (λ node. (node.peer ≡ peer) × (node.config ≡ config)) }
+        ensures starts { IfOk result (λ node. (setting : Setting) (state : NodeState) (s : Standing)
+            → CanStart setting state s config disk.old → IsIn (start_condition setting state) 1 node disk.new) }
+    {
+        reset(disk);
         let mut node = Node {
             peer,
             config,
@@ -79,61 +161,83 @@ impl Node {
     }
 
     /// Answers the node's name.
-    pub fn name(&self) -> Name {
+    pub fn name(&self) -> Name
+        ensures { result ≡ self.now.peer.name }
+    {
         self.peer.name
     }
 
     /// Answers the node's IEEE address.
-    pub fn eui(&self) -> Eui {
+    pub fn eui(&self) -> Eui
+        ensures { result ≡ self.now.peer.eui }
+    {
         self.peer.eui
     }
 
     /// Answers the node's role.
-    pub fn role(&self) -> Role {
+    pub fn role(&self) -> Role
+        ensures { result ≡ self.now.peer.role }
+    {
         self.peer.role
     }
 
     /// Answers whether the node has power.
-    pub fn is_up(&self) -> bool {
+    pub fn is_up(&self) -> bool
+        ensures { result ≡ is_some self.now.machine }
+    {
         self.machine.is_some()
     }
 
     /// Arms a stop of the disk in place of what was armed.
-    pub fn arm_stop(&mut self, calls: u8, torn: ArrayVec<u8, 32>) {
+    pub fn arm_stop(&mut self, calls: u8, torn: ArrayVec<u8, 32>)
+        ensures armed { self.new ≡ record self.old { arms = Arms.Stop calls torn } }
+        ensures leaves { (x : Condition) (number : ℕ) (m : Medium) → IsIn x number self.old m
+            → IsIn (after_arming (StopAfter calls torn.items) x) (number + 1) self.new m }
+    {
         self.arms = Arms::Stop { calls, torn };
     }
 
-    /// Arms a failure of the disk in place of what was armed.
-    pub fn arm_fail(&mut self, call: u8) {
+    /// Arms a failure of the disk in place of what was armed; its calls are counted from 1.
+    pub fn arm_fail(&mut self, call: u8)
+        ensures armed { self.new ≡ record self.old { arms = Arms.Fail call } }
+        ensures leaves { (x : Condition) (number : ℕ) (m : Medium) → IsIn x number self.old m → 1 ≤ call
+            → IsIn (after_arming (FailAt call) x) (number + 1) self.new m }
+    {
         self.arms = Arms::Fail { call };
     }
 
-    /// Handles an event, over the node's disk. It answers None where the node is down.
-    pub fn handle(&mut self, disk: &mut MemDisk, task: Task) -> Option<Handled> {
-        let machine = self.machine.as_mut()?;
-        match machine.handle(disk, &self.arms, task) {
-            Ok((changes, out)) => Some(Handled::Whole { changes, out }),
-            Err(fallen) => Some(self.cut(fallen)),
-        }
-    }
-
-    // Takes the host away on whose event a stop or a failure fell.
-    fn cut(&mut self, fallen: Fallen) -> Handled {
-        let stored = if stands(&self.arms) {
-            fallen.changes
-        } else {
-            Changes::new()
-        };
-        self.machine = None;
-        self.arms = Arms::Unarmed;
-        Handled::Cut {
-            stored,
-            fall: fallen.fall,
+    /// Handles an event, over the node's disk.
+    ///
+    /// It answers None where the node is down. Where a stop or a failure falls on the event, or the disk fails, the
+    /// node is down after it.
+    pub fn handle(&mut self, disk: &mut MemDisk, task: Task) -> Option<Handled>
+        ensures event { HasHandled (model_task task) self.old disk.old result self.new disk.new }
+        ensures peer { self.new.peer ≡ self.old.peer }
+        ensures config { self.new.config ≡ self.old.config }
+    {
+        match &mut self.machine {
+            None => None,
+            Some(machine) => match machine.handle(disk, &self.arms, task) {
+                Ok((changes, out)) => Some(Handled::Whole { changes, out }),
+                Err(fallen) => {
+                    let stored = stored(&self.arms, fallen.changes);
+                    self.machine = None;
+                    self.arms = Arms::Unarmed;
+                    Some(Handled::Cut {
+                        stored,
+                        fall: fallen.fall,
+                    })
+                }
+            },
         }
     }
 
     /// Takes the node's power away and gives it back to its disk.
-    pub fn reset(&mut self, disk: &mut MemDisk) {
+    pub fn reset(&mut self, disk: &mut MemDisk)
+        ensures down { self.new ≡ record self.old { machine = None } }
+        ensures rest { (x : Condition) (number : ℕ) → IsIn x number self.old disk.old → x.up ≡ true
+            → IsIn (after_reset x) (number + 1) self.new disk.new }
+    {
         self.machine = None;
         reset(disk);
     }
@@ -141,7 +245,11 @@ impl Node {
     /// Boots the node, which is down, from its disk. It answers how the boot ended, where it didn't end well.
     ///
     /// Errors: `NoMemory`.
-    pub fn boot(&mut self, alloc: Global, disk: &mut MemDisk) -> Result<Option<Fall>, NoMemory> {
+    pub fn boot(&mut self, alloc: Global, disk: &mut MemDisk) -> Result<Option<Fall>, NoMemory>
+        ensures booted { IfOk result (λ r. HasBooted self.old disk.old r self.new disk.new) }
+        ensures peer { self.new.peer ≡ self.old.peer }
+        ensures config { self.new.config ≡ self.old.config }
+    {
         match Machine::boot(alloc, self.peer.role, &self.config, disk, &self.arms) {
             Ok(machine) => {
                 self.machine = Some(machine);
@@ -158,13 +266,14 @@ impl Node {
     /// Answers the record that the node's disk stands for: no bytes where it stands for none of such a node.
     ///
     /// Errors: `NoMemory`.
-    pub fn dump(&self, alloc: Global, disk: &mut MemDisk) -> Result<Vec<u8>, NoMemory> {
+    pub fn dump(&self, alloc: Global, disk: &mut MemDisk) -> Result<Vec<u8>, NoMemory>
+        ensures { IfOk result (λ r. (x : Condition) (number : ℕ) → IsIn x number self.now disk.old
+            → (r.items ≡ record_of x.state) × IsIn x (number + 1) self.now disk.new) }
+    {
         let mut room = Vec::with_capacity(alloc, RECORD_ROOM)?;
         room.resize(RECORD_ROOM, 0)?;
-        match Machine::dump(alloc, self.peer.role, &self.config, disk, &mut room)? {
-            Some(len) => room.truncate(len as usize),
-            None => room.clear(),
-        }
+        let len = Machine::dump(alloc, self.peer.role, &self.config, disk, &mut room)?;
+        keep_shown(&mut room, len);
         Ok(room)
     }
 }

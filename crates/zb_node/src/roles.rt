@@ -1,11 +1,21 @@
 //! What happens to a node, in the words of its role.
+ghost use Rattle.std.specs.Prelude.{◌≡◌, true, is_some, IfSome, IsTrue};
+ghost use Rattle.zb_centre.specs.Tasks as centre;
+ghost use Rattle.zb_device.specs.Tasks as device;
+ghost use Rattle.zb_model.specs.Data as model;
+ghost use Rattle.zb_node.specs.Tasks.{model_task, suits};
+ghost use Rattle.zb_router.specs.Tasks as router;
+
 use crate::task::Task;
 use zb_centre::CentreEvent;
 use zb_device::DeviceEvent;
 use zb_router::RouterEvent;
 
 /// Makes the event of the centre, where the centre has such ones.
-pub(crate) fn centre_event(task: Task) -> Option<CentreEvent> {
+pub(crate) fn centre_event(task: Task) -> Option<CentreEvent>
+    ensures some { suits model.Centre (model_task task) ≡ true → IsTrue (is_some result) }
+    ensures is { IfSome result (λ event. centre.IsTaskOf event (model_task task)) }
+{
     match task {
         Task::Say { to, bytes } => Some(CentreEvent::Say { to, bytes }),
         Task::Deliver { bytes, draw } => Some(CentreEvent::Deliver { bytes, draw }),
@@ -22,7 +32,10 @@ pub(crate) fn centre_event(task: Task) -> Option<CentreEvent> {
 }
 
 /// Makes the event of a device, where a device has such ones.
-pub(crate) fn device_event(task: Task) -> Option<DeviceEvent> {
+pub(crate) fn device_event(task: Task) -> Option<DeviceEvent>
+    ensures some { suits model.Device (model_task task) ≡ true → IsTrue (is_some result) }
+    ensures is { IfSome result (λ event. device.IsTaskOf event (model_task task)) }
+{
     match task {
         Task::Say { to, bytes } => Some(DeviceEvent::Say { to, bytes }),
         Task::Deliver { bytes, .. } => Some(DeviceEvent::Deliver { bytes }),
@@ -36,7 +49,10 @@ pub(crate) fn device_event(task: Task) -> Option<DeviceEvent> {
 }
 
 /// Makes the event of a router, where a router has such ones.
-pub(crate) fn router_event(task: Task) -> Option<RouterEvent> {
+pub(crate) fn router_event(task: Task) -> Option<RouterEvent>
+    ensures some { suits model.Router (model_task task) ≡ true → IsTrue (is_some result) }
+    ensures is { IfSome result (λ event. router.IsTaskOf event (model_task task)) }
+{
     match task {
         Task::Child { device, rejoin } => Some(RouterEvent::Child { device, rejoin }),
         _ => {

@@ -1,8 +1,8 @@
-use Rattle.std.proofs.Common.{Ok, refl, sym, ◌∙◌, ap, subst}
+use Rattle.std.proofs.Common.{◌≡◌, Ok, Option, is_some, true, refl, sym, ◌∙◌, ap, subst}
 use Rattle.zb_disk.specs.Memory.{Medium, memory_tells, memory_view}
 use Rattle.zb_store.specs.Layout.{stands}
 use Rattle.zb_store.specs.Steps.{WentThrough}
-use Rattle.zb_store.specs.Store.{AllWhole, OpenStop, open_calls}
+use Rattle.zb_store.specs.Store.{Place, AllWhole, OpenStop, open_calls}
 use Rattle.zb_host.specs.HostFaults.{IsBootFault}
 use Rattle.zb_host.specs.Calls.{IsBooted}
 use Rattle.zb_driven.specs.Arms.{armed_of}
@@ -44,3 +44,6 @@ returns-in-Err-clause-fallen g c = λ fall cause s w down.
     (λ changes of_disk. subst (λ (x : Medium). OpenStop memory_tells s (memory_view x) (memory_view m)) is
     (c.in-Err.ensures.stopped changes of_disk (subst (λ (x : Medium). AllWhole (memory_view x)) (sym is) (all_whole s a old down.rest)) refl refl s there)) c.recover-fall.ensures.fall
     c.recover-fall.ensures.only (sym c.cause_of.ensures ∙ cause))
+
+pub returns-in-Ok-clause-up : goal.returns-in-Ok-clause-up
+returns-in-Ok-clause-up g c = subst (λ (o : Option Place). is_some o ≡ true) (sym (c.in-Ok.ensures.step.answer refl).3) refl

@@ -1,0 +1,4 @@
+pub mod Tasks
+pub mod Values
+pub mod Nodes
+pub mod Answers
