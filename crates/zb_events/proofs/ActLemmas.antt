@@ -1,9 +1,7 @@
 -- An event is that of the node that has the seat.
-use Rattle.std.proofs.Common.{◌≡◌, ℕ, List, Option, Some, None, false, refl, ap, sym, ◌∙◌, subst}
-use Rattle.std.proofs.lemmas.Bool.{false≢true}
-use Rattle.std.specs.Option.{is_some}
+use Rattle.std.proofs.Common.{◌≡◌, ℕ, List, Option, Some, None, ap, sym, ◌∙◌, subst}
 use Rattle.zb_events.proofs.SeatLemmas.{seat_eui}
-use Rattle.zb_events.specs.Acts.{HasNames, is_of_outside, seat_for}
+use Rattle.zb_events.specs.Acts.{HasNames, seat_for}
 use Rattle.zb_events.specs.Seats.{first_seat, has_name, is_the_centre}
 use Rattle.zb_events.specs.declared.seats.Seat.{Seat}
 use Rattle.zb_install.specs.Code.{code_key}

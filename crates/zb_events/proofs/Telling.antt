@@ -1,52 +1,37 @@
--- What it comes to that a ledger was told lines: of an answer, of a fall, and of the outside.
-use Rattle.std.proofs.Common.{◌≡◌, ℕ, ◌+◌, Bool, true, false, cond, if◌then◌else◌, List, [], ◌∷◌, ◌++◌, map, length, fold, Option, Some, None, option_map, refl, sym, ap, ◌∙◌, subst, ◌||◌, append_assoc}
+-- The lines of a refusal, of an answer and of a fall, as a scribe has them and as the model does.
+use Rattle.std.proofs.Common.{◌≡◌, ℕ, Bool, true, false, if◌then◌else◌, List, [], ◌∷◌, ◌++◌, map, fold, Option, Some, None, option_map, refl, sym, ap, ◌∙◌, subst, ◌||◌}
 use Rattle.std.proofs.lemmas.Bool.{false≢true}
-use Rattle.std.proofs.lemmas.List.{fold-append}
-use Rattle.std.specs.List.{AllByRecursion, list_any}
-use Rattle.std.specs.Option.{option_to_list}
-use Rattle.arrayvec.specs.ArrayVec.{ArrayVec}
+use Rattle.std.proofs.lemmas.List.Sums.{fold-append}
+use Rattle.std.specs.List.{list_any}
 use Rattle.zb_core.specs.CorePlans.{CorePlan}
 use Rattle.zb_driven.specs.Driven.{fall_of}
 use Rattle.zb_driven.specs.declared.fall.Fall.{Fall}
-use Rattle.zb_events.specs.Told.{Adds, IsRefusedFor, IsTold, Writes, fall_line}
+use Rattle.zb_events.specs.Told.{Adds, IsRefusedFor, fall_line}
 use Rattle.zb_events.specs.declared.ledger.Ledger.{Ledger}
 use Rattle.zb_host.specs.declared.outcome.Outcome.{Outcome}
 use Rattle.zb_model.specs.Answer.{Answer}
 use Rattle.zb_model.specs.Data as model
 use Rattle.zb_model.specs.Data.{AtEvent, Bytes, Edit, Moved, Reserve, Floor, Start, Draw, DropNet, DropLink, Install, Active, Row, Pair, Became, Live, Removed, Roll, Told, Untold, Station}
-use Rattle.zb_model.specs.Lines.{Line, Changed, Accept, Refuse, Seal, Forge, Send}
-use Rattle.zb_model.specs.Play.{Schedule, Armed, NotArmed, StopAfter, FailAt, Calls, falls, fallen_line, forged_net, forged_both, forged_open, refuse_lines, send_lines, stations, told_lines}
-use Rattle.zb_model.specs.Frames.{nwk_header, plain_frame}
+use Rattle.zb_model.specs.Lines.{Line, Changed, Accept, Refuse, Seal}
+use Rattle.zb_model.specs.Play.{Schedule, Armed, NotArmed, StopAfter, FailAt, Calls, commit_lines, falls, fallen_line, refuse_lines, send_lines, told_lines}
 use Rattle.zb_model.specs.Readings.{air, air_line}
-use Rattle.zb_model_real.specs.Real.{real}
-use Rattle.zb_model_real.specs.Terms.{model_term}
 use Rattle.zb_model_steps.specs.Steps.{is_of_the_centre}
 use Rattle.zb_node_types.specs.Changes.{edit, edits, model_place, place_of, reason}
 use Rattle.zb_node_types.specs.declared.change.Change.{Change}
 use Rattle.zb_node_types.specs.declared.refusal.Refusal.{Refusal}
 use Rattle.zb_plan.specs.Answers as plan
 use Rattle.zb_plan.specs.Answers.{IsAnswer, IsAt}
-use Rattle.zb_said.proofs.Texts.{text_append}
-use Rattle.zb_said.specs.Said.{IsOfCentre, text_of}
-use Rattle.zb_scribe.proofs.Telling.{told_in_turn}
-use Rattle.zb_scribe.specs.Kept.{Kept, Tells}
+use Rattle.zb_said.specs.Said.{IsOfCentre}
 use Rattle.zb_scribe.specs.Outcomes.{AreOfCentre, items_of, lines_of_edits, out_lines, refused_lines, terms}
-use Rattle.zb_scribe.specs.declared.scribe.Scribe.{Scribe}
 use Rattle.zb_seal.specs.declared.term.Term.{Term}
 use Rattle.zb_trace.specs.Views.{the_centre}
 
-pub adds_by : (w : Schedule) (h lines : List Line) (old new : Ledger) → IsTold w h old → Writes w lines old new → Adds w h lines old new
-adds_by w h lines old new told tells = record {
-  page = tells.page;
-  told = record { known = tells.nodes h told.known; kept = tells.kept h told.known told.kept };
-}
-
 -- ---- a refusal
 
-pub refused_as : (w : Schedule) (number n : ℕ) (why : model.Reason) (r : Refusal) (old new : Ledger) → IsRefusedFor why r → Writes w (Refuse number n (model_place (place_of r)) (reason r) ∷ []) old new
-    → Writes w (Refuse number n AtEvent why ∷ []) old new
-refused_as w number n why r old new is writes =
-    subst (λ (p : model.Place). Writes w (Refuse number n p why ∷ []) old new) is.0 (subst (λ (q : model.Reason). Writes w (Refuse number n (model_place (place_of r)) q ∷ []) old new) is.1 writes)
+pub refused_as : (w : Schedule) (h : List Line) (number n : ℕ) (why : model.Reason) (r : Refusal) (old new : Ledger) → IsRefusedFor why r
+    → Adds w h (Refuse number n (model_place (place_of r)) (reason r) ∷ []) old new → Adds w h (Refuse number n AtEvent why ∷ []) old new
+refused_as w h number n why r old new is adds =
+    subst (λ (p : model.Place). Adds w h (Refuse number n p why ∷ []) old new) is.0 (subst (λ (q : model.Reason). Adds w h (Refuse number n (model_place (place_of r)) q ∷ []) old new) is.1 adds)
 
 -- ---- the lines of an answer
 
@@ -75,7 +60,7 @@ out_is number n frame p a is =
     (terms_same p.out.sealed_aps p.out.sealed_nwk ∙ is.seals) is.frame
 
 -- Changes put nothing on the air.
-stored_air : (number n : ℕ) (es rest : List Edit) (frames : List Bytes) → fold air_line frames (map (Changed number n) es ++ Rattle.zb_model.specs.Play.commit_lines number n rest) ≡ frames
+stored_air : (number n : ℕ) (es rest : List Edit) (frames : List Bytes) → fold air_line frames (map (Changed number n) es ++ commit_lines number n rest) ≡ frames
 stored_air number n [] [] frames = refl
 stored_air number n [] (e ∷ es) frames = refl
 stored_air number n (e ∷ es) rest frames = stored_air number n es rest frames
@@ -157,36 +142,3 @@ kept_lines number n false es found e = ap (lines_of_edits number n) e
 pub none_kept : (b : Bool) (es found : List Edit) → found ≡ (if b then es else []) → list_any is_of_the_centre es ≡ false → list_any is_of_the_centre found ≡ false
 none_kept true es found e none = ap (list_any is_of_the_centre) e ∙ none
 none_kept false es found e none = ap (list_any is_of_the_centre) e
-
--- ---- the outside
-
-sent_as : (w : Schedule) (h lines : List Line) (number frame : ℕ) (bytes : Bytes) (old mid new : Ledger) → IsTold w h old → frame ≡ length old.scribe.air + 1
-    → Writes w lines old mid → Writes w (Send number None frame bytes ∷ []) mid new → Writes w (lines ++ Send number None (length (air h) + 1) bytes ∷ []) old new
-sent_as w h lines number frame bytes old mid new told is first last =
-    let number_is : frame ≡ length (air h) + 1 = is ∙ ap (λ (frames : List Bytes). length frames + 1) told.kept.air in
-    subst (λ (k : ℕ). Writes w (lines ++ Send number None k bytes ∷ []) old new) number_is
-    (told_in_turn (stations w) lines (Send number None frame bytes ∷ []) old.scribe mid.scribe new.scribe old.page.items mid.page.items new.page.items first last)
-
-pub net_adds : (w : Schedule) (h : List Line) (number frame : ℕ) (t : model.Term) (bytes : Bytes) (old mid new : Ledger) → IsTold w h old → frame ≡ length old.scribe.air + 1 → bytes ≡ real.wire t
-    → Writes w (Forge number t ∷ []) old mid → Writes w (Send number None frame bytes ∷ []) mid new → Adds w h (forged_net real h number t) old new
-unfolding forged_net
-net_adds w h number frame t bytes old mid new told is spelled first last =
-    adds_by w h (Forge number t ∷ (Send number None (length (air h) + 1) (real.wire t) ∷ [])) old new told
-    (subst (λ (bs : Bytes). Writes w (Forge number t ∷ (Send number None (length (air h) + 1) bs ∷ [])) old new) spelled (sent_as w h (Forge number t ∷ []) number frame bytes old mid new told is first last))
-
-pub open_adds : (w : Schedule) (h : List Line) (number frame to from : ℕ) (t : model.Term) (bytes : Bytes) (old mid new : Ledger) → IsTold w h old → frame ≡ length old.scribe.air + 1
-    → bytes ≡ nwk_header plain_frame to from 0 ++ real.wire t → Writes w (Forge number t ∷ []) old mid → Writes w (Send number None frame bytes ∷ []) mid new → Adds w h (forged_open real h number to from t) old new
-unfolding forged_open
-open_adds w h number frame to from t bytes old mid new told is spelled first last =
-    let sent = nwk_header plain_frame to from 0 ++ real.wire t in
-    adds_by w h (Forge number t ∷ (Send number None (length (air h) + 1) sent ∷ [])) old new told
-    (subst (λ (bs : Bytes). Writes w (Forge number t ∷ (Send number None (length (air h) + 1) bs ∷ [])) old new) spelled (sent_as w h (Forge number t ∷ []) number frame bytes old mid new told is first last))
-
-pub both_adds : (w : Schedule) (h : List Line) (number frame : ℕ) (inner t : model.Term) (bytes : Bytes) (old mid more new : Ledger) → IsTold w h old → frame ≡ length old.scribe.air + 1 → bytes ≡ real.wire t
-    → Writes w (Forge number inner ∷ []) old mid → Writes w (Forge number t ∷ []) mid more → Writes w (Send number None frame bytes ∷ []) more new → Adds w h (forged_both real h number inner t) old new
-unfolding forged_both
-both_adds w h number frame inner t bytes old mid more new told is spelled first second last =
-    adds_by w h (Forge number inner ∷ (Forge number t ∷ (Send number None (length (air h) + 1) (real.wire t) ∷ []))) old new told
-    (subst (λ (bs : Bytes). Writes w (Forge number inner ∷ (Forge number t ∷ (Send number None (length (air h) + 1) bs ∷ []))) old new) spelled
-    (sent_as w h (Forge number inner ∷ (Forge number t ∷ [])) number frame bytes old more new told is
-    (told_in_turn (stations w) (Forge number inner ∷ []) (Forge number t ∷ []) old.scribe mid.scribe more.scribe old.page.items mid.page.items more.page.items first second) last))

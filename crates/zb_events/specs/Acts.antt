@@ -1,5 +1,5 @@
 -- What the events of a schedule are to the nodes, in the model's words.
-use Rattle.std.specs.Prelude.{◌≡◌, ℕ, ◌≤◌, Bool, List, Option, Some, None, is_some, true, false, ⊤}
+use Rattle.std.specs.Prelude.{◌≡◌, ℕ, ◌≤◌, List, Option, Some, None, is_some, true, ⊤}
 use Rattle.zb_model.specs.Data as model
 use Rattle.zb_model.specs.Data.{Bytes, Role, Station}
 use Rattle.zb_model.specs.Play as play
@@ -78,11 +78,3 @@ IsFor role (play.Own n task) = suits role task ≡ true
 IsFor role (play.RollOver n) = is_centre role ≡ true
 IsFor role (play.ArmFail n call) = 1 ≤ call
 IsFor role _ = ⊤
-
--- It is of no node.
-abbrev pub is_of_outside : Event → Bool
-is_of_outside (said.Injects bytes) = true
-is_of_outside (said.ForgesNet to from source key sequence counter content) = true
-is_of_outside (said.ForgesBoth to from source key sequence counter label base aps_counter command) = true
-is_of_outside (said.ForgesOpen to from source label base aps_counter command) = true
-is_of_outside _ = false

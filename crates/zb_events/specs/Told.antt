@@ -16,7 +16,7 @@ use Rattle.zb_node_types.specs.declared.refusal.Refusal.{Refusal}
 use Rattle.zb_events.specs.declared.ledger.Ledger.{Ledger}
 use Rattle.zb_said.specs.Naming.{IsCalled}
 use Rattle.zb_said.specs.Said.{IsLineOf, text_of}
-use Rattle.zb_scribe.specs.Kept.{Kept, Tells, told}
+use Rattle.zb_scribe.specs.Kept.{Kept, told}
 use Rattle.zb_text.specs.Fields.{is_name}
 use Rattle.zb_trace.specs.declared.line.Line.{Line as Printed}
 use Rattle.zb_trace.specs.Views.{the_centre}
@@ -37,10 +37,6 @@ pub record IsTold (w : Schedule) (h : List Line) (k : Ledger) : Type 0 where
 pub record Adds (w : Schedule) (h lines : List Line) (old new : Ledger) : Type 0 where
   pub page : new.page.items ≡ old.page.items ++ text_of (stations w) lines
   pub told : IsTold w (h ++ lines) new
-
--- These lines were told, whatever stood before: none of them declares a node.
-abbrev pub Writes : Schedule → List Line → Ledger → Ledger → Type 0
-Writes w lines old new = Tells (stations w) lines old.scribe old.page.items new.scribe new.page.items
 
 -- a refusal of the event itself, for this reason
 abbrev pub IsRefusedFor : Reason → Refusal → Type 0

@@ -3,12 +3,12 @@ ghost use Rattle.std.specs.Prelude.{◌≡◌, ◌≤◌, ◌<◌, ◌+◌, ℕ,
 ghost use Rattle.std.specs.Option.{option_map};
 ghost use Rattle.zb_base.specs.declared.key.Key.{Key as key};
 ghost use Rattle.zb_events.specs.Acts.{IsFor, act_for};
-ghost use Rattle.zb_events.specs.Told.{Before, Goes, HasRoom, IsRefusedFor, Writes, lines_told};
-ghost use Rattle.zb_model.specs.Data.{AtEvent, Reason as why_not};
+ghost use Rattle.zb_events.specs.Told.{Adds, Before, Goes, HasRoom, IsTold, lines_told};
 ghost use Rattle.zb_model.specs.Lines as log;
 ghost use Rattle.zb_model.specs.Play as model;
 ghost use Rattle.zb_model.specs.Play.{Disk, Schedule, setting_of, stations, step};
 ghost use Rattle.zb_model_real.specs.Real.{real};
+ghost use Rattle.zb_node_types.specs.Changes.{model_place, place_of, reason};
 ghost use Rattle.zb_said.specs.Naming.{IsCalled};
 ghost use Rattle.zb_said.specs.Said.{IsLineOf};
 ghost use Rattle.zb_scribe.specs.Kept.{declares_node};
@@ -33,6 +33,7 @@ pub struct Ledger {
 
 impl Ledger {
     /// Answers the next key of the supply.
+    #[tactic(auto, using(crate::proofs::Adding::drawn))]
     pub fn draw(&self, draws: &[Key]) -> Option<Key>
         ensures { option_map (λ (k : key). k.0) result
             ≡ slice_get (map (λ (k : key). k.0) draws.now) self.now.scribe.used }
@@ -46,8 +47,8 @@ impl Ledger {
     pub fn tell(&mut self, line: &Line) -> Result<(), NoMemory>
         requires room { lines_told self.old < 4294967295 }
         ensures few { OnOk result (lines_told self.new ≤ lines_told self.old + 1) }
-        ensures writes { OnOk result ((w : Schedule) (m : log.Line) → IsLineOf (stations w) line.now m
-            → declares_node m ≡ false → Writes w (m ∷ []) self.old self.new) }
+        ensures adds { OnOk result ((w : Schedule) (h : List log.Line) (m : log.Line) → IsTold w h self.old
+            → IsLineOf (stations w) line.now m → declares_node m ≡ false → Adds w h (m ∷ []) self.old self.new) }
     {
         self.scribe.tell(self.alloc, &mut self.page, line)
     }
@@ -58,8 +59,9 @@ impl Ledger {
     pub fn refuse(&mut self, event: u32, node: Name, refusal: Refusal) -> Result<(), NoMemory>
         requires room { lines_told self.old < 4294967295 }
         ensures few { OnOk result (lines_told self.new ≤ lines_told self.old + 1) }
-        ensures writes { OnOk result ((w : Schedule) (n : ℕ) (why : why_not) → IsCalled (stations w) n node.bytes
-            → IsRefusedFor why refusal → Writes w (log.Refuse event n AtEvent why ∷ []) self.old self.new) }
+        ensures adds { OnOk result ((w : Schedule) (h : List log.Line) (n : ℕ) → IsTold w h self.old
+            → IsCalled (stations w) n node.bytes
+            → Adds w h (log.Refuse event n (model_place (place_of refusal)) (reason refusal) ∷ []) self.old self.new) }
     {
         self.tell(&refuse_line(event, node, refusal))
     }
