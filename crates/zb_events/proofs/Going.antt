@@ -57,6 +57,10 @@ goes_by w g h lines number n old new node m x comes adds is = record {
   is_in = subst (λ (y : Condition). IsIn y (number + 1) node m) (sym comes.condition) is;
 }
 
+-- the name that a node has is that of the schedule's node
+pub named_as : (w : Schedule) (n : ℕ) (name own : ArrayString) → name ≡ own → IsCalled (stations w) n own.bytes → IsCalled (stations w) n name.bytes
+named_as w n name own e called = subst (λ (q : ArrayString). IsCalled (stations w) n q.bytes) (sym e) called
+
 -- ---- power
 
 pub power_of : (w : Schedule) (h : List Line) (ds : List Disk) (number n : ℕ) (k : Ledger) (node : NodeValue) (m : Medium) (b : Bool) → Before w h ds number n k node m → b ≡ is_some node.machine → is_up h n ≡ b
@@ -256,3 +260,7 @@ failure_goes w h ds number n call k node after m before leaves =
 
 pub event_is : (n : ℕ) (act made : Act) (this event : Event) → act ≡ made → act_for n made ≡ Some this → act_for n act ≡ Some event → this ≡ event
 event_is n act made this event is one other = same_some this event (sym one ∙ (ap (act_for n) (sym is) ∙ other))
+
+pub by_event : (w : Schedule) (h : List Line) (ds : List Disk) (number n : ℕ) (this event : Event) (old new : Ledger) (node : NodeValue) (m : Medium) → this ≡ event
+    → (IsFor (setting_of w n).me.role this → Goes w (step real w h ds number this) h number n old new node m) → IsFor (setting_of w n).me.role event → Goes w (step real w h ds number event) h number n old new node m
+by_event w h ds number n this event old new node m same goes = subst (λ (e : Event). IsFor (setting_of w n).me.role e → Goes w (step real w h ds number e) h number n old new node m) same goes

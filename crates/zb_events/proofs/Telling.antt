@@ -6,6 +6,7 @@ use Rattle.std.specs.List.{list_any}
 use Rattle.zb_core.specs.CorePlans.{CorePlan}
 use Rattle.zb_driven.specs.Driven.{fall_of}
 use Rattle.zb_driven.specs.declared.fall.Fall.{Fall}
+use Rattle.zb_driven.specs.declared.fall.Fall.TheVariants.{Stopped as stopped, Failed as failed}
 use Rattle.zb_events.specs.Told.{Adds, IsRefusedFor, fall_line}
 use Rattle.zb_events.specs.declared.ledger.Ledger.{Ledger}
 use Rattle.zb_host.specs.declared.outcome.Outcome.{Outcome}
@@ -22,6 +23,7 @@ use Rattle.zb_node_types.specs.declared.refusal.Refusal.{Refusal}
 use Rattle.zb_plan.specs.Answers as plan
 use Rattle.zb_plan.specs.Answers.{IsAnswer, IsAt}
 use Rattle.zb_said.specs.Said.{IsOfCentre}
+use Rattle.zb_scribe.specs.Kept.{declares_node}
 use Rattle.zb_scribe.specs.Outcomes.{AreOfCentre, items_of, lines_of_edits, out_lines, refused_lines, terms}
 use Rattle.zb_seal.specs.declared.term.Term.{Term}
 use Rattle.zb_trace.specs.Views.{the_centre}
@@ -134,6 +136,10 @@ pub fallen_is : (number n : ℕ) (armed : Armed) (calls : Calls) (fall : Fall) �
 fallen_is number n NotArmed calls fall fell is = absurd (false≢true fell)
 fallen_is number n (StopAfter k torn) calls fall fell is = ap (λ (f : Fall). fall_line f number n ∷ []) (sym is)
 fallen_is number n (FailAt k) calls fall fell is = ap (λ (f : Fall). fall_line f number n ∷ []) (sym is)
+
+pub fall_declares : (fall : Fall) (number n : ℕ) → declares_node (fall_line fall number n) ≡ false
+fall_declares stopped number n = refl
+fall_declares failed number n = refl
 
 pub kept_lines : (number n : ℕ) (b : Bool) (es found : List Edit) → found ≡ (if b then es else []) → lines_of_edits number n found ≡ (if b then lines_of_edits number n es else [])
 kept_lines number n true es found e = ap (lines_of_edits number n) e
