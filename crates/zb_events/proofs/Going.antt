@@ -1,6 +1,5 @@
 -- What each kind of event of a node comes to: its lines are told, and the node is in the condition that they leave.
-use Rattle.std.proofs.Common.{◌≡◌, ℕ, ◌+◌, ◌-◌, Bool, true, false, cond, if◌then◌else◌, List, [], ◌∷◌, ◌++◌, map, length, Option, Some, None, option_map, is_some, nat_eq, slice_get, refl, sym, ap, ◌∙◌, subst, arith}
-use Rattle.std.proofs.lemmas.Bool.{false≢true}
+use Rattle.std.proofs.Common.{◌≡◌, ℕ, ◌+◌, ◌-◌, Bool, true, false, if◌then◌else◌, List, [], ◌∷◌, ◌++◌, map, length, Option, Some, None, option_map, is_some, nat_eq, slice_get, refl, sym, ap, ◌∙◌, subst}
 use Rattle.std.specs.List.{list_any}
 use Rattle.arrayvec.specs.ArrayString.{ArrayString}
 use Rattle.zb_base.specs.declared.key.Key.{Key}
@@ -21,9 +20,9 @@ use Rattle.zb_model.specs.Data.{AtEvent, Bytes, Down, Edit, NoFrame, Reason, Rec
 use Rattle.zb_model.specs.Lines.{Line, Boot, DownReset, Dump, Refuse}
 use Rattle.zb_model.specs.Play as play
 use Rattle.zb_model.specs.Play.{Disk, Event, FailAt, Own, PowerOn, Reset, Schedule, ShowRecord, ArmStop, ArmFail, Step, StopAfter, answer_step, boot_step, deliver_step, fallen_line, frame_at, refused_step, setting_of, stands, stations, step, step_by, supply, task_step, told_lines}
-use Rattle.zb_model.specs.Readings.{air, draws_used, is_up, state_of}
+use Rattle.zb_model.specs.Readings.{air, is_up, state_of}
 use Rattle.zb_model.specs.Record.{record_of}
-use Rattle.zb_model.specs.State.{is_centre, shown}
+use Rattle.zb_model.specs.State.{is_centre}
 use Rattle.zb_model_real.specs.Real.{real}
 use Rattle.zb_model_shown.proofs.Answers.{answer_same}
 use Rattle.zb_model_shown.proofs.LiveKeys.{accepts_live}
@@ -32,19 +31,19 @@ use Rattle.zb_model_steps.proofs.Answered.{is-answered}
 use Rattle.zb_model_steps.proofs.Centre.{none-of-others}
 use Rattle.zb_model_steps.proofs.Others.{boot-down, boot-up, booted, dumped, failure-armed, own-down, own-up, refused, reset-down, reset-up, stop-armed}
 use Rattle.zb_model_steps.specs.Conditions.{Condition, after_arming, after_cut, after_cut_boot, after_power_on, after_reset, after_whole, calls_by, condition_of}
-use Rattle.zb_model_steps.specs.Steps.{ComesTo, IsAnswered, cut_lines, is_of_the_centre, storing_lines, whole_lines}
+use Rattle.zb_model_steps.specs.Steps.{ComesTo, IsAnswered, cut_lines, is_of_the_centre, whole_lines}
 use Rattle.zb_node.proofs.Conditions.{in_later, power_is}
-use Rattle.zb_node.specs.Answers.{CanHave, Changes, HasBooted, HasHandled, IsStillDown, IsUpAgain, WasAnswered, WasCut}
+use Rattle.zb_node.specs.Answers.{CanHave, Changes, HasBooted, HasHandled}
 use Rattle.zb_node.specs.Nodes.{IsIn}
 use Rattle.zb_node.specs.Tasks.{suits}
-use Rattle.zb_node.specs.Values.{NodeValue, Running}
+use Rattle.zb_node.specs.Values.{NodeValue}
 use Rattle.zb_node.specs.declared.node.Handled.{Handled}
 use Rattle.zb_node.specs.declared.node.Handled.TheVariants.{Whole, Cut}
 use Rattle.zb_node_types.specs.Changes.{edits}
 use Rattle.zb_node_types.specs.declared.refusal.Refusal.{Refusal}
 use Rattle.zb_said.specs.Naming.{IsCalled}
 use Rattle.zb_scribe.proofs.Telling.{none_told, told_in_turn}
-use Rattle.zb_scribe.specs.Kept.{Kept, Tells}
+use Rattle.zb_scribe.specs.Kept.{Tells}
 use Rattle.zb_scribe.specs.Outcomes.{AreOfCentre, lines_of_edits, out_lines}
 use Rattle.zb_scribe.specs.declared.scribe.Scribe.{Scribe}
 use Rattle.zb_seal.specs.declared.term.Term.{Term}

@@ -9,7 +9,6 @@ use Rattle.zb_driven.specs.declared.fall.Fall.{Fall}
 use Rattle.zb_driven.specs.declared.fall.Fall.TheVariants.{Stopped as stopped, Failed as failed}
 use Rattle.zb_events.specs.Told.{Adds, IsRefusedFor, fall_line}
 use Rattle.zb_events.specs.declared.ledger.Ledger.{Ledger}
-use Rattle.zb_host.specs.declared.outcome.Outcome.{Outcome}
 use Rattle.zb_model.specs.Answer.{Answer}
 use Rattle.zb_model.specs.Data as model
 use Rattle.zb_model.specs.Data.{AtEvent, Bytes, Edit, Moved, Reserve, Floor, Start, Draw, DropNet, DropLink, Install, Active, Row, Pair, Became, Live, Removed, Roll, Told, Untold, Station}

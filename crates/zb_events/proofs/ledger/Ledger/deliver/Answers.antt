@@ -1,5 +1,5 @@
 -- The frame of a number is the one that went on the air.
-use Rattle.std.proofs.Common.{Option, None, ap, sym, subst, ◌∙◌}
+use Rattle.std.proofs.Common.{Option, ap, sym, subst, ◌∙◌}
 use Rattle.zb_events.proofs.Going.{frame_is}
 use Rattle.zb_events.proofs.ledger.Ledger.deliver.Goals as goal
 use Rattle.zb_events.specs.Told.{Goes}

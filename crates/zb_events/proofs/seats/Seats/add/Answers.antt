@@ -1,6 +1,4 @@
 -- One more node behind the others.
-use Rattle.std.proofs.Common.{refl, ap, sym, ◌∙◌, cond, Some, None}
-use Rattle.std.specs.Option.{option_or}
 use Rattle.zb_events.proofs.SeatLemmas.{added}
 use Rattle.zb_events.proofs.seats.Seats.add.Goals as goal
 
