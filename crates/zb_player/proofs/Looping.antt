@@ -73,7 +73,7 @@ more_answers events i e old now new other disks dnow dnew before middle after bo
     let all = map event_of events in
     let a = so_far p h ds played stands in
     let m = one_more p h ds all i (event_of e) now new dnow dnew before middle after new.ledger.page.items (omega (arith, bound, length-map events event_of)) a
-        (next p h ds events i e now new dnow dnew before middle bound is played a goes) blank refl out in
+    (next p h ds events i e now new dnow dnew before middle bound is played a goes) blank refl out in
     record {
       stands = paged p (h ++ lines_of p h ds (take (i + 1) all)) (disks_after (schedule_of p) h ds 1 (acts_of p (take (i + 1) all))) (i + 1 + 1) new other dnew same m.stands;
       taken = m.taken;

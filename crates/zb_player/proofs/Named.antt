@@ -113,15 +113,17 @@ is_named_parent ms name e = named_from name 0 ms (adopts (role_named name (map s
 
 pub of_partners : (ms : List Node) (name partner : Bytes) → are_partners name partner (map seated ms) ≡ true → is_joiner (role_named name (map seated ms)) ≡ true × (is_joiner (role_named partner (map seated ms)) ≡ true)
 of_partners ms name partner e =
-    let both = first_of (not (bytes_eq name partner) && is_joiner (role_named name (map seated ms))) (is_joiner (role_named partner (map seated ms))) e in
-    (second_of (not (bytes_eq name partner)) (is_joiner (role_named name (map seated ms))) both,
-    second_of (not (bytes_eq name partner) && is_joiner (role_named name (map seated ms))) (is_joiner (role_named partner (map seated ms))) e)
+    let both = first_of (not (bytes_eq name partner) && is_joiner (role_named name (map seated ms))) (is_joiner (role_named partner (map seated ms))) e in (
+      second_of (not (bytes_eq name partner)) (is_joiner (role_named name (map seated ms))) both,
+      second_of (not (bytes_eq name partner) && is_joiner (role_named name (map seated ms))) (is_joiner (role_named partner (map seated ms))) e,
+    )
 
 pub of_family : (ms : List Node) (name parent : Bytes) → are_child_and_parent name parent (map seated ms) ≡ true → is_joiner (role_named name (map seated ms)) ≡ true × (is_parent (role_named parent (map seated ms)) ≡ true)
 of_family ms name parent e =
-    let both = first_of (not (bytes_eq name parent) && is_joiner (role_named name (map seated ms))) (is_parent (role_named parent (map seated ms))) e in
-    (second_of (not (bytes_eq name parent)) (is_joiner (role_named name (map seated ms))) both,
-    second_of (not (bytes_eq name parent) && is_joiner (role_named name (map seated ms))) (is_parent (role_named parent (map seated ms))) e)
+    let both = first_of (not (bytes_eq name parent) && is_joiner (role_named name (map seated ms))) (is_parent (role_named parent (map seated ms))) e in (
+      second_of (not (bytes_eq name parent)) (is_joiner (role_named name (map seated ms))) both,
+      second_of (not (bytes_eq name parent) && is_joiner (role_named name (map seated ms))) (is_parent (role_named parent (map seated ms))) e,
+    )
 
 -- the other nodes that an event names are declared
 pub has_names : (ms : List Node) (e : Event) → has_its_nodes e (map seated ms) ≡ true → HasNames (map station_for ms) e

@@ -57,9 +57,11 @@ all_later w h k ds es number [] [] (y ∷ ms) spared all = absurd all
 all_later w h k ds es number [] (x ∷ nodes) ms spared all = absurd all
 all_later w h k ds es number (q ∷ ps) [] ms spared all = absurd all
 all_later w h k ds es number (q ∷ ps) (x ∷ nodes) [] spared all = absurd all
-all_later w h k ds es number (q ∷ ps) (x ∷ nodes) (y ∷ ms) spared all =
-    (all.0, subst (λ (c : Condition). IsIn c (number + 1) x y) (sym spared.0) (later _ number x y all.1),
-    all_later w h k ds es number ps nodes ms spared.1 all.2)
+all_later w h k ds es number (q ∷ ps) (x ∷ nodes) (y ∷ ms) spared all = (
+  all.0,
+  subst (λ (c : Condition). IsIn c (number + 1) x y) (sym spared.0) (later _ number x y all.1),
+  all_later w h k ds es number ps nodes ms spared.1 all.2,
+)
 
 abbrev pub Spares : Schedule → List Line → List Disk → List Line → List Disk → ℕ → Type 0
 Spares w h ds k es n = (q : ℕ) → (q ≡ n → ⊥) → condition_of w k es q ≡ condition_of w h ds q
@@ -86,10 +88,11 @@ put_back w h k ds es number (q ∷ ps) [] ms i d node m bound apart spares stand
 put_back w h k ds es number (q ∷ ps) (x ∷ nodes) [] i d node m bound apart spares stands all = absurd all
 put_back w h k ds es number (q ∷ ps) (x ∷ nodes) (y ∷ ms) zero d node m bound apart spares stands all =
     (stands.seat, stands.is_in, all_later w h k ds es number ps nodes ms (others w h k ds es q.eui ps spares apart.0) all.2)
-put_back w h k ds es number (q ∷ ps) (x ∷ nodes) (y ∷ ms) (suc i) d node m bound apart spares stands all =
-    (all.0,
-    subst (λ (c : Condition). IsIn c (number + 1) x y) (sym (spares q.eui (differs_at q ps i d (omega arith) apart.0))) (later _ number x y all.1),
-    put_back w h k ds es number ps nodes ms i d node m (omega arith) apart.1 spares stands all.2)
+put_back w h k ds es number (q ∷ ps) (x ∷ nodes) (y ∷ ms) (suc i) d node m bound apart spares stands all = (
+  all.0,
+  subst (λ (c : Condition). IsIn c (number + 1) x y) (sym (spares q.eui (differs_at q ps i d (omega arith) apart.0))) (later _ number x y all.1),
+  put_back w h k ds es number ps nodes ms i d node m (omega arith) apart.1 spares stands all.2,
+)
 
 -- an event of no node
 pub none_of_them : (w : Schedule) (h k : List Line) (ds es : List Disk) (number : ℕ) (ps : List Station) (nodes : List NodeValue) (ms : List Medium)

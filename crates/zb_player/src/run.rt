@@ -116,8 +116,7 @@ impl<'a> Run<'a> {
         }
         let node = &mut self.nodes[place];
         let disk = &mut disks[place];
-        self.ledger
-            .answer_node(self.draws, node, disk, number, act)
+        self.ledger.answer_node(self.draws, node, disk, number, act)
     }
 }
 
