@@ -1,20 +1,18 @@
 -- The first record of a node gives its tables again.
-use Rattle.std.proofs.Common.{◌≡◌, ◌≢◌, ℕ, ◌<◌, ◌≤◌, ◌^◌, List, [], ◌∷◌, length, get_or, true, false, refl, sym, ap, ◌∙◌, subst, arith, Option, Some, None, Result, Ok, Err}
+use Rattle.std.proofs.Common.{◌≡◌, ℕ, ◌<◌, ◌^◌, List, [], length, true, refl, sym, ap, ◌∙◌, subst, arith, Option, Some, None, Result, Ok, Err}
 use Rattle.std.specs.Prelude.{IfOk, IfSome}
-use Rattle.std.specs.List.{AllByRecursion}
 use Rattle.zb_disk.specs.Memory.{Medium, memory_view}
 use Rattle.zb_driven.specs.Arms.{IsUnarmed}
-use Rattle.zb_host.specs.Plans.{gives}
 use Rattle.zb_keys.specs.Declarations.{first_state, network_of, code_of}
 use Rattle.zb_keys.specs.declared.declaration.HeldCode.{HeldCode}
 use Rattle.zb_keys.specs.declared.declaration.HeldNetwork.{HeldNetwork}
-use Rattle.zb_model.specs.Data.{Bytes, Role, Nwk, Aps}
+use Rattle.zb_model.specs.Data.{Bytes, Role}
 use Rattle.zb_model.specs.Fits.{keeps_rules, all_fit}
 use Rattle.zb_model.specs.Record.{record_of, payload}
 use Rattle.zb_model.specs.State.{NodeState, after_boot, applied_all, shown, with_declared, with_given_net, with_given_link}
-use Rattle.zb_record.specs.Ranges.{FitsBytes, NetFits, LinkFits}
+use Rattle.zb_record.specs.Ranges.{FitsBytes}
 use Rattle.zb_store.specs.Store.{IsHeld, formatted}
-use Rattle.zb_stored_tables.specs.Stored.{restored, state_given, IsKept, IsStorable, IsStoredAfter}
+use Rattle.zb_stored_tables.specs.Stored.{IsStorable, IsStoredAfter}
 use Rattle.zb_stored_tables.proofs.CoreLaws.{state_keeps, core_keeps, core_newest}
 use Rattle.zb_first.specs.Firsts.{IsFirstDisk}
 

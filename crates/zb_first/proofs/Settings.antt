@@ -1,5 +1,5 @@
 -- The nodes of a schedule as the peers of a configuration.
-use Rattle.std.proofs.Common.{◌≡◌, ℕ, zero, suc, ◌+◌, ◌<◌, ◌≤◌, Bool, true, false, cond, List, [], ◌∷◌, map, find, length, get_or, nat_eq, Option, Some, None, refl, sym, ap, ◌∙◌, subst, arith, eq-eqb, eqb-true}
+use Rattle.std.proofs.Common.{◌≡◌, ℕ, zero, suc, ◌<◌, ◌≤◌, Bool, true, false, cond, List, [], ◌∷◌, map, find, length, nat_eq, Some, None, refl, sym, ap, ◌∙◌, subst, arith, eq-eqb, eqb-true}
 use Rattle.std.specs.Prelude.{slice_get, count_by, filter, option_map, ◌≢◌, ◌||◌}
 use Rattle.std.specs.List.{AllByRecursion, list_any}
 use Rattle.std.proofs.lemmas.Bool.{false≢true}
@@ -17,20 +17,19 @@ use Rattle.zb_model.specs.Play as model
 use Rattle.zb_model.specs.Play.{setting_of, without_blocks, station_or}
 use Rattle.zb_model.specs.Rules.{Setting, centre_of, eui_or, station_of}
 use Rattle.zb_model.specs.State as state
-use Rattle.zb_model_schedules.specs.Schedules.{schedule_of, station_for, stations_for}
+use Rattle.zb_model_schedules.specs.Schedules.{schedule_of, station_for}
 use Rattle.zb_model_schedules.proofs.Meets.{same_stations}
 use Rattle.zb_network.specs.Settings.{setting_for, known, own, station}
 use Rattle.zb_node_types.specs.Changes.{model_role}
 use Rattle.zb_sched.specs.Judge.{are_blocks}
 use Rattle.zb_sched.specs.Reading as sched
 use Rattle.zb_sched.specs.Schedules.{Node, Schedule, node_of}
-use Rattle.zb_sched.specs.Valid.{Apart, FitsNode, IsSchedule, Pairwise}
+use Rattle.zb_sched.specs.Valid.{Apart, FitsNode, Pairwise}
 use Rattle.zb_sched.specs.declared.schedule.Node.{Node as CodeNode}
-use Rattle.zb_sched.proofs.Lists.{all_map}
 use Rattle.zb_sched.proofs.OneCentre.{one_centre}
 use Rattle.zb_sched.proofs.Splits.{false_if}
 use Rattle.zb_first.specs.Firsts.{AreNodesOf}
-use Rattle.zb_first.proofs.Lists.{all_at, map_at, at_map, each_found, mapped_pairs}
+use Rattle.zb_first.proofs.Lists.{all_at, map_at, each_found, mapped_pairs}
 
 abbrev pub peer_of : CodeNode → Peer
 peer_of d = d.peer

@@ -1,18 +1,18 @@
 -- What the start lines say of each node: its declarations, that it has power, and no commit.
-use Rattle.std.proofs.Common.{◌≡◌, ℕ, Bool, true, false, cond, not, List, [], ◌∷◌, ◌++◌, map, find, nat_eq, Option, Some, None, refl, sym, ap, ◌∙◌, subst, eq-eqb, eqb-true}
-use Rattle.std.specs.Prelude.{flat_map, fold, slice_get, ◌&&◌}
+use Rattle.std.proofs.Common.{◌≡◌, ℕ, Bool, true, false, cond, List, [], ◌∷◌, ◌++◌, map, find, nat_eq, Option, Some, None, refl, ap, ◌∙◌, eq-eqb, eqb-true}
+use Rattle.std.specs.Prelude.{flat_map, fold, slice_get}
 use Rattle.std.specs.List.{AllByRecursion, list_any}
 use Rattle.std.proofs.lemmas.List.Sums.{fold-append}
 use Rattle.zb_keys.specs.Declarations.{same_eui}
 use Rattle.zb_model.specs.Data.{Bytes, Layer, Nwk, Aps, Station}
 use Rattle.zb_model.specs.Fits.{all_apart}
-use Rattle.zb_model.specs.Lines.{Line, Declared, GivenNet, GivenLink, Counter, Commit}
+use Rattle.zb_model.specs.Lines.{Line, Declared, GivenNet, GivenLink, Counter}
 use Rattle.zb_model.specs.Play as model
 use Rattle.zb_model.specs.Play.{net_line, link_line, limit_line, start, stations, disk_of, new_disk}
-use Rattle.zb_model.specs.Readings.{commit_line, commits_of, is_up, power, power_line, speaker}
+use Rattle.zb_model.specs.Readings.{commit_line, commits_of, is_up, power_line, speaker}
 use Rattle.zb_model.specs.Rules.{centre_of}
 use Rattle.zb_model_schedules.specs.Schedules.{node_for, schedule_of}
-use Rattle.zb_sched.specs.Schedules.{Node, Schedule}
+use Rattle.zb_sched.specs.Schedules.{Schedule}
 use Rattle.zb_sched.specs.Valid.{Apart, IsSchedule, Pairwise}
 use Rattle.zb_sched.proofs.Splits.{false_if}
 use Rattle.zb_first.proofs.Lists.{all_at, each_found, mapped_pairs}

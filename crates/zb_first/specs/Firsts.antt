@@ -1,5 +1,5 @@
 -- What the nodes of a schedule begin with.
-use Rattle.std.specs.Prelude.{◌≡◌, ◌≢◌, ℕ, List, [], get_or, map, slice_get, Ok, Some, false}
+use Rattle.std.specs.Prelude.{◌≡◌, ◌≢◌, ℕ, List, [], get_or, map, Ok}
 use Rattle.zb_disk.specs.Memory.{Medium, memory_view}
 use Rattle.zb_driven.specs.Arms.{IsUnarmed}
 use Rattle.zb_host.specs.Hosts.{Gives}

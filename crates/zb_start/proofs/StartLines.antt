@@ -1,6 +1,6 @@
 -- The start lines of a schedule, told kind by kind.
-use Rattle.std.proofs.Common.{◌≡◌, ℕ, List, [], ◌∷◌, ◌++◌, map, refl, sym, ap, ◌∙◌, subst, append_assoc, Bool, true, false, find, Option, Some, None, nat_eq, bytes_eq, eq-eqb, eqb-true}
-use Rattle.std.specs.Prelude.{flat_map, fold, slice_get}
+use Rattle.std.proofs.Common.{◌≡◌, ℕ, List, [], ◌∷◌, ◌++◌, map, refl, sym, ap, ◌∙◌, subst, append_assoc, Bool, false, find, Some, nat_eq, bytes_eq, eq-eqb, eqb-true}
+use Rattle.std.specs.Prelude.{flat_map, fold}
 use Rattle.std.specs.List.{AllByRecursion}
 use Rattle.std.proofs.lemmas.List.{append-nil}
 use Rattle.std.proofs.lemmas.List.Concat.{flat_map-cons}
@@ -18,7 +18,7 @@ use Rattle.zb_model_schedules.specs.Schedules.{node_for, schedule_of, station_fo
 use Rattle.zb_said.specs.Naming.{name_of, name_or_none, IsCalled}
 use Rattle.zb_said.specs.Said.{text_of}
 use Rattle.zb_said.proofs.Texts.{text_append}
-use Rattle.zb_sched.specs.Schedules.{Node, Schedule, node_of}
+use Rattle.zb_sched.specs.Schedules.{Schedule, node_of}
 use Rattle.zb_sched.specs.Valid.{Apart, Pairwise}
 use Rattle.zb_sched.specs.declared.schedule.Node.{Node as CodeNode}
 use Rattle.zb_sched.proofs.Lists.{all_map2}
@@ -27,7 +27,7 @@ use Rattle.zb_scribe.specs.Kept.{Kept, Tells}
 use Rattle.zb_scribe.specs.declared.scribe.Scribe.{Scribe}
 use Rattle.zb_scribe.proofs.Telling.{told_in_turn}
 use Rattle.zb_trace.specs.Views.{eui_or_nobody, named}
-use Rattle.zb_start.specs.Starts.{AreKnown, IsKnown, code_lines, counter_lines, declared_lines, network_lines, station_of}
+use Rattle.zb_start.specs.Starts.{AreKnown, code_lines, counter_lines, declared_lines, network_lines, station_of}
 
 -- The names of declared nodes lead to them.
 

@@ -4,7 +4,6 @@ use Rattle.std.specs.List.{AllByRecursion}
 use Rattle.zb_first.specs.Firsts.{model_node}
 use Rattle.zb_model.specs.Data.{Nwk, Aps, Station}
 use Rattle.zb_model.specs.Lines.{Line, Declared}
-use Rattle.zb_model.specs.Play as model
 use Rattle.zb_model.specs.Play.{limit_line, link_line, net_line}
 use Rattle.zb_said.specs.Naming.{IsCalled}
 use Rattle.zb_sched.specs.declared.schedule.Node.{Node as CodeNode}

@@ -1,5 +1,5 @@
 -- The tables of the declaration are on the disk as their record.
-use Rattle.std.proofs.Common.{◌≡◌, subst, ◌∙◌}
+use Rattle.std.proofs.Common.{subst, ◌∙◌}
 use Rattle.zb_model.specs.State.{NodeState}
 use Rattle.zb_node_types.specs.Changes.{model_role}
 use Rattle.zb_record.specs.Ranges.{FitsBytes}

@@ -1,5 +1,5 @@
 -- The lines of the nodes so far are told.
-use Rattle.std.proofs.Common.{◌≡◌, ◌+◌, ◌*◌, ◌≤◌, List, take}
+use Rattle.std.proofs.Common.{◌+◌, ◌≤◌, List, take}
 use Rattle.std.specs.Prelude.{flat_map}
 use Rattle.zb_model.specs.Data.{Station}
 use Rattle.zb_scribe.specs.Kept.{Tells, told}
