@@ -8,4 +8,5 @@ pub mod Goings
 pub mod Answering
 pub mod Looping
 pub mod Whole
+pub mod Ending
 pub mod Summing
