@@ -151,7 +151,7 @@ whole_goes w h ds number n task name result changes out old new scribe page node
     let called : IsCalled (stations w) n name.bytes = subst (λ (q : ArrayString). IsCalled (stations w) n q.bytes) (sym named) before.seat.called in
     let spelled : is_name name.bytes ≡ true = subst (λ (q : ArrayString). is_name q.bytes ≡ true) (sym named) before.seat.spelled in
     let own : AreOfCentre (stations w) n changes.items = are_of_centre (stations w) n changes.items (is_centre (setting_of w n).me.role) before.seat.centre
-        (λ other. ap (list_any is_of_the_centre) was.answer_is.changes ∙ none-of-others real (setting_of w n) (state_of h n) task other) in
+    (λ other. ap (list_any is_of_the_centre) was.answer_is.changes ∙ none-of-others real (setting_of w n) (state_of h n) task other) in
     goes_by w (task_step real counting_of w h ds number n task) h (whole_lines h number n a) number n old new after m' (after_whole a x)
     ((answers w h ds number n task (power_of w h ds number n old node m true before on)).whole was.missed)
     (whole_adds w h number n a changes out old new scribe page before.told was.answer_is.changes (λ frame. out_is number n frame (record { changes = changes; out = out }) a was.answer_is) (stored n called own) (answered n called spelled))
@@ -170,11 +170,11 @@ cut_goes w h ds number n task name result changes fall old between new node afte
     let was = how x number before.is_in (can_have w h ds number n task old node m before is) in
     let called : IsCalled (stations w) n name.bytes = subst (λ (q : ArrayString). IsCalled (stations w) n q.bytes) (sym named) before.seat.called in
     let own : AreOfCentre (stations w) n changes.items = are_of_centre (stations w) n changes.items (is_centre (setting_of w n).me.role) before.seat.centre
-        (λ other. none_kept b a.edits (edits changes.items) was.stored_are (none-of-others real (setting_of w n) (state_of h n) task other)) in
+    (λ other. none_kept b a.edits (edits changes.items) was.stored_are (none-of-others real (setting_of w n) (state_of h n) task other)) in
     let one : Adds w h some old between =
-        told_adds w h some old between (subst (λ (ls : List Line). Tells (stations w) ls old.scribe old.page.items between.scribe between.page.items) (kept_lines number n b a.edits (edits changes.items) was.stored_are) (stored n called own)) before.told in
+    told_adds w h some old between (subst (λ (ls : List Line). Tells (stations w) ls old.scribe old.page.items between.scribe between.page.items) (kept_lines number n b a.edits (edits changes.items) was.stored_are) (stored n called own)) before.told in
     let last : Adds w (h ++ some) (fallen_line x.disk.armed number n) between new =
-        subst (λ (ls : List Line). Adds w (h ++ some) ls between new) (sym (fallen_is number n x.disk.armed (calls_by x.commits a.edits) fall was.fell was.fall_is)) (fallen (h ++ some) n one.told called) in
+    subst (λ (ls : List Line). Adds w (h ++ some) ls between new) (sym (fallen_is number n x.disk.armed (calls_by x.commits a.edits) fall was.fell was.fall_is)) (fallen (h ++ some) n one.told called) in
     goes_by w (task_step real counting_of w h ds number n task) h (cut_lines x number n a) number n old new after m' (after_cut a x)
     ((answers w h ds number n task (power_of w h ds number n old node m true before on)).cut was.fell) (adds_then w h some (fallen_line x.disk.armed number n) old between new one last) was.leaves
 
@@ -231,7 +231,7 @@ cut_boot_goes w h ds number n result fall old new node after m m' before off mad
     let how : HasBooted node m (Some fall) after m' = subst (λ (r : Option Fall). HasBooted node m r after m') made booting in
     let was = how x number before.is_in down in
     goes_by w (step real w h ds number (PowerOn n)) h (fallen_line x.disk.armed number n) number n old new after m' (after_cut_boot x)
-    ((booted w h ds number n (step real w h ds number (PowerOn n)) (boot-down real w h ds number n down) down).cut was.fell) 
+    ((booted w h ds number n (step real w h ds number (PowerOn n)) (boot-down real w h ds number n down) down).cut was.fell)
     (subst (λ (ls : List Line). Adds w h ls old new) (sym (fallen_is number n x.disk.armed (play.BootCalls x.disk.both_open) fall was.fell was.fall_is)) adds) was.leaves
 
 -- ---- a dump, and what is armed

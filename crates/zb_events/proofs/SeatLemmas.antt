@@ -94,7 +94,6 @@ seats_more old new known p name seat updates centre named is before = record {
       ∙ centre_more known p));
 }
 
-
 -- The seat of a node has its EUI.
 
 pub same_some : {X : Type 0} (a b : X) → Some a ≡ Some b → a ≡ b

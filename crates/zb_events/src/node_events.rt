@@ -132,12 +132,7 @@ impl Ledger {
     /// Answers the loss of a node's power.
     ///
     /// Errors: `NoMemory`.
-    pub fn reset(
-        &mut self,
-        node: &mut Node,
-        disk: &mut MemDisk,
-        event: u32,
-    ) -> Result<(), NoMemory>
+    pub fn reset(&mut self, node: &mut Node, disk: &mut MemDisk, event: u32) -> Result<(), NoMemory>
         requires room { HasRoom self.old }
         ensures few { OnOk result (lines_told self.new ≤ lines_told self.old + 24) }
         ensures seat { node.new.peer ≡ node.old.peer }
@@ -156,12 +151,7 @@ impl Ledger {
     /// Answers that a node gets power.
     ///
     /// Errors: `NoMemory`.
-    pub fn boot(
-        &mut self,
-        node: &mut Node,
-        disk: &mut MemDisk,
-        event: u32,
-    ) -> Result<(), NoMemory>
+    pub fn boot(&mut self, node: &mut Node, disk: &mut MemDisk, event: u32) -> Result<(), NoMemory>
         requires room { HasRoom self.old }
         ensures few { OnOk result (lines_told self.new ≤ lines_told self.old + 24) }
         ensures seat { node.new.peer ≡ node.old.peer }
