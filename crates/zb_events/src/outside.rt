@@ -1,5 +1,5 @@
 //! The events of the outside: bytes that are put on the air, and forged frames.
-ghost use Rattle.std.specs.Prelude.{◌≡◌, ◌≤◌, ◌<◌, ◌+◌, ℕ, List, None, OnOk, codes, length, true, ◌∷◌, []};
+ghost use Rattle.std.specs.Prelude.{◌≡◌, ◌≤◌, ◌<◌, ◌+◌, List, None, OnOk, codes, length, true, ◌∷◌, []};
 ghost use Rattle.zb_events.specs.Outside.{IsSent, forges_command, is_outside};
 ghost use Rattle.zb_events.specs.Told.{Adds, HasRoom, IsTold, lines_told};
 ghost use Rattle.zb_model.specs.Data.{Station};

@@ -1,5 +1,5 @@
 //! Where the node of each name stands.
-ghost use Rattle.std.specs.Prelude.{◌≡◌, ◌++◌, ◌∷◌, [], ℕ, List, Some, None, IfOk, OnOk, is_some, true, if◌then◌else◌, bytes_eq, length, map};
+ghost use Rattle.std.specs.Prelude.{◌≡◌, ◌++◌, ◌∷◌, [], List, Some, None, IfOk, OnOk, is_some, true, if◌then◌else◌, bytes_eq, length, map};
 ghost use Rattle.std.specs.Option.{option_or};
 ghost use Rattle.arrayvec.specs.ArrayString.{ArrayString};
 ghost use Rattle.zb_model.specs.Data.{Station};
