@@ -1,5 +1,6 @@
 -- The start of a run and its end, as the program has them.
-use Rattle.std.proofs.Common.{◌≡◌, ℕ, List, [], ◌∷◌, ◌++◌, map, Option, refl, sym, ap, ◌∙◌, subst, append-nil}
+use Rattle.std.proofs.Common.{◌≡◌, ℕ, List, [], ◌∷◌, ◌++◌, map, drop, length, take, sym, ap, ◌∙◌, subst, append-nil}
+use Rattle.std.proofs.Math.Seq.{take-append_seam}
 use Rattle.zb_base.specs.declared.key.Key.{Key}
 use Rattle.zb_disk.specs.Memory.{Medium}
 use Rattle.zb_events.specs.Seats.{AreSeats}
@@ -7,7 +8,7 @@ use Rattle.zb_model.specs.Data.{Bytes, Station}
 use Rattle.zb_model.specs.Lines.{Line}
 use Rattle.zb_model.specs.Play.{start, stations}
 use Rattle.zb_model_laws.proofs.ConfirmsRuns.{start-stations}
-use Rattle.zb_model_schedules.specs.Schedules.{schedule_of, station_for, stations_for}
+use Rattle.zb_model_schedules.specs.Schedules.{schedule_of, station_for}
 use Rattle.zb_model_schedules.proofs.Meets.{same_stations}
 use Rattle.zb_node.specs.Nodes.{AllStand}
 use Rattle.zb_player.specs.Playing.{RunStands}
@@ -55,3 +56,7 @@ pub last_page : (known : List Station) (line : Printed) (m last : Line) (blank p
 unfolding text_of
 last_page known line m last blank page is same empty written =
     written ∙ ap (λ l. l ++ text line) empty ∙ is.text_is ∙ ap (line_text known) same ∙ sym (append-nil (line_text known last))
+
+-- the disks of a vector, once a slice of it was written
+pub disks_kept : (n : ℕ) (now items : List Medium) → length now ≡ n → take n (now ++ drop (length now) items) ≡ now
+disks_kept n now items long = subst (λ (k : ℕ). take k (now ++ drop (length now) items) ≡ now) long (take-append_seam now (drop (length now) items))

@@ -1,5 +1,5 @@
 -- The event of a node at its place.
-use Rattle.std.proofs.Common.{◌≡◌, ℕ, zero, suc, ◌+◌, ◌<◌, ◌≤◌, Bool, true, false, cond, List, [], ◌∷◌, map, find, length, get_or, Option, Some, None, nat_eq, bytes_eq, refl, sym, ap, ◌∙◌, subst, arith}
+use Rattle.std.proofs.Common.{◌≡◌, ℕ, zero, suc, ◌+◌, ◌<◌, Bool, true, false, cond, List, [], ◌∷◌, map, find, length, get_or, Option, Some, None, bytes_eq, refl, sym, ap, ◌∙◌, subst, arith}
 use Rattle.std.specs.Prelude.{◌||◌, if◌then◌else◌, is_some}
 use Rattle.std.specs.List.{list_any}
 use Rattle.std.specs.Option.{option_map}
@@ -23,7 +23,7 @@ use Rattle.zb_node.specs.Tasks.{has_children, model_task, suits}
 use Rattle.zb_node_types.specs.Changes.{model_role}
 use Rattle.zb_player.specs.Playing.{FitsRun, IsEventAt}
 use Rattle.zb_model_steps.specs.Steps.{is_of}
-use Rattle.zb_player.proofs.Named.{FoundAt, adopts, found_at, joins, named_from, of_family, of_partners}
+use Rattle.zb_player.proofs.Named.{adopts, found_at, joins, named_from, of_family, of_partners}
 use Rattle.zb_player.proofs.Seating.{setting_at, stations_differ}
 use Rattle.zb_sched.specs.Judge as judge
 use Rattle.zb_sched.specs.Judge.{has_its_nodes, is_joiner, is_parent, role_named}

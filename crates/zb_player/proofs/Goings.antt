@@ -3,7 +3,7 @@ use Rattle.std.proofs.Common.{◌≡◌, ℕ, ◌+◌, ◌<◌, ◌≤◌, List,
 use Rattle.std.proofs.Math.ListN.{set}
 use Rattle.zb_base.specs.declared.key.Key.{Key}
 use Rattle.zb_disk.specs.Memory.{Medium}
-use Rattle.zb_events.specs.Acts.{IsFor, act_for, seat_for}
+use Rattle.zb_events.specs.Acts.{IsFor, act_for}
 use Rattle.zb_events.specs.Told.{Adds, Before, Goes}
 use Rattle.zb_events.specs.declared.acts.Act.{Act}
 use Rattle.zb_events.specs.declared.ledger.Ledger.{Ledger}
@@ -11,13 +11,12 @@ use Rattle.zb_events.specs.declared.seats.Seats.{Seats}
 use Rattle.zb_events.specs.Seats.{AreSeats}
 use Rattle.zb_model.specs.Data.{Role, Station}
 use Rattle.zb_model.specs.Lines.{Line}
-use Rattle.zb_model.specs.Play.{Disk, Event, Schedule, Step, setting_of, stations, step}
+use Rattle.zb_model.specs.Play.{Disk, Event, Schedule, setting_of, stations, step}
 use Rattle.zb_model_real.specs.Real.{real}
 use Rattle.zb_model_schedules.specs.Schedules.{schedule_of}
-use Rattle.zb_model_steps.specs.Conditions.{condition_of}
 use Rattle.zb_model_steps.specs.Steps.{is_of}
 use Rattle.zb_model_steps.proofs.Spared.{spared}
-use Rattle.zb_node.specs.Nodes.{AllStand, IsIn, IsSeat}
+use Rattle.zb_node.specs.Nodes.{AllStand, IsSeat}
 use Rattle.zb_node.specs.Values.{NodeValue}
 use Rattle.zb_player.specs.Playing.{IsEventAt, RunGoes, RunStands, step_of}
 use Rattle.zb_player.specs.declared.run.Run.{Run}

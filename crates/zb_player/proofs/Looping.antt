@@ -1,5 +1,5 @@
 -- The loop over the events, as the program has it.
-use Rattle.std.proofs.Common.{◌≡◌, ℕ, ◌+◌, ◌<◌, List, [], ◌∷◌, ◌++◌, length, map, take, get_or, Option, refl, sym, ap, ◌∙◌, subst, arith}
+use Rattle.std.proofs.Common.{◌≡◌, ℕ, ◌+◌, ◌<◌, List, [], ◌++◌, length, map, take, get_or, Option, refl, sym, ap, ◌∙◌, subst, arith}
 use Rattle.std.specs.Io.KnownBytes.{Appends}
 use Rattle.std.proofs.Math.ListN.{get_or-map}
 use Rattle.std.proofs.lemmas.List.{length-map}
@@ -9,7 +9,7 @@ use Rattle.zb_model.specs.Lines.{Line}
 use Rattle.zb_model.specs.Play.{Disk}
 use Rattle.zb_model_schedules.specs.Schedules.{event_for, schedule_of, stations_for}
 use Rattle.zb_player.specs.Playing.{FitsRun, RunGoes, RunStands, step_of}
-use Rattle.zb_player.specs.Runs.{Answered, Answers, IsPlayed, PrintsAll, acts_of, disks_after, lines_of, text_in}
+use Rattle.zb_player.specs.Runs.{Answered, Answers, IsPlayed, PrintsAll, acts_of, disks_after, lines_of}
 use Rattle.zb_player.specs.declared.run.Run.{Run}
 use Rattle.zb_player.proofs.RunSteps.{cut, fits_at, none_yet, one_more, stopped}
 use Rattle.zb_sched.specs.Schedules as sched

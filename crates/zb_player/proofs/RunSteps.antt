@@ -1,16 +1,13 @@
 -- What is written, event by event, is the text of the run's lines.
-use Rattle.std.proofs.Common.{◌≡◌, ℕ, zero, suc, ◌+◌, ◌<◌, ◌≤◌, List, [], ◌∷◌, ◌++◌, length, map, take, get_or, Option, None, Some, Result, Ok, Err, OnErr, refl, sym, ap, ◌∙◌, subst, arith, append_assoc, append-nil, add-one}
+use Rattle.std.proofs.Common.{◌≡◌, ℕ, zero, suc, ◌+◌, ◌<◌, List, [], ◌∷◌, ◌++◌, length, map, take, get_or, Option, Result, Ok, Err, OnErr, refl, sym, ap, ◌∙◌, subst, arith, append_assoc, append-nil, add-one}
 use Rattle.std.specs.Io.KnownBytes.{Appends}
 use Rattle.std.proofs.KnownBytes.{Appends-nil, Appends-trans}
-use Rattle.std.proofs.Math.ListN.{get_or-map}
-use Rattle.std.proofs.lemmas.List.{length-map}
 use Rattle.std.specs.List.{AllByRecursion}
 use Rattle.zb_base.specs.Outside.{AppendsFront}
 use Rattle.zb_disk.specs.Memory.{Medium}
 use Rattle.zb_model.specs.Data.{Bytes}
 use Rattle.zb_model.specs.Lines.{Line}
-use Rattle.zb_model.specs.Play.{Disk, Event, Schedule, Step, groups, stations, step}
-use Rattle.zb_model.specs.Schedules as model
+use Rattle.zb_model.specs.Play.{Disk, Step, groups, stations, step}
 use Rattle.zb_model.specs.Schedules.{CountsCalls, SuitsRole}
 use Rattle.zb_model_real.specs.Real.{real}
 use Rattle.zb_model_schedules.specs.Schedules.{event_for, schedule_of, stations_for}

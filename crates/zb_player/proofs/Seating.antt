@@ -1,12 +1,12 @@
 -- The nodes of a schedule, at their places.
-use Rattle.std.proofs.Common.{◌≡◌, ℕ, zero, suc, ◌+◌, ◌<◌, Bool, true, false, cond, List, [], ◌∷◌, map, find, length, get_or, Option, Some, None, nat_eq, bytes_eq, eq-eqb, eqb-true, refl, sym, ap, ◌∙◌, subst, arith}
+use Rattle.std.proofs.Common.{◌≡◌, ℕ, zero, suc, ◌<◌, Bool, true, false, cond, List, [], ◌∷◌, map, find, length, get_or, Option, Some, None, nat_eq, bytes_eq, eq-eqb, eqb-true, refl, sym, ap, ◌∙◌, subst, arith}
 use Rattle.std.specs.List.{AllByRecursion}
 use Rattle.std.proofs.lemmas.Slice.Eq.{bytes_eq-Decides}
-use Rattle.zb_model.specs.Data.{Role, Station, nobody}
+use Rattle.zb_model.specs.Data.{Station, nobody}
 use Rattle.zb_model.specs.Play.{Schedule, setting_of, station_or, stations}
 use Rattle.zb_model.specs.Rules.{centre_of, eui_or, station_of}
 use Rattle.zb_model.specs.State.{is_centre}
-use Rattle.zb_model_schedules.specs.Schedules.{schedule_of, station_for, stations_for}
+use Rattle.zb_model_schedules.specs.Schedules.{schedule_of, station_for}
 use Rattle.zb_model_schedules.proofs.Meets.{one, same_stations}
 use Rattle.zb_node.specs.Nodes.{IsSeat}
 use Rattle.zb_node.specs.Values.{NodeValue}

@@ -1,5 +1,5 @@
 -- The text of a whole run, in its parts.
-use Rattle.std.proofs.Common.{◌≡◌, ℕ, ◌+◌, List, [], ◌∷◌, ◌++◌, length, map, take, Option, refl, sym, ap, ◌∙◌, subst, append_assoc, append-nil}
+use Rattle.std.proofs.Common.{◌≡◌, ℕ, ◌+◌, List, [], ◌∷◌, ◌++◌, length, take, Option, refl, sym, ap, ◌∙◌, subst, append_assoc, append-nil}
 use Rattle.std.specs.Io.KnownBytes.{Appends}
 use Rattle.std.proofs.KnownBytes.{Appends-nil, Appends-trans}
 use Rattle.std.proofs.Math.Seq.{take-length}
@@ -8,19 +8,18 @@ use Rattle.zb_base.specs.Outside.{AppendsFront}
 use Rattle.zb_disk.specs.Memory.{Medium}
 use Rattle.zb_model.specs.Data.{Bytes}
 use Rattle.zb_model.specs.Lines.{Line}
-use Rattle.zb_model.specs.Play.{Disk, groups, start, stations}
+use Rattle.zb_model.specs.Play.{Disk, start, stations}
 use Rattle.zb_model.specs.Transcript.{end_line, run_lines, transcript}
 use Rattle.zb_model_real.specs.Real.{real}
 use Rattle.zb_model_schedules.specs.Schedules.{event_for, schedule_of, stations_for}
 use Rattle.zb_player.specs.Playing.{RunStands}
-use Rattle.zb_player.specs.Runs.{Answered, Answers, IsFront, IsPlayed, IsWhole, Played, PrintsAll, Sums, acts_of, disks_after, last_line, lines_of, text_in, transcript_text}
+use Rattle.zb_player.specs.Runs.{Answers, IsFront, IsPlayed, IsWhole, Played, PrintsAll, Sums, acts_of, disks_after, last_line, lines_of, text_in, transcript_text}
 use Rattle.zb_player.specs.declared.run.Run.{Run}
 use Rattle.zb_player.specs.declared.summary.Summary.{Summary}
 use Rattle.zb_player.proofs.RunSteps.{front_at, front_of}
 use Rattle.zb_said.specs.Said.{text_of}
 use Rattle.zb_said.proofs.Texts.{text_append}
 use Rattle.zb_sched.specs.Schedules as sched
-use Rattle.zb_sched.specs.Valid.{IsSchedule}
 use Rattle.zb_sched_line.specs.Said as said
 
 abbrev pub begin : sched.Schedule → List Line
