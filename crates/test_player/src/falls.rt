@@ -16,8 +16,8 @@ struct Arming {
     stands: bool,
 }
 
-/// Stops, by what is said of each behind the node's name, and whether an entry is stored: it is behind the third call
-/// where its gate reads open then.
+/// Stops, by what is said of each behind the node's name, and whether an entry is stored: it is where three calls went
+/// through and its gate then reads open.
 const STOPS: [(&[u8], bool); 8] = [
     (b" 0 00\n", false),
     (b" 0 A5\n", false),

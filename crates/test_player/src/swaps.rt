@@ -1,11 +1,13 @@
-//! Disks that another one takes the place of.
+//! Disks that another one takes the place of, and what the disks of a run hold.
 use crate::runs::{add, played};
 use arrayvec::ArrayVec;
 use std::alloc::Global;
 use std::test::Fail;
-use zb_base::NoMemory;
+use zb_base::{MemSink, NoMemory};
 use zb_disk::MemDisk;
-use zb_player::Bench;
+use zb_player::{Bench, Still, play};
+use zb_sched::read;
+use zb_store::Store;
 
 /// What happens before a disk is put under the centre, and what is written of that.
 const BEFORE: &[u8] = b"\
@@ -81,7 +83,7 @@ const BOOT_AND_SAY: &[u8] = b"boot c\nsay c 1A2B -\n";
 const BOOT_AND_DUMP: &[u8] = b"boot c\nsay c 1A2B -\ndump c\n";
 
 /// The first case is a worked example. In the others a boot that finds no record of a centre, or a call of the disk that
-/// fails, ends as one of the disk; a stop ends as a stop; and a dump shows no bytes where no record of a centre stands.
+/// fails, ends as the disk's fault; a stop ends as a stop; a dump shows no bytes where no record of a centre stands.
 const CASES: [Case; 9] = [
     Case {
         event: 4,
@@ -221,6 +223,44 @@ fn goes_on(alloc: Global, case: &Case) -> Result<bool, Fail> {
 fn a_node_goes_on_with_the_disk_under_it(rt: HostRuntime) -> Result<(), Fail> {
     for case in &CASES {
         assert!(rt; goes_on(rt.alloc(), case)?);
+    }
+    Ok(())
+}
+
+/// The records of the centre and of the device, and the entries behind them, once `BEFORE` was played: the centre stored
+/// its NWK limit of 4.
+const HELD: [(usize, [u8; 43], &[u8]); 2] = [
+    (
+        0,
+        [
+            3, 0, 0, 0, 0, 0, 0, 0, 0, 0, 0, 0, 1, 0, 0, 0, 0, 1, 2, 3, 4, 5, 6, 7, 8, 9, 10, 11,
+            12, 13, 14, 15, 0, 3, 0, 0, 0, 0, 0, 0, 0, 0, 0,
+        ],
+        &[1, 1, 0, 4, 0, 0, 0],
+    ),
+    (
+        1,
+        [
+            3, 2, 2, 0, 0, 0, 0, 0, 0, 0, 0, 0, 1, 0, 0, 0, 0, 1, 2, 3, 4, 5, 6, 7, 8, 9, 10, 11,
+            12, 13, 14, 15, 0, 3, 0, 0, 0, 0, 0, 0, 0, 0, 0,
+        ],
+        &[],
+    ),
+];
+
+#[test]
+fn each_disk_holds_what_its_node_stored(rt: HostRuntime) -> Result<(), Fail> {
+    let alloc = rt.alloc();
+    let schedule = read(alloc, BEFORE)?;
+    let mut disks = Vec::new(alloc);
+    let mut sink = MemSink::new(alloc, 65_536, &[])?;
+    play(alloc, &schedule, &mut disks, &mut Still, &mut sink)?;
+    for (place, record, entries) in HELD {
+        let Some(disk) = disks.get_mut(place) else {
+            return Err(Fail::from("a disk is missing"));
+        };
+        let (content, payloads) = Store::peek(alloc, disk)?;
+        assert!(rt; content.as_slice() == record.as_slice() && payloads.as_slice() == entries);
     }
     Ok(())
 }
