@@ -1,1 +1,6 @@
 pub mod SeatLemmas
+pub mod ActLemmas
+pub mod Adding
+pub mod Telling
+mod Opening
+pub mod Going

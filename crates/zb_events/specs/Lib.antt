@@ -1,3 +1,4 @@
 pub mod Seats
 pub mod Acts
 pub mod Told
+pub mod Outside

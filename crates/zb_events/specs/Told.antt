@@ -3,6 +3,7 @@ use Rattle.std.specs.Prelude.{◌≡◌, ℕ, ◌+◌, ◌≤◌, ◌<◌, List,
 use Rattle.zb_disk.specs.Memory.{Medium}
 use Rattle.zb_driven.specs.declared.fall.Fall.{Fall}
 use Rattle.zb_driven.specs.declared.fall.Fall.TheVariants.{Stopped as stopped, Failed as failed}
+use Rattle.zb_model.specs.Data.{AtEvent, Reason}
 use Rattle.zb_model.specs.Lines.{Line, Stopped, DownDisk}
 use Rattle.zb_model.specs.Play.{Schedule, Disk, Step, setting_of, stations}
 use Rattle.zb_model.specs.Readings.{stations_of}
@@ -10,6 +11,8 @@ use Rattle.zb_model.specs.State.{is_centre}
 use Rattle.zb_model_steps.specs.Conditions.{condition_of}
 use Rattle.zb_node.specs.Nodes.{IsIn}
 use Rattle.zb_node.specs.Values.{NodeValue}
+use Rattle.zb_node_types.specs.Changes.{model_place, place_of, reason}
+use Rattle.zb_node_types.specs.declared.refusal.Refusal.{Refusal}
 use Rattle.zb_events.specs.declared.ledger.Ledger.{Ledger}
 use Rattle.zb_said.specs.Naming.{IsCalled}
 use Rattle.zb_said.specs.Said.{IsLineOf, text_of}
@@ -34,6 +37,10 @@ pub record IsTold (w : Schedule) (h : List Line) (k : Ledger) : Type 0 where
 pub record Adds (w : Schedule) (h lines : List Line) (old new : Ledger) : Type 0 where
   pub page : new.page.items ≡ old.page.items ++ text_of (stations w) lines
   pub told : IsTold w (h ++ lines) new
+
+-- a refusal of the event itself, for this reason
+abbrev pub IsRefusedFor : Reason → Refusal → Type 0
+IsRefusedFor why refusal = (model_place (place_of refusal) ≡ AtEvent) × (reason refusal ≡ why)
 
 -- the line of a node on whose call a stop or a failure fell
 abbrev pub fall_line : Fall → ℕ → ℕ → Line

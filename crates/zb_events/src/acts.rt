@@ -32,13 +32,8 @@ pub enum Act {
     /// Its record is shown.
     Dump,
     /// A stop or a failure is armed on its disk.
-    Stop {
-        calls: u8,
-        torn: ArrayVec<u8, 32>,
-    },
-    Fail {
-        call: u8,
-    },
+    Stop { calls: u8, torn: ArrayVec<u8, 32> },
+    Fail { call: u8 },
     /// It is of no node.
     Outside,
 }

@@ -1,5 +1,5 @@
 //! What is told of a run: the scribe, and the lines of the event that is being answered.
-ghost use Rattle.std.specs.Prelude.{◌≡◌, ◌≤◌, ◌+◌, ℕ, List, OnOk, Some, false, map, slice_get, [], ◌∷◌};
+ghost use Rattle.std.specs.Prelude.{◌≡◌, ◌≤◌, ◌<◌, ◌+◌, ℕ, List, OnOk, Some, false, map, slice_get, [], ◌∷◌};
 ghost use Rattle.std.specs.Option.{option_map};
 ghost use Rattle.zb_base.specs.declared.key.Key.{Key as key};
 ghost use Rattle.zb_events.specs.Acts.{IsFor, act_for};
@@ -33,6 +33,7 @@ pub struct Ledger {
 
 impl Ledger {
     /// Answers the next key of the supply.
+    #[tactic(auto, using(crate::proofs::Adding::drawn))]
     pub fn draw(&self, draws: &[Key]) -> Option<Key>
         ensures { option_map (λ (k : key). k.0) result
             ≡ slice_get (map (λ (k : key). k.0) draws.now) self.now.scribe.used }
@@ -44,7 +45,7 @@ impl Ledger {
     ///
     /// Errors: `NoMemory`.
     pub fn tell(&mut self, line: &Line) -> Result<(), NoMemory>
-        requires room { HasRoom self.old }
+        requires room { lines_told self.old < 4294967295 }
         ensures few { OnOk result (lines_told self.new ≤ lines_told self.old + 1) }
         ensures adds { OnOk result ((w : Schedule) (h : List log.Line) (m : log.Line) → IsTold w h self.old
             → IsLineOf (stations w) line.now m → declares_node m ≡ false → Adds w h (m ∷ []) self.old self.new) }
@@ -56,7 +57,7 @@ impl Ledger {
     ///
     /// Errors: `NoMemory`.
     pub fn refuse(&mut self, event: u32, node: Name, refusal: Refusal) -> Result<(), NoMemory>
-        requires room { HasRoom self.old }
+        requires room { lines_told self.old < 4294967295 }
         ensures few { OnOk result (lines_told self.new ≤ lines_told self.old + 1) }
         ensures adds { OnOk result ((w : Schedule) (h : List log.Line) (n : ℕ) → IsTold w h self.old
             → IsCalled (stations w) n node.bytes

@@ -1,16 +1,15 @@
 //! The events of a node.
-ghost use Rattle.std.specs.Prelude.{◌≡◌, ◌≤◌, ◌+◌, ℕ, List, None, OnOk, map, true};
+ghost use Rattle.std.specs.Prelude.{◌≡◌, ◌≤◌, ◌+◌, ℕ, List, None, OnOk, if◌then◌else◌, map, true};
 ghost use Rattle.zb_base.specs.declared.key.Key.{Key as key};
 ghost use Rattle.zb_disk.specs.Memory.{Medium as medium};
 ghost use Rattle.zb_model.specs.Answer.{counting_of};
-ghost use Rattle.zb_model.specs.Data.{AtEvent, Down as model_down, NoFrame as model_no_frame, Received, WrongState as model_wrong_state};
-ghost use Rattle.zb_node_types.specs.Changes.{model_place, place_of, reason};
+ghost use Rattle.zb_model.specs.Data.{Down as model_down, NoFrame as model_no_frame, Received, WrongState as model_wrong_state};
 ghost use Rattle.zb_model.specs.Lines as log;
 ghost use Rattle.zb_model.specs.Play as model;
 ghost use Rattle.zb_model.specs.Play.{Disk, Schedule, deliver_step, frame_at, setting_of, step, supply, task_step};
 ghost use Rattle.zb_model_real.specs.Real.{real};
 ghost use Rattle.zb_node.specs.Tasks.{model_task, suits};
-ghost use Rattle.zb_events.specs.Told.{Before, Goes, HasRoom, IsFallen, lines_told};
+ghost use Rattle.zb_events.specs.Told.{Before, Goes, HasRoom, IsFallen, IsRefusedFor, lines_told};
 
 use crate::ledger::Ledger;
 use zb_base::{Frame, Key, List, Name, NoMemory, Place};
@@ -52,6 +51,9 @@ impl Ledger {
         ensures seat { node.new.peer ≡ node.old.peer }
     {
         let name = node.name();
+        if !node.is_up() {
+            return self.refuse(event, name, down());
+        }
         match node.handle(disk, task) {
             Some(Handled::Whole { changes, out }) => {
                 self.scribe
@@ -123,19 +125,14 @@ impl Ledger {
             → Before w h ds event n self.old node.old m
             → Goes w (deliver_step real counting_of w h ds event n None) h event n self.old self.new node.new m) }
     {
-        let refusal = if node.is_up() { no_frame() } else { down() };
+        let refusal = missed(node.is_up());
         self.refuse(event, node.name(), refusal)
     }
 
     /// Answers the loss of a node's power.
     ///
     /// Errors: `NoMemory`.
-    pub fn reset(
-        &mut self,
-        node: &mut Node,
-        disk: &mut MemDisk,
-        event: u32,
-    ) -> Result<(), NoMemory>
+    pub fn reset(&mut self, node: &mut Node, disk: &mut MemDisk, event: u32) -> Result<(), NoMemory>
         requires room { HasRoom self.old }
         ensures few { OnOk result (lines_told self.new ≤ lines_told self.old + 24) }
         ensures seat { node.new.peer ≡ node.old.peer }
@@ -154,12 +151,7 @@ impl Ledger {
     /// Answers that a node gets power.
     ///
     /// Errors: `NoMemory`.
-    pub fn boot(
-        &mut self,
-        node: &mut Node,
-        disk: &mut MemDisk,
-        event: u32,
-    ) -> Result<(), NoMemory>
+    pub fn boot(&mut self, node: &mut Node, disk: &mut MemDisk, event: u32) -> Result<(), NoMemory>
         requires room { HasRoom self.old }
         ensures few { OnOk result (lines_told self.new ≤ lines_told self.old + 24) }
         ensures seat { node.new.peer ≡ node.old.peer }
@@ -195,23 +187,27 @@ impl Ledger {
 // The refusals before a node is asked.
 
 fn down() -> Refusal
-    ensures { (model_place (place_of result) ≡ AtEvent) × (reason result ≡ model_down) }
+    ensures { IsRefusedFor model_down result }
 {
     Refusal::Down {
         place: Place::Event,
     }
 }
 
-fn no_frame() -> Refusal
-    ensures { (model_place (place_of result) ≡ AtEvent) × (reason result ≡ model_no_frame) }
+fn missed(is_up: bool) -> Refusal
+    ensures { IsRefusedFor (if is_up then model_no_frame else model_down) result }
 {
-    Refusal::NoFrame {
-        place: Place::Event,
+    if is_up {
+        Refusal::NoFrame {
+            place: Place::Event,
+        }
+    } else {
+        down()
     }
 }
 
 fn wrong_state() -> Refusal
-    ensures { (model_place (place_of result) ≡ AtEvent) × (reason result ≡ model_wrong_state) }
+    ensures { IsRefusedFor model_wrong_state result }
 {
     Refusal::WrongState {
         place: Place::Event,

@@ -1,27 +1,24 @@
 //! The events of the outside: bytes that are put on the air, and forged frames.
-ghost use Rattle.std.specs.Prelude.{◌≡◌, ◌≤◌, ◌+◌, ℕ, List, OnOk, codes, length, None, ◌∷◌, []};
+ghost use Rattle.std.specs.Prelude.{◌≡◌, ◌≤◌, ◌<◌, ◌+◌, ℕ, List, None, OnOk, codes, length, true, ◌∷◌, []};
+ghost use Rattle.zb_events.specs.Outside.{IsSent, forges_command, is_outside};
+ghost use Rattle.zb_events.specs.Told.{Adds, HasRoom, IsTold, lines_told};
 ghost use Rattle.zb_model.specs.Data.{Station};
 ghost use Rattle.zb_model.specs.Lines as log;
-ghost use Rattle.zb_model.specs.Play.{Disk, Schedule, forged_both, forged_net, forged_open, stations, step};
+ghost use Rattle.zb_model.specs.Play.{Disk, Schedule, forged_both, forged_net, forged_open, step};
 ghost use Rattle.zb_model.specs.Readings.{air};
 ghost use Rattle.zb_model_real.specs.Real.{real};
 ghost use Rattle.zb_model_real.specs.Terms.{model_term};
 ghost use Rattle.zb_model_schedules.specs.Schedules.{event_for};
-ghost use Rattle.zb_events.specs.Told.{Adds, HasRoom, IsTold, lines_told};
-ghost use Rattle.zb_events.specs.Acts.{seat_for};
 ghost use Rattle.zb_sched_line.specs.Views.{event_of};
 ghost use Rattle.zb_seal.specs.Wire.{wire_length};
 
 use crate::ledger::Ledger;
 use zb_base::{Frame, Name, NoMemory, Short};
 use zb_cursor::frame_from;
-use zb_forge::{aps_command, clear_frame, forged_control, nwk_frame};
-use zb_sched::Event;
+use zb_forge::{SECURED, aps_command, clear_frame, forged_control, nwk_frame, sealed};
 use zb_said::{forge_line, inject_line, send_line};
-use zb_seal::{Term, wire};
-
-/// The NWK frame control of a sealed data frame.
-const SECURED: u16 = 0x0208;
+use zb_sched::Event;
+use zb_seal::Term;
 
 // The name that stands for an outsider.
 fn nobody() -> Name
@@ -33,29 +30,16 @@ fn nobody() -> Name
     }
 }
 
-// Answers the bytes of a term on the air.
-#[tactic(auto, using(zb_model_real::proofs::SameTerms::same_wire))]
-fn sealed(term: &Term) -> Frame
-    requires { wire_length term.now ≤ 127 }
-    ensures text { result.items ≡ real.wire (model_term term.now) }
-    ensures len { length result.items ≡ wire_length term.now }
-{
-    match wire(term) {
-        Ok(bytes) => bytes,
-        Err(_) => Frame::new(),
-    }
-}
-
 impl Ledger {
     /// Answers an event of the outside.
     ///
-    /// Errors: `NoMemory`.
+    /// An event of a node is passed over. Errors: `NoMemory`.
     pub fn answer_outside(&mut self, event: u32, what: &Event) -> Result<(), NoMemory>
         requires room { HasRoom self.old }
         ensures few { OnOk result (lines_told self.new ≤ lines_told self.old + 24) }
-        ensures adds { OnOk result ((w : Schedule) (h : List log.Line) (ds : List Disk) (known : List Station)
-            → IsTold w h self.old → seat_for known (event_of what.now) ≡ None
-            → Adds w h (step real w h ds event (event_for known (event_of what.now))).lines self.old self.new) }
+        ensures sent { OnOk result ((w : Schedule) (h : List log.Line) (ds : List Disk) (known : List Station)
+            → IsTold w h self.old → is_outside (event_of what.now) ≡ true
+            → IsSent w h ds (step real w h ds event (event_for known (event_of what.now))) self.old self.new) }
     {
         match what {
             Event::Inject { bytes } => self.inject(event, bytes),
@@ -70,9 +54,26 @@ impl Ledger {
             } => {
                 let control = forged_control(content.as_slice());
                 let bytes = content.as_slice();
-                let term = nwk_frame(control, *to, *from, *source, key, *sequence, *counter, bytes);
+                let term = nwk_frame(
+                    control, *to, *from, *source, key, *sequence, *counter, bytes,
+                );
                 self.forge_net(event, term)
             }
+            Event::ForgeNetAps { .. } => self.forge_command(event, what),
+            Event::ForgeOpen { .. } => self.forge_command(event, what),
+            _ => Ok(()),
+        }
+    }
+
+    // An APS command is forged under a link key. A frame that is sealed at NWK too carries it, or one that isn't.
+    fn forge_command(&mut self, event: u32, what: &Event) -> Result<(), NoMemory>
+        requires room { HasRoom self.old }
+        ensures few { OnOk result (lines_told self.new ≤ lines_told self.old + 24) }
+        ensures sent { OnOk result ((w : Schedule) (h : List log.Line) (ds : List Disk) (known : List Station)
+            → IsTold w h self.old → forges_command (event_of what.now) ≡ true
+            → IsSent w h ds (step real w h ds event (event_for known (event_of what.now))) self.old self.new) }
+    {
+        match what {
             Event::ForgeNetAps {
                 to,
                 from,
@@ -86,9 +87,11 @@ impl Ledger {
                 command,
             } => {
                 let inner = aps_command(*label, base, *source, *aps_counter, command.as_slice());
-                let bytes = sealed(&inner);
-                let bytes = bytes.as_slice();
-                let term = nwk_frame(SECURED, *to, *from, *source, key, *sequence, *counter, bytes);
+                let part = sealed(&inner);
+                let bytes = part.as_slice();
+                let term = nwk_frame(
+                    SECURED, *to, *from, *source, key, *sequence, *counter, bytes,
+                );
                 self.forge_both(event, inner, term)
             }
             Event::ForgeOpen {
@@ -167,7 +170,7 @@ impl Ledger {
 
     // The frame goes on the air.
     fn send(&mut self, event: u32, bytes: Frame) -> Result<(), NoMemory>
-        requires room { HasRoom self.old }
+        requires room { lines_told self.old < 4294967295 }
         ensures few { OnOk result (lines_told self.new ≤ lines_told self.old + 1) }
         ensures adds { OnOk result ((w : Schedule) (h : List log.Line) → IsTold w h self.old
             → Adds w h (log.Send event None (length (air h) + 1) bytes.items ∷ []) self.old self.new) }

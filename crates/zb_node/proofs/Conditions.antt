@@ -1,6 +1,7 @@
 -- What the calls of a host leave is the condition that the model says.
 use Rattle.std.proofs.Common.{◌≡◌, ◌≢◌, ◌+◌, ℕ, Bool, true, false, if◌then◌else◌, List, [], ◌∷◌, length, get_or, Option, Some, None, Result, Ok, Err, is_some, refl, sym, ◌∙◌, ap, subst, arith}
 use Rattle.std.proofs.lemmas.Bool.{false≢true, ne_eqb}
+use Rattle.zb_base.specs.Outside.{risen}
 use Rattle.zb_base.specs.declared.fault.OrMemory.{OrMemory}
 use Rattle.zb_base.specs.declared.fault.OrMemory.TheVariants.{Fault}
 use Rattle.zb_base.specs.declared.node.Config.{Config}
@@ -12,7 +13,7 @@ use Rattle.zb_disk.specs.Memory.{Medium, memory_view}
 use Rattle.zb_disk.specs.MemoryLaws.{image_seen}
 use Rattle.zb_driven.proofs.Resets.{one_open}
 use Rattle.zb_driven.proofs.Ties.{stop_stands, fail_stands}
-use Rattle.zb_driven.specs.Arms.{IsArming, IsUnarmed, armed_of, commit_of}
+use Rattle.zb_driven.specs.Arms.{IsArming, IsUnarmed, armed_of, commit_of, calls_after}
 use Rattle.zb_driven.specs.Driven.{IsAtRest, IsUp, HasFallen, IsDown, calls_in, next_of}
 use Rattle.zb_driven.specs.declared.arms.Arms.{Arms}
 use Rattle.zb_driven.specs.declared.arms.Arms.TheVariants.{Unarmed}
@@ -32,7 +33,7 @@ use Rattle.zb_model_shown.proofs.Answered.{answered_same, boot_same}
 use Rattle.zb_model_steps.specs.Conditions.{Condition, after_arming, after_cut_boot, after_fall, after_power_on, after_reset, after_storing, after_whole, calls_by, commits_with}
 use Rattle.zb_network.specs.Settings.{setting_for}
 use Rattle.zb_node.proofs.Standing.{after_alike, boot_alike, calls_are, same_given, stored_as, stored_later, stored_next, writes_are}
-use Rattle.zb_node.specs.Answers.{CanHave, CanStart, Changes, HasBooted, HasGiven, HasMade, IsPlanFor, IsStillDown, IsUpAgain, WasAnswered, WasCut, arms_stand, start_condition}
+use Rattle.zb_node.specs.Answers.{CanHave, CanStart, Changes, HasBooted, HasGiven, HasMade, IsPlanFor, IsStarted, IsStillDown, IsUpAgain, WasAnswered, WasCut, arms_stand, start_condition}
 use Rattle.zb_node.specs.Nodes.{IsIn, IsPowered, IsRunning, IsStored, words_for}
 use Rattle.zb_node.specs.Tasks.{suits}
 use Rattle.zb_node.specs.Values.{NodeValue, Running}
@@ -160,7 +161,7 @@ up_of x number task s r m stored run unarmed arming can = record { current = run
 
 answered_in : (x : Condition) (number : ℕ) (task : model.Task) (node : NodeValue) (r r' : Running) (changes : Changes) (out : Outcome Term Refusal) (old new : Medium)
     → IsIn x number (record node { machine = Some r }) old → CanHave x number task → r'.role ≡ r.role → HasGiven x.setting.me.role task x.disk.armed r.host old (Ok (changes, out)) r'.host new
-    → WasAnswered (answer real x.setting x.state task) x number (record { changes = changes; out = out }) (record node { machine = Some r' }) new
+    → WasAnswered (answer real x.setting x.state task) x number (record { changes = changes; out = out }) old (record node { machine = Some r' }) new
 answered_in x number task node r r' changes out old new is can role_stays given =
     let role = x.setting.me.role in
     let a = answer real x.setting x.state task in
@@ -174,6 +175,7 @@ answered_in x number task node r r' changes out old new is can role_stays given 
     record {
       missed = sym (ap (falls x.disk.armed) it.calls) ∙ handled.missed;
       answer_is = it.answer_is;
+      calls = handled.calls ∙ ap (calls_after old.calls) it.calls;
       leaves = record {
         standing = next;
         stored = stored_as role (applied_all a.edits x.state) (answered a x.state) (commits_with x.commits a.edits) (number + 1) next it.alike (it.stored handled.current.gives_it);
@@ -204,7 +206,7 @@ given_of x number task node r old result after new is can given =
 pub was_answered : (task : model.Task) (node : NodeValue) (r r' : Running) (changes : Changes) (out : Outcome Term Refusal) (old new : Medium) → r'.role ≡ r.role
     → (suits r.role task ≡ true → HasGiven r.role task (armed_of node.arms) r.host old (Ok (changes, out)) r'.host new)
     → (x : Condition) (number : ℕ) → IsIn x number (record node { machine = Some r }) old → CanHave x number task
-    → WasAnswered (answer real x.setting x.state task) x number (record { changes = changes; out = out }) (record node { machine = Some r' }) new
+    → WasAnswered (answer real x.setting x.state task) x number (record { changes = changes; out = out }) old (record node { machine = Some r' }) new
 was_answered task node r r' changes out old new role_stays given x number is can =
     answered_in x number task node r r' changes out old new is can role_stays (given_of x number task node r old (Ok (changes, out)) r'.host new is can given)
 
@@ -250,7 +252,7 @@ cut_now x number node s next es false both m stored then_stored rest gates setti
 pub was_cut : (task : model.Task) (node : NodeValue) (r : Running) (after : Hosted CoreValue) (e : Fallen) (kept : List Change) (old new : Medium)
     → (suits r.role task ≡ true → HasGiven r.role task (armed_of node.arms) r.host old (Err e) after new) → kept ≡ (if arms_stand (armed_of node.arms) then e.changes.items else [])
     → (x : Condition) (number : ℕ) → IsIn x number (record node { machine = Some r }) old → CanHave x number task
-    → WasCut (answer real x.setting x.state task) x number kept e.fall (record node { machine = None; arms = Unarmed }) new
+    → WasCut (answer real x.setting x.state task) x number kept e.fall old (record node { machine = None; arms = Unarmed }) new
 was_cut task node r after e kept old new gave kept_are x number is can =
     let role = x.setting.me.role in
     let armed = x.disk.armed in
@@ -272,6 +274,7 @@ was_cut task node r after e kept old new gave kept_are x number is can =
       stored_are = ap edits kept_are ∙ edits_if (arms_stand (armed_of node.arms)) e.changes.items ∙ ap (λ (b : Bool). if b then edits e.changes.items else []) stood
           ∙ ap (λ (es : List Edit). if stands armed calls then es else []) (ap edits told ∙ it.answer_is.changes);
       fall_is = fallen.is;
+      calls = fallen.calls;
       leaves = cut_now x (number + 1) node s next a.edits (stands armed calls) (leaves_both armed calls) new (stored_later role x.state x.commits number s is.stored) (it.stored fallen.gives_it)
           (subst (λ (k : Calls). IsAtRest (if stands armed k then next else s) new) it.calls fallen.rest) (fallen.gates ∙ ap (leaves_both armed) it.calls) is.setting is.role;
     }
@@ -287,7 +290,7 @@ made_of x number node old result new is made =
     subst (λ (a : Armed). HasMade x.setting.me.role node.config a old result new) is.armed (subst (λ (role : Role). HasMade role node.config (armed_of node.arms) old result new) is.role made)
 
 pub was_booted : (node : NodeValue) (r : Running) (old new : Medium) → HasMade (model_role node.peer.role) node.config (armed_of node.arms) old (Ok r) new
-    → (x : Condition) (number : ℕ) → IsIn x number node old → x.up ≡ false → IsUpAgain x number (record node { machine = Some r }) new
+    → (x : Condition) (number : ℕ) → IsIn x number node old → x.up ≡ false → IsUpAgain x number old (record node { machine = Some r }) new
 was_booted node r old new made0 x number is off =
     let role = x.setting.me.role in
     let s = is.standing in
@@ -298,6 +301,7 @@ was_booted node r old new made0 x number is off =
     let tables = same_given r.host.core.tables (after_boot (shown x.state)) (sym booted.tables ∙ is.stored.reads) ∙ boot_same x.state in
     record {
       missed = sym (ap (λ (b : Bool). falls x.disk.armed (BootCalls b)) is.gates) ∙ up.missed;
+      calls = up.calls ∙ ap (λ (b : Bool). calls_after old.calls (BootCalls b)) is.gates;
       leaves = record {
         standing = s;
         stored = stored_later role (after_boot x.state) x.commits number s (stored_as role x.state (after_boot x.state) x.commits number s (sym (boot_alike x.state)) is.stored);
@@ -317,7 +321,7 @@ was_booted node r old new made0 x number is off =
     }
 
 pub boot_fell : (node : NodeValue) (fall : Fall) (old new : Medium) → HasMade (model_role node.peer.role) node.config (armed_of node.arms) old (Err (Fault fall)) new
-    → (x : Condition) (number : ℕ) → IsIn x number node old → x.up ≡ false → IsStillDown x number fall (record node { arms = Unarmed }) new
+    → (x : Condition) (number : ℕ) → IsIn x number node old → x.up ≡ false → IsStillDown x number fall old (record node { arms = Unarmed }) new
 boot_fell node fall old new made0 x number is off =
     let role = x.setting.me.role in
     let s = is.standing in
@@ -325,6 +329,7 @@ boot_fell node fall old new made0 x number is off =
     record {
       fell = sym (ap (λ (b : Bool). falls x.disk.armed (BootCalls b)) is.gates) ∙ fallen.fell;
       fall_is = fallen.is;
+      calls = fallen.calls;
       leaves = record {
         standing = s;
         stored = stored_later role x.state x.commits number s is.stored;
@@ -473,10 +478,11 @@ running_now setting state node m booted is = record {
 }
 
 pub was_started : (peer : Peer) (config : Config) (o : Option Fall) (node : NodeValue) (old m new : Medium) → IsOfRole (model_role peer.role) config
-    → ((s : Standing) → IsHeld s (memory_view old) → IsUnarmed old → IsAtRest s m) → (IsUnarmed old → m.bytes ≡ old.bytes)
+    → ((s : Standing) → IsHeld s (memory_view old) → IsUnarmed old → IsAtRest s m) → (IsUnarmed old → m.bytes ≡ old.bytes) → m.calls ≡ old.calls
     → HasBooted (record { peer = peer; config = config; machine = None; arms = Unarmed }) m o node new
-    → (setting : Setting) (state : NodeState) (s : Standing) → CanStart setting state s config old → IsIn (start_condition setting state) 1 node new
-was_started peer config None node old m new of_role rest bytes booted setting state s can =
-    running_now setting state node new can.booted (booted (before_start setting state) 0 (ready setting state s peer config old m of_role can rest bytes) refl).leaves
-was_started peer config (Some fall) node old m new of_role rest bytes booted setting state s can =
+    → (setting : Setting) (state : NodeState) (s : Standing) → CanStart setting state s config old → IsStarted setting state old node new
+was_started peer config None node old m new of_role rest bytes calls booted setting state s can =
+    let up = booted (before_start setting state) 0 (ready setting state s peer config old m of_role can rest bytes) refl in
+    record { is = running_now setting state node new can.booted up.leaves; calls = up.calls ∙ ap (λ (n : ℕ). risen n 1) calls }
+was_started peer config (Some fall) node old m new of_role rest bytes calls booted setting state s can =
     absurd (false≢true (booted (before_start setting state) 0 (ready setting state s peer config old m of_role can rest bytes) refl).fell)

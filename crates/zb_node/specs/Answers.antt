@@ -2,12 +2,13 @@
 use Rattle.std.specs.Prelude.{ℕ, ◌≡◌, ◌≢◌, ◌+◌, ◌<◌, ◌^◌, Bool, true, false, if◌then◌else◌, List, [], Option, Some, None, Result, Ok, Err, is_some, ⊤}
 use Rattle.std.specs.List.{concat}
 use Rattle.arrayvec.specs.declared.array_vec.ArrayVec.{ArrayVec}
+use Rattle.zb_base.specs.Outside.{risen}
 use Rattle.zb_base.specs.declared.fault.OrMemory.{OrMemory}
 use Rattle.zb_base.specs.declared.fault.OrMemory.TheVariants.{Fault, NoMemory}
 use Rattle.zb_base.specs.declared.node.Config.{Config}
 use Rattle.zb_core.specs.CorePlans.{CorePlan, IsCoreAfter}
 use Rattle.zb_disk.specs.Memory.{Medium, memory_view}
-use Rattle.zb_driven.specs.Arms.{IsUnarmed}
+use Rattle.zb_driven.specs.Arms.{IsUnarmed, calls_after, fallen_calls}
 use Rattle.zb_driven.specs.Driven.{IsUp, WasHandled, HasFallen, IsDown, WasBooted, HasFallenAtBoot, fall_of}
 use Rattle.zb_driven.specs.declared.fall.Fall.{Fall}
 use Rattle.zb_driven.specs.declared.fall.Fallen.{Fallen}
@@ -47,46 +48,57 @@ pub record CanHave (x : Condition) (number : ℕ) (task : model.Task) : Type 0 w
   pub suits : suits x.setting.me.role task ≡ true
   pub shown : answer real x.setting (shown x.state) task ≡ answer real x.setting x.state task
 
--- An event was handled: nothing falls on it, it gave this answer, and the node is in the condition after it.
-pub record WasAnswered (a : Answer) (x : Condition) (number : ℕ) (p : CorePlan) (node : NodeValue) (m : Medium) : Type 0 where
+-- An event was handled: nothing falls on it, it gave this answer, the node is in the condition after it, and so many device
+-- calls were made.
+pub record WasAnswered (a : Answer) (x : Condition) (number : ℕ) (p : CorePlan) (old : Medium) (node : NodeValue) (m : Medium) : Type 0 where
   pub missed : falls x.disk.armed (calls_by x.commits a.edits) ≡ false
   pub answer_is : IsAnswer p a
   pub leaves : IsIn (after_whole a x) (number + 1) node m
+  pub calls : m.calls ≡ calls_after old.calls (calls_by x.commits a.edits)
 
--- An event was cut: what was armed falls on its commit, and its changes are stored where the model says that they stand.
-pub record WasCut (a : Answer) (x : Condition) (number : ℕ) (stored : List Change) (fall : Fall) (node : NodeValue) (m : Medium) : Type 0 where
+-- An event was cut: what was armed falls on its commit, its changes are stored where the model says that they stand, and the
+-- device calls up to the refused one were made.
+pub record WasCut (a : Answer) (x : Condition) (number : ℕ) (stored : List Change) (fall : Fall) (old : Medium) (node : NodeValue) (m : Medium) : Type 0 where
   pub fell : falls x.disk.armed (calls_by x.commits a.edits) ≡ true
   pub stored_are : edits stored ≡ (if stands x.disk.armed (calls_by x.commits a.edits) then a.edits else [])
   pub fall_is : fall ≡ fall_of x.disk.armed
   pub leaves : IsIn (after_cut a x) (number + 1) node m
+  pub calls : m.calls ≡ risen old.calls (fallen_calls x.disk.armed)
 
 -- What became of an event of a node, by what is told of it: nothing where it is down.
 abbrev pub HasHandled : model.Task → NodeValue → Medium → Option Handled → NodeValue → Medium → Type 0
 HasHandled task old m None new m' = (old.machine ≡ None) × (new ≡ old) × (m' ≡ m)
 HasHandled task old m (Some (Whole changes out)) new m' = (x : Condition) (number : ℕ) → IsIn x number old m → CanHave x number task
-    → WasAnswered (answer real x.setting x.state task) x number (record { changes = changes; out = out }) new m'
+    → WasAnswered (answer real x.setting x.state task) x number (record { changes = changes; out = out }) m new m'
 HasHandled task old m (Some (Cut stored fall)) new m' = (x : Condition) (number : ℕ) → IsIn x number old m → CanHave x number task
-    → WasCut (answer real x.setting x.state task) x number stored.items fall new m'
+    → WasCut (answer real x.setting x.state task) x number stored.items fall m new m'
 
 -- A node was booted: nothing falls on its boot, and it is up.
-pub record IsUpAgain (x : Condition) (number : ℕ) (node : NodeValue) (m : Medium) : Type 0 where
+pub record IsUpAgain (x : Condition) (number : ℕ) (old : Medium) (node : NodeValue) (m : Medium) : Type 0 where
   pub missed : falls x.disk.armed (BootCalls x.disk.both_open) ≡ false
   pub leaves : IsIn (after_power_on x) (number + 1) node m
+  pub calls : m.calls ≡ calls_after old.calls (BootCalls x.disk.both_open)
 
 -- Its boot was cut: it is still down.
-pub record IsStillDown (x : Condition) (number : ℕ) (fall : Fall) (node : NodeValue) (m : Medium) : Type 0 where
+pub record IsStillDown (x : Condition) (number : ℕ) (fall : Fall) (old : Medium) (node : NodeValue) (m : Medium) : Type 0 where
   pub fell : falls x.disk.armed (BootCalls x.disk.both_open) ≡ true
   pub fall_is : fall ≡ fall_of x.disk.armed
   pub leaves : IsIn (after_cut_boot x) (number + 1) node m
+  pub calls : m.calls ≡ risen old.calls (fallen_calls x.disk.armed)
 
 -- what became of the boot of a node that was down
 abbrev pub HasBooted : NodeValue → Medium → Option Fall → NodeValue → Medium → Type 0
-HasBooted old m None new m' = (x : Condition) (number : ℕ) → IsIn x number old m → x.up ≡ false → IsUpAgain x number new m'
-HasBooted old m (Some fall) new m' = (x : Condition) (number : ℕ) → IsIn x number old m → x.up ≡ false → IsStillDown x number fall new m'
+HasBooted old m None new m' = (x : Condition) (number : ℕ) → IsIn x number old m → x.up ≡ false → IsUpAgain x number m new m'
+HasBooted old m (Some fall) new m' = (x : Condition) (number : ℕ) → IsIn x number old m → x.up ≡ false → IsStillDown x number fall m new m'
 
 -- the condition of a node at the start: it is up, and made no commit
 abbrev pub start_condition : Setting → NodeState → Condition
 start_condition setting state = record { setting = setting; state = state; commits = 0; up = true; disk = new_disk }
+
+-- a node at the start: it is in that condition before the first event, and its boot made one device call
+pub record IsStarted (setting : Setting) (state : NodeState) (old : Medium) (node : NodeValue) (m : Medium) : Type 0 where
+  pub is : IsIn (start_condition setting state) 1 node m
+  pub calls : m.calls ≡ risen old.calls 1
 
 -- A state at the start, over a disk that holds its record: a boot leaves that state as it is.
 pub record CanStart (setting : Setting) (state : NodeState) (s : Standing) (config : Config) (m : Medium) : Type 0 where

@@ -9,7 +9,7 @@ ghost use Rattle.zb_model.specs.Record.{record_of};
 ghost use Rattle.zb_model.specs.Rules.{Setting};
 ghost use Rattle.zb_model.specs.State.{NodeState};
 ghost use Rattle.zb_model_steps.specs.Conditions.{Condition, after_arming, after_reset};
-ghost use Rattle.zb_node.specs.Answers.{CanStart, HasBooted, HasHandled, arms_stand, start_condition};
+ghost use Rattle.zb_node.specs.Answers.{CanStart, HasBooted, HasHandled, IsStarted, arms_stand};
 ghost use Rattle.zb_node.specs.Nodes.{IsIn};
 ghost use Rattle.zb_node.specs.Tasks.{model_task};
 ghost use Rattle.zb_node_types.specs.Changes.{model_role};
@@ -147,7 +147,7 @@ impl Node {
         requires role { IsOfRole (model_role peer.role) config }
         ensures names { IfOk result (λ node. (node.peer ≡ peer) × (node.config ≡ config)) }
         ensures starts { IfOk result (λ node. (setting : Setting) (state : NodeState) (s : Standing)
-            → CanStart setting state s config disk.old → IsIn (start_condition setting state) 1 node disk.new) }
+            → CanStart setting state s config disk.old → IsStarted setting state disk.old node disk.new) }
     {
         reset(disk);
         let mut node = Node {
@@ -237,6 +237,7 @@ impl Node {
         ensures down { self.new ≡ record self.old { machine = None } }
         ensures rest { (x : Condition) (number : ℕ) → IsIn x number self.old disk.old → x.up ≡ true
             → IsIn (after_reset x) (number + 1) self.new disk.new }
+        ensures calls { disk.new.calls ≡ disk.old.calls }
     {
         self.machine = None;
         reset(disk);
@@ -267,8 +268,9 @@ impl Node {
     ///
     /// Errors: `NoMemory`.
     pub fn dump(&self, alloc: Global, disk: &mut MemDisk) -> Result<Vec<u8>, NoMemory>
-        ensures { IfOk result (λ r. (x : Condition) (number : ℕ) → IsIn x number self.now disk.old
+        ensures record_is { IfOk result (λ r. (x : Condition) (number : ℕ) → IsIn x number self.now disk.old
             → (r.items ≡ record_of x.state) × IsIn x (number + 1) self.now disk.new) }
+        ensures calls { disk.new.calls ≡ disk.old.calls }
     {
         let mut room = Vec::with_capacity(alloc, RECORD_ROOM)?;
         room.resize(RECORD_ROOM, 0)?;

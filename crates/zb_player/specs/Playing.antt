@@ -1,24 +1,30 @@
 -- What a run is of the lines so far, and what an event makes of it.
-use Rattle.std.specs.Prelude.{◌≡◌, ℕ, ◌+◌, List, ◌++◌, map}
+use Rattle.std.specs.Prelude.{◌≡◌, ℕ, ◌+◌, ◌<◌, List, ◌++◌, map, length, get_or, Some}
 use Rattle.zb_base.specs.declared.key.Key.{Key}
 use Rattle.zb_disk.specs.Memory.{Medium}
+use Rattle.zb_events.specs.Acts.{IsFor, act_for}
 use Rattle.zb_events.specs.Seats.{AreSeats}
+use Rattle.zb_events.specs.declared.acts.Act.{Act}
 use Rattle.zb_events.specs.Told.{IsTold}
+use Rattle.zb_model.specs.Data.{Station}
 use Rattle.zb_model.specs.Lines.{Line}
 use Rattle.zb_model.specs.Play.{Disk, Step, Event, stations, step}
 use Rattle.zb_model_real.specs.Real.{real}
-use Rattle.zb_model_schedules.specs.Schedules.{schedule_of}
+use Rattle.zb_model.specs.Schedules.{CountsCalls, SuitsRole}
+use Rattle.zb_model_schedules.specs.Schedules.{event_for, schedule_of, stations_for}
 use Rattle.zb_node.specs.Nodes.{AllStand}
 use Rattle.zb_player.specs.declared.run.Run.{Run}
 use Rattle.zb_said.specs.Said.{text_of}
 use Rattle.zb_sched.specs.Schedules as sched
+use Rattle.zb_sched.specs.Valid.{FitsSchedule}
+use Rattle.zb_sched_line.specs.Said as said
 
 -- The run of a schedule stands, after these lines and with these disks of the model, before the event of that number.
 pub record RunStands (p : sched.Schedule) (h : List Line) (ds : List Disk) (number : ℕ) (run : Run) (disks : List Medium) : Type 0 where
   pub told : IsTold (schedule_of p) h run.ledger
   pub nodes : AllStand (schedule_of p) h ds number (stations (schedule_of p)) run.nodes.items disks
   pub seats : AreSeats run.seats (stations (schedule_of p))
-  pub draws : map (λ (k : Key). k.0) run.draws ≡ p.draws
+  pub draws : map (λ (k : Key). k.0) run.draws.now ≡ p.draws
 
 -- The run went on by a step.
 pub record RunGoes (p : sched.Schedule) (g : Step) (h : List Line) (number : ℕ) (old new : Run) (disks : List Medium) : Type 0 where
@@ -27,3 +33,17 @@ pub record RunGoes (p : sched.Schedule) (g : Step) (h : List Line) (number : ℕ
 
 abbrev pub step_of : sched.Schedule → List Line → List Disk → ℕ → Event → Step
 step_of p h ds number act = step real (schedule_of p) h ds number act
+
+-- The event is of the declared node at that place, and is one of its role.
+pub record IsEventAt (p : sched.Schedule) (place : ℕ) (q : Station) (act : Act) (event : Event) : Type 0 where
+  pub bound : place < length (stations (schedule_of p))
+  pub station : get_or (stations (schedule_of p)) place q ≡ q
+  pub event_is : act_for q.eui act ≡ Some event
+  pub role : IsFor q.role event
+
+-- What an event asks of a schedule: it fits it, and the model's event is one of its node's role.
+pub record FitsRun (p : sched.Schedule) (number : ℕ) (e : said.Event) : Type 0 where
+  pub early : number < 4294967296
+  pub fits : FitsSchedule p e
+  pub roles : SuitsRole (schedule_of p) (event_for (stations_for p) e)
+  pub calls : CountsCalls (event_for (stations_for p) e)

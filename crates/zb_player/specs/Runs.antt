@@ -1,6 +1,5 @@
 -- Whole runs.
-use Rattle.std.specs.Prelude.{◌≡◌, ℕ, ◌+◌, ◌≤◌, List, [], ◌∷◌, ◌++◌, length, map, Option}
-use Rattle.std.specs.List.{AllByRecursion}
+use Rattle.std.specs.Prelude.{◌≡◌, ℕ, ◌+◌, ◌≤◌, List, [], ◌∷◌, ◌++◌, length, map, take, Option}
 use Rattle.std.specs.Io.KnownBytes.{Appends}
 use Rattle.zb_base.specs.Outside.{AppendsFront}
 use Rattle.zb_disk.specs.Memory.{Medium}
@@ -10,13 +9,14 @@ use Rattle.zb_model.specs.Play.{Disk, Event, Schedule, groups, stations, step}
 use Rattle.zb_model.specs.Transcript.{end_line, run_lines, transcript}
 use Rattle.zb_model_real.specs.Real.{real}
 use Rattle.zb_model_schedules.specs.Schedules.{event_for, schedule_of, stations_for}
-use Rattle.zb_node.specs.Nodes.{AllStand, NodeValue}
+use Rattle.zb_node.specs.Nodes.{AllStand}
+use Rattle.zb_node.specs.Values.{NodeValue}
 use Rattle.zb_player.specs.Playing.{RunStands}
 use Rattle.zb_player.specs.declared.run.Run.{Run}
 use Rattle.zb_player.specs.declared.summary.Summary.{Summary}
 use Rattle.zb_said.specs.Said.{text_of}
 use Rattle.zb_sched.specs.Schedules as sched
-use Rattle.zb_sched.specs.Valid.{FitsSchedule, IsSchedule}
+use Rattle.zb_sched.specs.Valid.{IsSchedule}
 use Rattle.zb_sched_line.specs.Said as said
 use Rattle.zb_model.specs.Lines as log
 
@@ -36,20 +36,20 @@ lines_of p h ds events = groups real (schedule_of p) h ds 1 (acts_of p events)
 abbrev pub text_in : sched.Schedule → List Line → Bytes
 text_in p lines = text_of (stations (schedule_of p)) lines
 
--- What all events of a run ask of the schedule.
+-- These are the events of the schedule.
 pub record IsPlayed (p : sched.Schedule) (events : List said.Event) : Type 0 where
   pub schedule : IsSchedule p
-  pub fit : AllByRecursion (FitsSchedule p) events
+  pub events_are : events ≡ p.events
 
--- These events were answered: their lines were written, and the run stands after them.
-pub record Answered (p : sched.Schedule) (h : List Line) (ds : List Disk) (events : List said.Event) (run : Run) (disks : List Medium) (before after : Option Bytes) : Type 0 where
-  pub stands : RunStands p (h ++ lines_of p h ds events) (disks_after (schedule_of p) h ds 1 (acts_of p events)) (length events + 1) run disks
-  pub taken : Appends before after (text_in p (lines_of p h ds events))
+-- So many of these events were answered: their lines were written, and the run stands after them.
+pub record Answered (p : sched.Schedule) (h : List Line) (ds : List Disk) (events : List said.Event) (n : ℕ) (run : Run) (disks : List Medium) (before after : Option Bytes) : Type 0 where
+  pub stands : RunStands p (h ++ lines_of p h ds (take n events)) (disks_after (schedule_of p) h ds 1 (acts_of p (take n events))) (n + 1) run disks
+  pub taken : Appends before after (text_in p (lines_of p h ds (take n events)))
 
-abbrev pub AnswersAll : Run → List Medium → List said.Event → Run → List Medium → Option Bytes → Option Bytes → Type 0
-AnswersAll old disks events new disks' before after =
+abbrev pub Answers : Run → List Medium → List said.Event → ℕ → Run → List Medium → Option Bytes → Option Bytes → Type 0
+Answers old disks events n new disks' before after =
     (p : sched.Schedule) (h : List Line) (ds : List Disk) → IsPlayed p events → RunStands p h ds 1 old disks
-    → Answered p h ds events new disks' before after
+    → Answered p h ds events n new disks' before after
 
 abbrev pub PrintsAll : Run → List Medium → List said.Event → Option Bytes → Option Bytes → Type 0
 PrintsAll old disks events before after =

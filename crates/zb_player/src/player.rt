@@ -2,7 +2,7 @@
 ghost use Rattle.std.specs.Prelude.{◌≡◌, ◌≤◌, ◌+◌, [], true, IfOk, OnOk, OnErr, Err, length, map};
 ghost use Rattle.zb_base.specs.Outside.{Rose};
 ghost use Rattle.zb_events.specs.Told.{lines_told};
-ghost use Rattle.zb_player.specs.Runs.{AnswersAll, IsFront, IsWhole, Played, PrintsAll, Sums};
+ghost use Rattle.zb_player.specs.Runs.{Answers, IsFront, IsWhole, Played, PrintsAll, Sums};
 ghost use Rattle.zb_sched.specs.Schedules as sched;
 ghost use Rattle.zb_sched.specs.Valid.{IsSchedule};
 ghost use Rattle.zb_sched_line.specs.Views.{event_of};
@@ -69,8 +69,8 @@ fn answer_all<'a, B: Bench, W: Sink>(
     requires few { length events.now ≤ 100000 }
     requires room { lines_told run.old.ledger ≤ 400 }
     ensures empty { OnOk result (run.new.ledger.page.items ≡ []) }
-    ensures whole { OnOk result (B.still bench.old ≡ true → AnswersAll run.old disks.old
-        (map event_of events.now) run.new disks.new (W.taken out.old) (W.taken out.new)) }
+    ensures whole { OnOk result (B.still bench.old ≡ true → Answers run.old disks.old
+        (map event_of events.now) (length events.now) run.new disks.new (W.taken out.old) (W.taken out.new)) }
     ensures front { OnErr result (B.still bench.old ≡ true → PrintsAll run.old disks.old (map event_of events.now)
         (W.taken out.old) (W.taken out.new)) }
     ensures later { W.faults out.old ≤ W.faults out.new }

@@ -1,16 +1,17 @@
 //! A run while it goes on.
 ghost use Rattle.std.specs.Prelude.{◌≡◌, ◌≤◌, ◌+◌, ◌<◌, [], ℕ, List, Some, true, IfOk, OnOk, map};
 ghost use Rattle.zb_base.specs.declared.key.Key.{Key as key};
+ghost use Rattle.zb_model.specs.Data.{Station as station};
 ghost use Rattle.zb_model.specs.Lines.{Line};
 ghost use Rattle.zb_model.specs.Play as model;
 ghost use Rattle.zb_model.specs.Play.{Disk, stations, step};
 ghost use Rattle.zb_model_real.specs.Real.{real};
 ghost use Rattle.zb_model_schedules.specs.Schedules.{event_for, schedule_of, stations_for};
 ghost use Rattle.zb_events.specs.Told.{HasRoom, lines_told};
-ghost use Rattle.zb_player.specs.Playing.{RunGoes, RunStands, step_of};
+ghost use Rattle.zb_player.specs.Playing.{FitsRun, IsEventAt, RunGoes, RunStands, step_of};
 ghost use Rattle.zb_player.specs.Runs.{text_in};
 ghost use Rattle.zb_sched.specs.Schedules as sched;
-ghost use Rattle.zb_sched.specs.Valid.{FitsSchedule, IsSchedule};
+ghost use Rattle.zb_sched.specs.Valid.{IsSchedule};
 ghost use Rattle.zb_sched_line.specs.Views.{event_of};
 
 use crate::bench::Bench;
@@ -81,7 +82,7 @@ impl<'a> Run<'a> {
         ensures few { OnOk result (lines_told self.new.ledger ≤ lines_told self.old.ledger + 24) }
         ensures still { B.still bench.old ≡ true → B.still bench.new ≡ true }
         ensures goes { OnOk result (B.still bench.old ≡ true → (p : sched.Schedule) (h : List Line) (ds : List Disk)
-            → IsSchedule p → FitsSchedule p (event_of event.now) → RunStands p h ds number self.old disks.old
+            → IsSchedule p → FitsRun p number (event_of event.now) → RunStands p h ds number self.old disks.old
             → RunGoes p (step_of p h ds number (event_for (stations_for p) (event_of event.now))) h number
             self.old self.new disks.new) }
     {
@@ -102,22 +103,38 @@ impl<'a> Run<'a> {
         number: u32,
         place: usize,
         act: Act,
-    ) -> Result<(), NoMemory> {
+    ) -> Result<(), NoMemory>
+        requires room { HasRoom self.old.ledger }
+        ensures few { OnOk result (lines_told self.new.ledger ≤ lines_told self.old.ledger + 24) }
+        ensures goes { OnOk result ((p : sched.Schedule) (h : List Line) (ds : List Disk) (event : model.Event)
+            (q : station) → IsSchedule p → RunStands p h ds number self.old disks.old
+            → IsEventAt p place q act event
+            → RunGoes p (step_of p h ds number event) h number self.old self.new disks.new) }
+    {
         if place >= self.nodes.len() || place >= disks.len() {
             return Ok(());
         }
         let node = &mut self.nodes[place];
         let disk = &mut disks[place];
-        self.ledger
-            .answer_node(self.draws, node, disk, number, act)
+        self.ledger.answer_node(self.draws, node, disk, number, act)
     }
 }
 
 // Puts the disk of a bench under a node, where it has one.
-fn swap<B: Bench>(disks: &mut [MemDisk], bench: &mut B, number: u32, seat: Seat) {
-    if let Some(disk) = bench.swap(number, seat.place as u8) {
-        if seat.place < disks.len() {
-            disks[seat.place] = disk;
+fn swap<B: Bench>(disks: &mut [MemDisk], bench: &mut B, number: u32, seat: Seat)
+    ensures disks { B.still bench.old ≡ true → disks.new ≡ disks.old }
+    ensures still { B.still bench.old ≡ true → B.still bench.new ≡ true }
+{
+    if let Ok(node) = u8::try_from(seat.place) {
+        if let Some(disk) = bench.swap(number, node) {
+            put_under(disks, seat.place, disk);
         }
+    }
+}
+
+// Puts a disk under the node at a place, if there is one.
+fn put_under(disks: &mut [MemDisk], place: usize, disk: MemDisk) {
+    if place < disks.len() {
+        disks[place] = disk;
     }
 }

@@ -1,8 +1,9 @@
-//! The start of a run: the first record of each node on a disk of its own, its first boot, and the start lines.
+//! The start of a run: the start lines, and the nodes, each booted from its first record on a disk of its own.
 #![tactic(auto)]
 
+mod line;
 mod lines;
-mod members;
+mod nodes;
 
 pub use lines::tell_start;
-pub use members::start_nodes;
+pub use nodes::start_nodes;

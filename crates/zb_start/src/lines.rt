@@ -1,24 +1,43 @@
 //! The start lines: the nodes, then their network keys, link keys and stored limits, each kind in the order of the
 //! nodes.
-use crate::members::centre_of;
-use std::alloc::Global;
-use zb_base::{Layer, Name, NoMemory};
-use zb_sched::Node as Declared;
-use zb_scribe::Scribe;
-use zb_trace::Line;
+ghost use Rattle.std.specs.Prelude.{◌≡◌, ◌+◌, ◌*◌, ◌≤◌, ◌++◌, [], List, flat_map, length, OnOk};
+ghost use Rattle.zb_first.specs.Firsts.{AreNodesOf, AreOfSchedule};
+ghost use Rattle.zb_model.specs.Data.{Station};
+ghost use Rattle.zb_model.specs.Play.{start, stations};
+ghost use Rattle.zb_model_schedules.specs.Schedules.{schedule_of};
+ghost use Rattle.zb_said.specs.Said.{text_of};
+ghost use Rattle.zb_sched.specs.Schedules.{Schedule};
+ghost use Rattle.zb_scribe.specs.Kept.{Kept, Tells, told};
+ghost use Rattle.zb_start.specs.Starts.{AreKnown, code_lines, counter_lines, declared_lines, network_lines};
 
-/// Tells the start lines of a schedule.
+use crate::line::{tell_code, tell_limits, tell_network, tell_node};
+use std::alloc::Global;
+use zb_base::{Eui, NoMemory};
+use zb_first::centre_of;
+use zb_sched::Node;
+use zb_scribe::Scribe;
+
+/// Tells the start lines of a schedule. Requires its nodes, and room for 400 more lines.
 ///
 /// Errors: `NoMemory`.
 pub fn tell_start(
     alloc: Global,
     scribe: &mut Scribe,
     page: &mut Vec<u8>,
-    declared: &[Declared],
-) -> Result<(), NoMemory> {
+    declared: &[Node],
+) -> Result<(), NoMemory>
+    requires schedule { AreOfSchedule declared.now }
+    requires room { told scribe.old + 400 ≤ 4294967295 }
+    ensures page { OnOk result ((p : Schedule) → AreNodesOf p declared.now
+        → page.new.items ≡ page.old.items ++ text_of (stations (schedule_of p)) (start (schedule_of p))) }
+    ensures kept { OnOk result ((p : Schedule) → AreNodesOf p declared.now → Kept [] scribe.old
+        → Kept (start (schedule_of p)) scribe.new) }
+    ensures told { OnOk result (told scribe.new ≤ told scribe.old + 400) }
+{
+    let centre = centre_of(declared);
     tell_nodes(alloc, scribe, page, declared)?;
     tell_networks(alloc, scribe, page, declared)?;
-    tell_codes(alloc, scribe, page, declared)?;
+    tell_codes(alloc, scribe, page, centre, declared)?;
     tell_counters(alloc, scribe, page, declared)
 }
 
@@ -26,18 +45,16 @@ fn tell_nodes(
     alloc: Global,
     scribe: &mut Scribe,
     page: &mut Vec<u8>,
-    declared: &[Declared],
-) -> Result<(), NoMemory> {
+    declared: &[Node],
+) -> Result<(), NoMemory>
+    requires { told scribe.old + length declared.now ≤ 4294967295 }
+    ensures page { OnOk result ((known : List Station)
+        → page.new.items ≡ page.old.items ++ text_of known (declared_lines declared.now)) }
+    ensures kept { OnOk result (Kept [] scribe.old → Kept (declared_lines declared.now) scribe.new) }
+    ensures told { OnOk result (told scribe.new ≤ told scribe.old + length declared.now) }
+{
     for node in declared {
-        let line = Line::Node {
-            name: node.peer.name,
-            role: node.peer.role,
-            eui: node.peer.eui,
-            short: node.peer.short,
-            out_block: node.out_block,
-            in_block: node.in_block,
-        };
-        scribe.tell(alloc, page, &line)?;
+        tell_node(alloc, scribe, page, node)?;
     }
     Ok(())
 }
@@ -46,17 +63,15 @@ fn tell_networks(
     alloc: Global,
     scribe: &mut Scribe,
     page: &mut Vec<u8>,
-    declared: &[Declared],
-) -> Result<(), NoMemory> {
+    declared: &[Node],
+) -> Result<(), NoMemory>
+    requires { told scribe.old + length declared.now ≤ 4294967295 }
+    ensures tells { OnOk result ((known : List Station) → AreKnown known declared.now
+        → Tells known (flat_map network_lines declared.now) scribe.old page.old.items scribe.new page.new.items) }
+    ensures told { OnOk result (told scribe.new ≤ told scribe.old + length declared.now) }
+{
     for node in declared {
-        if let Some((key, sequence)) = &node.network {
-            let line = Line::GivenNet {
-                node: node.peer.name,
-                key: *key,
-                sequence: *sequence,
-            };
-            scribe.tell(alloc, page, &line)?;
-        }
+        tell_network(alloc, scribe, page, node)?;
     }
     Ok(())
 }
@@ -65,18 +80,17 @@ fn tell_codes(
     alloc: Global,
     scribe: &mut Scribe,
     page: &mut Vec<u8>,
-    declared: &[Declared],
-) -> Result<(), NoMemory> {
-    let partner = centre_of(declared);
+    centre: Eui,
+    declared: &[Node],
+) -> Result<(), NoMemory>
+    requires { told scribe.old + length declared.now ≤ 4294967295 }
+    ensures tells { OnOk result ((known : List Station) → AreKnown known declared.now
+        → Tells known (flat_map (code_lines centre.0) declared.now) scribe.old page.old.items
+        scribe.new page.new.items) }
+    ensures told { OnOk result (told scribe.new ≤ told scribe.old + length declared.now) }
+{
     for node in declared {
-        if let Some(code) = &node.code {
-            let line = Line::GivenLink {
-                node: node.peer.name,
-                partner,
-                key: code.link_key(),
-            };
-            scribe.tell(alloc, page, &line)?;
-        }
+        tell_code(alloc, scribe, page, centre, node)?;
     }
     Ok(())
 }
@@ -85,27 +99,15 @@ fn tell_counters(
     alloc: Global,
     scribe: &mut Scribe,
     page: &mut Vec<u8>,
-    declared: &[Declared],
-) -> Result<(), NoMemory> {
+    declared: &[Node],
+) -> Result<(), NoMemory>
+    requires { told scribe.old + 2 * length declared.now ≤ 4294967295 }
+    ensures tells { OnOk result ((known : List Station) → AreKnown known declared.now
+        → Tells known (flat_map counter_lines declared.now) scribe.old page.old.items scribe.new page.new.items) }
+    ensures told { OnOk result (told scribe.new ≤ told scribe.old + 2 * length declared.now) }
+{
     for node in declared {
-        let name = node.peer.name;
-        tell_limit(alloc, scribe, page, name, Layer::Nwk, node.start_nwk)?;
-        tell_limit(alloc, scribe, page, name, Layer::Aps, node.start_aps)?;
+        tell_limits(alloc, scribe, page, node)?;
     }
     Ok(())
-}
-
-// Tells a stored limit that isn't 0.
-fn tell_limit(
-    alloc: Global,
-    scribe: &mut Scribe,
-    page: &mut Vec<u8>,
-    node: Name,
-    layer: Layer,
-    limit: u32,
-) -> Result<(), NoMemory> {
-    if limit == 0 {
-        return Ok(());
-    }
-    scribe.tell(alloc, page, &Line::Counter { node, layer, limit })
 }

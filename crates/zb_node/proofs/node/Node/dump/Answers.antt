@@ -8,8 +8,8 @@ use Rattle.zb_node_types.specs.Changes.{model_role}
 use Rattle.zb_stored_tables.specs.Stored.{restored}
 use Rattle.zb_node.proofs.node.Node.dump.Goals as goal
 
-pub returns : goal.returns
-returns c =
+pub returns-clause-record_is : goal.returns-clause-record_is
+returns-clause-record_is c =
     let room = c.dump.new.room in
     let same = room_is c.resize.new.self.len room c.resize.new.self.items (c.dump.auto.room ∙ c.deref_mut.ensures.len) in
     was_dumped c.args.self.now c.args.disk.now c.dump.new.disk c.keep_shown.new.room.items c.in_ok-len.ensures.still

@@ -1,0 +1,19 @@
+-- The frame of a number is the one that went on the air.
+use Rattle.std.proofs.Common.{Option, ap, sym, subst, ◌∙◌}
+use Rattle.zb_events.proofs.Going.{frame_is}
+use Rattle.zb_events.proofs.ledger.Ledger.deliver.Goals as goal
+use Rattle.zb_events.specs.Told.{Goes}
+use Rattle.zb_model.specs.Answer.{counting_of}
+use Rattle.zb_model.specs.Data.{Bytes}
+use Rattle.zb_model.specs.Play.{deliver_step}
+use Rattle.zb_model_real.specs.Real.{real}
+use Rattle.zb_scribe.specs.Outcomes.{items_of}
+use Rattle.zb_trace_watch.proofs.Starting.{on_ok}
+
+pub returns-in-None-clause-goes : goal.returns-in-None-clause-goes
+returns-in-None-clause-goes c =
+    on_ok c.miss.result _ _
+    (λ goes w h ds n before draws.
+    subst (λ (found : Option Bytes). Goes w (deliver_step real counting_of w h ds c.args.event n found) h c.args.event n c.args.self.now c.miss.new.self c.miss.new.node c.args.disk.now)
+    (sym (frame_is w h c.args.self.now c.args.frame (items_of c.frame.result) before.told c.frame.ensures ∙ ap items_of c.in-None.is)) (goes w h ds n c.args.disk.now before))
+    c.miss.ensures.goes

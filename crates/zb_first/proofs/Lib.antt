@@ -1,0 +1,4 @@
+pub mod Lists
+pub mod Settings
+pub mod StartLines
+pub mod Records

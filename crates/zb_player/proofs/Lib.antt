@@ -1,0 +1,12 @@
+pub mod Stand
+pub mod Seating
+pub mod RunLines
+pub mod Named
+pub mod RunSteps
+pub mod EventAt
+pub mod Goings
+pub mod Answering
+pub mod Looping
+pub mod Whole
+pub mod Ending
+pub mod Summing
