@@ -137,13 +137,13 @@ packets 1 1 0
 
 /// What a run came to: how it ended, and what the sink took.
 #[derive(Drop)]
-struct Ran {
-    status: Status,
-    sink: MemSink,
+pub(crate) struct Ran {
+    pub status: Status,
+    pub sink: MemSink,
 }
 
 /// Runs words over an input whose calls of some numbers fail, and a sink whose calls of some numbers fail.
-fn over<H: AllocGlobal + Threads + Sync>(
+pub(crate) fn over<H: AllocGlobal + Threads + Sync>(
     rt: &H,
     words: &[&str],
     input: &[u8],

@@ -1,12 +1,12 @@
-//! Tests of whole runs: a disk that another one takes the place of, stops and failures of disks at each call, and sinks
-//! that fail.
+//! Tests of whole runs: stops and failures of a disk at each call of each event that stores something, and disks that
+//! others take the place of.
 #![tactic(auto)]
 
 #[cfg(test)]
-mod disks;
+mod falls;
 #[cfg(test)]
-mod played;
+mod runs;
 #[cfg(test)]
-mod sinks;
+mod steps;
 #[cfg(test)]
 mod swaps;
