@@ -1,0 +1,3 @@
+pub mod Euis
+pub mod Opening
+pub mod Nodes
