@@ -4,10 +4,12 @@ use Rattle.std.specs.List.{AllByRecursion}
 use Rattle.zb_model.specs.Play as model
 use Rattle.zb_model_granted.proofs.Newest.{newest-along}
 use Rattle.zb_model_runs.specs.Sound.{NodesAreSound}
+use Rattle.zb_model_runs.proofs.Along.{none-along}
 use Rattle.zb_model_runs.proofs.Euis.{different}
 use Rattle.zb_model_runs.proofs.Opening.{opens_as_judged}
 use Rattle.zb_model_real.specs.Real.{real}
 use Rattle.zb_model_schedules.specs.Schedules.{schedule_of}
+use Rattle.zb_model_schedules.proofs.Holding.{all_hold}
 use Rattle.zb_model_schedules.proofs.Meets.{is_schedule}
 use Rattle.zb_model_sealable.proofs.Plans.{sealable}
 use Rattle.zb_model_shown.specs.Along.{StartsAlone, euis_differ}
@@ -22,5 +24,6 @@ sound alone p is = record {
   declared = declared_along real (schedule_of p) (is_schedule p is) (different p is);
   rules = ruled_along real opens_as_judged (schedule_of p) (is_schedule p is) (different p is);
   newest = newest-along real opens_as_judged (schedule_of p) (is_schedule p is) (different p is);
+  no_filler = none-along real (schedule_of p) (all_hold p is).granted (all_hold p is).room (newest-along real opens_as_judged (schedule_of p) (is_schedule p is) (different p is));
   sealable = sealable real (schedule_of p);
 }
