@@ -1,0 +1,5 @@
+pub mod Euis
+pub mod Opening
+pub mod Refusing
+pub mod Along
+pub mod Nodes

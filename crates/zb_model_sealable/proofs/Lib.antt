@@ -1,0 +1,4 @@
+pub mod Waking
+pub mod Rules
+pub mod Plans
+pub mod Delivered

@@ -1,0 +1,2 @@
+pub mod Sealable
+pub mod Carried
