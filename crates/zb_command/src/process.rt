@@ -34,8 +34,9 @@ fn run_words<H: Env + Input + Files + AllocGlobal + Threads + Sync + Drop, W: Wr
     rt: &H,
     output: &mut StdSink<W>,
 ) -> Status {
-    let Ok(words) = words_after_name(rt) else {
-        return Status::NoMemory;
+    let words = match words_after_name(rt) {
+        Ok(words) => words,
+        Err(error) => return without_words(&error),
     };
     let Ok(mut store) = FileDisk::new(rt, path_in(words.as_slice())) else {
         return Status::NoMemory;
@@ -49,6 +50,15 @@ fn run_words<H: Env + Input + Files + AllocGlobal + Threads + Sync + Drop, W: Wr
         output,
         &mut store,
     )
+}
+
+/// Answers the status where the words can't be had. A word that isn't UTF-8 is none of a command.
+fn without_words(error: &io::Error) -> Status {
+    if error.kind() == io::ErrorKind::InvalidData {
+        Status::Usage
+    } else {
+        Status::NoMemory
+    }
 }
 
 /// Answers the path of the store: the second word, or an empty path.
