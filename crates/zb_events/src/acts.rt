@@ -26,14 +26,24 @@ pub enum Act {
     Roll,
     /// The frame of that number arrives.
     Deliver(u32),
-    /// Its power goes off, or on.
+    /// Its power goes off.
     Reset,
+    /// Its power comes back.
     Boot,
     /// Its record is shown.
     Dump,
-    /// A stop or a failure is armed on its disk.
-    Stop { calls: u8, torn: ArrayVec<u8, 32> },
-    Fail { call: u8 },
+    /// A stop is armed on its disk.
+    Stop {
+        /// Counts the device calls that go through first.
+        calls: u8,
+        /// Stands in place of what was written and not synced.
+        torn: ArrayVec<u8, 32>,
+    },
+    /// A failure is armed on its disk.
+    Fail {
+        /// The number of the device call that fails, counted from 1.
+        call: u8,
+    },
     /// It is of no node.
     Outside,
 }

@@ -26,8 +26,11 @@ use zb_trace::Line;
 /// Keeps what was told, and the lines that aren't handed out yet.
 #[derive(Drop)]
 pub struct Ledger {
+    /// Where memory comes from.
     pub alloc: Global,
+    /// Tells lines, and keeps what the rest of the run needs of them.
     pub scribe: Scribe,
+    /// The text of the lines that aren't handed out yet.
     pub page: Vec<u8>,
 }
 

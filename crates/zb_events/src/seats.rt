@@ -17,14 +17,18 @@ use zb_sched::Node as Declared;
 /// Says where a node stands: its place in the order of the nodes, from 0, and its address.
 #[derive(Clone, Copy, PartialEq, Eq)]
 pub struct Seat {
+    /// The place, from 0.
     pub place: usize,
+    /// The address.
     pub eui: Eui,
 }
 
 /// Finds the node of each name, and the centre.
 #[derive(Drop)]
 pub struct Seats {
+    /// The seat of the first node of each name.
     pub by_name: BTreeMap<Name, Seat>,
+    /// The seat of the centre.
     pub centre: Option<Seat>,
 }
 
