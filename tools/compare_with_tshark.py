@@ -1,6 +1,9 @@
 #!/usr/bin/env python3
-"""compare_with_tshark.py PROGRAM TRANSCRIPT: compares what `PROGRAM sniff` and tshark open of the frames of a transcript, which
-are wrapped into a capture file; both get the keys of its `given` lines.
+"""compare_with_tshark.py PROGRAM TRANSCRIPT
+compare_with_tshark.py PROGRAM --made COUNT START
+
+Compares what `PROGRAM sniff` and tshark open of the frames of a transcript, or of each run that `PROGRAM campaign COUNT START`
+plays. They are wrapped into a capture file, and both get the keys of the `given` lines.
 
 Compared are, frame by frame and from the NWK layer inwards, the layers that were opened: the kind of key, the key, the source,
 the counter and every byte of the content that tshark decrypted; and whether a further secured layer stays closed. Behind that the
@@ -11,6 +14,8 @@ The status is 0 where all frames agree and some are opened, 1 where not, and 2 w
 failed; PROGRAM fails also where it doesn't take each packet for a frame."""
 import os, re, struct, subprocess, sys, tempfile
 
+import made
+
 KINDS = {0: 'data', 1: 'network', 2: 'transport', 3: 'load'}
 FIELDS = ['frame.number', 'zbee.sec.key_id', 'zbee.sec.key', 'zbee.sec.src64', 'zbee.sec.counter', 'zbee_aps.cmd.key']
 
@@ -18,8 +23,8 @@ def give_up(text):
     print(text, file=sys.stderr)
     sys.exit(2)
 
-def transcript_frames_and_keys(path):
-    lines = [words for words in map(str.split, open(path)) if len(words) > 2]
+def transcript_frames_and_keys(text):
+    lines = [words for words in map(str.split, text) if len(words) > 2]
     frames = [bytes.fromhex(words[-1]) for words in lines if words[1] in ('send', 'inject')]
     keys = [words[4] if words[3] == 'net' else words[5] for words in lines if words[1] == 'given']
     return frames, list(dict.fromkeys(keys))
@@ -103,10 +108,9 @@ def compare_keys(found, theirs, given):
         print(f'key {key}: tc found it in frame {found.get(key)}, tshark in {[n for n in carried if key in carried[n]]}')
     return len(wrong)
 
-def main(program, transcript):
-    frames, keys = transcript_frames_and_keys(transcript)
-    if not frames:
-        give_up(f'{transcript}: no frames')
+def compare_all(program, frames, keys):
+    """Compares what both make of frames under some keys, and prints what differs. Returns how many frames agree, in how many layers,
+    how many neither opens, and how many keys were found and differ."""
     with tempfile.TemporaryDirectory() as folder:
         file = os.path.join(folder, 'frames.pcap')
         open(file, 'wb').write(capture_file(frames))
@@ -115,14 +119,42 @@ def main(program, transcript):
         table = said_by(tshark + ['-T', 'fields'] + [word for field in FIELDS for word in ('-e', field)], file, folder)
         theirs = answers_of_tshark(table, said_by(tshark + ['-x'], file, folder))
     same, opened, neither = compare_frames(len(frames), ours, theirs)
-    wrong = compare_keys(found, theirs, keys)
-    print(f'{same} of {len(frames)} frames agree in {opened} opened layers, neither opens {neither}; {len(found)} found keys, {wrong} differ')
-    sys.exit(0 if same > 0 and same + neither == len(frames) and wrong == 0 else 1)
+    return same, opened, neither, len(found), compare_keys(found, theirs, keys)
 
-if len(sys.argv) != 3:
-    give_up(__doc__)
+def finish(count, same, opened, neither, found, wrong):
+    print(f'{same} of {count} frames agree in {opened} opened layers, neither opens {neither}; {found} found keys, {wrong} differ')
+    sys.exit(0 if same > 0 and same + neither == count and wrong == 0 else 1)
+
+def compare_transcript(program, transcript):
+    frames, keys = transcript_frames_and_keys(open(transcript))
+    if not frames:
+        give_up(f'{transcript}: no frames')
+    finish(len(frames), *compare_all(program, frames, keys))
+
+def compare_made(program, count, start):
+    """Compares the frames of made schedules, which are played one after the other: those of a campaign of these words."""
+    total, sums = 0, [0] * 5
+    with tempfile.TemporaryDirectory() as folder:
+        for run in range(count):
+            schedule = os.path.join(folder, 'made.sched')
+            open(schedule, 'w').write('\n'.join(made.made(start + run, 1 + run % 8)) + '\n')
+            frames, keys = transcript_frames_and_keys(said_by([program, 'play'], schedule, folder).splitlines())
+            told = compare_all(program, frames, keys)
+            if told[0] + told[2] < len(frames) or told[4]:
+                print(f'these are of run {run}, made of {start + run} for {1 + run % 8}')
+            total, sums = total + len(frames), [one + other for one, other in zip(sums, told)]
+    finish(total, *sums)
+
+def main(words):
+    if len(words) == 2:
+        compare_transcript(*words)
+    elif len(words) == 4 and words[1] == '--made' and words[2].isdecimal() and words[3].isdecimal():
+        compare_made(words[0], int(words[2]), int(words[3]))
+    else:
+        give_up(__doc__)
+
 try:
-    main(*sys.argv[1:])
+    main(sys.argv[1:])
 except OSError as error:
     give_up(f'{error.filename}: {error.strerror}')
 except (LookupError, ValueError) as error:

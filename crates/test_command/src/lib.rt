@@ -2,6 +2,8 @@
 #![tactic(auto)]
 
 #[cfg(test)]
+mod campaigns;
+#[cfg(test)]
 mod joins;
 #[cfg(test)]
 mod runs;

@@ -51,14 +51,11 @@ impl Core for Tally {
 
     ghost is_booted = { IsBooted };
 
-    fn plan(&self, event: &TallyEvent) -> Plan<Option<u8>> {
-        match event {
-            TallyEvent::Rest => Plan {
-                changes: Changes::new(),
-                out: None,
-            },
+    fn plan(&self, event: &TallyEvent, plan: &mut Plan<Option<u8>>) {
+        *plan = match event {
+            TallyEvent::Rest => Plan::new(),
             TallyEvent::Seal => self.seal(),
-        }
+        };
     }
 
     fn apply(&mut self, plan: &Plan<Option<u8>>) {

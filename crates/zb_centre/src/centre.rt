@@ -60,10 +60,9 @@ impl Core for Centre {
 
     ghost is_booted = { IsBooted model.Centre };
 
-    fn plan(&self, event: &CentreEvent) -> Plan<Outcome<Term, Refusal>> {
-        let plan = plan_centre(&self.node, event);
-        self.node.keep(&plan);
-        plan
+    fn plan(&self, event: &CentreEvent, plan: &mut Plan<Outcome<Term, Refusal>>) {
+        plan_centre(&self.node, event, plan);
+        self.node.keep(plan);
     }
 
     fn apply(&mut self, plan: &Plan<Outcome<Term, Refusal>>) {

@@ -61,9 +61,10 @@ fn plan_event(
     tables: &Tables,
     memo: &KeyMemo,
     event: &CentreEvent,
-) -> Plan<Outcome<Term, Refusal>>
+    plan: &mut Plan<Outcome<Term, Refusal>>,
+)
     requires { is_centre network.now.me.role ≡ true }
-    ensures { IsAnswer result (answer real network.now tables.now (task_of event.now)) }
+    ensures { IsAnswer plan.new (answer real network.now tables.now (task_of event.now)) }
 {
     match event {
         CentreEvent::Deliver { bytes, draw } => plan_received(
@@ -72,15 +73,20 @@ fn plan_event(
             memo,
             bytes.as_slice(),
             *draw,
+            plan,
         ),
-        _ => plan_own(network, tables, memo, decide(network, tables, event)),
+        _ => plan_own(network, tables, memo, &decide(network, tables, event), plan),
     }
 }
 
 // Plans an event of the trust centre.
-pub(crate) fn plan_centre(node: &NodeCore, event: &CentreEvent) -> Plan<Outcome<Term, Refusal>>
+pub(crate) fn plan_centre(
+    node: &NodeCore,
+    event: &CentreEvent,
+    plan: &mut Plan<Outcome<Term, Refusal>>,
+)
     requires { is_centre node.now.setting.me.role ≡ true }
-    ensures { IsAnswer result (answer real node.now.setting node.now.tables (task_of event.now)) }
+    ensures { IsAnswer plan.new (answer real node.now.setting node.now.tables (task_of event.now)) }
 {
-    plan_event(node.network(), node.tables(), node.memo(), event)
+    plan_event(node.network(), node.tables(), node.memo(), event, plan);
 }

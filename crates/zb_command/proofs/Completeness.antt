@@ -19,6 +19,11 @@ completes status.ReadFault a before after old new ends no_read no_write = absurd
 completes status.WriteFault a before after old new ends no_read no_write = absurd (no_write ends.1)
 completes (status.Refused line cause) a before after old new ends no_read no_write = inl (sym (ap status_of ends.0))
 completes status.NoMemory a before after old new ends no_read no_write = inr refl
+completes status.DiskFault a before after old new ends no_read no_write = absurd ends
+completes status.NoStore a before after old new ends no_read no_write = absurd ends
+completes (status.Broken line clause) a before after old new ends no_read no_write = absurd ends
+completes (status.BadStore at) a before after old new ends no_read no_write = absurd ends
+completes status.Worn a before after old new ends no_read no_write = absurd ends
 completes (status.TooLong limit) a before after old new ends no_read no_write = inl (ap status.TooLong ends.0 ∙ sym (ap status_of ends.1))
 
 -- a command never ends with `Usage`
@@ -50,6 +55,11 @@ nothing status.ReadFault wanted before after old new ends = ends
 nothing status.WriteFault wanted before after old new ends = tt
 nothing (status.Refused line cause) wanted before after old new ends = ends.1
 nothing status.NoMemory wanted before after old new ends = tt
+nothing status.DiskFault wanted before after old new ends = tt
+nothing status.NoStore wanted before after old new ends = tt
+nothing (status.Broken line clause) wanted before after old new ends = absurd ends
+nothing (status.BadStore at) wanted before after old new ends = tt
+nothing status.Worn wanted before after old new ends = tt
 nothing (status.TooLong limit) wanted before after old new ends = ends.2
 
 if_all : {X : Type 0} (P : X → Type 0) (o : Option X) → ((x : X) → P x) → IfSome o P
@@ -64,4 +74,9 @@ front status.ReadFault wanted before after old new ends = if_all (λ answer. Wri
 front status.WriteFault wanted before after old new ends = ends.0
 front (status.Refused line cause) wanted before after old new ends = if_all (λ answer. WritesFront (status.Refused line cause) answer before after) wanted (λ answer. tt)
 front status.NoMemory wanted before after old new ends = ends
+front status.DiskFault wanted before after old new ends = absurd ends
+front status.NoStore wanted before after old new ends = absurd ends
+front (status.Broken line clause) wanted before after old new ends = absurd ends
+front (status.BadStore at) wanted before after old new ends = absurd ends
+front status.Worn wanted before after old new ends = absurd ends
 front (status.TooLong limit) wanted before after old new ends = if_all (λ answer. WritesFront (status.TooLong limit) answer before after) wanted (λ answer. tt)

@@ -1,7 +1,8 @@
 -- What each command is to answer.
-use Rattle.std.specs.Prelude.{ℕ, ◌∷◌, ◌++◌, [], nat_lt, if◌then◌else◌, length, Option, Some, Result, Ok, Err}
+use Rattle.std.specs.Prelude.{ℕ, ◌∷◌, ◌++◌, [], nat_lt, if◌then◌else◌, length, Option, Some, None, Result, Ok, Err}
 use Rattle.std.specs.Option.{option_map}
 use Rattle.hex.specs.Hex.{encode_upper}
+use Rattle.zb_campaign.specs.Campaigns.{campaigned}
 use Rattle.zb_capture.specs.Grammar.{captured}
 use Rattle.zb_capture.specs.declared.capture.Capture.{Capture}
 use Rattle.zb_capture.specs.declared.fault.CaptureError.{CaptureError}
@@ -19,7 +20,7 @@ use Rattle.zb_sched.specs.Printed.{printed}
 use Rattle.zb_sched.specs.Reading.{schedule_in}
 use Rattle.zb_sched.specs.declared.error.SchedError.{SchedError}
 use Rattle.zb_command.specs.CountsLine.{counts_line}
-use Rattle.zb_command.specs.Commands.{Task, Playing, Installing, Making, Inspecting, Sniffing}
+use Rattle.zb_command.specs.Commands.{Task, Playing, Installing, Making, Inspecting, Sniffing, Campaigning, Auditing}
 use Rattle.zb_command.specs.Statuses.{cause_of, schedule_cause, capture_cause, pcap_cause}
 use Rattle.zb_command.specs.declared.status.Status.{Status}
 use Rattle.zb_command.specs.declared.status.Status.TheVariants as status
@@ -72,21 +73,22 @@ abbrev pub sniff_answer : Result Extraction PcapError → Answer
 sniff_answer (Ok e) = Writes (sniff_output e)
 sniff_answer (Err e) = Refuses e.place (pcap_cause e.cause)
 
--- What a command answers to an input. Only `play`, `inspect` and `sniff` look at it.
-abbrev pub answer : Task → Bytes → Answer
-answer Playing input = within_limit input (play_answer (schedule_in input))
-answer (Installing code) input = install_answer (code_of_text code)
-answer (Making count) input = make_answer (made_schedule 0 count)
-answer (Inspecting jobs) input = within_limit input (inspect_answer (captured input))
-answer (Sniffing jobs keys) input = within_limit input (sniff_answer (extracted keys input))
+-- ---- `campaign`: the lines of made schedules that were played, or where the first of them clashes; the number of jobs doesn't matter
 
--- The same of the bytes that a source has to come. None where the command reads them and the source doesn't tell them.
+abbrev pub campaign_answer : Result Bytes SchedError → Answer
+campaign_answer (Ok output) = Writes output
+campaign_answer (Err e) = Refuses e.line (schedule_cause e.cause)
+
+-- What is wanted of a command, by the bytes that a source has to come. None where the command reads them and the source doesn't
+-- tell them; and for `audit`, of which Auditing says how it ends.
 abbrev pub wanted : Task → Option Bytes → Option Answer
-wanted Playing rest = option_map (answer Playing) rest
-wanted (Installing code) rest = Some (answer (Installing code) [])
-wanted (Making count) rest = Some (answer (Making count) [])
-wanted (Inspecting jobs) rest = option_map (answer (Inspecting jobs)) rest
-wanted (Sniffing jobs keys) rest = option_map (answer (Sniffing jobs keys)) rest
+wanted Playing rest = option_map (λ input. within_limit input (play_answer (schedule_in input))) rest
+wanted (Installing code) rest = Some (install_answer (code_of_text code))
+wanted (Making count) rest = Some (make_answer (made_schedule 0 count))
+wanted (Inspecting jobs) rest = option_map (λ input. within_limit input (inspect_answer (captured input))) rest
+wanted (Sniffing jobs keys) rest = option_map (λ input. within_limit input (sniff_answer (extracted keys input))) rest
+wanted (Campaigning count start jobs) rest = Some (campaign_answer (campaigned count start))
+wanted Auditing rest = None
 
 -- The status that an answer comes with, and the bytes that are written.
 abbrev pub status_of : Answer → Status

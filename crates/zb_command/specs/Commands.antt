@@ -7,13 +7,17 @@ use Rattle.zb_command.specs.KeyWords.{all_keys, keys_in}
 
 -- `play` plays the schedule on its input; `install CODE` writes the link key of an install code; `make N` writes the made
 -- schedule for N routers and devices; `inspect JOBS` writes the report on the capture on its input, worked out by so many jobs;
--- `sniff JOBS KEY ..` does that for the frames of the capture file on its input, under at most 256 keys
+-- `sniff JOBS KEY ..` does that for the frames of the capture file on its input, under at most 256 keys; `campaign COUNT START JOBS` plays
+-- that many made schedules from the start value START on, by so many jobs, and writes what they come to; `audit` judges the transcript on its
+-- input
 pub data Task : Type 0 where
   Playing : Task
   Installing : (code : Bytes) → Task
   Making : (count : ℕ) → Task
   Inspecting : (jobs : ℕ) → Task
   Sniffing : (jobs : ℕ) (keys : List Key) → Task
+  Campaigning : (count start jobs : ℕ) → Task
+  Auditing : Task
 
 -- a number from 1 on
 abbrev pub positive : Option ℕ → Option ℕ
@@ -41,7 +45,10 @@ sniff_words operand words =
     if nat_le (length words) 256 && all_keys words then sniffing (keys_in words) (count_of 64 operand) else None
 
 abbrev pub lone_word : Bytes → Option Task
-lone_word word = if bytes_eq word (codes "play") then Some Playing else None
+lone_word word =
+    if bytes_eq word (codes "play") then Some Playing
+    else if bytes_eq word (codes "audit") then Some Auditing
+    else None
 
 -- a code has fewer than 2^32 - 1 bytes; a longer word is none
 abbrev pub word_and_operand : Bytes → Bytes → Option Task
@@ -51,9 +58,24 @@ word_and_operand word operand =
     else if bytes_eq word (codes "inspect") then inspecting (count_of 64 operand)
     else None
 
+abbrev pub campaigning : Option ℕ → Option ℕ → Option ℕ → Option Task
+campaigning None start jobs = None
+campaigning (Some count) None jobs = None
+campaigning (Some count) (Some start) None = None
+campaigning (Some count) (Some start) (Some jobs) = Some (Campaigning count start jobs)
+
+-- the start values of all runs are below 2^32
+abbrev pub campaign_words : Bytes → Bytes → Bytes → Option Task
+campaign_words count start jobs = campaigning (count_of 1000 count) (number_of 4294966295 start) (count_of 64 jobs)
+
+abbrev pub word_and_three : Bytes → Bytes → Bytes → Bytes → Option Task
+word_and_three word first second third =
+    if bytes_eq word (codes "campaign") then campaign_words first second third else None
+
 abbrev pub word_and_more : Bytes → Bytes → List Bytes → Option Task
 word_and_more word operand [] = word_and_operand word operand
-word_and_more word operand (key ∷ more) = None
+word_and_more word operand (second ∷ third ∷ []) = word_and_three word operand second third
+word_and_more word operand _ = None
 
 -- None where the words are no command
 abbrev pub task_of : List Bytes → Option Task

@@ -4,5 +4,7 @@ pub mod CountsLine
 pub mod Commands
 pub mod Statuses
 pub mod Outcomes
+pub mod Auditing
+pub mod Finishing
 pub mod Words
 pub mod Inputs

@@ -12,7 +12,7 @@ use Rattle.zb_sched.specs.Printed.{printed}
 use Rattle.zb_sched.specs.Reading.{schedule_in}
 use Rattle.zb_sched.specs.Valid.{IsSchedule}
 use Rattle.zb_command.specs.Answers.{Answer, Writes, Refuses, Exceeds, longest, output_of}
-use Rattle.zb_command.specs.Commands.{Task, Playing, Installing, Making, Inspecting, Sniffing}
+use Rattle.zb_command.specs.Commands.{Task, Playing, Installing, Making, Inspecting, Sniffing, Campaigning, Auditing}
 use Rattle.zb_command.specs.declared.status.Status.{Status}
 use Rattle.zb_command.specs.declared.status.Status.TheVariants as status
 
@@ -35,7 +35,12 @@ Ends status.ReadFault wanted before after old new = Keeps before after
 Ends status.WriteFault wanted before after old new = IfSome wanted (λ answer. IsBegun answer before after) × Rose old new
 Ends (status.Refused line cause) wanted before after old new = IfSome wanted (λ answer. answer ≡ Refuses line cause) × Keeps before after
 Ends status.NoMemory wanted before after old new = IfSome wanted (λ answer. IsBegun answer before after)
+Ends status.DiskFault wanted before after old new = ⊥
+Ends status.NoStore wanted before after old new = ⊥
 Ends (status.TooLong limit) wanted before after old new = (limit ≡ longest) × IfSome wanted (λ answer. answer ≡ Exceeds) × Keeps before after
+Ends (status.Broken line clause) wanted before after old new = ⊥
+Ends (status.BadStore at) wanted before after old new = ⊥
+Ends status.Worn wanted before after old new = ⊥
 
 -- Nothing is left to come of the input of a command that has one.
 abbrev pub ReadsToEnd : Task → Option Bytes → Type 0
@@ -44,6 +49,8 @@ ReadsToEnd (Installing code) left = Unit {0}
 ReadsToEnd (Making count) left = Unit {0}
 ReadsToEnd (Inspecting jobs) left = IsAtEnd left
 ReadsToEnd (Sniffing jobs keys) left = IsAtEnd left
+ReadsToEnd (Campaigning count start jobs) left = Unit {0}
+ReadsToEnd Auditing left = IsAtEnd left
 
 -- What the statuses say of the bytes written: nothing was, or a front of the output.
 abbrev pub WritesNothing : Status → Option Bytes → Option Bytes → Type 0
@@ -53,7 +60,12 @@ WritesNothing status.ReadFault before after = Keeps before after
 WritesNothing status.WriteFault before after = Unit {0}
 WritesNothing (status.Refused line cause) before after = Keeps before after
 WritesNothing status.NoMemory before after = Unit {0}
+WritesNothing status.DiskFault before after = Unit {0}
+WritesNothing status.NoStore before after = Unit {0}
 WritesNothing (status.TooLong limit) before after = Keeps before after
+WritesNothing (status.Broken line clause) before after = Keeps before after
+WritesNothing (status.BadStore at) before after = Unit {0}
+WritesNothing status.Worn before after = Unit {0}
 
 abbrev pub WritesFront : Status → Answer → Option Bytes → Option Bytes → Type 0
 WritesFront status.WriteFault answer before after = IsBegun answer before after

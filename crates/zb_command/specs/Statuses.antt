@@ -23,7 +23,12 @@ number_of status.ReadFault = 3
 number_of status.WriteFault = 4
 number_of (status.Refused line c) = 5
 number_of status.NoMemory = 6
+number_of status.DiskFault = 7
+number_of status.NoStore = 8
 number_of (status.TooLong limit) = 9
+number_of (status.Broken line clause) = 10
+number_of (status.BadStore at) = 11
+number_of status.Worn = 12
 
 abbrev pub cause_text : Cause → Bytes
 cause_text cause.Syntax = then (codes "syntax")
@@ -36,6 +41,7 @@ cause_text cause.BadCode = then (codes "bad-code")
 cause_text cause.Block = then (codes "block")
 cause_text cause.TooMany = then (codes "too-many")
 cause_text cause.AddressTaken = then (codes "address-taken")
+cause_text cause.Backup = then (codes "backup")
 cause_text cause.Magic = then (codes "magic")
 cause_text cause.Version = then (codes "version")
 cause_text cause.Link = then (codes "link")
@@ -51,7 +57,12 @@ text_of status.ReadFault = codes "read fault"
 text_of status.WriteFault = []
 text_of (status.Refused line c) = codes "refused" ++ then (decimal line) ++ cause_text c
 text_of status.NoMemory = codes "no memory"
+text_of status.DiskFault = codes "store fault"
+text_of status.NoStore = codes "no store"
 text_of (status.TooLong limit) = codes "too long" ++ then (decimal limit)
+text_of (status.Broken line clause) = codes "broken" ++ then (decimal line) ++ then (decimal clause)
+text_of (status.BadStore at) = codes "bad store" ++ then (decimal at)
+text_of status.Worn = codes "worn"
 
 -- what is wrong with an install code
 abbrev pub cause_of : CodeError → Cause

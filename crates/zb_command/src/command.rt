@@ -1,7 +1,7 @@
 //! The words of the command line.
 ghost use Rattle.std.specs.Prelude.{◌≡◌, map, string_bytes, IfSome, ◌≤◌};
 ghost use Rattle.std.specs.Option.{option_map};
-ghost use Rattle.zb_command.specs.Commands.{count_of, lone_word, sniff_words, task_of, word_and_operand};
+ghost use Rattle.zb_command.specs.Commands.{campaign_words, count_of, lone_word, sniff_words, task_of, word_and_operand, word_and_three};
 ghost use Rattle.zb_command.specs.Words.{task, Fits};
 
 use crate::keys::are_keys;
@@ -34,6 +34,17 @@ pub(crate) enum Command<'a> {
         /// The words that stand for keys.
         words: &'a [String],
     },
+    /// Writes what so many made schedules come to, played by so many jobs.
+    Campaign {
+        /// How many runs there are.
+        count: u32,
+        /// The start value of the first one.
+        start: u32,
+        /// How many jobs there are.
+        jobs: u32,
+    },
+    /// Judges the transcript on the input.
+    Audit,
 }
 
 /// Reads the words after the program's name as a command.
@@ -45,6 +56,12 @@ pub(crate) fn read_words<'a>(words: &'a [String]) -> Option<Command<'a>>
         [word] => lone(word.as_str()),
         [word, operand, keys @ ..] if word.as_str() == "sniff" => sniff(operand.as_str(), keys),
         [word, operand] => with_operand(word.as_str(), operand.as_str()),
+        [word, first, second, third] => with_three(
+            word.as_str(),
+            first.as_str(),
+            second.as_str(),
+            third.as_str(),
+        ),
         _ => None,
     }
 }
@@ -66,6 +83,8 @@ fn lone<'a>(word: &str) -> Option<Command<'a>>
 {
     if word == "play" {
         Some(Command::Play)
+    } else if word == "audit" {
+        Some(Command::Audit)
     } else {
         None
     }
@@ -86,6 +105,31 @@ fn with_operand<'a>(word: &str, operand: &'a str) -> Option<Command<'a>>
     } else {
         None
     }
+}
+
+fn with_three<'a>(word: &str, first: &str, second: &str, third: &str) -> Option<Command<'a>>
+    ensures value { option_map task result ≡ word_and_three word.now first.now second.now third.now }
+    ensures fits { IfSome result Fits }
+{
+    if word == "campaign" {
+        campaign(first, second, third)
+    } else {
+        None
+    }
+}
+
+fn campaign<'a>(runs: &str, start: &str, jobs: &str) -> Option<Command<'a>>
+    ensures value { option_map task result ≡ campaign_words runs.now start.now jobs.now }
+    ensures fits { IfSome result Fits }
+{
+    let runs = count(runs, 1000)?;
+    let start = number(4_294_966_295, start.as_bytes())?;
+    let jobs = count(jobs, 64)?;
+    Some(Command::Campaign {
+        count: runs,
+        start,
+        jobs,
+    })
 }
 
 /// Reads a word as a number from 1 to `limit`.

@@ -1,6 +1,8 @@
 //! The commands of the program, and `run`, which carries out one of them over a source and a sink.
 #![tactic(auto)]
 
+mod audit;
+mod campaign;
 mod capture;
 mod command;
 mod incoming;

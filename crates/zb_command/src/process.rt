@@ -18,7 +18,7 @@ pub fn run_process<H: Env + Input + Print + Files + AllocGlobal + Threads + Sync
     rt: &H,
 ) -> Status {
     let Ok(writer) = BufWriter::with_capacity(rt.alloc(), 65_536, io::writer(rt)) else {
-        return Status::NoMemory;
+        return without_room(rt);
     };
     let mut output = StdSink::new(writer);
     let status = run_words(rt, &mut output);
@@ -27,6 +27,14 @@ pub fn run_process<H: Env + Input + Print + Files + AllocGlobal + Threads + Sync
         return Status::WriteFault;
     }
     status
+}
+
+/// Says that there is no memory left where there is none to hold output back in.
+fn without_room<H: Print>(rt: &H) -> Status {
+    match tell(&Status::NoMemory, &mut StdSink::new(io::writer(rt))) {
+        Ok(()) => Status::NoMemory,
+        Err(_) => Status::WriteFault,
+    }
 }
 
 /// Runs the command, and writes into `output`.

@@ -3,12 +3,16 @@ ghost use Rattle.std.specs.Prelude.{◌≡◌, ◌⊎◌, ℕ, Some, None, IfSom
 ghost use Rattle.std.specs.Io.KnownBytes.{IsAtEnd};
 ghost use Rattle.zb_base.specs.Outside.{Rose};
 ghost use Rattle.zb_command.specs.Answers.{Answer, Refuses, Exceeds, longest, status_of, wanted};
-ghost use Rattle.zb_command.specs.Commands.{Task, Playing, Making, task_of};
+ghost use Rattle.zb_command.specs.Auditing.{Audits};
+ghost use Rattle.zb_command.specs.Commands.{Task, Auditing, Playing, Making, task_of};
+ghost use Rattle.zb_command.specs.Finishing.{Finishes};
 ghost use Rattle.zb_command.specs.Inputs.{TakesAtMost};
-ghost use Rattle.zb_command.specs.Outcomes.{Ends, IsWritten, Made, Played, ReadsToEnd, WritesFront, WritesNothing};
+ghost use Rattle.zb_command.specs.Outcomes.{IsWritten, Made, Played, ReadsToEnd, WritesFront, WritesNothing};
 ghost use Rattle.zb_command.specs.Words.{task, Fits};
 ghost use Rattle.zb_command.specs.declared.status.Cause.{Cause};
 
+use crate::audit::audit_input;
+use crate::campaign::write_campaign;
 use crate::command::{Command, read_words};
 use crate::inspect::inspect_input;
 use crate::install::install_code;
@@ -47,6 +51,10 @@ pub fn run<T: Threads + Sync, R: Source, W: Sink, D: Disk>(
     // What `make` wrote is the made schedule, and reads as that.
     ensures made { (count : ℕ) → task_of (map string_bytes words.now) ≡ Some (Making count) → result ≡ Status.Ok
         → Made count (W.taken output.old) (W.taken output.new) }
+    // What `audit` wrote is the verdict on the lines that its input is the text of, no line of which is bad; else the
+    // status has the first bad line, or the first that is no text of a line.
+    ensures audited { task_of (map string_bytes words.now) ≡ Some Auditing → Audits result (R.rest input.old)
+        (W.taken output.old) (W.taken output.new) (W.faults output.old) (W.faults output.new) }
     // The cause of each other answer.
     ensures read_fault { result ≡ Status.ReadFault → Rose (R.faults input.old) (R.faults input.new) }
     ensures write_fault { result ≡ Status.WriteFault → Rose (W.faults output.old) (W.faults output.new) }
@@ -82,7 +90,7 @@ fn carry_out<T: Threads + Sync, R: Source, W: Sink>(
     output: &mut W,
 ) -> Status
     requires { Fits command }
-    ensures ends { Ends result (wanted (task command.entry) (R.rest input.old)) (W.taken output.old)
+    ensures ends { Finishes (task command.entry) result (R.rest input.old) (W.taken output.old)
         (W.taken output.new) (W.faults output.old) (W.faults output.new) }
     ensures end { result ≡ Status.Ok → ReadsToEnd (task command.entry) (R.rest input.new) }
     ensures few { TakesAtMost (R.rest input.old) (R.rest input.new) 16777217 }
@@ -98,5 +106,9 @@ fn carry_out<T: Threads + Sync, R: Source, W: Sink>(
         Command::Make { count } => make_schedule(alloc, count, output),
         Command::Inspect { jobs } => inspect_input(rt, alloc, jobs, input, output),
         Command::Sniff { jobs, words } => sniff_input(rt, alloc, jobs, words, input, output),
+        Command::Campaign { count, start, jobs } => {
+            write_campaign(rt, alloc, count, start, jobs, output)
+        }
+        Command::Audit => audit_input(alloc, input, output),
     }
 }

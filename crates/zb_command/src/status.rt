@@ -32,11 +32,29 @@ pub enum Status {
     },
     /// There was no memory left.
     NoMemory,
+    /// The store failed.
+    DiskFault,
+    /// The store isn't empty, and no record stands in it.
+    NoStore,
     /// The input has more than so many bytes.
     TooLong {
         /// How many bytes an input may have.
         limit: u32,
     },
+    /// A claim of a transcript doesn't hold. Nothing was written.
+    Broken {
+        /// The number of the first line that breaks one, from 1.
+        line: u32,
+        /// The number of the first claim that it breaks, 1 to 6.
+        clause: u8,
+    },
+    /// What stands in the store is no record of a centre.
+    BadStore {
+        /// The place of the first fault, from 0.
+        at: u32,
+    },
+    /// No generation is left for a further whole record in the store.
+    Worn,
 }
 
 /// Says why an input or a word is refused.
@@ -71,6 +89,8 @@ pub enum Cause {
     Cut,
     /// The network address of the line stands in one before it.
     AddressTaken,
+    /// The text of a restore is no backup.
+    Backup,
     /// The code has an odd number of characters, or one of them is no hexadecimal digit.
     NotHex {
         /// The place of that character, or how many there are.
@@ -174,7 +194,12 @@ impl Status {
             Status::WriteFault => 4,
             Status::Refused { .. } => 5,
             Status::NoMemory => 6,
+            Status::DiskFault => 7,
+            Status::NoStore => 8,
             Status::TooLong { .. } => 9,
+            Status::Broken { .. } => 10,
+            Status::BadStore { .. } => 11,
+            Status::Worn => 12,
         }
     }
 
@@ -187,6 +212,9 @@ impl Status {
             Status::Usage => word("usage"),
             Status::ReadFault => word("read fault"),
             Status::NoMemory => word("no memory"),
+            Status::DiskFault => word("store fault"),
+            Status::NoStore => word("no store"),
+            Status::Worn => word("worn"),
             Status::Refused { line, cause } => {
                 let mut text = word("refused");
                 add_number(&mut text, *line);
@@ -196,6 +224,17 @@ impl Status {
             Status::TooLong { limit } => {
                 let mut text = word("too long");
                 add_number(&mut text, *limit);
+                text
+            }
+            Status::Broken { line, clause } => {
+                let mut text = word("broken");
+                add_number(&mut text, *line);
+                add_number(&mut text, u32::from(*clause));
+                text
+            }
+            Status::BadStore { at } => {
+                let mut text = word("bad store");
+                add_number(&mut text, *at);
                 text
             }
         }
@@ -224,6 +263,7 @@ impl Cause {
             Cause::Block => add_word(text, "block"),
             Cause::TooMany => add_word(text, "too-many"),
             Cause::AddressTaken => add_word(text, "address-taken"),
+            Cause::Backup => add_word(text, "backup"),
             Cause::Magic => add_word(text, "magic"),
             Cause::Version => add_word(text, "version"),
             Cause::Link => add_word(text, "link"),

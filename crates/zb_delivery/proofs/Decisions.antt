@@ -10,6 +10,8 @@ use Rattle.zb_base.specs.declared.label.Label.{Label}
 use Rattle.zb_base.specs.declared.place.Place.{Place}
 use Rattle.zb_base.specs.declared.place.Place.TheVariants as place
 use Rattle.zb_delivery.specs.Taking.{Decides, IsDrawOf, command_taken}
+use Rattle.zb_host.specs.declared.outcome.Outcome.{Outcome}
+use Rattle.zb_host.specs.declared.plan.Plan.{Plan as Program}
 use Rattle.zb_judge.specs.Verdicts.{carrier_seen, judged, unsealed_seen}
 use Rattle.zb_judge.specs.declared.nwk.Carrier.{Carrier}
 use Rattle.zb_judge.specs.declared.aps.Unsealed.{Unsealed}
@@ -29,9 +31,8 @@ use Rattle.zb_node_types.specs.Changes.{model_place}
 use Rattle.zb_node_types.specs.declared.refusal.Refusal.{Refusal}
 use Rattle.zb_node_types.specs.declared.refusal.Refusal.TheVariants.{Malformed}
 use Rattle.zb_plan.proofs.Keeping.{keeps_place, keeps_small}
-use Rattle.zb_plan.specs.Answers.{terms}
-use Rattle.zb_plan.specs.declared.decision.Decision.{Decision}
-use Rattle.zb_plan.specs.Deciding.{IsAps, IsNwk, StandsAt}
+use Rattle.zb_plan.specs.Answers.{IsAnswer, answer_to, terms}
+use Rattle.zb_plan.specs.Deciding.{Decision, IsAps, IsNwk, StandsAt}
 use Rattle.zb_rules.specs.Hearing.{heard_of}
 use Rattle.zb_rules.specs.Outcomes.{decided, told, Keeps}
 use Rattle.zb_rules.specs.declared.effect.Effect.{Effect}
@@ -192,8 +193,8 @@ unfolding plan_of
 frame_refused c s key bytes refusal e = subst (λ (v : Verdict judging.Carrier). Decides c key (λ d. received_as real c s d v) (record { nwk = None; aps = None; effect = Err refusal })) e
     (record { decision = λ d of. record { accepts = refl; outcome = refl; place = refl }; sound = record { small = tt; nwk = tt; aps = tt } })
 
-pub frame_carried : (c : Setting) (s : NodeState) (key : Option Key) (bytes : Bytes) (k : Carrier) (r : Decision) → judged carrier_seen (Ok k) ≡ judge_nwk real c s bytes
-    → Decides c key (λ d. net_part real c s d (nwk_frame_shown k.frame) (option_map model_term k.term)) r
-    → Decides c key (λ d. plan_of real c s (Received bytes d)) r
+pub frame_planned : (c : Setting) (s : NodeState) (d : Option Bytes) (bytes : Bytes) (k : Carrier) (r : Program (Outcome Term Refusal)) → judged carrier_seen (Ok k) ≡ judge_nwk real c s bytes
+    → IsAnswer r (answer_to real c s (net_part real c s d (nwk_frame_shown k.frame) (option_map model_term k.term)))
+    → IsAnswer r (answer_to real c s (plan_of real c s (Received bytes d)))
 unfolding plan_of
-frame_carried c s key bytes k r e g = subst (λ (v : Verdict judging.Carrier). Decides c key (λ d. received_as real c s d v) r) e g
+frame_planned c s d bytes k r e g = subst (λ (v : Verdict judging.Carrier). IsAnswer r (answer_to real c s (received_as real c s d v))) e g

@@ -7,9 +7,8 @@ use Rattle.zb_model.specs.Judging.{sealed_for_transport}
 use Rattle.zb_model.specs.Rules.{Outcome, Plan, Setting, Stop}
 use Rattle.zb_model.specs.State.{NodeState, is_centre}
 use Rattle.zb_model.specs.Tools.{Tools, ApsShown, CommandShown, Known, Unknown, Broken, LeaveShown, Other}
-use Rattle.zb_plan.specs.Deciding.{CanBePlanned, IsDecision}
+use Rattle.zb_plan.specs.Deciding.{CanBePlanned, Decision, IsDecision}
 use Rattle.zb_seal.specs.declared.term.Term.{Term}
-use Rattle.zb_plan.specs.declared.decision.Decision.{Decision}
 
 -- The draw of a delivery: at the centre the key that it is given, elsewhere any, since no other node draws.
 abbrev pub IsDrawOf : Setting → Option Key → Option Bytes → Type 0

@@ -1,14 +1,13 @@
 //! From the bytes of a delivered frame to the plan of the node.
 ghost use Rattle.std.specs.Prelude.{◌≡◌, Option, Some, false, option_map};
-ghost use Rattle.zb_base.specs.declared.key.Key.{Key as key};
-ghost use Rattle.zb_delivery.specs.Taking.{Decides, PassesInClear};
-ghost use Rattle.zb_model.specs.Answer.{answer, net_part, nwk_command, plan_of};
+ghost use Rattle.zb_delivery.specs.Taking.{Decides, IsDrawOf, PassesInClear};
+ghost use Rattle.zb_model.specs.Answer.{answer, net_part};
 ghost use Rattle.zb_model.specs.Data.{Bytes, Received};
 ghost use Rattle.zb_model.specs.State.{is_centre};
 ghost use Rattle.zb_model_real.specs.Readers.{nwk_frame_shown};
 ghost use Rattle.zb_model_real.specs.Real.{real};
 ghost use Rattle.zb_model_real.specs.Terms.{model_term};
-ghost use Rattle.zb_plan.specs.Answers.{IsAnswer};
+ghost use Rattle.zb_plan.specs.Answers.{IsAnswer, answer_to};
 ghost use Rattle.zb_plan.specs.Deciding.{IsNwk};
 
 use crate::command::take_nwk_command;
@@ -19,71 +18,74 @@ use zb_judge::{Carrier, judge_nwk};
 use zb_keys::Tables;
 use zb_network::Network;
 use zb_node_types::Refusal;
-use zb_plan::{Decision, plan_of};
+use zb_nwk::NwkFrame;
+use zb_plan::{plan_of, plan_refused};
+use zb_rules::Effect;
 use zb_seal::{KeyMemo, Term};
 use zb_transported::is_command;
 
-/// Decides the NWK command that a term has.
-fn decide_command(network: &Network, term: Term) -> Decision
-    requires { IsNwk (Some term) }
-    ensures { (key : Option key) → Decides network.now key (λ d. nwk_command network.now (model_term term)
-        (real.read_leave term.content.items)) result }
-{
-    let effect = take_nwk_command(network, &term);
-    Decision {
-        nwk: Some(term),
-        aps: None,
-        effect,
-    }
-}
-
-/// Decides a frame whose NWK layer passed.
+/// Decides a frame whose NWK layer passed, and writes what it accepts at APS into `aps`.
+///
+/// # Errors
+/// Those of judging the APS layer, and of the command.
 fn decide_carried(
     network: &Network,
     tables: &Tables,
     memo: &KeyMemo,
-    carrier: Carrier,
+    frame: &NwkFrame,
+    nwk: &Option<Term>,
     draw: Option<Key>,
-) -> Decision
-    requires nwk { IsNwk carrier.term }
-    requires in_clear { PassesInClear carrier.term (real.read_aps carrier.frame.body.items) }
-    ensures { Decides network.now draw (λ d. net_part real network.now tables.now d (nwk_frame_shown carrier.frame)
-        (option_map model_term carrier.term)) result }
+    aps: &mut Option<Term>,
+) -> Result<Effect, Refusal>
+    requires nwk { IsNwk nwk.now }
+    requires in_clear { PassesInClear nwk.now (real.read_aps frame.now.body.items) }
+    ensures { Decides network.now draw (λ d. net_part real network.now tables.now d (nwk_frame_shown frame.now)
+        (option_map model_term nwk.now)) (record { nwk = nwk.now; aps = aps.new; effect = result }) }
 {
-    let Carrier { frame, term } = carrier;
-    match term {
-        None => decide_payload(network, tables, memo, &frame, None, draw),
+    match nwk {
+        None => decide_payload(network, tables, memo, frame, nwk, draw, aps),
         Some(term) => {
             if is_command(frame.header.control) {
-                decide_command(network, term)
+                *aps = None;
+                take_nwk_command(network, term)
             } else {
-                decide_payload(network, tables, memo, &frame, Some(term), draw)
+                decide_payload(network, tables, memo, frame, nwk, draw, aps)
             }
         }
     }
 }
 
-/// Decides the bytes of a frame: they are judged, and the command in them is taken.
-fn decide(
+/// Plans what a frame leads to whose NWK layer passed.
+fn plan_carried(
     network: &Network,
     tables: &Tables,
     memo: &KeyMemo,
-    bytes: &[u8],
+    carrier: Carrier,
     draw: Option<Key>,
-) -> Decision
-    ensures { Decides network.now draw (λ d. plan_of real network.now tables.now (Received bytes.now d)) result }
+    plan: &mut Plan<Outcome<Term, Refusal>>,
+)
+    requires nwk { IsNwk carrier.term }
+    requires in_clear { PassesInClear carrier.term (real.read_aps carrier.frame.body.items) }
+    ensures { (d : Option Bytes) → IsDrawOf network.now draw d → IsAnswer plan.new (answer_to real network.now
+        tables.now (net_part real network.now tables.now d (nwk_frame_shown carrier.frame)
+        (option_map model_term carrier.term))) }
 {
-    match judge_nwk(network, tables, memo, bytes) {
-        Err(refusal) => Decision {
-            nwk: None,
-            aps: None,
-            effect: Err(refusal),
-        },
-        Ok(carrier) => decide_carried(network, tables, memo, carrier, draw),
-    }
+    let Carrier { frame, term } = carrier;
+    let out = &mut plan.out;
+    out.accepted_nwk = term;
+    let effect = decide_carried(
+        network,
+        tables,
+        memo,
+        &frame,
+        &out.accepted_nwk,
+        draw,
+        &mut out.accepted_aps,
+    );
+    plan_of(network, tables, memo, &effect, plan);
 }
 
-/// Plans what a delivered frame leads to. `draw`: the next key of the centre's supply.
+/// Writes the plan of what a delivered frame leads to. `draw`: the next key of the centre's supply.
 ///
 /// The frame is judged, then its command is taken by the rule of the node's role. Where it is refused behind an
 /// acceptance, that and its floor stay. A node that isn't the centre never draws. A key that the memo lacks is
@@ -94,12 +96,15 @@ pub fn plan_received(
     memo: &KeyMemo,
     bytes: &[u8],
     draw: Option<Key>,
-) -> Plan<Outcome<Term, Refusal>>
-    ensures answer { IsAnswer result (answer real network.now tables.now
+    plan: &mut Plan<Outcome<Term, Refusal>>,
+)
+    ensures answer { IsAnswer plan.new (answer real network.now tables.now
         (Received bytes.now (option_map (λ k. k.0) draw))) }
     ensures any_draw { is_centre network.now.me.role ≡ false → (d : Option Bytes)
-        → IsAnswer result (answer real network.now tables.now (Received bytes.now d)) }
+        → IsAnswer plan.new (answer real network.now tables.now (Received bytes.now d)) }
 {
-    let decision = decide(network, tables, memo, bytes, draw);
-    plan_of(network, tables, memo, decision)
+    match judge_nwk(network, tables, memo, bytes) {
+        Err(refusal) => plan_refused(network, tables, refusal, plan),
+        Ok(carrier) => plan_carried(network, tables, memo, carrier, draw, plan),
+    }
 }

@@ -22,7 +22,6 @@ use zb_keys::Tables;
 use zb_network::Network;
 use zb_node_types::Refusal;
 use zb_nwk::NwkFrame;
-use zb_plan::Decision;
 use zb_rules::{Effect, Heard};
 use zb_seal::{KeyMemo, Term, label_of};
 use zb_transported::is_command;
@@ -114,91 +113,99 @@ fn take_sealed(
     }
 }
 
-/// Decides an APS frame that isn't secured, behind what the NWK layer accepted.
+/// Decides an APS frame that isn't secured, behind what the NWK layer accepted. Nothing is accepted at APS.
+///
+/// # Errors
+/// Those of its command.
 fn decide_clear(
     network: &Network,
     tables: &Tables,
-    nwk: Term,
+    nwk: &Term,
     draw: Option<Key>,
     part: &ApsFrame,
-) -> Decision
-    requires { IsNwk (Some nwk) }
-    ensures { Decides network.now draw (λ d. clear_part real network.now tables.now d (Some (model_term nwk))
-        (aps_frame_shown part.now)) result }
+    aps: &mut Option<Term>,
+) -> Result<Effect, Refusal>
+    requires { IsNwk (Some nwk.now) }
+    ensures { Decides network.now draw (λ d. clear_part real network.now tables.now d (Some (model_term nwk.now))
+        (aps_frame_shown part.now)) (record { nwk = Some nwk.now; aps = aps.new; effect = result }) }
 {
-    let effect = take_clear(network, tables, &nwk, draw, part);
-    Decision {
-        nwk: Some(nwk),
-        aps: None,
-        effect,
-    }
+    *aps = None;
+    take_clear(network, tables, nwk, draw, part)
 }
 
-/// Decides an APS frame that was sealed, behind what the NWK layer accepted.
+/// Decides an APS frame that was sealed, behind what the NWK layer accepted. What it opened to is accepted at APS.
+///
+/// # Errors
+/// Those of its command.
 fn decide_sealed(
     network: &Network,
     tables: &Tables,
-    nwk: Option<Term>,
+    nwk: &Option<Term>,
     draw: Option<Key>,
     part: &ApsFrame,
     aux: &ApsAux,
     unsealed: Unsealed,
-) -> Decision
-    requires nwk { IsNwk nwk }
+    aps: &mut Option<Term>,
+) -> Result<Effect, Refusal>
+    requires nwk { IsNwk nwk.now }
     requires aps { IsAps (Some unsealed.term) }
-    ensures { Decides network.now draw (λ d. sealed_part real network.now tables.now d (option_map model_term nwk)
-        (aps_frame_shown part.now) (auxiliary aux.now) (Good (unsealed_seen unsealed))) result }
+    ensures { Decides network.now draw (λ d. sealed_part real network.now tables.now d
+        (option_map model_term nwk.now) (aps_frame_shown part.now) (auxiliary aux.now)
+        (Good (unsealed_seen unsealed))) (record { nwk = nwk.now; aps = aps.new; effect = result }) }
 {
-    let effect = take_sealed(network, tables, &nwk, draw, part, aux, &unsealed);
-    Decision {
-        nwk,
-        aps: Some(unsealed.term),
-        effect,
-    }
+    let effect = take_sealed(network, tables, nwk, draw, part, aux, &unsealed);
+    *aps = Some(unsealed.term);
+    effect
 }
 
-/// Decides a refusal of the APS layer, behind what the NWK layer accepted.
-fn refuse(nwk: Option<Term>, refusal: Refusal) -> Decision
-    ensures { result ≡ record { nwk = nwk; aps = None; effect = Err refusal } }
+/// Answers a refusal of the APS layer: nothing is accepted there.
+///
+/// # Errors
+/// The refusal.
+fn refuse(refusal: Refusal, aps: &mut Option<Term>) -> Result<Effect, Refusal>
+    ensures refused { result ≡ Err refusal }
+    ensures nothing { aps.new ≡ None }
 {
-    Decision {
-        nwk,
-        aps: None,
-        effect: Err(refusal),
-    }
+    *aps = None;
+    Err(refusal)
 }
 
 /// Judges a sealed APS part and decides what it leads to, behind what the NWK layer accepted.
 ///
 /// Requires the part that is read from the payload.
+///
+/// # Errors
+/// Those of judging it, and of its command.
 fn decide_secured(
     network: &Network,
     tables: &Tables,
     memo: &KeyMemo,
     frame: &NwkFrame,
-    nwk: Option<Term>,
+    nwk: &Option<Term>,
     draw: Option<Key>,
     part: &ApsFrame,
     aux: &ApsAux,
-) -> Decision
-    requires nwk { IsNwk nwk }
+    aps: &mut Option<Term>,
+) -> Result<Effect, Refusal>
+    requires nwk { IsNwk nwk.now }
     requires aux { part.now.aux ≡ Some aux.now }
-    requires read { frame_of (payload_of (nwk_frame_shown frame.now) (option_map model_term nwk)) ≡ Ok part.now }
-    requires spells { Spells (payload_of (nwk_frame_shown frame.now) (option_map model_term nwk)) part.now }
+    requires read { frame_of (payload_of (nwk_frame_shown frame.now) (option_map model_term nwk.now)) ≡ Ok part.now }
+    requires spells { Spells (payload_of (nwk_frame_shown frame.now) (option_map model_term nwk.now)) part.now }
     ensures { Decides network.now draw (λ d. by_security real network.now tables.now d (nwk_frame_shown frame.now)
-        (option_map model_term nwk) (aps_frame_shown part.now) (Some (auxiliary aux.now))) result }
+        (option_map model_term nwk.now) (aps_frame_shown part.now) (Some (auxiliary aux.now)))
+        (record { nwk = nwk.now; aps = aps.new; effect = result }) }
 {
     match judge_aps(
         network,
         tables,
         memo,
         frame,
-        payload_of(frame, &nwk),
+        payload_of(frame, nwk),
         part,
         aux,
     ) {
-        Err(refusal) => refuse(nwk, refusal),
-        Ok(unsealed) => decide_sealed(network, tables, nwk, draw, part, aux, unsealed),
+        Err(refusal) => refuse(refusal, aps),
+        Ok(unsealed) => decide_sealed(network, tables, nwk, draw, part, aux, unsealed, aps),
     }
 }
 
@@ -210,21 +217,23 @@ fn decide_part(
     tables: &Tables,
     memo: &KeyMemo,
     frame: &NwkFrame,
-    nwk: Option<Term>,
+    nwk: &Option<Term>,
     draw: Option<Key>,
     part: &ApsFrame,
-) -> Decision
-    requires nwk { IsNwk nwk }
-    requires in_clear { PassesInClear nwk (Some (aps_frame_shown part.now)) }
-    requires read { frame_of (payload_of (nwk_frame_shown frame.now) (option_map model_term nwk)) ≡ Ok part.now }
-    requires spells { Spells (payload_of (nwk_frame_shown frame.now) (option_map model_term nwk)) part.now }
+    aps: &mut Option<Term>,
+) -> Result<Effect, Refusal>
+    requires nwk { IsNwk nwk.now }
+    requires in_clear { PassesInClear nwk.now (Some (aps_frame_shown part.now)) }
+    requires read { frame_of (payload_of (nwk_frame_shown frame.now) (option_map model_term nwk.now)) ≡ Ok part.now }
+    requires spells { Spells (payload_of (nwk_frame_shown frame.now) (option_map model_term nwk.now)) part.now }
     ensures { Decides network.now draw (λ d. aps_part real network.now tables.now d (nwk_frame_shown frame.now)
-        (option_map model_term nwk) (Some (aps_frame_shown part.now))) result }
+        (option_map model_term nwk.now) (Some (aps_frame_shown part.now)))
+        (record { nwk = nwk.now; aps = aps.new; effect = result }) }
 {
     match &part.aux {
-        Some(aux) => decide_secured(network, tables, memo, frame, nwk, draw, part, aux),
+        Some(aux) => decide_secured(network, tables, memo, frame, nwk, draw, part, aux, aps),
         None => match nwk {
-            Some(term) => decide_clear(network, tables, term, draw, part),
+            Some(term) => decide_clear(network, tables, term, draw, part, aps),
             None => unreachable!(),
         },
     }
@@ -238,18 +247,20 @@ pub(crate) fn decide_payload(
     tables: &Tables,
     memo: &KeyMemo,
     frame: &NwkFrame,
-    nwk: Option<Term>,
+    nwk: &Option<Term>,
     draw: Option<Key>,
-) -> Decision
-    requires nwk { IsNwk nwk }
-    requires in_clear { PassesInClear nwk
-        (real.read_aps (payload_of (nwk_frame_shown frame.now) (option_map model_term nwk))) }
+    aps: &mut Option<Term>,
+) -> Result<Effect, Refusal>
+    requires nwk { IsNwk nwk.now }
+    requires in_clear { PassesInClear nwk.now
+        (real.read_aps (payload_of (nwk_frame_shown frame.now) (option_map model_term nwk.now))) }
     ensures { Decides network.now draw (λ d. aps_part real network.now tables.now d (nwk_frame_shown frame.now)
-        (option_map model_term nwk)
-        (real.read_aps (payload_of (nwk_frame_shown frame.now) (option_map model_term nwk)))) result }
+        (option_map model_term nwk.now)
+        (real.read_aps (payload_of (nwk_frame_shown frame.now) (option_map model_term nwk.now))))
+        (record { nwk = nwk.now; aps = aps.new; effect = result }) }
 {
-    match zb_aps::read(payload_of(frame, &nwk)) {
-        Err(_) => refuse(nwk, Refusal::Malformed { place: Place::Aps }),
-        Ok(part) => decide_part(network, tables, memo, frame, nwk, draw, &part),
+    match zb_aps::read(payload_of(frame, nwk)) {
+        Err(_) => refuse(Refusal::Malformed { place: Place::Aps }, aps),
+        Ok(part) => decide_part(network, tables, memo, frame, nwk, draw, &part, aps),
     }
 }

@@ -60,10 +60,9 @@ impl Core for Device {
 
     ghost is_booted = { IsBooted model.Device };
 
-    fn plan(&self, event: &DeviceEvent) -> Plan<Outcome<Term, Refusal>> {
-        let plan = plan_member(&self.node, event);
-        self.node.keep(&plan);
-        plan
+    fn plan(&self, event: &DeviceEvent, plan: &mut Plan<Outcome<Term, Refusal>>) {
+        plan_member(&self.node, event, plan);
+        self.node.keep(plan);
     }
 
     fn apply(&mut self, plan: &Plan<Outcome<Term, Refusal>>) {

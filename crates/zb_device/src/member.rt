@@ -38,39 +38,44 @@ fn plan_event(
     tables: &Tables,
     memo: &KeyMemo,
     event: &DeviceEvent,
-) -> Plan<Outcome<Term, Refusal>>
+    plan: &mut Plan<Outcome<Term, Refusal>>,
+)
     requires { is_centre network.now.me.role ≡ false }
-    ensures { (task : Task) → IsTaskOf event.now task → IsAnswer result (answer real network.now tables.now task) }
+    ensures { (task : Task) → IsTaskOf event.now task → IsAnswer plan.new (answer real network.now tables.now task) }
 {
     match event {
-        DeviceEvent::Knock => plan_own(network, tables, memo, knock(network, tables)),
-        DeviceEvent::Rejoin => plan_own(network, tables, memo, rejoin(tables)),
+        DeviceEvent::Knock => plan_own(network, tables, memo, &knock(network, tables), plan),
+        DeviceEvent::Rejoin => plan_own(network, tables, memo, &rejoin(tables), plan),
         DeviceEvent::Deliver { bytes } => plan_received(
             network,
             tables,
             memo,
             bytes.as_slice(),
             None,
+            plan,
         ),
-        DeviceEvent::Timer => plan_own(network, tables, memo, member_timer(network, tables)),
+        DeviceEvent::Timer => plan_own(network, tables, memo, &member_timer(network, tables), plan),
         DeviceEvent::Say { to, bytes } => plan_own(
             network,
             tables,
             memo,
-            say(tables, *to, copied(bytes)),
+            &say(tables, *to, copied(bytes)),
+            plan,
         ),
         DeviceEvent::Ask { partner } => plan_own(
             network,
             tables,
             memo,
-            ask(network, tables, *partner),
+            &ask(network, tables, *partner),
+            plan,
         ),
         DeviceEvent::Tell { partner, bytes } => {
             plan_own(
                 network,
                 tables,
                 memo,
-                tell(network, tables, *partner, copied(bytes)),
+                &tell(network, tables, *partner, copied(bytes)),
+                plan,
             )
         }
     }
@@ -79,10 +84,10 @@ fn plan_event(
 /// Plans an event of a router or device, by the rule of the event.
 ///
 /// Requires a node that isn't the centre.
-pub fn plan_member(node: &NodeCore, event: &DeviceEvent) -> Plan<Outcome<Term, Refusal>>
+pub fn plan_member(node: &NodeCore, event: &DeviceEvent, plan: &mut Plan<Outcome<Term, Refusal>>)
     requires { is_centre node.now.setting.me.role ≡ false }
     ensures { (task : Task) → IsTaskOf event.now task
-        → IsAnswer result (answer real node.now.setting node.now.tables task) }
+        → IsAnswer plan.new (answer real node.now.setting node.now.tables task) }
 {
-    plan_event(node.network(), node.tables(), node.memo(), event)
+    plan_event(node.network(), node.tables(), node.memo(), event, plan);
 }

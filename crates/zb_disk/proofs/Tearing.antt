@@ -1,9 +1,10 @@
 -- What the power leaves when it comes back after a stop.
-use Rattle.std.proofs.Common.{◌≡◌, ◌⊎◌, inl, inr, ⊎_elim, ℕ, zero, suc, ◌+◌, ◌-◌, ◌%◌, ◌≤◌, ◌<◌, List, [], ◌∷◌, ◌++◌, length, get_or, set, take, drop, replicate, Bool, true, false, nat_lt, if◌then◌else◌, refl, sym, ◌∙◌, ap, arith, length-set, get_or-set_same, get_or-set_other, append_assoc}
-use Rattle.std.proofs.lemmas.List.{ext_get_or, drop_more, drop-set-lt, take-set-le, take_more_set, take_more, set_split, take-append-le, length-take-le, get_or-take, get_or-drop, drop-drop}
-use Rattle.std.proofs.lemmas.Bool.{false≢true, cases_lt, cases_eq, cases_Bool, lt-ltb}
+use Rattle.std.proofs.Common.{◌≡◌, ◌⊎◌, inl, inr, ⊎_elim, ℕ, zero, suc, ◌+◌, ◌-◌, ◌%◌, ◌≤◌, ◌<◌, List, [], ◌∷◌, ◌++◌, length, get_or, set, take, drop, replicate, Bool, true, false, nat_le, nat_lt, min, if◌then◌else◌, refl, sym, ◌∙◌, ap, arith, take-append-drop, length-set, get_or-set_same, get_or-set_other, append_assoc}
+use Rattle.std.proofs.lemmas.List.{ext_get_or, drop_more, drop-set-lt, take-set-le, take_more_set, take_more, set_split, take-append-le, length-take-le, get_or-take, get_or-drop, get_or_past, drop-drop}
+use Rattle.std.proofs.lemmas.Bool.{false≢true, cases_lt, cases_eq, cases_Bool, lt-ltb, and_parts, leb-true, ltb-true}
 use Rattle.zb_disk.specs.View.{Torn, IsUnsynced, Only, overwrite}
-use Rattle.zb_disk.specs.Memory.{Medium, IsImage, tear, torn_by, settled, synced, powered, is_stopped, memory_view}
+use Rattle.zb_disk.specs.declared.runs.Run.{Run}
+use Rattle.zb_disk.specs.Memory.{LiesIn, Medium, IsImage, tear, torn_by, settled, synced, powered, is_stopped, memory_view}
 use Rattle.zb_disk.specs.declared.memory.Arming.TheVariants.{Unarmed}
 use Rattle.zb_disk.specs.MemoryLaws.{image_seen}
 use Rattle.zb_disk.proofs.Images.{torn_stands, one_image, lowered}
@@ -192,3 +193,48 @@ powered_off m bytes stopped is =
 pub only_powered : (m : Medium) → Only (powered m).bytes (memory_view (powered m)).images
 unfolding powered
 only_powered m = one_image (settled m) (replicate (length m.written) false) (lowered (length m.written))
+
+-- ---- what isn't written isn't torn
+
+none_torn : (p : List ℕ) (phase : ℕ) (bytes : List ℕ) (written : List Bool) → ((k : ℕ) → get_or written k false ≡ false) → tear p phase bytes written ≡ bytes
+none_torn p phase [] written none = refl
+none_torn p phase (b ∷ bytes) [] none = refl
+none_torn p phase (b ∷ bytes) (true ∷ written) none = absurd (false≢true (sym (none 0)))
+none_torn p phase (b ∷ bytes) (false ∷ written) none = ap (λ (l : List ℕ). b ∷ l) (none_torn p 0 bytes written (λ k. none (suc k)))
+
+torn_from_here : (p : List ℕ) (bytes : List ℕ) (written : List Bool) (n : ℕ) → ((k : ℕ) → k < n → get_or written k false ≡ false)
+    → take n bytes ++ tear p 0 (drop n bytes) (drop n written) ≡ tear p 0 bytes written
+torn_from_here p bytes written zero none = refl
+torn_from_here p [] written (suc n) none = refl
+torn_from_here p (b ∷ bytes) [] (suc n) none =
+    ap (λ (l : List ℕ). b ∷ (take n bytes ++ l)) (none_torn p 0 (drop n bytes) [] (λ k. refl)) ∙ ap (λ (l : List ℕ). b ∷ l) (take-append-drop n bytes)
+torn_from_here p (b ∷ bytes) (true ∷ written) (suc n) none = absurd (false≢true (sym (none 0 (omega arith))))
+torn_from_here p (b ∷ bytes) (false ∷ written) (suc n) none = ap (λ (l : List ℕ). b ∷ l) (torn_from_here p bytes written n (λ k low. none (suc k) (omega arith)))
+
+before : (span : Run) (written : List Bool) → LiesIn span written → (k : ℕ) → k < span.start → get_or written k false ≡ false
+before span written lies k low = elim (cases_Bool (get_or written k false)) [
+  | inl up ↦ let parts = and_parts (nat_le span.start k) (nat_lt k span.end) (lies k up) in absurd (omega (arith, leb-true span.start k parts.0))
+  | inr down ↦ down
+]
+
+behind : (span : Run) (written : List Bool) → LiesIn span written → (k : ℕ) → min span.end (length written) ≤ k → get_or written k false ≡ false
+behind span written lies k late = elim (cases_Bool (get_or written k false)) [
+  | inr down ↦ down
+  | inl up ↦
+      let parts = and_parts (nat_le span.start k) (nat_lt k span.end) (lies k up) in
+      elim (cases_lt k (length written)) [
+        | inl within ↦ absurd (omega (arith, ltb-true k span.end parts.1))
+        | inr past ↦ get_or_past written k false past
+      ]
+]
+
+-- where the span begins, and behind its end
+pub torn_at_first : (p : List ℕ) (bytes : List ℕ) (written : List Bool) (span : Run) → LiesIn span written
+    → take span.start bytes ++ tear p 0 (drop span.start bytes) (drop span.start written) ≡ tear p 0 bytes written
+torn_at_first p bytes written span lies = torn_from_here p bytes written span.start (before span written lies)
+
+pub torn_at_last : (p : List ℕ) (phase : ℕ) (bytes new : List ℕ) (written : List Bool) (span : Run) (i : ℕ) (whole : List ℕ) → LiesIn span written → min span.end (length written) ≤ i
+    → drop i new ≡ drop i bytes → take i new ++ tear p phase (drop i bytes) (drop i written) ≡ whole → new ≡ whole
+torn_at_last p phase bytes new written span i whole lies late same so_far =
+    let rest : tear p phase (drop i bytes) (drop i written) ≡ drop i bytes = none_torn p phase (drop i bytes) (drop i written) (λ k. get_or-drop i written k false ∙ behind span written lies (i + k) (omega arith)) in
+    sym (take-append-drop i new) ∙ ap (λ (l : List ℕ). take i new ++ l) (same ∙ sym rest) ∙ so_far

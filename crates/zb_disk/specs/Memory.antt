@@ -157,3 +157,7 @@ is_within k run = nat_le run.start k && nat_lt k run.end
 -- each written byte is in one of the runs
 unfoldable pub Covers : List Run → List Bool → Type 0
 Covers runs written = (k : ℕ) → get_or written k false ≡ true → list_any (is_within k) runs ≡ true
+
+-- each written byte is in this run
+abbrev pub LiesIn : Run → List Bool → Type 0
+LiesIn run written = (k : ℕ) → get_or written k false ≡ true → is_within k run ≡ true

@@ -3,11 +3,11 @@ ghost use Rattle.std.specs.Prelude.{OnOk, if◌then◌else◌, ◌-◌, replicat
 ghost use Rattle.zb_disk.specs.View.{overwrite, window, Only, IsUnsynced};
 ghost use Rattle.zb_base.specs.Outside.{risen};
 ghost use Rattle.zb_disk.specs.Calls.{IsRead, IsWrite, IsSync};
-ghost use Rattle.zb_disk.specs.Memory.{Medium, refuses, after_call, is_stopped, armed, tear, torn_by, counted, stored, synced, after_read, after_write, after_sync, powered, fresh, memory_tells, memory_view};
+ghost use Rattle.zb_disk.specs.Memory.{LiesIn, Medium, refuses, after_call, is_stopped, armed, tear, torn_by, counted, stored, synced, after_read, after_write, after_sync, powered, fresh, memory_tells, memory_view};
 ghost use Rattle.zb_disk.specs.MemoryLaws.{image_seen};
 
 use crate::Disk;
-use crate::runs::{Run, lower_all, mark, note, overlay, put};
+use crate::runs::{Run, lower_all, mark, note, overlay, put, span_of};
 use arrayvec::ArrayVec;
 use std::alloc::Global;
 use std::marker::Model;
@@ -127,6 +127,20 @@ impl MemDisk {
         })
     }
 
+    /// Makes a used disk a new one of no bytes, in the room that it has. It takes no memory.
+    pub fn renew(&mut self)
+        ensures { self.new ≡ fresh [] }
+    {
+        self.bytes.clear();
+        self.written.clear();
+        self.runs.clear();
+        self.grown = 0;
+        self.arming = Arming::Unarmed;
+        self.torn = ArrayVec::new();
+        self.calls = 0;
+        self.faults = 0;
+    }
+
     /// Answers the bytes that the disk reads.
     pub fn bytes(&self) -> &[u8]
         ensures { result.now ≡ self.now.bytes }
@@ -191,7 +205,8 @@ impl MemDisk {
             self.settle();
             return;
         }
-        tear_all(&mut self.bytes, &self.written, self.torn.as_slice());
+        let span = span_of(&self.runs);
+        tear_all(&mut self.bytes, &self.written, self.torn.as_slice(), span);
         self.arming = Arming::Unarmed;
         self.settle();
     }
@@ -324,27 +339,30 @@ fn blank(buf: &mut [u8], from: usize)
     buf[from..].fill(0);
 }
 
-// Each longest run of written bytes becomes the pattern, repeated, if there is one.
-fn tear_all(bytes: &mut Vec<u8>, written: &[bool], pattern: &[u8])
-    requires { length written.now ≡ length bytes.old.items }
+// Each longest run of written bytes becomes the pattern, repeated, if there is one. All of them lie in the span.
+fn tear_all(bytes: &mut Vec<u8>, written: &[bool], pattern: &[u8], span: Run)
+    requires flags { length written.now ≡ length bytes.old.items }
+    requires within { LiesIn span written.now }
     ensures after { bytes.new.items ≡ torn_by pattern.now bytes.old.items written.now }
     ensures size { vec_len bytes.new ≡ vec_len bytes.old }
     ensures room { vec_capacity bytes.new ≡ vec_capacity bytes.old }
 {
     if !pattern.is_empty() {
-        tear_runs(bytes, written, pattern);
+        tear_runs(bytes, written, pattern, span);
     }
 }
 
-// Each longest run of written bytes becomes the pattern, repeated.
-fn tear_runs(bytes: &mut [u8], written: &[bool], pattern: &[u8])
+// Each longest run of written bytes becomes the pattern, repeated. All of them lie in the span.
+fn tear_runs(bytes: &mut [u8], written: &[bool], pattern: &[u8], span: Run)
     requires flags { length written.now ≡ length bytes.old }
     requires some { 0 < length pattern.now }
+    requires within { LiesIn span written.now }
     ensures { bytes.new ≡ tear pattern.now 0 bytes.old written.now }
 {
+    let end = span.end.min(written.len());
     let mut phase = 0;
-    for (i, &torn) in written.iter().enumerate() {
-        if torn {
+    for i in span.start..end {
+        if written[i] {
             bytes[i] = pattern[phase % pattern.len()];
             phase += 1;
         } else {

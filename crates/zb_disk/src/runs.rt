@@ -124,3 +124,18 @@ fn sweep(written: &mut [bool], runs: &[Run])
         }
     }
 }
+
+/// Answers the span in which all runs lie: from where the first of them begins to where the last one ends.
+pub(crate) fn span_of(runs: &[Run]) -> Run
+    ensures { (k : ℕ) → list_any (is_within k) runs.now ≡ true → is_within k result ≡ true }
+{
+    let mut span = Run {
+        start: usize::MAX,
+        end: 0,
+    };
+    for run in runs {
+        span.start = span.start.min(run.start);
+        span.end = span.end.max(run.end);
+    }
+    span
+}

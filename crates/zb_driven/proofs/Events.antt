@@ -1,7 +1,6 @@
 -- An event of a node that is up: nothing falls, or something falls on its commit.
-use Rattle.std.proofs.Common.{◌≡◌, ◌≢◌, ◌⊎◌, inl, inr, ◌&&◌, ℕ, List, [], ◌∷◌, Option, Some, None, Bool, true, false, if◌then◌else◌, refl, sym, ◌∙◌, ap, subst, arith}
+use Rattle.std.proofs.Common.{◌≡◌, ◌≢◌, ◌&&◌, ℕ, List, [], ◌∷◌, Option, Some, None, Result, Err, Bool, true, false, if◌then◌else◌, refl, sym, ◌∙◌, ap, subst, arith}
 use Rattle.std.proofs.lemmas.Bool.{false≢true, lt-ltb, le-leb}
-use Rattle.arrayvec.specs.declared.array_vec.ArrayVec.{ArrayVec}
 use Rattle.zb_base.specs.Outside.{risen}
 use Rattle.zb_node_types.specs.declared.change.Change.{Change}
 use Rattle.zb_disk.specs.View.{Only}
@@ -11,16 +10,16 @@ use Rattle.zb_store.specs.Steps.{WentThrough, StoppedWithin}
 use Rattle.zb_store.specs.Store.{Place, both_gates_open}
 use Rattle.zb_store.specs.Power.{stop_commits, failure_commits, stop_opens_both, failure_opens_both, StopFell, FailureFell}
 use Rattle.zb_store.proofs.Powers.{append_stands, append_failure_stands, append_gates, put_stands, put_failure_stands, put_gates, put_failure_gates, append_within, put_within, stop_falls, failure_falls}
-use Rattle.zb_host.specs.declared.fault.HostFault.{HostFault}
-use Rattle.zb_host.specs.declared.fault.HostFault.TheVariants.{Disk, NoMemory, NoRecord, BadRecord, Worn}
+use Rattle.zb_host.specs.declared.fault.CommitFault.{CommitFault}
+use Rattle.zb_host.specs.declared.fault.CommitFault.TheVariants as commit
 use Rattle.zb_host.specs.Hosts.{Gives, Hosted, IsCurrent, writes_whole, next_standing, CommitStop, HasStopped, commit_calls}
-use Rattle.zb_host.specs.HostFaults.{IsHandleFault}
+use Rattle.zb_host.specs.HostFaults.{IsUnstored}
 use Rattle.zb_host.specs.Calls.{Words}
 use Rattle.zb_host.proofs.Stops.{stands_then, within_then, gates_then}
 use Rattle.zb_model.specs.Play.{Armed, NotArmed, StopAfter, FailAt, count_of, falls}
 use Rattle.zb_driven.specs.declared.fall.Fall.{Fall}
 use Rattle.zb_driven.specs.Arms.{IsUnarmed, armed_medium, disarmed_medium, commit_of, calls_after}
-use Rattle.zb_driven.specs.Driven.{IsUp, WasHandled, HasFallen, IsTaken, fall_seen}
+use Rattle.zb_driven.specs.Driven.{IsUp, WasHandled, HasFallen, fall_seen}
 use Rattle.zb_driven.proofs.Ties.{stop_stands, fail_stands, stop_leaves, fail_leaves}
 use Rattle.zb_driven.proofs.Armings.{taken_back, on_once_powered, powered_calls, armed_calls, disarmed_calls, disarmed_current, rearmed, none_falls, missed, unarmed_then}
 
@@ -165,27 +164,27 @@ abbrev generation_in : Option Place → ℕ
 generation_in None = 0
 generation_in (Some p) = p.generation
 
+-- the same fault ends a call in the same way
+abbrev pub Ended : Type 0
+Ended = Result (Unit {0}) CommitFault
+
+abbrev pub err : CommitFault → Ended
+err f = Err f
+
+pub err_is : {f g : CommitFault} → f ≡ g → err f ≡ err g
+err_is is = ap err is
+
 -- an event that failed, by its fault: no other comes of a host that is up over such a disk
-pub fallen_by : {C : Type 0} (words : Words C Medium) (s : Standing) (a : Armed) (before after : Hosted C) (old m : Medium) (fault : HostFault) (items : List Change) (fall : Fall) → IsUp words s a before old → IsTaken fault items
-    → IsHandleFault (writes_whole before) before.store (memory_view (armed_medium a old)) (memory_view m) fault → ((changes : _) → fault ≡ Disk changes → changes.items ≢ [])
-    → ((changes : _) → fault ≡ Disk changes
-    → HasStopped memory_tells words.restored (writes_whole before) s (words.recorded after.core) (words.payload changes.items) (memory_view (armed_medium a old)) (memory_view m))
+pub fallen_by : {C : Type 0} (words : Words C Medium) (s : Standing) (a : Armed) (before after : Hosted C) (old m : Medium) (fault : CommitFault) (items : List Change) (fall : Fall) → IsUp words s a before old
+    → IsUnstored (writes_whole before) before.store (memory_view (armed_medium a old)) (memory_view m) fault → items ≢ []
+    → (fault ≡ commit.Disk → HasStopped memory_tells words.restored (writes_whole before) s (words.recorded after.core) (words.payload items) (memory_view (armed_medium a old)) (memory_view m))
     → fall ≡ fall_seen (is_stopped m.arming) → Only (powered m).bytes (memory_view (powered m)).images
     → HasFallen words s a before old items fall after (disarmed_medium a (powered m))
-fallen_by words s a before after old m (Disk changes) items fall up taken of_fault changed stopped is only =
-    let stop = stopped changes refl in
-    subst (λ (l : List Change). HasFallen words s a before old l fall after (disarmed_medium a (powered m))) (sym taken)
-    (has_fallen words s a before after old m changes.items fall up (changed changes refl) stop.0 stop.1 is only)
-fallen_by words s a before after old m NoMemory items fall up taken of_fault changed stopped is only = absurd of_fault
-fallen_by words s a before after old m NoRecord items fall up taken of_fault changed stopped is only = absurd of_fault
-fallen_by words s a before after old m (BadRecord at) items fall up taken of_fault changed stopped is only = absurd of_fault
-fallen_by words s a before after old m Worn items fall up taken of_fault changed stopped is only =
+fallen_by words s a before after old m commit.Disk items fall up of_fault some stopped is only =
+    let stop = stopped refl in
+    has_fallen words s a before after old m items fall up some stop.0 stop.1 is only
+fallen_by words s a before after old m commit.Worn items fall up of_fault some stopped is only =
     let p = of_fault.1.0 in
     let same : p.generation ≡ s.generation = ap generation_in (sym of_fault.1.1 ∙ up.current.place) in
     let last : p.generation ≡ 18446744073709551615 = of_fault.1.2 in
     absurd (omega (arith, same, last, up.lasting))
-
--- the changes that it tells are those of the plan
-pub told_by : (fault : HostFault) (changes : ArrayVec Change 16 (Unit {0})) (items : List Change) → IsTaken fault items → (fault ≡ Disk changes) ⊎ (fault ≡ Worn) → items ≢ [] → items ≡ changes.items
-told_by fault changes items taken (inl is) there = subst (λ (f : HostFault). IsTaken f items) is taken
-told_by fault changes items taken (inr is) there = absurd (there (subst (λ (f : HostFault). IsTaken f items) is taken))

@@ -37,14 +37,6 @@ fall_of NotArmed = Failed
 fall_of (StopAfter calls torn) = Stopped
 fall_of (FailAt call) = Failed
 
--- the changes of a fault of a disk, and none of another fault
-abbrev pub IsTaken : HostFault → List Change → Type 0
-IsTaken (Disk changes) items = items ≡ changes.items
-IsTaken NoMemory items = items ≡ []
-IsTaken NoRecord items = items ≡ []
-IsTaken (BadRecord at) items = items ≡ []
-IsTaken Worn items = items ≡ []
-
 -- The power is on, and nothing is armed. What the disk reads is its one image, is whole and stands for this.
 pub record IsAtRest (s : Standing) (m : Medium) : Type 0 where
   pub only : Only m.bytes (memory_view m).images

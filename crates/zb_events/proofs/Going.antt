@@ -13,6 +13,7 @@ use Rattle.zb_events.specs.Acts.{IsFor, act_for}
 use Rattle.zb_events.specs.Told.{Adds, Before, Goes, IsTold, fall_line}
 use Rattle.zb_events.specs.declared.acts.Act.{Act}
 use Rattle.zb_events.specs.declared.ledger.Ledger.{Ledger}
+use Rattle.zb_core.specs.CorePlans.{CorePlan}
 use Rattle.zb_host.specs.declared.outcome.Outcome.{Outcome}
 use Rattle.zb_model.specs.Answer.{Answer, answer, counting_of}
 use Rattle.zb_model.specs.Data as model
@@ -100,7 +101,7 @@ down_goes w h ds number n task old new node m before off adds =
     (sym (own_is w h ds number n task) ∙ own-down real w h ds number n task (power_of w h ds number n old node m false before off)) before adds
 
 -- what a node answers, and that its tables show enough for it
-can_have : (w : Schedule) (h : List Line) (ds : List Disk) (number n : ℕ) (task : model.Task) (k : Ledger) (node : NodeValue) (m : Medium) → Before w h ds number n k node m → suits (setting_of w n).me.role task ≡ true
+pub can_have : (w : Schedule) (h : List Line) (ds : List Disk) (number n : ℕ) (task : model.Task) (k : Ledger) (node : NodeValue) (m : Medium) → Before w h ds number n k node m → suits (setting_of w n).me.role task ≡ true
     → CanHave (condition_of w h ds n) number task
 can_have w h ds number n task k node m before is = record {
   early = before.few;
@@ -140,39 +141,39 @@ whole_adds w h number n a changes out old new scribe page told stored told_is fi
     (told_in_turn (stations w) (lines_of_edits number n a.edits) (told_lines number n (length (air h) + 1) a) old.scribe scribe new.scribe old.page.items page new.page.items one
     (subst (λ (ls : List Line). Tells (stations w) ls scribe page new.scribe new.page.items) lines_are last)) told
 
-pub whole_goes : (w : Schedule) (h : List Line) (ds : List Disk) (number n : ℕ) (task : model.Task) (name : ArrayString) (result : Option Handled) (changes : Changes) (out : Outcome Term Refusal) (old new : Ledger) (scribe : Scribe) (page : List ℕ)
-    (node after : NodeValue) (m m' : Medium) → Before w h ds number n old node m → suits (setting_of w n).me.role task ≡ true → true ≡ is_some node.machine → name ≡ node.peer.name → result ≡ Some (Whole changes out)
-    → HasHandled task node m result after m' → TellsChanges w number name changes old scribe page → TellsOut w number name out scribe page new → Goes w (task_step real counting_of w h ds number n task) h number n old new after m'
-whole_goes w h ds number n task name result changes out old new scribe page node after m m' before is on named made handled stored answered =
+pub whole_goes : (w : Schedule) (h : List Line) (ds : List Disk) (number n : ℕ) (task : model.Task) (name : ArrayString) (result : Option Handled) (p : CorePlan) (old new : Ledger) (scribe : Scribe) (page : List ℕ)
+    (node after : NodeValue) (m m' : Medium) → Before w h ds number n old node m → suits (setting_of w n).me.role task ≡ true → true ≡ is_some node.machine → name ≡ node.peer.name → result ≡ Some Whole
+    → HasHandled task node m result p after m' → TellsChanges w number name p.changes old scribe page → TellsOut w number name p.out scribe page new → Goes w (task_step real counting_of w h ds number n task) h number n old new after m'
+whole_goes w h ds number n task name result p old new scribe page node after m m' before is on named made handled stored answered =
     let x = condition_of w h ds n in
     let a = answer real (setting_of w n) (state_of h n) task in
-    let how : HasHandled task node m (Some (Whole changes out)) after m' = subst (λ (r : Option Handled). HasHandled task node m r after m') made handled in
+    let how : HasHandled task node m (Some Whole) p after m' = subst (λ (r : Option Handled). HasHandled task node m r p after m') made handled in
     let was = how x number before.is_in (can_have w h ds number n task old node m before is) in
     let called : IsCalled (stations w) n name.bytes = subst (λ (q : ArrayString). IsCalled (stations w) n q.bytes) (sym named) before.seat.called in
     let spelled : is_name name.bytes ≡ true = subst (λ (q : ArrayString). is_name q.bytes ≡ true) (sym named) before.seat.spelled in
-    let own : AreOfCentre (stations w) n changes.items = are_of_centre (stations w) n changes.items (is_centre (setting_of w n).me.role) before.seat.centre
+    let own : AreOfCentre (stations w) n p.changes.items = are_of_centre (stations w) n p.changes.items (is_centre (setting_of w n).me.role) before.seat.centre
     (λ other. ap (list_any is_of_the_centre) was.answer_is.changes ∙ none-of-others real (setting_of w n) (state_of h n) task other) in
     goes_by w (task_step real counting_of w h ds number n task) h (whole_lines h number n a) number n old new after m' (after_whole a x)
     ((answers w h ds number n task (power_of w h ds number n old node m true before on)).whole was.missed)
-    (whole_adds w h number n a changes out old new scribe page before.told was.answer_is.changes (λ frame. out_is number n frame (record { changes = changes; out = out }) a was.answer_is) (stored n called own) (answered n called spelled))
+    (whole_adds w h number n a p.changes p.out old new scribe page before.told was.answer_is.changes (λ frame. out_is number n frame p a was.answer_is) (stored n called own) (answered n called spelled))
     was.leaves
 
-pub cut_goes : (w : Schedule) (h : List Line) (ds : List Disk) (number n : ℕ) (task : model.Task) (name : ArrayString) (result : Option Handled) (changes : Changes) (fall : Fall) (old between new : Ledger)
-    (node after : NodeValue) (m m' : Medium) → Before w h ds number n old node m → suits (setting_of w n).me.role task ≡ true → true ≡ is_some node.machine → name ≡ node.peer.name → result ≡ Some (Cut changes fall)
-    → HasHandled task node m result after m' → TellsChanges w number name changes old between.scribe between.page.items → TellsFall w number name fall between new
+pub cut_goes : (w : Schedule) (h : List Line) (ds : List Disk) (number n : ℕ) (task : model.Task) (name : ArrayString) (result : Option Handled) (p : CorePlan) (fall : Fall) (old between new : Ledger)
+    (node after : NodeValue) (m m' : Medium) → Before w h ds number n old node m → suits (setting_of w n).me.role task ≡ true → true ≡ is_some node.machine → name ≡ node.peer.name → result ≡ Some (Cut fall)
+    → HasHandled task node m result p after m' → TellsChanges w number name p.changes old between.scribe between.page.items → TellsFall w number name fall between new
     → Goes w (task_step real counting_of w h ds number n task) h number n old new after m'
-cut_goes w h ds number n task name result changes fall old between new node after m m' before is on named made handled stored fallen =
+cut_goes w h ds number n task name result p fall old between new node after m m' before is on named made handled stored fallen =
     let x = condition_of w h ds n in
     let a = answer real (setting_of w n) (state_of h n) task in
     let b = stands x.disk.armed (calls_by x.commits a.edits) in
     let some : List Line = if b then lines_of_edits number n a.edits else [] in
-    let how : HasHandled task node m (Some (Cut changes fall)) after m' = subst (λ (r : Option Handled). HasHandled task node m r after m') made handled in
+    let how : HasHandled task node m (Some (Cut fall)) p after m' = subst (λ (r : Option Handled). HasHandled task node m r p after m') made handled in
     let was = how x number before.is_in (can_have w h ds number n task old node m before is) in
     let called : IsCalled (stations w) n name.bytes = subst (λ (q : ArrayString). IsCalled (stations w) n q.bytes) (sym named) before.seat.called in
-    let own : AreOfCentre (stations w) n changes.items = are_of_centre (stations w) n changes.items (is_centre (setting_of w n).me.role) before.seat.centre
-    (λ other. none_kept b a.edits (edits changes.items) was.stored_are (none-of-others real (setting_of w n) (state_of h n) task other)) in
+    let own : AreOfCentre (stations w) n p.changes.items = are_of_centre (stations w) n p.changes.items (is_centre (setting_of w n).me.role) before.seat.centre
+    (λ other. none_kept b a.edits (edits p.changes.items) was.stored_are (none-of-others real (setting_of w n) (state_of h n) task other)) in
     let one : Adds w h some old between =
-    told_adds w h some old between (subst (λ (ls : List Line). Tells (stations w) ls old.scribe old.page.items between.scribe between.page.items) (kept_lines number n b a.edits (edits changes.items) was.stored_are) (stored n called own)) before.told in
+    told_adds w h some old between (subst (λ (ls : List Line). Tells (stations w) ls old.scribe old.page.items between.scribe between.page.items) (kept_lines number n b a.edits (edits p.changes.items) was.stored_are) (stored n called own)) before.told in
     let last : Adds w (h ++ some) (fallen_line x.disk.armed number n) between new =
     subst (λ (ls : List Line). Adds w (h ++ some) ls between new) (sym (fallen_is number n x.disk.armed (calls_by x.commits a.edits) fall was.fell was.fall_is)) (fallen (h ++ some) n one.told called) in
     goes_by w (task_step real counting_of w h ds number n task) h (cut_lines x number n a) number n old new after m' (after_cut a x)

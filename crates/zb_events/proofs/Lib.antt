@@ -4,3 +4,6 @@ pub mod Adding
 pub mod Telling
 mod Opening
 pub mod Going
+pub mod FewCalls
+pub mod Counting
+pub mod NodeLaws

@@ -2,3 +2,5 @@ pub mod Seats
 pub mod Acts
 pub mod Told
 pub mod Outside
+pub mod Calls
+pub mod Nodes

@@ -1,5 +1,6 @@
 -- What is told of a run so far, and what an event of a node adds.
-use Rattle.std.specs.Prelude.{◌≡◌, ℕ, ◌+◌, ◌≤◌, ◌<◌, List, ◌++◌, true}
+use Rattle.std.specs.Prelude.{◌≡◌, ℕ, zero, suc, ◌+◌, ◌≤◌, ◌<◌, List, ◌++◌, true}
+use Rattle.zb_base.specs.Outside.{risen}
 use Rattle.zb_disk.specs.Memory.{Medium}
 use Rattle.zb_driven.specs.declared.fall.Fall.{Fall}
 use Rattle.zb_driven.specs.declared.fall.Fall.TheVariants.{Stopped as stopped, Failed as failed}
@@ -63,6 +64,15 @@ pub record Before (w : Schedule) (h : List Line) (ds : List Disk) (number n : �
   pub is_in : IsIn (condition_of w h ds n) number node m
   pub seat : IsSeated w n node
   pub few : number < 4294967296
+
+-- the count of a disk's calls after so many more; it stops at 2^64 - 1
+abbrev pub counted_on : ℕ → ℕ → ℕ
+counted_on count zero = count
+counted_on count (suc more) = risen count (suc more)
+
+-- The disk made so many device calls.
+abbrev pub Calls : ℕ → Medium → Medium → Type 0
+Calls made old new = new.calls ≡ counted_on old.calls made
 
 -- The event's lines were told, and the node is in the condition that they leave.
 pub record Goes (w : Schedule) (g : Step) (h : List Line) (number n : ℕ) (old new : Ledger) (node : NodeValue) (m : Medium) : Type 0 where

@@ -3,11 +3,13 @@ ghost use Rattle.std.specs.Prelude.{◌≡◌, ◌≤◌, ◌<◌, ◌+◌, ℕ,
 ghost use Rattle.std.specs.Option.{option_map};
 ghost use Rattle.zb_base.specs.declared.key.Key.{Key as key};
 ghost use Rattle.zb_events.specs.Acts.{IsFor, act_for};
-ghost use Rattle.zb_events.specs.Told.{Adds, Before, Goes, HasRoom, IsTold, lines_told};
+ghost use Rattle.zb_events.specs.Told.{Adds, Before, Calls, Goes, HasRoom, IsTold, lines_told};
 ghost use Rattle.zb_model.specs.Lines as log;
 ghost use Rattle.zb_model.specs.Play as model;
 ghost use Rattle.zb_model.specs.Play.{Disk, Schedule, setting_of, stations, step};
 ghost use Rattle.zb_model_real.specs.Real.{real};
+ghost use Rattle.zb_events.specs.Calls.{event_calls};
+ghost use Rattle.zb_model_steps.specs.Conditions.{condition_of};
 ghost use Rattle.zb_node_types.specs.Changes.{model_place, place_of, reason};
 ghost use Rattle.zb_said.specs.Naming.{IsCalled};
 ghost use Rattle.zb_said.specs.Said.{IsLineOf};
@@ -87,6 +89,10 @@ impl Ledger {
             → Before w h ds number n self.old node.old disk.old → map (λ (k : key). k.0) draws.now ≡ w.draws
             → act_for n act ≡ Some event → IsFor (setting_of w n).me.role event
             → Goes w (step real w h ds number event) h number n self.old self.new node.new disk.new) }
+        ensures calls { OnOk result ((w : Schedule) (h : List log.Line) (ds : List Disk) (n : ℕ) (event : model.Event)
+            → Before w h ds number n self.old node.old disk.old → map (λ (k : key). k.0) draws.now ≡ w.draws
+            → act_for n act ≡ Some event → IsFor (setting_of w n).me.role event
+            → Calls (event_calls real w h (condition_of w h ds n) event) disk.old disk.new) }
     {
         match act {
             Act::Own(task) => self.handle(node, disk, number, task),

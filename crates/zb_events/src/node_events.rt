@@ -8,14 +8,16 @@ ghost use Rattle.zb_model.specs.Lines as log;
 ghost use Rattle.zb_model.specs.Play as model;
 ghost use Rattle.zb_model.specs.Play.{Disk, Schedule, deliver_step, frame_at, setting_of, step, supply, task_step};
 ghost use Rattle.zb_model_real.specs.Real.{real};
+ghost use Rattle.zb_events.specs.Calls.{event_calls, frame_calls, task_calls};
+ghost use Rattle.zb_model_steps.specs.Conditions.{condition_of};
 ghost use Rattle.zb_node.specs.Tasks.{model_task, suits};
-ghost use Rattle.zb_events.specs.Told.{Before, Goes, HasRoom, IsFallen, IsRefusedFor, lines_told};
+ghost use Rattle.zb_events.specs.Told.{Before, Calls, Goes, HasRoom, IsFallen, IsRefusedFor, lines_told};
 
 use crate::ledger::Ledger;
 use zb_base::{Frame, Key, List, Name, NoMemory, Place};
 use zb_disk::MemDisk;
 use zb_driven::Fall;
-use zb_node::{Handled, Node, Task};
+use zb_node::{Handled, Node, NodePlan, Task};
 use zb_node_types::Refusal;
 use zb_said::{boot_line, disk_line, dump_line, reset_line, stopped_line};
 use zb_trace::Line;
@@ -48,22 +50,28 @@ impl Ledger {
             → suits (setting_of w n).me.role (model_task task) ≡ true
             → Goes w (task_step real counting_of w h ds event n (model_task task)) h event n
             self.old self.new node.new disk.new) }
+        ensures calls { OnOk result ((w : Schedule) (h : List log.Line) (ds : List Disk) (n : ℕ)
+            → Before w h ds event n self.old node.old disk.old
+            → suits (setting_of w n).me.role (model_task task) ≡ true
+            → Calls (task_calls real (condition_of w h ds n) (model_task task)) disk.old disk.new) }
         ensures seat { node.new.peer ≡ node.old.peer }
     {
         let name = node.name();
         if !node.is_up() {
             return self.refuse(event, name, down());
         }
-        match node.handle(disk, task) {
-            Some(Handled::Whole { changes, out }) => {
+        let mut plan = NodePlan::new();
+        match node.handle(disk, task, &mut plan) {
+            Some(Handled::Whole) => {
                 self.scribe
-                    .stored(self.alloc, &mut self.page, event, name, &changes)?;
+                    .stored(self.alloc, &mut self.page, event, name, &plan.changes)?;
                 self.scribe
-                    .answered(self.alloc, &mut self.page, event, name, out)
+                    .answered(self.alloc, &mut self.page, event, name, plan.out)
             }
-            Some(Handled::Cut { stored, fall }) => {
+            Some(Handled::Cut { fall }) => {
+                let stored = &plan.changes;
                 self.scribe
-                    .stored(self.alloc, &mut self.page, event, name, &stored)?;
+                    .stored(self.alloc, &mut self.page, event, name, stored)?;
                 self.tell(&fallen_line(event, name, fall))
             }
             None => self.refuse(event, name, down()),
@@ -87,6 +95,9 @@ impl Ledger {
             → Before w h ds event n self.old node.old disk.old → map (λ (k : key). k.0) draws.now ≡ w.draws
             → Goes w (deliver_step real counting_of w h ds event n (frame_at h frame)) h event n
             self.old self.new node.new disk.new) }
+        ensures calls { OnOk result ((w : Schedule) (h : List log.Line) (ds : List Disk) (n : ℕ)
+            → Before w h ds event n self.old node.old disk.old → map (λ (k : key). k.0) draws.now ≡ w.draws
+            → Calls (frame_calls real (condition_of w h ds n) (supply w h) (frame_at h frame)) disk.old disk.new) }
         ensures seat { node.new.peer ≡ node.old.peer }
     {
         match self.scribe.frame(frame) {
@@ -111,6 +122,10 @@ impl Ledger {
             → Before w h ds event n self.old node.old disk.old → map (λ (k : key). k.0) draws.now ≡ w.draws
             → Goes w (task_step real counting_of w h ds event n (Received bytes.items (supply w h))) h event n
             self.old self.new node.new disk.new) }
+        ensures calls { OnOk result ((w : Schedule) (h : List log.Line) (ds : List Disk) (n : ℕ)
+            → Before w h ds event n self.old node.old disk.old → map (λ (k : key). k.0) draws.now ≡ w.draws
+            → Calls (task_calls real (condition_of w h ds n) (Received bytes.items (supply w h)))
+            disk.old disk.new) }
     {
         let draw = self.draw(draws);
         self.handle(node, disk, event, Task::Deliver { bytes, draw })
@@ -139,6 +154,7 @@ impl Ledger {
         ensures goes { OnOk result ((w : Schedule) (h : List log.Line) (ds : List Disk) (n : ℕ)
             → Before w h ds event n self.old node.old disk.old
             → Goes w (step real w h ds event (model.Reset n)) h event n self.old self.new node.new disk.new) }
+        ensures calls { OnOk result (Calls 0 disk.old disk.new) }
     {
         let name = node.name();
         if !node.is_up() {
@@ -158,6 +174,9 @@ impl Ledger {
         ensures goes { OnOk result ((w : Schedule) (h : List log.Line) (ds : List Disk) (n : ℕ)
             → Before w h ds event n self.old node.old disk.old
             → Goes w (step real w h ds event (model.PowerOn n)) h event n self.old self.new node.new disk.new) }
+        ensures calls { OnOk result ((w : Schedule) (h : List log.Line) (ds : List Disk) (n : ℕ)
+            → Before w h ds event n self.old node.old disk.old
+            → Calls (event_calls real w h (condition_of w h ds n) (model.PowerOn n)) disk.old disk.new) }
     {
         let name = node.name();
         if node.is_up() {
@@ -178,6 +197,7 @@ impl Ledger {
         ensures goes { OnOk result ((w : Schedule) (h : List log.Line) (ds : List Disk) (n : ℕ)
             → Before w h ds event n self.old node.now disk.old
             → Goes w (step real w h ds event (model.ShowRecord n)) h event n self.old self.new node.now disk.new) }
+        ensures calls { OnOk result (Calls 0 disk.old disk.new) }
     {
         let record = node.dump(self.alloc, disk)?;
         self.tell(&dump_line(event, node.name(), List::from_vec(record)))

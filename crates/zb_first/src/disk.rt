@@ -1,6 +1,6 @@
 //! The disk of each node, before its first boot.
-ghost use Rattle.std.specs.Prelude.{◌≡◌, ◌<◌, ◌≤◌, ◌^◌, length, IfOk, IfSome, option_map};
-ghost use Rattle.zb_disk.specs.Memory.{memory_view};
+ghost use Rattle.std.specs.Prelude.{◌≡◌, ◌<◌, ◌≤◌, ◌^◌, [], length, IfOk, IfSome, option_map};
+ghost use Rattle.zb_disk.specs.Memory.{fresh, memory_view};
 ghost use Rattle.zb_driven.specs.Arms.{IsUnarmed};
 ghost use Rattle.zb_first.specs.Firsts.{IsFirstDisk, begins_with, model_node};
 ghost use Rattle.zb_install.specs.Code.{code_key};
@@ -87,14 +87,27 @@ fn declaration_of(centre: Eui, node: &Node) -> Declaration
     )
 }
 
+// Gives an empty disk: a used one, made new, where there is one.
+fn empty_disk(alloc: Global, used: Option<MemDisk>) -> Result<MemDisk, NoMemory>
+    ensures { IfOk result (λ m. m ≡ fresh []) }
+{
+    match used {
+        Some(mut disk) => {
+            disk.renew();
+            Ok(disk)
+        }
+        None => MemDisk::new(alloc, &[]),
+    }
+}
+
 // Makes a disk on which a record stands, in five device calls. Requires at most `RECORD_ROOM` bytes.
-fn disk_with(alloc: Global, first: &[u8]) -> Result<MemDisk, NoMemory>
+fn disk_with(alloc: Global, used: Option<MemDisk>, first: &[u8]) -> Result<MemDisk, NoMemory>
     requires { length first.now ≤ record_room }
     ensures held { IfOk result (λ m. IsHeld (formatted first.now) (memory_view m)) }
     ensures unarmed { IfOk result (λ m. IsUnarmed m) }
     ensures calls { IfOk result (λ m. m.calls ≡ 5) }
 {
-    let mut disk = MemDisk::new(alloc, &[])?;
+    let mut disk = empty_disk(alloc, used)?;
     match Store::format(alloc, &mut disk, first) {
         Ok(_) => {
             nothing_armed_stays();
@@ -106,9 +119,12 @@ fn disk_with(alloc: Global, first: &[u8]) -> Result<MemDisk, NoMemory>
 
 /// Makes a disk on which the first record of a node stands. Requires `RECORD_ROOM` bytes of room.
 ///
+/// Where a used disk is given, that one is made new.
+///
 /// Errors: `NoMemory`.
 pub fn first_disk(
     alloc: Global,
+    used: Option<MemDisk>,
     room: &mut [u8],
     centre: Eui,
     node: &Node,
@@ -120,5 +136,5 @@ pub fn first_disk(
     let tables = Tables::from_declaration(alloc, &declaration_of(centre, node))?;
     tables.keep_rules();
     let len = tables.record_bytes(room) as usize;
-    disk_with(alloc, &room[..len])
+    disk_with(alloc, used, &room[..len])
 }

@@ -10,11 +10,13 @@ use Rattle.zb_store.specs.Layout.{Standing}
 use Rattle.zb_store.specs.Store.{Place, place_of, IsReady, IsHeld, IsWholeEither}
 use Rattle.zb_store.specs.Faults.{IsPutFault, IsAppendFault}
 use Rattle.zb_node_types.specs.declared.change.Change.{Change}
+use Rattle.zb_host.specs.declared.fault.CommitFault.{CommitFault}
+use Rattle.zb_host.specs.declared.fault.CommitFault.TheVariants as commit
 use Rattle.zb_host.specs.declared.fault.HostFault.{HostFault}
 use Rattle.zb_host.specs.declared.fault.HostFault.TheVariants.{Disk as disk_of, NoMemory as no_memory, NoRecord as no_record, BadRecord as bad_record, Worn as worn_out}
 use Rattle.arrayvec.specs.declared.array_vec.ArrayVec.{ArrayVec}
 use Rattle.zb_host.specs.Plans.{gives}
-use Rattle.zb_host.specs.HostFaults.{host_fault, IsHandleFault}
+use Rattle.zb_host.specs.HostFaults.{IsUnstored, commit_fault, told_fault}
 use Rattle.zb_host.specs.Hosts.{Restoring, Gives, StandsForEither, Hosted, IsCurrent, is_full, writes_whole, next_standing, IsCommitFault, IsCommit, CommitStop, IsWorn}
 
 -- a record that fits makes no fault of its size
@@ -188,40 +190,45 @@ pub disk_not_worn : {C : Type 0} (tells : Telling) (host : Hosted C) (store : Pl
 disk_not_worn tells host store content payload old new f is disk commit worn =
     subst IsOther (sym (ap (λ (g : StoreFault). Err g) disk) ∙ commit.worn worn.0 (ap (λ (p : Place). p.generation) (some_is store worn.1.0 host.store is worn.1.1) ∙ worn.1.2)) tt
 
--- the fault of a host for one of its store
-pub named : (f : StoreFault) (changes : ArrayVec Change 16 (Unit {0})) → (host_fault f changes ≡ disk_of changes) ⊎ (host_fault f changes ≡ worn_out)
-named Disk changes = inl refl
-named NoRecord changes = inr refl
-named (TooLarge len) changes = inr refl
-named NoMemory changes = inr refl
-named Worn changes = inr refl
+-- why changes weren't stored, by the fault of the store
+abbrev IsDisks : CommitFault → Type 0
+IsDisks commit.Disk = Unit {0}
+IsDisks commit.Worn = ⊥
 
-abbrev IsDisks : HostFault → Type 0
-IsDisks (disk_of changes) = Unit {0}
-IsDisks no_memory = ⊥
-IsDisks no_record = ⊥
-IsDisks (bad_record at) = ⊥
-IsDisks worn_out = ⊥
+pub of_disk : (f : StoreFault) → commit_fault f ≡ commit.Disk → f ≡ Disk
+of_disk Disk e = refl
+of_disk NoRecord e = absurd (subst IsDisks (sym e) tt)
+of_disk (TooLarge len) e = absurd (subst IsDisks (sym e) tt)
+of_disk NoMemory e = absurd (subst IsDisks (sym e) tt)
+of_disk Worn e = absurd (subst IsDisks (sym e) tt)
 
-pub of_disk : (f : StoreFault) (changes others : ArrayVec Change 16 (Unit {0})) → host_fault f changes ≡ disk_of others → (f ≡ Disk) × (changes.items ≡ others.items)
-of_disk Disk changes others e = (refl, same_changes (disk_of changes) (disk_of others) e)
-of_disk NoRecord changes others e = absurd (subst IsDisks (sym e) tt)
-of_disk (TooLarge len) changes others e = absurd (subst IsDisks (sym e) tt)
-of_disk NoMemory changes others e = absurd (subst IsDisks (sym e) tt)
-of_disk Worn changes others e = absurd (subst IsDisks (sym e) tt)
+pub of_worn : (whole : Bool) (store : Place) (old new : View) (f : StoreFault) → commit_fault f ≡ commit.Worn → IsCommitFault whole store old new f → f ≡ Worn
+of_worn whole store old new Disk is fault = absurd (subst IsDisks is tt)
+of_worn whole store old new NoRecord is fault = absurd fault
+of_worn whole store old new (TooLarge len) is fault = absurd fault
+of_worn whole store old new NoMemory is fault = absurd fault
+of_worn whole store old new Worn is fault = refl
 
-pub of_worn : (whole : Bool) (store : Place) (old new : View) (f : StoreFault) (changes : ArrayVec Change 16 (Unit {0})) → host_fault f changes ≡ worn_out
-    → IsCommitFault whole store old new f → f ≡ Worn
-of_worn whole store old new Disk changes is fault = absurd (subst IsDisks is tt)
-of_worn whole store old new NoRecord changes is fault = absurd fault
-of_worn whole store old new (TooLarge len) changes is fault = absurd fault
-of_worn whole store old new NoMemory changes is fault = absurd fault
-of_worn whole store old new Worn changes is fault = refl
+pub unstored : (whole : Bool) (store : Place) (o : Option Place) (old new : View) (f : StoreFault) → o ≡ Some store
+    → IsCommitFault whole store old new f → IsUnstored whole o old new (commit_fault f)
+unstored whole store o old new Disk is fault = fault
+unstored whole store o old new NoRecord is fault = absurd fault
+unstored whole store o old new (TooLarge len) is fault = absurd fault
+unstored whole store o old new NoMemory is fault = absurd fault
+unstored whole store o old new Worn is fault = (fault.0, (store, is, fault.1))
 
-pub handled : (whole : Bool) (store : Place) (o : Option Place) (old new : View) (f : StoreFault) (changes : ArrayVec Change 16 (Unit {0})) → o ≡ Some store
-    → IsCommitFault whole store old new f → IsHandleFault whole o old new (host_fault f changes)
-handled whole store o old new Disk changes is fault = fault
-handled whole store o old new NoRecord changes is fault = absurd fault
-handled whole store o old new (TooLarge len) changes is fault = absurd fault
-handled whole store o old new NoMemory changes is fault = absurd fault
-handled whole store o old new Worn changes is fault = (fault.0, (store, is, fault.1))
+-- the fault as it is told
+pub named : (f : CommitFault) (changes : ArrayVec Change 16 (Unit {0})) → (told_fault f changes ≡ disk_of changes) ⊎ (told_fault f changes ≡ worn_out)
+named commit.Disk changes = inl refl
+named commit.Worn changes = inr refl
+
+abbrev Ended : Type 0
+Ended = Result (Unit {0}) CommitFault
+
+fault_in : CommitFault → Ended → CommitFault
+fault_in d (Ok u) = d
+fault_in d (Err f) = f
+
+pub same_fault : (f g : CommitFault) (r s : Ended) → r ≡ Err f → s ≡ Err g → r ≡ s → f ≡ g
+unfolding fault_in
+same_fault f g r s first second same = sym (ap (fault_in f) first) ∙ ap (fault_in f) same ∙ ap (fault_in f) second

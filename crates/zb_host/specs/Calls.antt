@@ -1,13 +1,15 @@
 -- What the calls of a host promise to the next call, and to whoever comes after a crash.
-use Rattle.std.specs.Prelude.{ℕ, ◌≡◌, ◌≢◌, ◌==◌, List, [], get_or, Some, None, Result, IfOk, IfErr, OnErr, IsTrue}
+use Rattle.std.specs.Prelude.{ℕ, ◌≡◌, ◌≢◌, ◌==◌, List, [], get_or, Some, None, Result, Ok, Err, IfOk, IfErr, OnErr, IsTrue}
 use Rattle.arrayvec.specs.declared.array_vec.ArrayVec.{ArrayVec}
 use Rattle.zb_node_types.specs.declared.change.Change.{Change}
 use Rattle.zb_disk.specs.View.{Telling, View, LeavesOnly}
 use Rattle.zb_store.specs.Layout.{Standing, stands}
 use Rattle.zb_store.specs.Store.{place_of, AllWhole, WasThere}
+use Rattle.zb_host.specs.declared.fault.CommitFault.{CommitFault}
 use Rattle.zb_host.specs.declared.fault.HostFault.{HostFault}
+use Rattle.zb_host.specs.declared.plan.Plan.{Plan}
 use Rattle.zb_host.specs.Hosts.{Restoring, Gives, StandsForEither, Hosted, IsCurrent, writes_whole, next_standing}
-use Rattle.zb_host.specs.HostFaults.{IsBootFault}
+use Rattle.zb_host.specs.HostFaults.{IsBootFault, told_fault}
 
 -- what a law on calls has of a core and of a disk: their ghost members
 pub record Words (C D : Type 0) : Type 1 where
@@ -24,6 +26,11 @@ words_of tells state restored recorded payload = record { tells = tells; state =
 -- what `handle` answers: the changes and what goes out, or why not
 abbrev pub Handled : Type 0 → Type 0
 Handled O = Result (ArrayVec Change 16 (Unit {0}) × O) HostFault
+
+-- the same of `handle_into`, from its answer and the plan that it writes
+abbrev pub handled : {O : Type 0} → Result (Unit {0}) CommitFault → Plan O → Handled O
+handled (Ok u) p = Ok (p.changes, p.out)
+handled (Err fault) p = Err (told_fault fault p.changes)
 
 -- a call of `handle`
 pub record IsHandled {C D O : Type 0} (words : Words C D) (before : Hosted C) (old : D) (result : Handled O) (after : Hosted C) (new : D) : Type 0 where

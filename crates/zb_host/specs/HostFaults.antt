@@ -5,6 +5,8 @@ use Rattle.zb_base.specs.Outside.{Rose}
 use Rattle.zb_disk.specs.View.{Telling, View}
 use Rattle.zb_store.specs.Layout.{Standing, stands}
 use Rattle.zb_store.specs.Store.{Place}
+use Rattle.zb_host.specs.declared.fault.CommitFault.{CommitFault}
+use Rattle.zb_host.specs.declared.fault.CommitFault.TheVariants as commit
 use Rattle.zb_host.specs.declared.fault.HostFault.{HostFault}
 use Rattle.zb_host.specs.declared.fault.HostFault.TheVariants.{Disk, NoMemory, NoRecord, BadRecord, Worn}
 use Rattle.arrayvec.specs.declared.array_vec.ArrayVec.{ArrayVec}
@@ -30,10 +32,20 @@ IsBootFault tells restored old new NoRecord = IsTrue tells.content → stands ol
 IsBootFault tells restored old new (BadRecord at) = IsTrue tells.content → (s : Standing) × (stands old.seen ≡ Some s) × (restored s.content (concat s.payloads) ≡ bad at)
 IsBootFault tells restored old new Worn = ⊥
 
--- the fault of a host whose commit failed
-abbrev pub host_fault : StoreFault → ArrayVec Change 16 (Unit {0}) → HostFault
-host_fault store_disk changes = Disk changes
-host_fault store_no_record changes = Worn
-host_fault (store_too_large len) changes = Worn
-host_fault store_no_memory changes = Worn
-host_fault store_worn changes = Worn
+-- of changes that weren't stored: the same
+abbrev pub IsUnstored : Bool → Option Place → View → View → CommitFault → Type 0
+IsUnstored whole store old new commit.Disk = Rose old.faults new.faults
+IsUnstored whole store old new commit.Worn = (whole ≡ true) × ((p : Place) × (store ≡ Some p) × (p.generation ≡ 18446744073709551615))
+
+-- why changes weren't stored whose commit failed
+abbrev pub commit_fault : StoreFault → CommitFault
+commit_fault store_disk = commit.Disk
+commit_fault store_no_record = commit.Worn
+commit_fault (store_too_large len) = commit.Worn
+commit_fault store_no_memory = commit.Worn
+commit_fault store_worn = commit.Worn
+
+-- the fault as it is told, with the changes that were to be stored
+abbrev pub told_fault : CommitFault → ArrayVec Change 16 (Unit {0}) → HostFault
+told_fault commit.Disk changes = Disk changes
+told_fault commit.Worn changes = Worn

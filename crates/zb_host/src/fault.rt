@@ -24,6 +24,15 @@ pub enum HostFault {
     Worn,
 }
 
+/// Says why the changes of an event weren't stored. The host is down, and the node boots again from its disk.
+#[derive(Clone, Copy, Debug, PartialEq, Eq)]
+pub enum CommitFault {
+    /// The disk failed. What is committed shows at the next boot.
+    Disk,
+    /// The whole record was to be written, and the last generation of the store is used up. Nothing was written.
+    Worn,
+}
+
 impl fmt::Display for HostFault {
     ghost use Rattle.std.specs.Prelude.{Some};
     ghost use Rattle.zb_host.specs.Texts.{fault_text};

@@ -1,24 +1,28 @@
 //! The host: a core, its store, and the rule that what goes out is stored first.
-ghost use Rattle.std.specs.Prelude.{if◌then◌else◌, Some, None, ◌≡◌, ◌≢◌, ◌==◌, ◌≤◌, ◌⊎◌, [], List, ℕ, length, get_or, Bool, true, false, is_some, IsTrue, IfOk, IfErr, OnOk, OnErr};
+ghost use Rattle.std.specs.Prelude.{if◌then◌else◌, Some, None, ◌≡◌, ◌≢◌, ◌==◌, ◌≤◌, ◌⊎◌, [], List, ℕ, length, get_or, Bool, true, false, is_some, IsTrue, IsErrOf, IfOk, IfErr, OnOk, OnErr};
 ghost use Rattle.zb_base.specs.Config.{IsConfig};
 ghost use Rattle.zb_disk.specs.View.{IsStill};
 ghost use Rattle.zb_store.specs.Layout.{Standing, stands};
+ghost use Rattle.zb_store.specs.Sizes.{record_room};
 ghost use Rattle.zb_store.specs.Steps.{WentThrough};
 ghost use Rattle.std.specs.List.{concat};
 ghost use Rattle.zb_store.specs.Store.{IsHeld, AllWhole, open_calls, OpenStop};
 ghost use Rattle.zb_host.specs.declared.plan.Plan.{Plan as plan};
 ghost use Rattle.zb_host.specs.Hosts.{IsCurrent, writes_whole, commit_calls, HasStopped, IsWorn};
-ghost use Rattle.zb_host.specs.HostFaults.{IsHandleFault, host_fault};
-ghost use Rattle.zb_host.specs.Calls.{words_of, IsHandled, IsBooted};
+ghost use Rattle.zb_host.specs.HostFaults.{IsHandleFault, IsUnstored, commit_fault, told_fault};
+ghost use Rattle.zb_host.specs.Calls.{words_of, handled, IsHandled, IsBooted};
 
 use crate::commit::commit;
-use crate::{Core, HostFault};
+use crate::{CommitFault, Core, HostFault, Plan};
 use std::alloc::Global;
 use std::marker::Model;
-use zb_base::{Config, OrMemory};
+use zb_base::{Config, NoMemory, OrMemory};
 use zb_disk::Disk;
 use zb_node_types::{Changes, KeyError};
 use zb_store::{RECORD_ROOM, Store, StoreFault};
+
+/// A piece of the room of a record.
+const BLANK: [u8; 1_024] = [0; 1_024];
 
 /// Runs a node's core over its store: what goes out is stored first.
 #[derive(Drop)]
@@ -98,10 +102,70 @@ impl<C: Core> Host<C> {
             (IsHandleFault (writes_whole self.old) self.old.store (D.state disk.old) (D.state disk.new)) }
         ensures count { (D.state disk.old).faults ≤ (D.state disk.new).faults }
     {
-        let plan = self.core.plan(event);
-        self.core.apply(&plan);
+        let mut plan = Plan::new();
+        match self.handle_into(disk, event, &mut plan) {
+            Ok(()) => Ok((plan.changes, plan.out)),
+            Err(fault) => Err(told(fault, plan.changes)),
+        }
+    }
+
+    /// Handles an event as `handle` does, and writes its changes and what goes out into `plan`, which spares moving them.
+    ///
+    /// What stood in `plan` is gone. Requires a host that is up. After a fault the host is down, and `plan` has the
+    /// changes that were to be stored.
+    ///
+    /// Errors: `Disk`; `Worn`.
+    pub fn handle_into<D: Disk>(
+        &mut self,
+        disk: &mut D,
+        event: &C::Event,
+        plan: &mut Plan<C::Out>,
+    ) -> Result<(), CommitFault>
+        requires up { IsTrue (is_some self.old.store) }
+
+        // What is written is a plan of the core, and the core is the one after it.
+        ensures planned { C.is_plan self.old.core event.now plan.new }
+        ensures after { C.is_after self.old.core plan.new self.new.core }
+
+        // A crash at any moment leaves the old record's core or the new one's. What goes out goes out where every image
+        // stands for the new. After a fault the host is down.
+        ensures step { IsHandled (words_of D.tells D.state C.restored C.recorded C.payload)
+            self.old disk.old (handled result plan.new) self.new disk.new }
+        ensures through { OnOk result (plan.new.changes.items ≢ []
+            → WentThrough D.tells (commit_calls (writes_whole self.old)) (D.state disk.old) (D.state disk.new)) }
+
+        // Without changes there is no call to the disk.
+        ensures idle { OnOk result (plan.new.changes.items ≡ [] → disk.new ≡ disk.old) }
+        ensures idle_store { OnOk result (plan.new.changes.items ≡ [] → self.new.store ≡ self.old.store) }
+        ensures idle_whole { OnOk result (plan.new.changes.items ≡ [] → self.new.whole ≡ self.old.whole) }
+
+        // Where the disk failed, it stopped at one of the calls, and an image in which the gate is open stands for the
+        // new.
+        ensures stopped { IsErrOf result CommitFault.Disk
+            → (s : Standing) → IsCurrent C.restored C.recorded s self.old (D.state disk.old)
+            → IsTrue D.tells.content → IsTrue D.tells.steady
+            → HasStopped D.tells C.restored (writes_whole self.old) s
+            (C.recorded self.new.core) (C.payload plan.new.changes.items) (D.state disk.old) (D.state disk.new) }
+
+        // An event for which it failed had changes.
+        ensures changed { OnErr result (plan.new.changes.items ≢ []) }
+
+        // After a commit the next one is an entry, unless no entry more fits. Where the whole record would need one
+        // generation more than there are, nothing is stored, and the disk is left as it was.
+        ensures entry_next { OnOk result (plan.new.changes.items ≢ [] → self.new.whole ≡ false) }
+        ensures not_worn { OnOk result (plan.new.changes.items ≢ [] → IsWorn self.old → ⊥) }
+        ensures worn { IsErrOf result CommitFault.Worn → IsStill (D.state disk.old) (D.state disk.new) }
+        ensures not_worn_disk { IsErrOf result CommitFault.Disk → IsWorn self.old → ⊥ }
+
+        ensures up { OnOk result (IsTrue (is_some self.new.store)) }
+        ensures faults { IfErr result
+            (IsUnstored (writes_whole self.old) self.old.store (D.state disk.old) (D.state disk.new)) }
+        ensures count { (D.state disk.old).faults ≤ (D.state disk.new).faults }
+    {
+        self.core.plan(event, plan);
+        self.core.apply(plan);
         if plan.changes.is_empty() {
-            return Ok((plan.changes, plan.out));
+            return Ok(());
         }
         let store = self.store.take().unwrap();
         match commit(
@@ -115,9 +179,9 @@ impl<C: Core> Host<C> {
             Ok(store) => {
                 self.store = Some(store);
                 self.whole = false;
-                Ok((plan.changes, plan.out))
+                Ok(())
             }
-            Err(fault) => Err(fault_of(fault, plan.changes)),
+            Err(fault) => Err(fault_of(fault)),
         }
     }
 
@@ -156,11 +220,10 @@ impl<C: Core> Host<C> {
             → OpenStop D.tells s (D.state disk.old) (D.state disk.new)) }
         ensures count { (D.state disk.old).faults ≤ (D.state disk.new).faults }
     {
-        let mut room = match Vec::with_capacity(alloc, RECORD_ROOM) {
+        let mut room = match record_space(alloc) {
             Ok(room) => room,
             Err(_) => return Err(HostFault::NoMemory),
         };
-        room.resize(RECORD_ROOM, 0).unwrap();
         let (store, record, payloads) = match Store::open(alloc, disk) {
             Ok(opened) => opened,
             Err(StoreFault::Disk) => {
@@ -201,15 +264,36 @@ impl<C: Core> Host<C> {
     }
 }
 
-// The fault of a host whose commit failed. A commit has no faults but these two.
-fn fault_of(fault: StoreFault, changes: Changes) -> HostFault
-    ensures { result ≡ host_fault fault changes }
+// Makes room for a record. It is filled by pieces, since a boot would spend most of its time filling it by bytes.
+fn record_space(alloc: Global) -> Result<Vec<u8>, NoMemory>
+    ensures { IfOk result (λ room. length room.items ≡ record_room) }
+{
+    let mut room = Vec::with_capacity(alloc, RECORD_ROOM)?;
+    for _ in 0..RECORD_ROOM / BLANK.len() {
+        room.extend_from_slice(&BLANK)?;
+    }
+    Ok(room)
+}
+
+// Why the changes of an event weren't stored. A commit has no faults but these two.
+fn fault_of(fault: StoreFault) -> CommitFault
+    ensures { result ≡ commit_fault fault }
 {
     match fault {
-        StoreFault::Disk => HostFault::Disk { changes },
+        StoreFault::Disk => CommitFault::Disk,
         StoreFault::NoRecord
         | StoreFault::TooLarge { .. }
         | StoreFault::NoMemory
-        | StoreFault::Worn => HostFault::Worn,
+        | StoreFault::Worn => CommitFault::Worn,
+    }
+}
+
+// The fault as it is told, with the changes that were to be stored.
+fn told(fault: CommitFault, changes: Changes) -> HostFault
+    ensures { result ≡ told_fault fault changes }
+{
+    match fault {
+        CommitFault::Disk => HostFault::Disk { changes },
+        CommitFault::Worn => HostFault::Worn,
     }
 }

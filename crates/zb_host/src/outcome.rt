@@ -23,6 +23,13 @@ pub struct Outcome<T, R> {
     pub frame: Option<Frame>,
 }
 
+impl<T, R> Default for Outcome<T, R> {
+    /// Makes the outcome of an event that gives nothing.
+    fn default() -> Outcome<T, R> {
+        Outcome::nothing()
+    }
+}
+
 impl<T, R> Outcome<T, R> {
     /// Makes the outcome of an event by which nothing was accepted, refused, sealed or sent.
     pub fn nothing() -> Outcome<T, R>

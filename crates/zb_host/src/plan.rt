@@ -11,12 +11,26 @@ use zb_base::{Config, OrMemory};
 use zb_node_types::{Changes, KeyError};
 
 /// Says what an event leads to: the changes of the stable state, and what goes out once they are stored.
+///
+/// It is large. So its place is made once, and plans are written there.
 #[derive(Debug, Drop)]
 pub struct Plan<O> {
     /// The changes, in order.
     pub changes: Changes,
     /// What goes out.
     pub out: O,
+}
+
+impl<O: Default> Plan<O> {
+    /// Makes the place of plans: there are no changes.
+    pub fn new() -> Plan<O>
+        ensures { result.changes.items ≡ [] }
+    {
+        Plan {
+            changes: Changes::new(),
+            out: O::default(),
+        }
+    }
 }
 
 /// Decides what a node does, over its tables.
@@ -30,7 +44,7 @@ pub trait Core: Drop {
     type Event;
 
     /// What goes out.
-    type Out: Drop;
+    type Out: Default + Drop;
 
     /// The core's record.
     ghost recorded: { Self → List ℕ };
@@ -56,9 +70,9 @@ pub trait Core: Drop {
     /// with.
     ghost is_booted: { configuration → List ℕ → List ℕ → Self → Type 0 };
 
-    /// Plans an event; changes nothing.
-    fn plan(&self, event: &Self::Event) -> Plan<Self::Out>
-        ensures { is_plan self.now event.now result };
+    /// Writes the plan of an event in place of the plan that stood there; changes nothing else.
+    fn plan(&self, event: &Self::Event, plan: &mut Plan<Self::Out>)
+        ensures { is_plan self.now event.now plan.new };
 
     /// Makes the changes of a plan. Requires a plan of this core.
     fn apply(&mut self, plan: &Plan<Self::Out>)

@@ -1,6 +1,6 @@
-mod Shown
-mod Sections
-mod Calls
+pub mod Shown
+pub mod Sections
+pub mod Calls
 mod Same
 pub mod Started
 pub mod ActiveRows

@@ -18,7 +18,6 @@ use Rattle.zb_driven.specs.Driven.{IsAtRest, IsUp, HasFallen, IsDown, calls_in, 
 use Rattle.zb_driven.specs.declared.arms.Arms.{Arms}
 use Rattle.zb_driven.specs.declared.arms.Arms.TheVariants.{Unarmed}
 use Rattle.zb_driven.specs.declared.fall.Fall.{Fall}
-use Rattle.zb_driven.specs.declared.fall.Fallen.{Fallen}
 use Rattle.zb_host.specs.Hosts.{Gives, Hosted, IsCurrent, writes_whole}
 use Rattle.zb_host.specs.declared.outcome.Outcome.{Outcome}
 use Rattle.zb_model.specs.Answer.{Answer, answer, answered}
@@ -33,7 +32,7 @@ use Rattle.zb_model_shown.proofs.Answered.{answered_same, boot_same}
 use Rattle.zb_model_steps.specs.Conditions.{Condition, after_arming, after_cut_boot, after_fall, after_power_on, after_reset, after_storing, after_whole, calls_by, commits_with}
 use Rattle.zb_network.specs.Settings.{setting_for}
 use Rattle.zb_node.proofs.Standing.{after_alike, boot_alike, calls_are, same_given, stored_as, stored_later, stored_next, writes_are}
-use Rattle.zb_node.specs.Answers.{CanHave, CanStart, Changes, HasBooted, HasGiven, HasMade, IsPlanFor, IsStarted, IsStillDown, IsUpAgain, WasAnswered, WasCut, arms_stand, start_condition}
+use Rattle.zb_node.specs.Answers.{CanHave, CanStart, HasBooted, HasGiven, HasMade, IsPlanFor, IsStarted, IsStillDown, IsUpAgain, WasAnswered, WasCut, arms_stand, start_condition}
 use Rattle.zb_node.specs.Nodes.{IsIn, IsPowered, IsRunning, IsStored, words_for}
 use Rattle.zb_node.specs.Tasks.{suits}
 use Rattle.zb_node.specs.Values.{NodeValue, Running}
@@ -159,19 +158,18 @@ up_of : (x : Condition) (number : ℕ) (task : model.Task) (s : Standing) (r : R
     → CanHave x number task → IsUp (words_for x.setting.me.role) s x.disk.armed r.host m
 up_of x number task s r m stored run unarmed arming can = record { current = run.current; unarmed = unarmed; arming = arming; lasting = omega (arith, stored.generation, can.early) }
 
-answered_in : (x : Condition) (number : ℕ) (task : model.Task) (node : NodeValue) (r r' : Running) (changes : Changes) (out : Outcome Term Refusal) (old new : Medium)
-    → IsIn x number (record node { machine = Some r }) old → CanHave x number task → r'.role ≡ r.role → HasGiven x.setting.me.role task x.disk.armed r.host old (Ok (changes, out)) r'.host new
-    → WasAnswered (answer real x.setting x.state task) x number (record { changes = changes; out = out }) old (record node { machine = Some r' }) new
-answered_in x number task node r r' changes out old new is can role_stays given =
+answered_in : (x : Condition) (number : ℕ) (task : model.Task) (node : NodeValue) (r r' : Running) (p : CorePlan) (old new : Medium)
+    → IsIn x number (record node { machine = Some r }) old → CanHave x number task → r'.role ≡ r.role → HasGiven x.setting.me.role task x.disk.armed r.host old p (Ok tt) r'.host new
+    → WasAnswered (answer real x.setting x.state task) x number p old (record node { machine = Some r' }) new
+answered_in x number task node r r' p old new is can role_stays given =
     let role = x.setting.me.role in
     let a = answer real x.setting x.state task in
     let s = is.standing in
-    let p : CorePlan = record { changes = changes; out = out } in
     let power = running_of x.up x s r old is.powered in
     let run = power.0 in
     let handled = given.1 s (up_of x number task s r old is.stored run is.unarmed is.arming can) in
     let it = went x number task s r p r'.host old is.stored run can given.0 in
-    let next = next_of (words_for role) s r.host changes.items r'.host in
+    let next = next_of (words_for role) s r.host p.changes.items r'.host in
     record {
       missed = sym (ap (falls x.disk.armed) it.calls) ∙ handled.missed;
       answer_is = it.answer_is;
@@ -195,20 +193,20 @@ answered_in x number task node r r' changes out old new is can role_stays given 
     }
 
 -- what was given of the host's role and of what the node armed is given of the condition
-given_of : (x : Condition) (number : ℕ) (task : model.Task) (node : NodeValue) (r : Running) (old : Medium) (result : Result (Changes × Outcome Term Refusal) Fallen) (after : Hosted CoreValue) (new : Medium)
+given_of : (x : Condition) (number : ℕ) (task : model.Task) (node : NodeValue) (r : Running) (old : Medium) (p : CorePlan) (result : Result (Unit {0}) Fall) (after : Hosted CoreValue) (new : Medium)
     → IsIn x number (record node { machine = Some r }) old → CanHave x number task
-    → (suits r.role task ≡ true → HasGiven r.role task (armed_of node.arms) r.host old result after new) → HasGiven x.setting.me.role task x.disk.armed r.host old result after new
-given_of x number task node r old result after new is can given =
+    → (suits r.role task ≡ true → HasGiven r.role task (armed_of node.arms) r.host old p result after new) → HasGiven x.setting.me.role task x.disk.armed r.host old p result after new
+given_of x number task node r old p result after new is can given =
     let run = (running_of x.up x is.standing r old is.powered).0 in
-    subst (λ (a : Armed). HasGiven x.setting.me.role task a r.host old result after new) is.armed
-    (subst (λ (role : Role). HasGiven role task (armed_of node.arms) r.host old result after new) run.role (given (ap (λ (role : Role). suits role task) run.role ∙ can.suits)))
+    subst (λ (a : Armed). HasGiven x.setting.me.role task a r.host old p result after new) is.armed
+    (subst (λ (role : Role). HasGiven role task (armed_of node.arms) r.host old p result after new) run.role (given (ap (λ (role : Role). suits role task) run.role ∙ can.suits)))
 
-pub was_answered : (task : model.Task) (node : NodeValue) (r r' : Running) (changes : Changes) (out : Outcome Term Refusal) (old new : Medium) → r'.role ≡ r.role
-    → (suits r.role task ≡ true → HasGiven r.role task (armed_of node.arms) r.host old (Ok (changes, out)) r'.host new)
+pub was_answered : (task : model.Task) (node : NodeValue) (r r' : Running) (p : CorePlan) (old new : Medium) → r'.role ≡ r.role
+    → (suits r.role task ≡ true → HasGiven r.role task (armed_of node.arms) r.host old p (Ok tt) r'.host new)
     → (x : Condition) (number : ℕ) → IsIn x number (record node { machine = Some r }) old → CanHave x number task
-    → WasAnswered (answer real x.setting x.state task) x number (record { changes = changes; out = out }) old (record node { machine = Some r' }) new
-was_answered task node r r' changes out old new role_stays given x number is can =
-    answered_in x number task node r r' changes out old new is can role_stays (given_of x number task node r old (Ok (changes, out)) r'.host new is can given)
+    → WasAnswered (answer real x.setting x.state task) x number p old (record node { machine = Some r' }) new
+was_answered task node r r' p old new role_stays given x number is can =
+    answered_in x number task node r r' p old new is can role_stays (given_of x number task node r old p (Ok tt) r'.host new is can given)
 
 -- ---- an event that was cut
 
@@ -249,30 +247,27 @@ cut_now : (x : Condition) (number : ℕ) (node : NodeValue) (s next : Standing) 
 cut_now x number node s next es true both m stored then_stored rest gates setting role = down_now (after_storing es x) number node next both m then_stored rest gates setting role
 cut_now x number node s next es false both m stored then_stored rest gates setting role = down_now x number node s both m stored rest gates setting role
 
-pub was_cut : (task : model.Task) (node : NodeValue) (r : Running) (after : Hosted CoreValue) (e : Fallen) (kept : List Change) (old new : Medium)
-    → (suits r.role task ≡ true → HasGiven r.role task (armed_of node.arms) r.host old (Err e) after new) → kept ≡ (if arms_stand (armed_of node.arms) then e.changes.items else [])
+pub was_cut : (task : model.Task) (node : NodeValue) (r : Running) (after : Hosted CoreValue) (p : CorePlan) (fall : Fall) (kept : List Change) (old new : Medium)
+    → (suits r.role task ≡ true → HasGiven r.role task (armed_of node.arms) r.host old p (Err fall) after new) → kept ≡ (if arms_stand (armed_of node.arms) then p.changes.items else [])
     → (x : Condition) (number : ℕ) → IsIn x number (record node { machine = Some r }) old → CanHave x number task
-    → WasCut (answer real x.setting x.state task) x number kept e.fall old (record node { machine = None; arms = Unarmed }) new
-was_cut task node r after e kept old new gave kept_are x number is can =
+    → WasCut (answer real x.setting x.state task) x number kept fall old (record node { machine = None; arms = Unarmed }) new
+was_cut task node r after p fall kept old new gave kept_are x number is can =
     let role = x.setting.me.role in
     let armed = x.disk.armed in
     let a = answer real x.setting x.state task in
     let s = is.standing in
-    let given = given_of x number task node r old (Err e) after new is can gave in
-    let p = given.0.plan in
+    let given = given_of x number task node r old p (Err fall) after new is can gave in
     let items = p.changes.items in
     let run = (running_of x.up x s r old is.powered).0 in
-    let untold = given.1 s (up_of x number task s r old is.stored run is.unarmed is.arming can) in
-    let told = given.0.told_are untold.some in
-    let fallen : HasFallen (words_for role) s armed r.host old items e.fall after new = subst (λ (l : List Change). HasFallen (words_for role) s armed r.host old l e.fall after new) told untold in
-    let it = went x number task s r p after old is.stored run can given.0.is in
+    let fallen : HasFallen (words_for role) s armed r.host old items fall after new = given.1 s (up_of x number task s r old is.stored run is.unarmed is.arming can) in
+    let it = went x number task s r p after old is.stored run can given.0 in
     let next = next_of (words_for role) s r.host items after in
     let calls = calls_by x.commits a.edits in
     let stood = ap arms_stand is.armed ∙ cut_stands armed (writes_whole r.host) items fallen.some fallen.fell ∙ ap (stands armed) it.calls in
     record {
       fell = sym (ap (falls armed) it.calls) ∙ fallen.fell;
-      stored_are = ap edits kept_are ∙ edits_if (arms_stand (armed_of node.arms)) e.changes.items ∙ ap (λ (b : Bool). if b then edits e.changes.items else []) stood
-          ∙ ap (λ (es : List Edit). if stands armed calls then es else []) (ap edits told ∙ it.answer_is.changes);
+      stored_are = ap edits kept_are ∙ edits_if (arms_stand (armed_of node.arms)) items ∙ ap (λ (b : Bool). if b then edits items else []) stood
+          ∙ ap (λ (es : List Edit). if stands armed calls then es else []) it.answer_is.changes;
       fall_is = fallen.is;
       calls = fallen.calls;
       leaves = cut_now x (number + 1) node s next a.edits (stands armed calls) (leaves_both armed calls) new (stored_later role x.state x.commits number s is.stored) (it.stored fallen.gives_it)

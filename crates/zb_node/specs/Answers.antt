@@ -11,7 +11,6 @@ use Rattle.zb_disk.specs.Memory.{Medium, memory_view}
 use Rattle.zb_driven.specs.Arms.{IsUnarmed, calls_after, fallen_calls}
 use Rattle.zb_driven.specs.Driven.{IsUp, WasHandled, HasFallen, IsDown, WasBooted, HasFallenAtBoot, fall_of}
 use Rattle.zb_driven.specs.declared.fall.Fall.{Fall}
-use Rattle.zb_driven.specs.declared.fall.Fallen.{Fallen}
 use Rattle.zb_host.specs.Hosts.{Hosted}
 use Rattle.zb_host.specs.declared.outcome.Outcome.{Outcome}
 use Rattle.zb_model.specs.Answer.{Answer, answer}
@@ -66,12 +65,12 @@ pub record WasCut (a : Answer) (x : Condition) (number : ℕ) (stored : List Cha
   pub calls : m.calls ≡ risen old.calls (fallen_calls x.disk.armed)
 
 -- What became of an event of a node, by what is told of it: nothing where it is down.
-abbrev pub HasHandled : model.Task → NodeValue → Medium → Option Handled → NodeValue → Medium → Type 0
-HasHandled task old m None new m' = (old.machine ≡ None) × (new ≡ old) × (m' ≡ m)
-HasHandled task old m (Some (Whole changes out)) new m' = (x : Condition) (number : ℕ) → IsIn x number old m → CanHave x number task
-    → WasAnswered (answer real x.setting x.state task) x number (record { changes = changes; out = out }) m new m'
-HasHandled task old m (Some (Cut stored fall)) new m' = (x : Condition) (number : ℕ) → IsIn x number old m → CanHave x number task
-    → WasCut (answer real x.setting x.state task) x number stored.items fall m new m'
+abbrev pub HasHandled : model.Task → NodeValue → Medium → Option Handled → CorePlan → NodeValue → Medium → Type 0
+HasHandled task old m None p new m' = (old.machine ≡ None) × (new ≡ old) × (m' ≡ m)
+HasHandled task old m (Some Whole) p new m' = (x : Condition) (number : ℕ) → IsIn x number old m → CanHave x number task
+    → WasAnswered (answer real x.setting x.state task) x number p m new m'
+HasHandled task old m (Some (Cut fall)) p new m' = (x : Condition) (number : ℕ) → IsIn x number old m → CanHave x number task
+    → WasCut (answer real x.setting x.state task) x number p.changes.items fall m new m'
 
 -- A node was booted: nothing falls on its boot, and it is up.
 pub record IsUpAgain (x : Condition) (number : ℕ) (old : Medium) (node : NodeValue) (m : Medium) : Type 0 where
@@ -117,21 +116,15 @@ pub record IsPlanFor (role : Role) (task : model.Task) (before : CoreValue) (p :
   pub storable : IsStorable role before.tables p.changes.items
   pub after_is : IsCoreAfter before p after
 
--- what a fallen event tells of its plan: its changes, if any
-pub record IsCutPlan (role : Role) (task : model.Task) (before : CoreValue) (told : List Change) (after : CoreValue) : Type 0 where
-  pub plan : CorePlan
-  pub is : IsPlanFor role task before plan after
-  pub told_are : told ≢ [] → told ≡ plan.changes.items
-
 abbrev pub Changes : Type 0
 Changes = ArrayVec Change 16 (Unit {0})
 
 -- What an event of a host gave: its plan, and what is left of the host and its disk.
-abbrev pub HasGiven : Role → model.Task → Armed → Hosted CoreValue → Medium → Result (Changes × Outcome Term Refusal) Fallen → Hosted CoreValue → Medium → Type 0
-HasGiven role task a before old (Ok r) after new = IsPlanFor role task before.core (record { changes = r.0; out = r.1 }) after.core
-    × ((s : Standing) → IsUp (words_for role) s a before old → WasHandled (words_for role) s a before old r.0.items after new)
-HasGiven role task a before old (Err e) after new = IsCutPlan role task before.core e.changes.items after.core
-    × ((s : Standing) → IsUp (words_for role) s a before old → HasFallen (words_for role) s a before old e.changes.items e.fall after new)
+abbrev pub HasGiven : Role → model.Task → Armed → Hosted CoreValue → Medium → CorePlan → Result (Unit {0}) Fall → Hosted CoreValue → Medium → Type 0
+HasGiven role task a before old p (Ok u) after new = IsPlanFor role task before.core p after.core
+    × ((s : Standing) → IsUp (words_for role) s a before old → WasHandled (words_for role) s a before old p.changes.items after new)
+HasGiven role task a before old p (Err fall) after new = IsPlanFor role task before.core p after.core
+    × ((s : Standing) → IsUp (words_for role) s a before old → HasFallen (words_for role) s a before old p.changes.items fall after new)
 
 -- what a boot made: a host with the core of what stands, or nothing
 abbrev pub HasMade : Role → Config → Armed → Medium → Result Running (OrMemory Fall) → Medium → Type 0

@@ -9,6 +9,6 @@ mod roles;
 mod task;
 
 pub use law::{a_host_has_power, a_later_event};
-pub use machine::Machine;
+pub use machine::{Machine, NodePlan};
 pub use node::{Handled, Node};
 pub use task::Task;

@@ -21,12 +21,11 @@ use crate::task::Task;
 use std::alloc::Global;
 use zb_base::{Config, NoMemory, OrMemory, Place, Role};
 use zb_centre::Centre;
-use zb_device::Device;
 use zb_disk::MemDisk;
-use zb_driven::{Arms, Fall, Fallen, boot_armed, dump, run};
-use zb_host::{Host, Outcome};
-use zb_node_types::{Changes, Refusal};
-use zb_router::Router;
+use zb_driven::{Arms, Fall, boot_armed, dump, run};
+use zb_host::{Host, Outcome, Plan};
+use zb_node_types::Refusal;
+use zb_router::{Device, Router};
 use zb_seal::Term;
 
 /// Is the host of a node of any role.
@@ -40,54 +39,81 @@ pub enum Machine {
     Device(Host<Device>),
 }
 
-/// What an event of a node gives once its changes are stored, or how it fell.
-pub(crate) type Answered = Result<(Changes, Outcome<Term, Refusal>), Fallen>;
+/// What an event of a node gives: its changes, and what goes out once they are stored.
+pub type NodePlan = Plan<Outcome<Term, Refusal>>;
 
 // Refuses an event that the role of a node doesn't have.
-fn refuse() -> (Changes, Outcome<Term, Refusal>) {
-    let mut out = Outcome::nothing();
-    out.refused = Some(Refusal::Policy {
+fn refuse(plan: &mut NodePlan) {
+    plan.changes.clear();
+    plan.out = Outcome::nothing();
+    plan.out.refused = Some(Refusal::Policy {
         place: Place::Event,
     });
-    (Changes::new(), out)
 }
 
 // Handles an event of the centre.
-fn handle_centre(host: &mut Host<Centre>, disk: &mut MemDisk, arms: &Arms, task: Task) -> Answered
+fn handle_centre(
+    host: &mut Host<Centre>,
+    disk: &mut MemDisk,
+    arms: &Arms,
+    task: Task,
+    plan: &mut NodePlan,
+) -> Result<(), Fall>
     requires up { IsTrue (is_some host.old.store) }
     ensures given { suits model.Centre (model_task task) ≡ true → HasGiven model.Centre (model_task task)
-        (armed_of arms.now) host.old disk.old result host.new disk.new }
+        (armed_of arms.now) host.old disk.old plan.new result host.new disk.new }
     ensures up { OnOk result (IsTrue (is_some host.new.store)) }
 {
     match centre_event(task) {
-        Some(event) => run(host, disk, arms, &event),
-        None => Ok(refuse()),
+        Some(event) => run(host, disk, arms, &event, plan),
+        None => {
+            refuse(plan);
+            Ok(())
+        }
     }
 }
 
 // Handles an event of a router.
-fn handle_router(host: &mut Host<Router>, disk: &mut MemDisk, arms: &Arms, task: Task) -> Answered
+fn handle_router(
+    host: &mut Host<Router>,
+    disk: &mut MemDisk,
+    arms: &Arms,
+    task: Task,
+    plan: &mut NodePlan,
+) -> Result<(), Fall>
     requires up { IsTrue (is_some host.old.store) }
     ensures given { suits model.Router (model_task task) ≡ true → HasGiven model.Router (model_task task)
-        (armed_of arms.now) host.old disk.old result host.new disk.new }
+        (armed_of arms.now) host.old disk.old plan.new result host.new disk.new }
     ensures up { OnOk result (IsTrue (is_some host.new.store)) }
 {
     match router_event(task) {
-        Some(event) => run(host, disk, arms, &event),
-        None => Ok(refuse()),
+        Some(event) => run(host, disk, arms, &event, plan),
+        None => {
+            refuse(plan);
+            Ok(())
+        }
     }
 }
 
 // Handles an event of a device.
-fn handle_device(host: &mut Host<Device>, disk: &mut MemDisk, arms: &Arms, task: Task) -> Answered
+fn handle_device(
+    host: &mut Host<Device>,
+    disk: &mut MemDisk,
+    arms: &Arms,
+    task: Task,
+    plan: &mut NodePlan,
+) -> Result<(), Fall>
     requires up { IsTrue (is_some host.old.store) }
     ensures given { suits model.Device (model_task task) ≡ true → HasGiven model.Device (model_task task)
-        (armed_of arms.now) host.old disk.old result host.new disk.new }
+        (armed_of arms.now) host.old disk.old plan.new result host.new disk.new }
     ensures up { OnOk result (IsTrue (is_some host.new.store)) }
 {
     match device_event(task) {
-        Some(event) => run(host, disk, arms, &event),
-        None => Ok(refuse()),
+        Some(event) => run(host, disk, arms, &event, plan),
+        None => {
+            refuse(plan);
+            Ok(())
+        }
     }
 }
 
@@ -125,18 +151,24 @@ impl Machine {
     }
 
     /// Handles an event of a node that is up, over its disk, with what is armed on that.
-    pub(crate) fn handle(&mut self, disk: &mut MemDisk, arms: &Arms, task: Task) -> Answered
+    pub(crate) fn handle(
+        &mut self,
+        disk: &mut MemDisk,
+        arms: &Arms,
+        task: Task,
+        plan: &mut NodePlan,
+    ) -> Result<(), Fall>
         requires up { IsTrue (is_some (running self.old).host.store) }
         ensures given { suits (running self.old).role (model_task task) ≡ true
             → HasGiven (running self.old).role (model_task task) (armed_of arms.now)
-            (running self.old).host disk.old result (running self.new).host disk.new }
+            (running self.old).host disk.old plan.new result (running self.new).host disk.new }
         ensures role { (running self.new).role ≡ (running self.old).role }
         ensures up { OnOk result (IsTrue (is_some (running self.new).host.store)) }
     {
         match self {
-            Machine::Centre(host) => handle_centre(host, disk, arms, task),
-            Machine::Router(host) => handle_router(host, disk, arms, task),
-            Machine::Device(host) => handle_device(host, disk, arms, task),
+            Machine::Centre(host) => handle_centre(host, disk, arms, task, plan),
+            Machine::Router(host) => handle_router(host, disk, arms, task, plan),
+            Machine::Device(host) => handle_device(host, disk, arms, task, plan),
         }
     }
 

@@ -17,7 +17,7 @@ ghost use Rattle.zb_store.specs.Layout.{Standing, open_gate};
 ghost use Rattle.zb_store.specs.Power.{reads_open, stop_commits};
 ghost use Rattle.zb_stored_tables.specs.Cores.{IsOfRole};
 
-use crate::machine::Machine;
+use crate::machine::{Machine, NodePlan};
 use crate::task::Task;
 use arrayvec::ArrayVec;
 use std::alloc::Global;
@@ -25,25 +25,16 @@ use std::marker::Model;
 use zb_base::{Config, Eui, Name, NoMemory, OrMemory, Peer, Role};
 use zb_disk::MemDisk;
 use zb_driven::{Arms, Fall, reset};
-use zb_host::Outcome;
-use zb_node_types::{Changes, Refusal};
-use zb_seal::Term;
+use zb_node_types::Changes;
 use zb_store::RECORD_ROOM;
 
 /// Tells what became of an event of a node that was up.
-#[derive(Drop)]
+#[derive(Clone, Copy, Debug, PartialEq, Eq)]
 pub enum Handled {
-    /// It was handled: its changes are stored, and this goes out.
-    Whole {
-        /// The changes.
-        changes: Changes,
-        /// What goes out.
-        out: Outcome<Term, Refusal>,
-    },
-    /// A stop or a failure of the disk cut it. The node is down.
+    /// It was handled: the changes of its plan are stored, and what goes out goes out.
+    Whole,
+    /// A stop or a failure of the disk cut it. The node is down. The plan has the changes that are stored: all or none.
     Cut {
-        /// The changes that are stored: all or none.
-        stored: Changes,
         /// How it ended.
         fall: Fall,
     },
@@ -110,14 +101,12 @@ fn opens(torn: &[u8]) -> bool
     }
 }
 
-// Answers the changes of a fallen event that are stored: all or none.
-fn stored(arms: &Arms, changes: Changes) -> Changes
-    ensures { result.items ≡ (if arms_stand (armed_of arms.now) then changes.items else []) }
+// Keeps the changes of a fallen event that are stored: all or none.
+fn keep_stored(arms: &Arms, changes: &mut Changes)
+    ensures { changes.new.items ≡ (if arms_stand (armed_of arms.now) then changes.old.items else []) }
 {
-    if stands(arms) {
-        changes
-    } else {
-        Changes::new()
+    if !stands(arms) {
+        changes.clear();
     }
 }
 
@@ -206,27 +195,24 @@ impl Node {
         self.arms = Arms::Fail { call };
     }
 
-    /// Handles an event, over the node's disk.
+    /// Handles an event, over the node's disk, and writes its changes and what goes out into `plan`.
     ///
     /// It answers None where the node is down. Where a stop or a failure falls on the event, or the disk fails, the
     /// node is down after it.
-    pub fn handle(&mut self, disk: &mut MemDisk, task: Task) -> Option<Handled>
-        ensures event { HasHandled (model_task task) self.old disk.old result self.new disk.new }
+    pub fn handle(&mut self, disk: &mut MemDisk, task: Task, plan: &mut NodePlan) -> Option<Handled>
+        ensures event { HasHandled (model_task task) self.old disk.old result plan.new self.new disk.new }
         ensures peer { self.new.peer ≡ self.old.peer }
         ensures config { self.new.config ≡ self.old.config }
     {
         match &mut self.machine {
             None => None,
-            Some(machine) => match machine.handle(disk, &self.arms, task) {
-                Ok((changes, out)) => Some(Handled::Whole { changes, out }),
-                Err(fallen) => {
-                    let stored = stored(&self.arms, fallen.changes);
+            Some(machine) => match machine.handle(disk, &self.arms, task, plan) {
+                Ok(()) => Some(Handled::Whole),
+                Err(fall) => {
+                    keep_stored(&self.arms, &mut plan.changes);
                     self.machine = None;
                     self.arms = Arms::Unarmed;
-                    Some(Handled::Cut {
-                        stored,
-                        fall: fallen.fall,
-                    })
+                    Some(Handled::Cut { fall })
                 }
             },
         }

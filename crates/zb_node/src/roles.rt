@@ -1,15 +1,14 @@
 //! What happens to a node, in the words of its role.
 ghost use Rattle.std.specs.Prelude.{◌≡◌, true, is_some, IfSome, IsTrue};
 ghost use Rattle.zb_centre.specs.Tasks as centre;
-ghost use Rattle.zb_device.specs.Tasks as device;
 ghost use Rattle.zb_model.specs.Data as model;
 ghost use Rattle.zb_node.specs.Tasks.{model_task, suits};
+ghost use Rattle.zb_router.specs.Devices as device;
 ghost use Rattle.zb_router.specs.Tasks as router;
 
 use crate::task::Task;
 use zb_centre::CentreEvent;
-use zb_device::DeviceEvent;
-use zb_router::RouterEvent;
+use zb_router::{DeviceEvent, RouterEvent};
 
 /// Makes the event of the centre, where the centre has such ones.
 pub(crate) fn centre_event(task: Task) -> Option<CentreEvent>

@@ -1,16 +1,27 @@
 -- What was decided of an event: the terms that were accepted, and a refusal or an effect.
 use Rattle.std.specs.Prelude.{◌≡◌, ◌≤◌, length, Option, Some, None, Result, Ok, Err, ⊤}
 use Rattle.zb_base.specs.declared.label.Layer.TheVariants.{Aps, Nwk}
+use Rattle.zb_host.specs.declared.outcome.Outcome.{Outcome}
+use Rattle.zb_host.specs.declared.plan.Plan.{Plan as Program}
 use Rattle.zb_model.specs.Data as model
 use Rattle.zb_model.specs.Rules.{Plan}
 use Rattle.zb_node_types.specs.Changes.{model_place, place_of}
 use Rattle.zb_node_types.specs.declared.refusal.Refusal.{Refusal}
 use Rattle.zb_plan.specs.Answers.{terms}
-use Rattle.zb_plan.specs.declared.decision.Decision.{Decision}
 use Rattle.zb_rules.specs.Outcomes.{decided, most_changes, told}
 use Rattle.zb_rules.specs.declared.effect.Effect.{Effect}
 use Rattle.zb_seal.specs.declared.term.Term.{Term}
 use Rattle.zb_send.specs.Sendings.{CanBeSent}
+
+-- what was decided of an event: what was accepted of a frame at each layer, and what a rule then decided
+pub record Decision : Type 0 where
+  pub nwk : Option Term
+  pub aps : Option Term
+  pub effect : Result Effect Refusal
+
+-- where the accepted terms stand in a plan
+abbrev pub decision_in : Program (Outcome Term Refusal) → Result Effect Refusal → Decision
+decision_in p effect = record { nwk = p.out.accepted_nwk; aps = p.out.accepted_aps; effect = effect }
 
 -- an effect has few changes, and what it sends fits a frame
 abbrev pub IsSmall : Result Effect Refusal → Type 0

@@ -2,11 +2,9 @@
 //! counters, seals and the frame.
 #![tactic(auto)]
 
-mod decision;
 mod floors;
 mod plan;
 mod reserves;
 mod settling;
 
-pub use decision::Decision;
-pub use plan::{plan_of, plan_own};
+pub use plan::{plan_of, plan_own, plan_refused};

@@ -13,8 +13,9 @@ use Rattle.zb_model.specs.Play.{Disk, stations, step}
 use Rattle.zb_model_real.specs.Real.{real}
 use Rattle.zb_model_schedules.specs.Schedules.{event_for, schedule_of, stations_for}
 use Rattle.zb_model_schedules.proofs.Meets.{same_stations}
-use Rattle.zb_player.specs.Playing.{FitsRun, IsEventAt, RunGoes, RunStands, step_of}
+use Rattle.zb_player.specs.Playing.{AreCalledBy, FitsRun, IsEventAt, RunGoes, RunStands, step_of}
 use Rattle.zb_player.specs.declared.run.Run.{Run}
+use Rattle.zb_player.proofs.CallsMade.{outside_calls}
 use Rattle.zb_player.proofs.EventAt.{event_at, is_of_outside, of_outside}
 use Rattle.zb_player.proofs.Goings.{went_outside}
 use Rattle.zb_player.proofs.Named.{has_names}
@@ -51,3 +52,30 @@ answered_at p h ds number e it a old new disks same disks' is fits stands found 
     acts names it found ∙ ap (λ ps. Some (event_for ps e)) (same_stations p) in
     goes p h ds (event_for (stations_for p) e) _ is (subst (RunStands p h ds number old) (sym unswapped) stands)
     (event_at p number e it a Rattle.zb_model.specs.Play.no_station is fits found act)
+
+-- the device calls of an event of the outside
+pub outside_made : (p : sched.Schedule) (h : List Line) (ds : List Disk) (number : ℕ) (e : Event) (old : Run) (disks : List Medium)
+    → IsSchedule p → FitsRun p number e → RunStands p h ds number old disks → seat_for (stations (schedule_of p)) e ≡ None
+    → AreCalledBy p h ds (event_for (stations_for p) e) disks disks
+outside_made p h ds number e old disks is fits stands none =
+    let outside : is_outside e ≡ true =
+    is_of_outside p.nodes e is.centre fits.fits.1 (subst (λ ps. seat_for ps e ≡ None) (same_stations p) none) in
+    outside_calls p h ds number (event_for (stations_for p) e) old disks stands (λ q. of_outside p.nodes e q outside)
+
+-- and of one of a node
+pub made_at : (p : sched.Schedule) (h : List Line) (ds : List Disk) (number : ℕ) (e : Event) (it : Seat) (a : Act) (old : Run) (disks same disks' : List Medium)
+    → IsSchedule p → FitsRun p number e → RunStands p h ds number old disks → seat_for (stations (schedule_of p)) e ≡ Some it
+    → (HasNames (stations (schedule_of p)) e → (x : Seat) → seat_for (stations (schedule_of p)) e ≡ Some x
+    → act_for x.eui.0 a ≡ Some (event_for (stations (schedule_of p)) e))
+    → same ≡ disks
+    → ((p : sched.Schedule) (h : List Line) (ds : List Disk) (event : play.Event) (q : Station) → IsSchedule p → RunStands p h ds number old same
+    → IsEventAt p it.place q a event → AreCalledBy p h ds event same disks')
+    → AreCalledBy p h ds (event_for (stations_for p) e) disks disks'
+made_at p h ds number e it a old disks same disks' is fits stands found acts unswapped calls =
+    let names : HasNames (stations (schedule_of p)) e =
+    subst (λ ps. HasNames ps e) (sym (same_stations p)) (has_names p.nodes e fits.fits.1) in
+    let act : act_for it.eui.0 a ≡ Some (event_for (stations_for p) e) =
+    acts names it found ∙ ap (λ ps. Some (event_for ps e)) (same_stations p) in
+    subst (λ (xs : List Medium). AreCalledBy p h ds (event_for (stations_for p) e) xs disks') unswapped
+    (calls p h ds (event_for (stations_for p) e) _ is (subst (RunStands p h ds number old) (sym unswapped) stands)
+    (event_at p number e it a Rattle.zb_model.specs.Play.no_station is fits found act))

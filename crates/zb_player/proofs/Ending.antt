@@ -10,7 +10,7 @@ use Rattle.zb_model.specs.Play.{start, stations}
 use Rattle.zb_model_laws.proofs.ConfirmsRuns.{start-stations}
 use Rattle.zb_model_schedules.specs.Schedules.{schedule_of, station_for}
 use Rattle.zb_model_schedules.proofs.Meets.{same_stations}
-use Rattle.zb_node.specs.Nodes.{AllStand}
+use Rattle.zb_events.specs.Nodes.{AllStand}
 use Rattle.zb_player.specs.Playing.{RunStands}
 use Rattle.zb_player.specs.Runs.{IsPlayed, text_in}
 use Rattle.zb_player.specs.declared.run.Run.{Run}

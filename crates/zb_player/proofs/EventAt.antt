@@ -19,7 +19,7 @@ use Rattle.zb_model.specs.Schedules.{CountsCalls, SuitsRole, is_for_role}
 use Rattle.zb_model.specs.State.{is_centre}
 use Rattle.zb_model_schedules.specs.Schedules.{event_for, schedule_of, station_for, stations_for}
 use Rattle.zb_model_schedules.proofs.Meets.{same_stations}
-use Rattle.zb_node.specs.Tasks.{has_children, model_task, suits}
+use Rattle.zb_events.specs.Nodes.{has_children, model_task, suits}
 use Rattle.zb_node_types.specs.Changes.{model_role}
 use Rattle.zb_player.specs.Playing.{FitsRun, IsEventAt}
 use Rattle.zb_model_steps.specs.Steps.{is_of}

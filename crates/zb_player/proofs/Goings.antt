@@ -16,8 +16,7 @@ use Rattle.zb_model_real.specs.Real.{real}
 use Rattle.zb_model_schedules.specs.Schedules.{schedule_of}
 use Rattle.zb_model_steps.specs.Steps.{is_of}
 use Rattle.zb_model_steps.proofs.Spared.{spared}
-use Rattle.zb_node.specs.Nodes.{AllStand, IsSeat}
-use Rattle.zb_node.specs.Values.{NodeValue}
+use Rattle.zb_events.specs.Nodes.{AllStand, IsSeat, NodeValue}
 use Rattle.zb_player.specs.Playing.{IsEventAt, RunGoes, RunStands, step_of}
 use Rattle.zb_player.specs.declared.run.Run.{Run}
 use Rattle.zb_player.proofs.Named.{of_others}
@@ -45,7 +44,7 @@ seat_again p node node' same seat = record {
   role = ap (λ peer. Rattle.zb_node_types.specs.Changes.model_role peer.role) same ∙ seat.role;
 }
 
-here : (w : Schedule) (h : List Line) (ds : List Disk) (number place : ℕ) (q : Station) (nodes : List NodeValue) (disks : List Medium) (node : NodeValue) (m : Medium)
+pub here : (w : Schedule) (h : List Line) (ds : List Disk) (number place : ℕ) (q : Station) (nodes : List NodeValue) (disks : List Medium) (node : NodeValue) (m : Medium)
     → place < length (stations w) → get_or (stations w) place q ≡ q → get_or nodes place node ≡ node → get_or disks place m ≡ m
     → AllStand w h ds number (stations w) nodes disks → StandsAt w h ds number q node m
 here w h ds number place q nodes disks node m bound station same_node same_disk all =

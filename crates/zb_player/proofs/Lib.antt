@@ -7,6 +7,7 @@ pub mod EventAt
 pub mod Goings
 pub mod Answering
 pub mod Looping
+pub mod CallsMade
 pub mod Whole
 pub mod Ending
 pub mod Summing

@@ -32,7 +32,7 @@ paged p h ds number one other disks same stands = record {
     known = stands.told.known;
     kept = subst (λ k. Rattle.zb_scribe.specs.Kept.Kept h k) (sym same.scribe) stands.told.kept;
   };
-  nodes = subst (λ v. Rattle.zb_node.specs.Nodes.AllStand (schedule_of p) h ds number (Rattle.zb_model.specs.Play.stations (schedule_of p)) v.items disks) (sym same.nodes) stands.nodes;
+  nodes = subst (λ v. Rattle.zb_events.specs.Nodes.AllStand (schedule_of p) h ds number (Rattle.zb_model.specs.Play.stations (schedule_of p)) v.items disks) (sym same.nodes) stands.nodes;
   seats = subst (λ v. Rattle.zb_events.specs.Seats.AreSeats v (Rattle.zb_model.specs.Play.stations (schedule_of p))) (sym same.seats) stands.seats;
   draws = ap (map (λ (k : Rattle.zb_base.specs.declared.key.Key.Key). k.0)) same.draws ∙ stands.draws;
 }
@@ -43,11 +43,11 @@ EventGoes number e now dnow new dnew =
     (p : sched.Schedule) (h : List Line) (ds : List Disk) → IsSchedule p → FitsRun p number e → RunStands p h ds number now dnow
     → RunGoes p (step_of p h ds number (event_for (stations_for p) e)) h number now new dnew
 
-mapped_at : (events : List CodeEvent) (i : ℕ) (e : CodeEvent) → e ≡ get_or events i e → get_or (map event_of events) i (event_of e) ≡ event_of e
+pub mapped_at : (events : List CodeEvent) (i : ℕ) (e : CodeEvent) → e ≡ get_or events i e → get_or (map event_of events) i (event_of e) ≡ event_of e
 mapped_at events i e is = get_or-map event_of events i e ∙ ap event_of (sym is)
 
 -- the next event, behind those that were answered
-next : (p : sched.Schedule) (h : List Line) (ds : List Disk) (events : List CodeEvent) (i : ℕ) (e : CodeEvent) (now new : Run) (dnow dnew : List Medium) (before middle : Option (List ℕ))
+pub next : (p : sched.Schedule) (h : List Line) (ds : List Disk) (events : List CodeEvent) (i : ℕ) (e : CodeEvent) (now new : Run) (dnow dnew : List Medium) (before middle : Option (List ℕ))
     → i < length events → e ≡ get_or events i e → IsPlayed p (map event_of events) → Answered p h ds (map event_of events) i now dnow before middle
     → EventGoes (i + 1) (event_of e) now dnow new dnew
     → let all = map event_of events in

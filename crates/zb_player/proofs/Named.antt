@@ -14,7 +14,7 @@ use Rattle.zb_model.specs.Data.{Bytes, Station}
 use Rattle.zb_model.specs.Play as play
 use Rattle.zb_model_schedules.specs.Schedules.{station_for}
 use Rattle.zb_model_steps.specs.Steps.{is_of}
-use Rattle.zb_node.specs.Tasks.{model_task}
+use Rattle.zb_events.specs.Nodes.{model_task}
 use Rattle.zb_sched.specs.Judge as judge
 use Rattle.zb_sched.specs.Judge.{are_child_and_parent, are_partners, has_its_nodes, is_joiner, is_parent, role_named}
 use Rattle.zb_sched.specs.Schedules.{Node}

@@ -8,8 +8,7 @@ use Rattle.zb_model.specs.Rules.{centre_of, eui_or, station_of}
 use Rattle.zb_model.specs.State.{is_centre}
 use Rattle.zb_model_schedules.specs.Schedules.{schedule_of, station_for}
 use Rattle.zb_model_schedules.proofs.Meets.{one, same_stations}
-use Rattle.zb_node.specs.Nodes.{IsSeat}
-use Rattle.zb_node.specs.Values.{NodeValue}
+use Rattle.zb_events.specs.Nodes.{IsSeat, NodeValue}
 use Rattle.zb_events.specs.Told.{IsSeated}
 use Rattle.zb_player.proofs.Stand.{EuisDiffer}
 use Rattle.zb_said.specs.Naming.{IsCalled, name_of, name_or_none}

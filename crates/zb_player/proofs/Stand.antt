@@ -7,9 +7,8 @@ use Rattle.zb_model.specs.Data.{Station}
 use Rattle.zb_model.specs.Lines.{Line}
 use Rattle.zb_model.specs.Play.{Schedule, Disk}
 use Rattle.zb_model_steps.specs.Conditions.{Condition, condition_of}
-use Rattle.zb_node.specs.Nodes.{AllStand, IsIn, IsSeat}
-use Rattle.zb_node.specs.Values.{NodeValue}
-use Rattle.zb_node.proofs.Conditions.{in_later}
+use Rattle.zb_events.specs.Nodes.{AllStand, IsIn, IsSeat, NodeValue}
+use Rattle.zb_events.proofs.NodeLaws.{in_later}
 
 -- a later event
 pub later : (x : Condition) (number : ℕ) (node : NodeValue) (m : Medium) → IsIn x number node m → IsIn x (number + 1) node m

@@ -6,6 +6,7 @@ use Rattle.std.proofs.Math.Seq.{take-length}
 use Rattle.std.proofs.lemmas.List.{length-map}
 use Rattle.zb_base.specs.Outside.{AppendsFront}
 use Rattle.zb_disk.specs.Memory.{Medium}
+use Rattle.zb_events.specs.Calls.{run_calls}
 use Rattle.zb_model.specs.Data.{Bytes}
 use Rattle.zb_model.specs.Lines.{Line}
 use Rattle.zb_model.specs.Play.{Disk, start, stations}
@@ -13,7 +14,7 @@ use Rattle.zb_model.specs.Transcript.{end_line, run_lines, transcript}
 use Rattle.zb_model_real.specs.Real.{real}
 use Rattle.zb_model_schedules.specs.Schedules.{event_for, schedule_of, stations_for}
 use Rattle.zb_player.specs.Playing.{RunStands}
-use Rattle.zb_player.specs.Runs.{Answers, IsFront, IsPlayed, IsWhole, Played, PrintsAll, Sums, acts_of, disks_after, last_line, lines_of, text_in, transcript_text}
+use Rattle.zb_player.specs.Runs.{Answers, HaveMade, IsFront, IsPlayed, IsWhole, Played, PrintsAll, Sums, acts_of, disks_after, last_line, lines_of, text_in, transcript_text}
 use Rattle.zb_player.specs.declared.run.Run.{Run}
 use Rattle.zb_player.specs.declared.summary.Summary.{Summary}
 use Rattle.zb_player.proofs.RunSteps.{front_at, front_of}
@@ -121,11 +122,13 @@ whole_run p run disks before mid after page e shown out =
     (Appends-trans before mid after (text_in p (begin p) ++ text_in p (middle p)) page e.taken out)
 
 -- the disks, and the words of the last line
-pub played_disks : (p : sched.Schedule) (run : Run) (disks : List Medium) (before after : Option Bytes) → Ended p run disks before after → Played p disks
-played_disks p run disks before after e = record {
+pub played_disks : (p : sched.Schedule) (run : Run) (disks : List Medium) (before after : Option Bytes) → Ended p run disks before after
+    → HaveMade (run_calls real (schedule_of p) (start (schedule_of p)) [] 1 (schedule_of p).events) (stations (schedule_of p)) disks → Played p disks
+played_disks p run disks before after e calls = record {
   nodes = run.nodes.items;
   ds = e.ds;
-  stand = subst (λ h. Rattle.zb_node.specs.Nodes.AllStand (schedule_of p) h e.ds (length p.events + 1) (stations (schedule_of p)) run.nodes.items disks) (sym (run_is p)) e.stands.nodes;
+  stand = subst (λ h. Rattle.zb_events.specs.Nodes.AllStand (schedule_of p) h e.ds (length p.events + 1) (stations (schedule_of p)) run.nodes.items disks) (sym (run_is p)) e.stands.nodes;
+  calls = calls;
 }
 
 -- what a scribe sums up are the words of the last line

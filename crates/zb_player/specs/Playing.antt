@@ -1,18 +1,19 @@
 -- What a run is of the lines so far, and what an event makes of it.
-use Rattle.std.specs.Prelude.{◌≡◌, ℕ, ◌+◌, ◌<◌, List, ◌++◌, map, length, get_or, Some}
+use Rattle.std.specs.Prelude.{◌≡◌, ℕ, ◌+◌, ◌<◌, List, [], ◌∷◌, ◌++◌, map, length, get_or, Some, ⊤}
 use Rattle.zb_base.specs.declared.key.Key.{Key}
 use Rattle.zb_disk.specs.Memory.{Medium}
 use Rattle.zb_events.specs.Acts.{IsFor, act_for}
 use Rattle.zb_events.specs.Seats.{AreSeats}
 use Rattle.zb_events.specs.declared.acts.Act.{Act}
-use Rattle.zb_events.specs.Told.{IsTold}
+use Rattle.zb_events.specs.Calls.{calls_of}
+use Rattle.zb_events.specs.Told.{Calls, IsTold}
 use Rattle.zb_model.specs.Data.{Station}
 use Rattle.zb_model.specs.Lines.{Line}
 use Rattle.zb_model.specs.Play.{Disk, Step, Event, stations, step}
 use Rattle.zb_model_real.specs.Real.{real}
 use Rattle.zb_model.specs.Schedules.{CountsCalls, SuitsRole}
 use Rattle.zb_model_schedules.specs.Schedules.{event_for, schedule_of, stations_for}
-use Rattle.zb_node.specs.Nodes.{AllStand}
+use Rattle.zb_events.specs.Nodes.{AllStand}
 use Rattle.zb_player.specs.declared.run.Run.{Run}
 use Rattle.zb_said.specs.Said.{text_of}
 use Rattle.zb_sched.specs.Schedules as sched
@@ -30,6 +31,17 @@ pub record RunStands (p : sched.Schedule) (h : List Line) (ds : List Disk) (numb
 pub record RunGoes (p : sched.Schedule) (g : Step) (h : List Line) (number : ℕ) (old new : Run) (disks : List Medium) : Type 0 where
   pub page : new.ledger.page.items ≡ old.ledger.page.items ++ text_of (stations (schedule_of p)) g.lines
   pub stands : RunStands p (h ++ g.lines) g.disks (number + 1) new disks
+
+-- Each disk made so many device calls as is said for the EUI of its node.
+abbrev pub AreCalled : (ℕ → ℕ) → List Station → List Medium → List Medium → Type 0
+AreCalled made [] [] [] = ⊤
+AreCalled made (q ∷ qs) (m ∷ ms) (m' ∷ ms') = Calls (made q.eui) m m' × AreCalled made qs ms ms'
+AreCalled made _ _ _ = ⊥
+
+-- those of one event
+abbrev pub AreCalledBy : sched.Schedule → List Line → List Disk → Event → List Medium → List Medium → Type 0
+AreCalledBy p h ds event old new' =
+    AreCalled (λ (n : ℕ). calls_of real (schedule_of p) h ds n event) (stations (schedule_of p)) old new'
 
 abbrev pub step_of : sched.Schedule → List Line → List Disk → ℕ → Event → Step
 step_of p h ds number act = step real (schedule_of p) h ds number act

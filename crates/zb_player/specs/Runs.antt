@@ -1,17 +1,17 @@
 -- Whole runs.
-use Rattle.std.specs.Prelude.{◌≡◌, ℕ, ◌+◌, List, [], ◌∷◌, ◌++◌, length, map, take, Option}
+use Rattle.std.specs.Prelude.{◌≡◌, ℕ, ◌+◌, List, [], ◌∷◌, ◌++◌, length, map, take, Option, ⊤}
 use Rattle.std.specs.Io.KnownBytes.{Appends}
 use Rattle.zb_base.specs.Outside.{AppendsFront}
 use Rattle.zb_disk.specs.Memory.{Medium}
-use Rattle.zb_model.specs.Data.{Bytes}
+use Rattle.zb_events.specs.Calls.{run_calls}
+use Rattle.zb_model.specs.Data.{Bytes, Station}
 use Rattle.zb_model.specs.Lines.{Line}
-use Rattle.zb_model.specs.Play.{Disk, Event, Schedule, groups, stations, step}
+use Rattle.zb_model.specs.Play.{Disk, Event, Schedule, groups, start, stations, step}
 use Rattle.zb_model.specs.Transcript.{end_line, run_lines, transcript}
 use Rattle.zb_model_real.specs.Real.{real}
 use Rattle.zb_model_schedules.specs.Schedules.{event_for, schedule_of, stations_for}
-use Rattle.zb_node.specs.Nodes.{AllStand}
-use Rattle.zb_node.specs.Values.{NodeValue}
-use Rattle.zb_player.specs.Playing.{RunStands}
+use Rattle.zb_events.specs.Nodes.{AllStand, NodeValue}
+use Rattle.zb_player.specs.Playing.{AreCalled, RunStands}
 use Rattle.zb_player.specs.declared.run.Run.{Run}
 use Rattle.zb_player.specs.declared.summary.Summary.{Summary}
 use Rattle.zb_said.specs.Said.{text_of}
@@ -51,6 +51,12 @@ Answers old disks events n new disks' before after =
     (p : sched.Schedule) (h : List Line) (ds : List Disk) → IsPlayed p events → RunStands p h ds 1 old disks
     → Answered p h ds events n new disks' before after
 
+-- The device calls of so many of these events were made.
+abbrev pub AreMade : List Medium → Run → List said.Event → ℕ → List Medium → Type 0
+AreMade disks old events n disks' =
+    (p : sched.Schedule) (h : List Line) (ds : List Disk) → IsPlayed p events → RunStands p h ds 1 old disks
+    → AreCalled (run_calls real (schedule_of p) h ds 1 (acts_of p (take n events))) (stations (schedule_of p)) disks disks'
+
 abbrev pub PrintsAll : Run → List Medium → List said.Event → Option Bytes → Option Bytes → Type 0
 PrintsAll old disks events before after =
     (p : sched.Schedule) (h : List Line) (ds : List Disk) → IsPlayed p events → RunStands p h ds 1 old disks
@@ -73,8 +79,17 @@ last_line s = log.End s.events s.seals s.accepts s.refusals s.ideal s.private
 abbrev pub Sums : sched.Schedule → Summary → Type 0
 Sums p s = last_line s ≡ end_line real (length p.events) (run_lines real (schedule_of p))
 
--- The disks are those of nodes that stand as the lines of the whole run say, one a node, in their order.
+-- The device calls of a disk are the six of the start, five for its first record and one for its first boot, and so many more as is
+-- said for the EUI of its node.
+abbrev pub HaveMade : (ℕ → ℕ) → List Station → List Medium → Type 0
+HaveMade more [] [] = ⊤
+HaveMade more (q ∷ qs) (m ∷ ms) = (m.calls ≡ 6 + more q.eui) × HaveMade more qs ms
+HaveMade more _ _ = ⊥
+
+-- The disks are those of nodes that stand as the lines of the whole run say, one a node, in their order. Behind the start each made the
+-- device calls that the model counts for the events of its node.
 pub record Played (p : sched.Schedule) (disks : List Medium) : Type 0 where
   pub nodes : List NodeValue
   pub ds : List Disk
   pub stand : AllStand (schedule_of p) (run_lines real (schedule_of p)) ds (length p.events + 1) (stations (schedule_of p)) nodes disks
+  pub calls : HaveMade (run_calls real (schedule_of p) (start (schedule_of p)) [] 1 (schedule_of p).events) (stations (schedule_of p)) disks

@@ -2,7 +2,7 @@
 ghost use Rattle.std.specs.Prelude.{◌≡◌, ◌≤◌, ◌+◌, [], true, IfOk, OnOk, OnErr, Err, length, map};
 ghost use Rattle.zb_base.specs.Outside.{Rose};
 ghost use Rattle.zb_events.specs.Told.{lines_told};
-ghost use Rattle.zb_player.specs.Runs.{Answers, IsFront, IsWhole, Played, PrintsAll, Sums};
+ghost use Rattle.zb_player.specs.Runs.{Answers, AreMade, IsFront, IsWhole, Played, PrintsAll, Sums};
 ghost use Rattle.zb_sched.specs.Schedules as sched;
 ghost use Rattle.zb_sched.specs.Valid.{IsSchedule};
 ghost use Rattle.zb_sched_line.specs.Views.{event_of};
@@ -47,8 +47,37 @@ pub fn play<B: Bench, W: Sink>(
     ensures later { W.faults out.old ≤ W.faults out.new }
     ensures cause { result ≡ Err PlayFault.Write → Rose (W.faults out.old) (W.faults out.new) }
 {
+    let mut used = Vec::new(alloc);
+    play_over(alloc, schedule, &mut used, disks, bench, out)
+}
+
+/// Plays a schedule as `play` does, on used disks.
+///
+/// Those that earlier runs left in `used` are taken from there and made new, as long as there are any. It is the same
+/// run, and takes less time, since no memory is asked for.
+///
+/// Errors: those of `play`.
+pub fn play_over<B: Bench, W: Sink>(
+    alloc: Global,
+    schedule: &Schedule,
+    used: &mut Vec<MemDisk>,
+    disks: &mut Vec<MemDisk>,
+    bench: &mut B,
+    out: &mut W,
+) -> Result<Summary, PlayFault>
+    requires schedule { IsSchedule (sched.schedule_of schedule.now) }
+    requires none { disks.old.items ≡ [] }
+    ensures whole { B.still bench.old ≡ true → OnOk result (IsWhole (sched.schedule_of schedule.now)
+        (W.taken out.old) (W.taken out.new)) }
+    ensures front { B.still bench.old ≡ true → OnErr result (IsFront (sched.schedule_of schedule.now)
+        (W.taken out.old) (W.taken out.new)) }
+    ensures summary { B.still bench.old ≡ true → IfOk result (Sums (sched.schedule_of schedule.now)) }
+    ensures disks { B.still bench.old ≡ true → OnOk result (Played (sched.schedule_of schedule.now) disks.new.items) }
+    ensures later { W.faults out.old ≤ W.faults out.new }
+    ensures cause { result ≡ Err PlayFault.Write → Rose (W.faults out.old) (W.faults out.new) }
+{
     let events = schedule.events.as_slice();
-    let mut run = Run::start(alloc, schedule, disks)?;
+    let mut run = Run::start(alloc, schedule, used, disks)?;
     hand_out(&mut run.ledger.page, out)?;
     answer_all(&mut run, disks, bench, events, out)?;
     let summary = Summary::of(&run.ledger.scribe, events.len() as u32);
@@ -71,6 +100,8 @@ fn answer_all<'a, B: Bench, W: Sink>(
     ensures empty { OnOk result (run.new.ledger.page.items ≡ []) }
     ensures whole { OnOk result (B.still bench.old ≡ true → Answers run.old disks.old
         (map event_of events.now) (length events.now) run.new disks.new (W.taken out.old) (W.taken out.new)) }
+    ensures calls { OnOk result (B.still bench.old ≡ true → AreMade disks.old run.old (map event_of events.now)
+        (length events.now) disks.new) }
     ensures front { OnErr result (B.still bench.old ≡ true → PrintsAll run.old disks.old (map event_of events.now)
         (W.taken out.old) (W.taken out.new)) }
     ensures later { W.faults out.old ≤ W.faults out.new }

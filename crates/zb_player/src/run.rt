@@ -1,6 +1,8 @@
 //! A run while it goes on.
 ghost use Rattle.std.specs.Prelude.{◌≡◌, ◌≤◌, ◌+◌, ◌<◌, [], ℕ, List, Some, true, IfOk, OnOk, map};
+ghost use Rattle.std.specs.List.{AllByRecursion};
 ghost use Rattle.zb_base.specs.declared.key.Key.{Key as key};
+ghost use Rattle.zb_disk.specs.Memory.{Medium as medium};
 ghost use Rattle.zb_model.specs.Data.{Station as station};
 ghost use Rattle.zb_model.specs.Lines.{Line};
 ghost use Rattle.zb_model.specs.Play as model;
@@ -8,7 +10,7 @@ ghost use Rattle.zb_model.specs.Play.{Disk, stations, step};
 ghost use Rattle.zb_model_real.specs.Real.{real};
 ghost use Rattle.zb_model_schedules.specs.Schedules.{event_for, schedule_of, stations_for};
 ghost use Rattle.zb_events.specs.Told.{HasRoom, lines_told};
-ghost use Rattle.zb_player.specs.Playing.{FitsRun, IsEventAt, RunGoes, RunStands, step_of};
+ghost use Rattle.zb_player.specs.Playing.{AreCalledBy, FitsRun, IsEventAt, RunGoes, RunStands, step_of};
 ghost use Rattle.zb_player.specs.Runs.{text_in};
 ghost use Rattle.zb_sched.specs.Schedules as sched;
 ghost use Rattle.zb_sched.specs.Valid.{IsSchedule};
@@ -18,8 +20,7 @@ use crate::bench::Bench;
 use std::alloc::Global;
 use zb_base::{Key, NoMemory};
 use zb_disk::MemDisk;
-use zb_events::{Act, Ledger, Seat, Seats};
-use zb_node::Node;
+use zb_events::{Act, Ledger, Node, Seat, Seats};
 use zb_sched::{Event, Schedule};
 use zb_scribe::Scribe;
 use zb_start::{start_nodes, tell_start};
@@ -35,11 +36,13 @@ pub(crate) struct Run<'a> {
 
 impl<'a> Run<'a> {
     /// Starts the run of a schedule. The start lines are on its page, and the disks of its nodes are added to `disks`.
+    /// They are made of used ones, as long as there are any.
     ///
     /// Errors: `NoMemory`.
     pub fn start(
         alloc: Global,
         schedule: &'a Schedule,
+        used: &mut Vec<MemDisk>,
         disks: &mut Vec<MemDisk>,
     ) -> Result<Run<'a>, NoMemory>
         requires schedule { IsSchedule (sched.schedule_of schedule.now) }
@@ -49,9 +52,10 @@ impl<'a> Run<'a> {
         ensures page { IfOk result (λ run. run.ledger.page.items ≡ text_in (sched.schedule_of schedule.now)
             (model.start (schedule_of (sched.schedule_of schedule.now)))) }
         ensures few { IfOk result (λ run. lines_told run.ledger ≤ 400) }
+        ensures calls { OnOk result (AllByRecursion (λ (m : medium). m.calls ≡ 6) disks.new.items) }
     {
         let declared = schedule.nodes.as_slice();
-        let nodes = start_nodes(alloc, declared, disks)?;
+        let nodes = start_nodes(alloc, declared, used, disks)?;
         let seats = Seats::new(alloc, declared)?;
         let mut scribe = Scribe::new(alloc)?;
         let mut page = Vec::new(alloc);
@@ -85,6 +89,9 @@ impl<'a> Run<'a> {
             → IsSchedule p → FitsRun p number (event_of event.now) → RunStands p h ds number self.old disks.old
             → RunGoes p (step_of p h ds number (event_for (stations_for p) (event_of event.now))) h number
             self.old self.new disks.new) }
+        ensures calls { OnOk result (B.still bench.old ≡ true → (p : sched.Schedule) (h : List Line) (ds : List Disk)
+            → IsSchedule p → FitsRun p number (event_of event.now) → RunStands p h ds number self.old disks.old
+            → AreCalledBy p h ds (event_for (stations_for p) (event_of event.now)) disks.old disks.new) }
     {
         match self.seats.of_event(event) {
             None => self.ledger.answer_outside(number, event),
@@ -110,6 +117,9 @@ impl<'a> Run<'a> {
             (q : station) → IsSchedule p → RunStands p h ds number self.old disks.old
             → IsEventAt p place q act event
             → RunGoes p (step_of p h ds number event) h number self.old self.new disks.new) }
+        ensures calls { OnOk result ((p : sched.Schedule) (h : List Line) (ds : List Disk) (event : model.Event)
+            (q : station) → IsSchedule p → RunStands p h ds number self.old disks.old
+            → IsEventAt p place q act event → AreCalledBy p h ds event disks.old disks.new) }
     {
         if place >= self.nodes.len() || place >= disks.len() {
             return Ok(());

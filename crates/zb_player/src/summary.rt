@@ -45,7 +45,7 @@ impl Summary {
     }
 
     /// Makes the line that ends the transcript.
-    pub(crate) fn line(&self) -> Line
+    pub fn line(&self) -> Line
         ensures { (known : List Station) → IsLineOf known result (last_line self.now) }
     {
         end_line(

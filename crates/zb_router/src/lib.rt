@@ -7,3 +7,4 @@ mod router;
 
 pub use event::RouterEvent;
 pub use router::Router;
+pub use zb_device::{Device, DeviceEvent};

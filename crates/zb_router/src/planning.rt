@@ -28,30 +28,43 @@ fn plan_child(
     memo: &KeyMemo,
     child: Eui,
     rejoin: bool,
-) -> Plan<Outcome<Term, Refusal>>
+    plan: &mut Plan<Outcome<Term, Refusal>>,
+)
     requires { is_centre network.now.me.role ≡ false }
-    ensures { IsAnswer result (answer real network.now tables.now (HasChild child.0 rejoin)) }
+    ensures { IsAnswer plan.new (answer real network.now tables.now (HasChild child.0 rejoin)) }
 {
     plan_own(
         network,
         tables,
         memo,
-        child_of_router(network, tables, child, rejoin),
-    )
+        &child_of_router(network, tables, child, rejoin),
+        plan,
+    );
 }
 
 /// Plans an event of a router, by the rule of the event.
 ///
 /// Requires a node that isn't the centre.
-pub(crate) fn plan_router(node: &NodeCore, event: &RouterEvent) -> Plan<Outcome<Term, Refusal>>
+pub(crate) fn plan_router(
+    node: &NodeCore,
+    event: &RouterEvent,
+    plan: &mut Plan<Outcome<Term, Refusal>>,
+)
     requires { is_centre node.now.setting.me.role ≡ false }
     ensures { (task : Task) → IsTaskOf event.now task
-        → IsAnswer result (answer real node.now.setting node.now.tables task) }
+        → IsAnswer plan.new (answer real node.now.setting node.now.tables task) }
 {
     match event {
-        RouterEvent::Own(own) => plan_member(node, own),
+        RouterEvent::Own(own) => plan_member(node, own, plan),
         RouterEvent::Child { device, rejoin } => {
-            plan_child(node.network(), node.tables(), node.memo(), *device, *rejoin)
+            plan_child(
+                node.network(),
+                node.tables(),
+                node.memo(),
+                *device,
+                *rejoin,
+                plan,
+            )
         }
     }
 }

@@ -60,10 +60,9 @@ impl Core for Router {
 
     ghost is_booted = { IsBooted model.Router };
 
-    fn plan(&self, event: &RouterEvent) -> Plan<Outcome<Term, Refusal>> {
-        let plan = plan_router(&self.node, event);
-        self.node.keep(&plan);
-        plan
+    fn plan(&self, event: &RouterEvent, plan: &mut Plan<Outcome<Term, Refusal>>) {
+        plan_router(&self.node, event, plan);
+        self.node.keep(plan);
     }
 
     fn apply(&mut self, plan: &Plan<Outcome<Term, Refusal>>) {

@@ -19,9 +19,10 @@ use zb_node::Node;
 use zb_sched::Node as Declared;
 use zb_store::RECORD_ROOM;
 
-// Makes the node at a place and its disk. Requires `RECORD_ROOM` bytes of room.
+// Makes the node at a place and its disk, of a used one where that is given. Requires `RECORD_ROOM` bytes of room.
 fn start_node(
     alloc: Global,
+    used: Option<MemDisk>,
     room: &mut [u8],
     centre: Eui,
     declared: &[Declared],
@@ -37,19 +38,21 @@ fn start_node(
     let node = &declared[me];
     let config = config_at(declared, me);
     start_lines_say_what_is_declared();
-    let mut disk = first_disk(alloc, room, centre, node)?;
+    let mut disk = first_disk(alloc, used, room, centre, node)?;
     let started = Node::start(alloc, node.peer, config, &mut disk)?;
     Ok((started, disk))
 }
 
 /// Makes the nodes of a schedule, in their order, each booted from its first record on a disk of its own.
 ///
-/// The disks are added to those given, which are none. Requires the nodes of a schedule.
+/// The disks are added to those given, which are none. They are made of used ones, as long as there are any. Requires the
+/// nodes of a schedule.
 ///
 /// Errors: `NoMemory`.
 pub fn start_nodes(
     alloc: Global,
     declared: &[Declared],
+    used: &mut Vec<MemDisk>,
     disks: &mut Vec<MemDisk>,
 ) -> Result<Vec<Node>, NoMemory>
     requires schedule { AreOfSchedule declared.now }
@@ -66,7 +69,7 @@ pub fn start_nodes(
     let centre = centre_of(declared);
     let mut nodes = Vec::with_capacity(alloc, declared.len())?;
     for me in 0..declared.len() {
-        let (node, disk) = start_node(alloc, &mut room, centre, declared, me)?;
+        let (node, disk) = start_node(alloc, used.pop(), &mut room, centre, declared, me)?;
         nodes.push(node)?;
         disks.push(disk)?;
     }

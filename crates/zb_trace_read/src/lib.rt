@@ -11,4 +11,4 @@ mod reading;
 mod start;
 
 pub use fault::TraceError;
-pub use reading::read_lines;
+pub use reading::{read_lines, take_line};

@@ -59,9 +59,13 @@ fn first_bad(before: usize) -> OrMemory<TraceError>
     })
 }
 
-/// Takes the line whose text the text begins with, and what is behind it. The line is printed again, into the page,
-/// and compared.
-fn take_line<'a>(
+/// Takes the line whose text a text begins with, and answers it with what is behind it; or none.
+///
+/// The line is printed again and compared, so that only its exact text is taken. The page is room for that: what stands
+/// on it is lost. So a transcript can be read line by line, with no list of lines.
+///
+/// Errors: want of memory.
+pub fn take_line<'a>(
     alloc: Global,
     page: &mut Vec<u8>,
     text: &'a [u8],

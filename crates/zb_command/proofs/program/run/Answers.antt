@@ -3,7 +3,7 @@ use Rattle.zb_command.specs.Answers.{wanted}
 use Rattle.zb_command.specs.Commands.{Task}
 use Rattle.zb_command.specs.Outcomes.{WritesFront}
 use Rattle.zb_command.specs.Words.{task}
-use Rattle.zb_command.proofs.Completeness.{front}
+use Rattle.zb_command.proofs.Finishing.{front}
 use Rattle.zb_command.proofs.program.run.Goals as goal
 
 pub returns-in-Some-clause-front : goal.returns-in-Some-clause-front
@@ -15,5 +15,5 @@ returns-in-Some-clause-front g c =
     let told = c.in-Some.ensures.value ∙ is in
     let same : task c.in-Some.command ≡ job = cc told in
     let F : Task → Type 0 = λ j. IfSome (wanted j rest) (λ answer. WritesFront c.carry_out.result answer before after) in
-    subst F same (front c.carry_out.result (wanted (task c.in-Some.command) rest) before after (g.W.Sink.faults c.args.output.now)
+    subst F same (front (task c.in-Some.command) c.carry_out.result rest before after (g.W.Sink.faults c.args.output.now)
     (g.W.Sink.faults c.carry_out.new.output) c.carry_out.ensures.ends)

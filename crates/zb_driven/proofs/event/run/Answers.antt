@@ -1,12 +1,12 @@
 use Rattle.std.proofs.Common.{refl, sym, ◌∙◌, subst}
 use Rattle.zb_disk.specs.Memory.{Medium, memory_tells, memory_view}
 use Rattle.zb_store.specs.Steps.{WentThrough}
-use Rattle.zb_host.specs.HostFaults.{IsHandleFault}
+use Rattle.zb_host.specs.HostFaults.{IsUnstored}
 use Rattle.zb_host.specs.Hosts.{IsCurrent, writes_whole, commit_calls, HasStopped}
 use Rattle.zb_driven.specs.Arms.{armed_of}
 use Rattle.zb_driven.specs.Driven.{memory_words, WasHandled, HasFallen}
 use Rattle.zb_driven.proofs.Armings.{on, armed_current}
-use Rattle.zb_driven.proofs.Events.{was_handled, fallen_by, told_by}
+use Rattle.zb_driven.proofs.Events.{was_handled, fallen_by, err_is}
 use Rattle.zb_driven.proofs.event.run.Goals as goal
 
 pub returns-in-Ok-clause-handled : goal.returns-in-Ok-clause-handled
@@ -15,9 +15,9 @@ returns-in-Ok-clause-handled g c = λ s up.
     let a = armed_of c.args.arms.now in
     let old = c.args.disk.now in
     let before = c.args.host.now in
-    let after = c.handle.new.self in
-    let m = c.handle.new.disk in
-    let items = c.in-Ok.handled.0.items in
+    let after = c.handle_into.new.self in
+    let m = c.handle_into.new.disk in
+    let items = c.handle_into.new.plan.changes.items in
     let is = c.arm.ensures (on old up.unarmed) in
     let current = subst (λ (x : Medium). IsCurrent g.C.Core.restored g.C.Core.recorded s before (memory_view x)) (sym is) (armed_current g.C.Core.restored g.C.Core.recorded s before a old up.current) in
     subst (λ (x : Medium). WasHandled words s a before old items after x) (sym c.disarm.ensures)
@@ -31,22 +31,16 @@ returns-in-Err-clause-fallen g c = λ s up.
     let a = armed_of c.args.arms.now in
     let old = c.args.disk.now in
     let before = c.args.host.now in
-    let after = c.handle.new.self in
-    let m = c.handle.new.disk in
-    let items = c.changes_of.result.items in
-    let fall = c.recover-fall.result in
+    let after = c.handle_into.new.self in
+    let m = c.handle_into.new.disk in
+    let items = c.handle_into.new.plan.changes.items in
     let is = c.arm.ensures (on old up.unarmed) in
     let current = subst (λ (x : Medium). IsCurrent g.C.Core.restored g.C.Core.recorded s before (memory_view x)) (sym is) (armed_current g.C.Core.restored g.C.Core.recorded s before a old up.current) in
-    subst (λ (x : Medium). HasFallen words s a before old items fall after x) (sym c.recover-fall.ensures.disk)
-    (fallen_by words s a before after old m c.in-Err.fault items fall up c.changes_of.ensures
-    (subst (λ (x : Medium). IsHandleFault (writes_whole before) before.store (memory_view x) (memory_view m) c.in-Err.fault) is c.in-Err.ensures.faults) c.in-Err.ensures.changed
-    (λ changes fault. subst (λ (x : Medium). HasStopped memory_tells g.C.Core.restored (writes_whole before) s (g.C.Core.recorded after.core) (g.C.Core.payload changes.items) (memory_view x) (memory_view m)) is
-    (c.in-Err.ensures.stopped changes fault s current refl refl)) c.recover-fall.ensures.fall c.recover-fall.ensures.only)
+    subst (λ (x : Medium). HasFallen words s a before old items c.recover.result after x) (sym c.recover.ensures.disk)
+    (fallen_by words s a before after old m c.in-Err.field-0 items c.recover.result up
+    (subst (λ (x : Medium). IsUnstored (writes_whole before) before.store (memory_view x) (memory_view m) c.in-Err.field-0) is c.in-Err.ensures.faults) c.in-Err.ensures.changed
+    (λ disk. subst (λ (x : Medium). HasStopped memory_tells g.C.Core.restored (writes_whole before) s (g.C.Core.recorded after.core) (g.C.Core.payload items) (memory_view x) (memory_view m)) is
+    (c.in-Err.ensures.stopped (err_is disk) s current refl refl)) c.recover.ensures.fall c.recover.ensures.only)
 
 pub returns-in-Err-clause-down : goal.returns-in-Err-clause-down
 returns-in-Err-clause-down g c = c.in-Err.ensures.step.down
-
-pub returns-in-Err-clause-planned : goal.returns-in-Err-clause-planned
-returns-in-Err-clause-planned g c =
-    let plan = c.in-Err.ensures.planned in
-    (plan.0, plan.1, plan.2, tt, told_by c.in-Err.fault plan.0.changes c.changes_of.result.items c.changes_of.ensures plan.4)

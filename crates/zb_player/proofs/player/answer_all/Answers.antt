@@ -1,6 +1,7 @@
 use Rattle.std.proofs.Common.{◌≡◌, map, refl, true, arith}
 use Rattle.zb_player.specs.Runs.{PrintsAll}
 use Rattle.zb_sched_line.specs.Views.{event_of}
+use Rattle.zb_player.proofs.CallsMade.{more_made, none_made}
 use Rattle.zb_player.proofs.Looping.{cut_answers, more_answers, no_answers, stopped_answers}
 use Rattle.zb_player.proofs.RunSteps.{on_err}
 use Rattle.zb_player.proofs.player.answer_all.Goals as goal
@@ -11,6 +12,7 @@ loop-index-init g c = record {
   room = c.requires.room;
   still = λ s. s;
   answers = λ s. no_answers c.args.events.now c.args.run.now c.args.disks.now (g.W.Sink.taken c.args.out.now);
+  calls = λ s. none_made c.args.events.now c.args.run.now c.args.disks.now;
   later = omega arith;
 }
 
@@ -41,5 +43,9 @@ loop-index-preserved g c = record {
       (omega arith) c.index-events-index.is c.loop-index.invariant.empty (c.loop-index.invariant.answers s)
       (c.in_ok-answer.ensures.goes (c.loop-index.invariant.still s)) c.in_ok-hand_out.ensures.whole.0
       (record { nodes = refl; seats = refl; draws = refl; scribe = refl });
+  calls = λ s. more_made c.args.events.now c.loop-index.index c.index-events-index.result c.args.run.now c.loop-index.run
+      c.args.disks.now c.loop-index.disks c.answer.new.disks (g.W.Sink.taken c.args.out.now) (g.W.Sink.taken c.loop-index.out)
+      (omega arith) c.index-events-index.is (c.loop-index.invariant.answers s) (c.loop-index.invariant.calls s)
+      (c.in_ok-answer.ensures.calls (c.loop-index.invariant.still s));
   later = omega (arith, c.loop-index.invariant.later, c.in_ok-hand_out.ensures.cause.later);
 }

@@ -7,10 +7,10 @@ use Rattle.zb_model.specs.Data as model
 use Rattle.zb_stored_tables.specs.Cores.{CoreValue}
 use Rattle.zb_device.proofs.device.DeviceCore.plan.Goals as goal
 
-pub plan_member-plan-requires : goal.plan_member-plan-requires
-plan_member-plan-requires c = rw c.self.invariant refl
+pub plan_member-requires : goal.plan_member-requires
+plan_member-requires c = rw c.self.invariant refl
 
 pub returns : goal.returns
 returns c =
-    subst (λ (v : CoreValue). IsCorePlan model.Device IsTaskOf v c.args.event.now c.plan_member-plan.result) c.self.view_is
-    (core_plan model.Device IsTaskOf c.self.inside.node c.args.event.now c.plan_member-plan.result c.self.invariant (some_task c.args.event.now) c.plan_member-plan.ensures c.keep.ensures)
+    subst (λ (v : CoreValue). IsCorePlan model.Device IsTaskOf v c.args.event.now c.plan_member.new.plan) c.self.view_is
+    (core_plan model.Device IsTaskOf c.self.inside.node c.args.event.now c.plan_member.new.plan c.self.invariant (some_task c.args.event.now) c.plan_member.ensures c.keep.ensures)

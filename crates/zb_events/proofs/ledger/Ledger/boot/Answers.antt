@@ -1,4 +1,5 @@
 -- By the power that the node has, and by how its boot ends.
+use Rattle.zb_events.proofs.Counting.{boot_calls, cut_boot_calls, no_boot_calls, ok_so}
 use Rattle.std.proofs.Common.{refl}
 use Rattle.zb_events.proofs.Going.{boot_goes, cut_boot_goes, named_as, no_boot_goes}
 use Rattle.zb_events.proofs.Telling.{fall_declares, refused_as}
@@ -32,3 +33,18 @@ returns-in-Some-clause-goes c =
     cut_boot_goes w h ds c.args.event n c.in_ok-boot.field-0 c.in-Some.fall c.args.self.now c.tell-in-Some.new.self c.args.node.now c.boot.new.self c.args.disk.now c.boot.new.disk before c.if-is_up.ensures c.in-Some.is c.in_ok-boot.ensures.booted
     (adds w h (fall_line c.in-Some.fall c.args.event n) before.told (c.fallen_line.ensures w n (named_as w n _ _ c.name-name.ensures before.seat.called)) (fall_declares c.in-Some.fall c.args.event n)))
     c.tell-in-Some.ensures.adds
+
+pub returns-then-is_up-clause-calls : goal.returns-then-is_up-clause-calls
+returns-then-is_up-clause-calls c =
+    ok_so c.refuse.result _ (λ w h ds n before.
+    no_boot_calls w h ds c.args.event n c.args.self.now c.args.node.now c.args.disk.now before c.if-is_up.ensures)
+
+pub returns-in-None-clause-calls : goal.returns-in-None-clause-calls
+returns-in-None-clause-calls c =
+    ok_so c.tell.result _ (λ w h ds n before.
+    boot_calls w h ds c.args.event n c.in_ok-boot.field-0 c.args.self.now c.args.node.now c.boot.new.self c.args.disk.now c.boot.new.disk before c.if-is_up.ensures c.in-None.is c.in_ok-boot.ensures.booted)
+
+pub returns-in-Some-clause-calls : goal.returns-in-Some-clause-calls
+returns-in-Some-clause-calls c =
+    ok_so c.tell-in-Some.result _ (λ w h ds n before.
+    cut_boot_calls w h ds c.args.event n c.in_ok-boot.field-0 c.in-Some.fall c.args.self.now c.args.node.now c.boot.new.self c.args.disk.now c.boot.new.disk before c.if-is_up.ensures c.in-Some.is c.in_ok-boot.ensures.booted)

@@ -1,4 +1,5 @@
 -- By the power that the node has, and by how the event ends.
+use Rattle.zb_events.proofs.Counting.{cut_calls, down_calls, ok_so, whole_calls}
 use Rattle.std.proofs.Common.{Some, ap, ◌∙◌}
 use Rattle.zb_events.proofs.Going.{cut_goes, down_goes, named_as, whole_goes}
 use Rattle.zb_events.proofs.Telling.{fall_declares, refused_as}
@@ -22,7 +23,7 @@ pub returns-in_ok-stored-in-Some-Whole-clause-goes : goal.returns-in_ok-stored-i
 returns-in_ok-stored-in-Some-Whole-clause-goes c =
     on_ok c.answered.result _ _
     (λ tells w h ds n before suits.
-    whole_goes w h ds c.args.event n (model_task c.args.task) c.name-name.result c.handle.result c.in-Some-Whole.changes c.in-Some-Whole.out c.args.self.now
+    whole_goes w h ds c.args.event n (model_task c.args.task) c.name-name.result c.handle.result c.handle.new.plan c.args.self.now
     (record { alloc = c.args.self.now.alloc; scribe = c.answered.new.self; page = c.answered.new.page }) c.stored.new.self c.stored.new.page.items c.args.node.now c.handle.new.self c.args.disk.now c.handle.new.disk
     before suits c.if-not-is_up.ensures c.name-name.ensures (c.in-Some-Whole.is ∙ ap (λ (x : Handled). Some x) c.in-Some-Whole.field-0-is) c.handle.ensures.event
     (λ k called own. c.in_ok-stored-in-Some-Whole.ensures.tells (stations w) k called own) (λ k called spelled. tells (stations w) k called spelled))
@@ -32,9 +33,26 @@ pub returns-in_ok-stored-in-Some-Cut-clause-goes : goal.returns-in_ok-stored-in-
 returns-in_ok-stored-in-Some-Cut-clause-goes c =
     on_ok c.tell.result _ _
     (λ adds w h ds n before suits.
-    cut_goes w h ds c.args.event n (model_task c.args.task) c.name-name.result c.handle.result c.in-Some-Cut.stored c.in-Some-Cut.fall c.args.self.now
+    cut_goes w h ds c.args.event n (model_task c.args.task) c.name-name.result c.handle.result c.handle.new.plan c.in-Some-Cut.fall c.args.self.now
     (record { alloc = c.args.self.now.alloc; scribe = c.stored-in-Some-Cut.new.self; page = c.stored-in-Some-Cut.new.page }) c.tell.new.self c.args.node.now c.handle.new.self c.args.disk.now c.handle.new.disk
     before suits c.if-not-is_up.ensures c.name-name.ensures (c.in-Some-Cut.is ∙ ap (λ (x : Handled). Some x) c.in-Some-Cut.field-0-is) c.handle.ensures.event
     (λ k called own. c.in_ok-stored-in-Some-Cut.ensures.tells (stations w) k called own)
     (λ ls k told called. adds w ls (fall_line c.in-Some-Cut.fall c.args.event k) told (c.fallen_line.ensures w k called) (fall_declares c.in-Some-Cut.fall c.args.event k)))
     c.tell.ensures.adds
+
+pub returns-then-not-is_up-clause-calls : goal.returns-then-not-is_up-clause-calls
+returns-then-not-is_up-clause-calls c =
+    ok_so c.refuse.result _ (λ w h ds n before suits.
+    down_calls w h ds c.args.event n (model_task c.args.task) c.args.self.now c.args.node.now c.args.disk.now before c.if-not-is_up.ensures)
+
+pub returns-in_ok-stored-in-Some-Whole-clause-calls : goal.returns-in_ok-stored-in-Some-Whole-clause-calls
+returns-in_ok-stored-in-Some-Whole-clause-calls c =
+    ok_so c.answered.result _ (λ w h ds n before suits.
+    whole_calls w h ds c.args.event n (model_task c.args.task) c.handle.result c.handle.new.plan c.args.self.now c.args.node.now c.handle.new.self c.args.disk.now c.handle.new.disk
+    before suits c.if-not-is_up.ensures (c.in-Some-Whole.is ∙ ap (λ (x : Handled). Some x) c.in-Some-Whole.field-0-is) c.handle.ensures.event)
+
+pub returns-in_ok-stored-in-Some-Cut-clause-calls : goal.returns-in_ok-stored-in-Some-Cut-clause-calls
+returns-in_ok-stored-in-Some-Cut-clause-calls c =
+    ok_so c.tell.result _ (λ w h ds n before suits.
+    cut_calls w h ds c.args.event n (model_task c.args.task) c.handle.result c.handle.new.plan c.in-Some-Cut.fall c.args.self.now c.args.node.now c.handle.new.self c.args.disk.now c.handle.new.disk
+    before suits c.if-not-is_up.ensures (c.in-Some-Cut.is ∙ ap (λ (x : Handled). Some x) c.in-Some-Cut.field-0-is) c.handle.ensures.event)

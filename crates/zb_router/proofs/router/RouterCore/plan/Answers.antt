@@ -7,10 +7,10 @@ use Rattle.zb_model.specs.Data as model
 use Rattle.zb_stored_tables.specs.Cores.{CoreValue}
 use Rattle.zb_router.proofs.router.RouterCore.plan.Goals as goal
 
-pub plan_router-plan-requires : goal.plan_router-plan-requires
-plan_router-plan-requires c = rw c.self.invariant refl
+pub plan_router-requires : goal.plan_router-requires
+plan_router-requires c = rw c.self.invariant refl
 
 pub returns : goal.returns
 returns c =
-    subst (λ (v : CoreValue). IsCorePlan model.Router IsTaskOf v c.args.event.now c.plan_router-plan.result) c.self.view_is
-    (core_plan model.Router IsTaskOf c.self.inside.node c.args.event.now c.plan_router-plan.result c.self.invariant (some_task c.args.event.now) c.plan_router-plan.ensures c.keep.ensures)
+    subst (λ (v : CoreValue). IsCorePlan model.Router IsTaskOf v c.args.event.now c.plan_router.new.plan) c.self.view_is
+    (core_plan model.Router IsTaskOf c.self.inside.node c.args.event.now c.plan_router.new.plan c.self.invariant (some_task c.args.event.now) c.plan_router.ensures c.keep.ensures)

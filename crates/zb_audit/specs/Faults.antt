@@ -1,0 +1,55 @@
+-- Which line is the first bad one, and by which clause.
+use Rattle.std.specs.Prelude.{◌≡◌, ℕ, Bool, ◌&&◌, if◌then◌else◌, List, nat_le, Option, Some, None, Result, Ok, Err}
+use Rattle.zb_audit.specs.Confirming.{is_confirmable}
+use Rattle.zb_audit.specs.Ending.{accepts_in, ill_ended, seals_in}
+use Rattle.zb_audit.specs.Failing.{failing, head}
+use Rattle.zb_audit.specs.Nonces.{is_fresh}
+use Rattle.zb_audit.specs.Taking.{is_later}
+use Rattle.zb_audit.specs.declared.fault.AuditFault.{AuditFault}
+use Rattle.zb_audit.specs.declared.fault.AuditFault.TheVariants.{Broken, NoMemory}
+use Rattle.zb_audit.specs.declared.fault.BadLine.{BadLine}
+use Rattle.zb_audit.specs.declared.fault.Verdict.{Verdict}
+use Rattle.zb_declared.specs.Secrets.{ideal, private}
+use Rattle.zb_lockout.specs.Lockout.{first_unlocked}
+use Rattle.zb_model.specs.Tools.{Tools}
+use Rattle.zb_recount.specs.Counting.{first_uncounted}
+use Rattle.zb_trace.specs.declared.line.Line.{Line}
+
+-- Where what was accepted came from earlier terms and outsiders forged with no more than they may know, removed devices are
+-- locked out: else the first line with which lockout fails is bad.
+unfoldable pub unlocked : Tools → List Line → Option ℕ
+unlocked tools lines = if ideal tools lines && private tools lines then first_unlocked tools lines else None
+
+-- the first line that breaks a clause
+abbrev pub by : ℕ → Option ℕ → Option BadLine
+by clause None = None
+by clause (Some number) = Some (record { line = number; clause = clause })
+
+-- the one of the smaller number, and of one line that of the smaller clause, which stands first
+abbrev pub sooner : Option BadLine → Option BadLine → Option BadLine
+sooner None later = later
+sooner (Some bad) None = Some bad
+sooner (Some bad) (Some other) = if nat_le bad.line other.line then Some bad else Some other
+
+-- The first bad line, and the first clause that it breaks.
+unfoldable pub first_fault : Tools → List Line → Option BadLine
+first_fault tools lines =
+    sooner (by 1 (head (failing is_fresh lines)))
+    (sooner (by 2 (head (failing is_later lines)))
+    (sooner (by 3 (head (failing is_confirmable lines)))
+    (sooner (by 4 (first_uncounted lines))
+    (sooner (by 5 (unlocked tools lines))
+    (by 6 (head (ill_ended tools lines)))))))
+
+-- The verdict on lines none of which is bad.
+pub record IsSound (tools : Tools) (v : Verdict) (lines : List Line) : Type 0 where
+  pub whole : first_fault tools lines ≡ None
+  pub seals : v.seals ≡ seals_in lines
+  pub accepts : v.accepts ≡ accepts_in lines
+  pub locked : v.locked ≡ (ideal tools lines && private tools lines)
+
+-- What an audit answers: the verdict exactly where no line is bad, else the first fault.
+abbrev pub IsAnswer : Tools → List Line → Result Verdict AuditFault → Type 0
+IsAnswer tools lines (Ok v) = IsSound tools v lines
+IsAnswer tools lines (Err (Broken line clause)) = first_fault tools lines ≡ Some (record { line = line; clause = clause })
+IsAnswer tools lines (Err NoMemory) = Unit {0}

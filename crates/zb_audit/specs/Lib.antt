@@ -1,0 +1,9 @@
+pub mod Failing
+pub mod Nonces
+pub mod Taking
+pub mod Confirming
+pub mod Ending
+pub mod Standing
+pub mod Faults
+pub mod Auditing
+pub mod Claims

@@ -1,0 +1,30 @@
+//! What an audit answers.
+/// What is told of a transcript that keeps all that is claimed.
+#[derive(Clone, Copy, Debug, PartialEq, Eq)]
+pub struct Verdict {
+    /// How many terms were sealed.
+    pub seals: u32,
+    /// How many terms were accepted.
+    pub accepts: u32,
+    /// Whether all that was accepted came from earlier terms and outsiders forged with no more than they may know: then
+    /// removed devices are locked out.
+    pub locked: bool,
+}
+
+/// Why there is no verdict.
+#[derive(Clone, Copy, Debug, PartialEq, Eq)]
+pub enum AuditFault {
+    /// The first bad line, from 1, and the first clause that it breaks, from 1.
+    Broken { line: u32, clause: u8 },
+    /// Memory is lacking.
+    NoMemory,
+}
+
+/// A bad line, by its number from 1, and a clause that it breaks.
+#[derive(Clone, Copy)]
+pub struct BadLine {
+    /// The number of the line.
+    pub line: u32,
+    /// The clause, from 1.
+    pub clause: u8,
+}

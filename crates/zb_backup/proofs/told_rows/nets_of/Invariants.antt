@@ -1,0 +1,10 @@
+use Rattle.std.proofs.Common.{◌≡◌, [], drop, map}
+use Rattle.serde_json.specs.View.{items_view}
+use Rattle.zb_model.specs.Fits.{most_nets}
+use Rattle.zb_record.specs.RowViews.{net_key}
+use Rattle.zb_backup.specs.Told.{net_told, told_rows}
+use Rattle.zb_backup.proofs.told_rows.nets_of.Given as goal
+
+abbrev pub invariant-loop-item : goal.invariant-loop-item
+invariant-loop-item l =
+    told_rows most_nets net_told (map net_key l.rows.items) (items_view (drop l.item-index l.list)) ≡ told_rows most_nets net_told [] (items_view l.list)

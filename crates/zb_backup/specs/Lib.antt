@@ -1,0 +1,4 @@
+pub mod Format
+pub mod Told
+pub mod Reading
+pub mod Steps

@@ -1,0 +1,4 @@
+pub mod RunLaws
+pub mod ShareLaws
+pub mod Sums
+pub mod Shown

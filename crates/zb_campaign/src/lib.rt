@@ -1,0 +1,11 @@
+//! Campaigns: many made schedules, each of them played, and what they come to, worked out by any number of jobs.
+#![tactic(auto)]
+
+mod fault;
+mod lines;
+mod runs;
+mod total;
+mod writing;
+
+pub use fault::CampaignFault;
+pub use writing::campaign;

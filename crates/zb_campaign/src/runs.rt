@@ -1,0 +1,71 @@
+//! Runs: each plays a made schedule of its own, on the disks of the run before it.
+ghost use Rattle.std.specs.Prelude.{◌≡◌, ◌+◌, ◌<◌, ◌^◌, IfOk};
+ghost use Rattle.zb_campaign.specs.Answers.{Answers, last_lines};
+ghost use Rattle.zb_campaign.specs.Campaigns.{ending_of_run, endings};
+ghost use Rattle.zb_player.specs.Runs.{Sums, last_line};
+ghost use Rattle.zb_sched.specs.Schedules.{schedule_of};
+ghost use Rattle.zb_sched.specs.Valid.{IsSchedule};
+
+use crate::fault::CampaignFault;
+use std::alloc::Global;
+use zb_base::{NoMemory, NullSink};
+use zb_disk::MemDisk;
+use zb_gen::make;
+use zb_jobs::Share;
+use zb_player::{PlayFault, Still, Summary, play_over};
+use zb_sched::Schedule;
+
+/// Plays the runs of a share one after the other, and answers what they come to.
+///
+/// Each uses the disks of the one before it. Errors: `Clash` at the first run whose schedule clashes; `NoMemory`.
+pub(crate) fn play_share(
+    alloc: Global,
+    start: u32,
+    share: Share,
+) -> Result<Vec<Summary>, CampaignFault>
+    requires { start + share.first + share.count < 2 ^ 32 }
+    ensures { Answers last_lines result (endings start share.first share.count) }
+{
+    let mut ends = Vec::with_capacity(alloc, share.count as usize)?;
+    let mut used = Vec::new(alloc);
+    for i in 0..share.count {
+        ends.push(play_run(alloc, start, share.first + i, &mut used)?)?;
+    }
+    Ok(ends)
+}
+
+/// Plays the run of that number, from 0, on used disks, which are then those that it left and those that it didn't use.
+fn play_run(
+    alloc: Global,
+    start: u32,
+    run: u32,
+    used: &mut Vec<MemDisk>,
+) -> Result<Summary, CampaignFault>
+    requires { start + run < 2 ^ 32 }
+    ensures { Answers last_line result (ending_of_run start run) }
+{
+    let schedule = make(alloc, start + run, 1 + run % 8)?;
+    let end = play_unwritten(alloc, &schedule, used)?;
+    Ok(end)
+}
+
+/// Plays a schedule, and writes nothing.
+fn play_unwritten(
+    alloc: Global,
+    schedule: &Schedule,
+    used: &mut Vec<MemDisk>,
+) -> Result<Summary, NoMemory>
+    requires { IsSchedule (schedule_of schedule.now) }
+    ensures { IfOk result (Sums (schedule_of schedule.now)) }
+{
+    let mut disks = Vec::new(alloc);
+    let mut out = NullSink::new();
+    match play_over(alloc, schedule, used, &mut disks, &mut Still, &mut out) {
+        Ok(end) => {
+            used.append(&mut disks)?;
+            Ok(end)
+        }
+        Err(PlayFault::Write) => Err(NoMemory),
+        Err(PlayFault::NoMemory) => Err(NoMemory),
+    }
+}

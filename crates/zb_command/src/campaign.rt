@@ -1,0 +1,39 @@
+//! The command `campaign`.
+ghost use Rattle.std.specs.Prelude.{◌≡◌, ◌≤◌, Some};
+ghost use Rattle.zb_campaign.specs.Campaigns.{campaigned};
+ghost use Rattle.zb_command.specs.Answers.{campaign_answer};
+ghost use Rattle.zb_command.specs.Outcomes.{Ends};
+
+use crate::status::{Cause, Status};
+use std::alloc::Global;
+use std::thread::Threads;
+use zb_base::Sink;
+use zb_campaign::{CampaignFault, campaign};
+use zb_jobs::OpenGate;
+
+/// Plays `count` made schedules from the start value `start` on, by so many jobs, and writes what they come to.
+pub(crate) fn write_campaign<T: Threads + Sync, W: Sink>(
+    rt: &T,
+    alloc: Global,
+    count: u32,
+    start: u32,
+    jobs: u32,
+    output: &mut W,
+) -> Status
+    requires count { (1 ≤ count) × (count ≤ 1000) }
+    requires start { start ≤ 4294966295 }
+    requires jobs { (1 ≤ jobs) × (jobs ≤ 64) }
+    ensures ends { Ends result (Some (campaign_answer (campaigned count start))) (W.taken output.old)
+        (W.taken output.new) (W.faults output.old) (W.faults output.new) }
+    ensures read_fault { result ≡ Status.ReadFault → ⊥ }
+{
+    match campaign(rt, alloc, count, start, jobs, &OpenGate, output) {
+        Ok(()) => Status::Ok,
+        Err(CampaignFault::Write) => Status::WriteFault,
+        Err(CampaignFault::Clash { line, cause }) => Status::Refused {
+            line,
+            cause: Cause::from(cause),
+        },
+        Err(CampaignFault::NoMemory) => Status::NoMemory,
+    }
+}

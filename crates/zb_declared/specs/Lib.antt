@@ -1,0 +1,4 @@
+pub mod Naming
+pub mod Groups
+pub mod Secrets
+pub mod Standing

@@ -1,0 +1,33 @@
+//! What is known of a node.
+use zb_base::{Eui, Role};
+
+/// What the first `0 node` line of a name declares.
+#[derive(Clone, Copy)]
+pub struct Node {
+    /// The IEEE address.
+    pub eui: Eui,
+    /// The part in the network.
+    pub role: Role,
+    /// How many outgoing frame counters are reserved at once.
+    pub out_block: u32,
+    /// How far ahead a floor for incoming frame counters is stored.
+    pub in_block: u32,
+}
+
+/// Who the node of a line is, by the lines before it.
+#[derive(Clone, Copy)]
+pub struct Who {
+    /// The place of its name among all names, in the order in which lines first speak of them.
+    pub place: usize,
+    /// What was declared of it, if anything.
+    pub node: Option<Node>,
+    /// Whether it is the first declared centre.
+    pub is_centre: bool,
+}
+
+/// Stands for the node of a line that speaks of none.
+pub const NOBODY: Who = Who {
+    place: 0,
+    node: None,
+    is_centre: false,
+};

@@ -1,0 +1,4 @@
+pub mod Growth
+pub mod Outsiders
+pub mod Advancing
+pub mod Effects

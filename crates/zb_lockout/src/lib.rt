@@ -1,0 +1,19 @@
+//! Where a transcript that anybody wrote first breaks lockout.
+//!
+//! A removed device that isn't admitted again obtains no key that is drawn later. And a node that holds no network
+//! key that outsiders may know accepts in the network layer neither what a removed device sealed since, nor what was
+//! forged. `Lockout` keeps what this needs of the lines so far, and no line.
+#![tactic(auto)]
+
+mod bags;
+mod before;
+mod evidence;
+mod fact;
+mod groups;
+mod lateness;
+mod lockout;
+mod past;
+mod reach;
+mod windows;
+
+pub use lockout::Lockout;

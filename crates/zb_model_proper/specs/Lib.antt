@@ -1,0 +1,3 @@
+pub mod OfNodes
+pub mod Wide
+pub mod Alone

@@ -1,0 +1,11 @@
+pub mod Rows
+pub mod SaidRows
+pub mod Keeping
+pub mod Steps
+pub mod Edits
+pub mod Lines
+pub mod Events
+pub mod Evens
+pub mod Starting
+pub mod Along
+pub mod Agreed

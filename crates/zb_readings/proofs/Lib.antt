@@ -1,0 +1,3 @@
+pub mod EachLine
+pub mod Sealed
+pub mod Reading

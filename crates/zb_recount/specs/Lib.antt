@@ -1,0 +1,4 @@
+pub mod Readings
+pub mod Counting
+pub mod Standing
+pub mod Recounting
