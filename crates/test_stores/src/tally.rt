@@ -53,7 +53,10 @@ impl Core for Tally {
 
     fn plan(&self, event: &TallyEvent, plan: &mut Plan<Option<u8>>) {
         *plan = match event {
-            TallyEvent::Rest => Plan::new(),
+            TallyEvent::Rest => Plan {
+                changes: Changes::new(),
+                out: None,
+            },
             TallyEvent::Seal => self.seal(),
         };
     }
