@@ -4,8 +4,9 @@ use Rattle.zb_base.specs.Outside.{Rose}
 use Rattle.zb_model.specs.Data.{Bytes}
 use Rattle.zb_command.specs.Answers.{Answer, Refuses, Exceeds, longest, status_of, wanted}
 use Rattle.zb_command.specs.Auditing.{Audits}
-use Rattle.zb_command.specs.Commands.{Task, Playing, Installing, Making, Inspecting, Sniffing, Campaigning, Auditing}
+use Rattle.zb_command.specs.Commands.{Task, Playing, Installing, Making, Inspecting, Sniffing, Campaigning, Auditing, Serving}
 use Rattle.zb_command.specs.Finishing.{Finishes}
+use Rattle.zb_command.specs.Serving.{ServesOut}
 use Rattle.zb_command.specs.Outcomes.{IsWritten, WritesFront, WritesNothing}
 use Rattle.zb_command.specs.declared.status.Cause.{Cause}
 use Rattle.zb_command.specs.declared.status.Status.{Status}
@@ -20,6 +21,7 @@ is_used (Inspecting jobs) s rest before after old new f is = ends.is_used s (wan
 is_used (Sniffing jobs keys) s rest before after old new f is = ends.is_used s (wanted (Sniffing jobs keys) rest) before after old new f is
 is_used (Campaigning count start jobs) s rest before after old new f is = ends.is_used s (wanted (Campaigning count start jobs) rest) before after old new f is
 is_used Auditing s rest before after old new f is = subst (λ (x : Status). Audits x rest before after old new) is f
+is_used Serving s rest before after old new f is = subst (λ (x : Status). ServesOut x before after old new) is f
 
 pub written : (t : Task) (s : Status) (rest before after : Option Bytes) (old new : ℕ) → Finishes t s rest before after old new → s ≡ status.Ok
     → IfSome (wanted t rest) (λ answer. IsWritten answer before after)
@@ -30,6 +32,7 @@ written (Inspecting jobs) s rest before after old new f is = ends.written s (wan
 written (Sniffing jobs keys) s rest before after old new f is = ends.written s (wanted (Sniffing jobs keys) rest) before after old new f is
 written (Campaigning count start jobs) s rest before after old new f is = ends.written s (wanted (Campaigning count start jobs) rest) before after old new f is
 written Auditing s rest before after old new f is = tt
+written Serving s rest before after old new f is = tt
 
 pub write_failed : (t : Task) (s : Status) (rest before after : Option Bytes) (old new : ℕ) → Finishes t s rest before after old new → s ≡ status.WriteFault → Rose old new
 write_failed Playing s rest before after old new f is = ends.write_failed s (wanted Playing rest) before after old new f is
@@ -40,6 +43,7 @@ write_failed (Sniffing jobs keys) s rest before after old new f is = ends.write_
 write_failed (Campaigning count start jobs) s rest before after old new f is = ends.write_failed s (wanted (Campaigning count start jobs) rest) before after old new f is
 write_failed Auditing s rest before after old new f is =
     let at : Audits status.WriteFault rest before after old new = subst (λ (x : Status). Audits x rest before after old new) is f in at.1
+write_failed Serving s rest before after old new f is = subst (λ (x : Status). ServesOut x before after old new) is f
 
 pub refused : (t : Task) (s : Status) (rest before after : Option Bytes) (old new line : ℕ) (cause : Cause) → Finishes t s rest before after old new
     → s ≡ status.Refused line cause → IfSome (wanted t rest) (λ answer. answer ≡ Refuses line cause)
@@ -51,6 +55,7 @@ refused (Sniffing jobs keys) s rest before after old new line cause f is = ends.
 refused (Campaigning count start jobs) s rest before after old new line cause f is =
     ends.refused s (wanted (Campaigning count start jobs) rest) before after old new line cause f is
 refused Auditing s rest before after old new line cause f is = tt
+refused Serving s rest before after old new line cause f is = tt
 
 pub too_long : (t : Task) (s : Status) (rest before after : Option Bytes) (old new limit : ℕ) → Finishes t s rest before after old new
     → s ≡ status.TooLong limit → (limit ≡ longest) × IfSome (wanted t rest) (λ answer. answer ≡ Exceeds)
@@ -63,6 +68,8 @@ too_long (Campaigning count start jobs) s rest before after old new limit f is =
     ends.too_long s (wanted (Campaigning count start jobs) rest) before after old new limit f is
 too_long Auditing s rest before after old new limit f is =
     let at : Audits (status.TooLong limit) rest before after old new = subst (λ (x : Status). Audits x rest before after old new) is f in (at.0, tt)
+too_long Serving s rest before after old new limit f is =
+    let at : ServesOut (status.TooLong limit) before after old new = subst (λ (x : Status). ServesOut x before after old new) is f in (at.0, tt)
 
 audit_nothing : (s : Status) (rest before after : Option Bytes) (old new : ℕ) → Audits s rest before after old new → WritesNothing s before after
 audit_nothing status.Ok rest before after old new f = tt
@@ -78,6 +85,20 @@ audit_nothing (status.Broken line clause) rest before after old new f = f.1
 audit_nothing (status.BadStore at) rest before after old new f = tt
 audit_nothing status.Worn rest before after old new f = tt
 
+serve_nothing : (s : Status) (before after : Option Bytes) (old new : ℕ) → ServesOut s before after old new → WritesNothing s before after
+serve_nothing status.Ok before after old new f = tt
+serve_nothing status.Usage before after old new f = absurd f
+serve_nothing status.ReadFault before after old new f = f
+serve_nothing status.WriteFault before after old new f = tt
+serve_nothing (status.Refused line cause) before after old new f = f
+serve_nothing status.NoMemory before after old new f = tt
+serve_nothing status.DiskFault before after old new f = tt
+serve_nothing status.NoStore before after old new f = tt
+serve_nothing (status.TooLong limit) before after old new f = f.1
+serve_nothing (status.Broken line clause) before after old new f = absurd f
+serve_nothing (status.BadStore at) before after old new f = tt
+serve_nothing status.Worn before after old new f = tt
+
 pub nothing : (t : Task) (s : Status) (rest before after : Option Bytes) (old new : ℕ) → Finishes t s rest before after old new → WritesNothing s before after
 nothing Playing s rest before after old new f = ends.nothing s (wanted Playing rest) before after old new f
 nothing (Installing code) s rest before after old new f = ends.nothing s (wanted (Installing code) rest) before after old new f
@@ -86,6 +107,7 @@ nothing (Inspecting jobs) s rest before after old new f = ends.nothing s (wanted
 nothing (Sniffing jobs keys) s rest before after old new f = ends.nothing s (wanted (Sniffing jobs keys) rest) before after old new f
 nothing (Campaigning count start jobs) s rest before after old new f = ends.nothing s (wanted (Campaigning count start jobs) rest) before after old new f
 nothing Auditing s rest before after old new f = audit_nothing s rest before after old new f
+nothing Serving s rest before after old new f = serve_nothing s before after old new f
 
 pub front : (t : Task) (s : Status) (rest before after : Option Bytes) (old new : ℕ) → Finishes t s rest before after old new
     → IfSome (wanted t rest) (λ answer. WritesFront s answer before after)
@@ -96,6 +118,7 @@ front (Inspecting jobs) s rest before after old new f = ends.front s (wanted (In
 front (Sniffing jobs keys) s rest before after old new f = ends.front s (wanted (Sniffing jobs keys) rest) before after old new f
 front (Campaigning count start jobs) s rest before after old new f = ends.front s (wanted (Campaigning count start jobs) rest) before after old new f
 front Auditing s rest before after old new f = tt
+front Serving s rest before after old new f = tt
 
 pub completes : (t : Task) (s : Status) (a : Answer) (rest before after : Option Bytes) (old new : ℕ) → Finishes t s rest before after old new → wanted t rest ≡ Some a
     → (s ≡ status.ReadFault → ⊥) → (Rose old new → ⊥) → (s ≡ status_of a) ⊎ (s ≡ status.NoMemory)
@@ -112,3 +135,4 @@ completes (Sniffing jobs keys) s a rest before after old new f is no_read no_wri
 completes (Campaigning count start jobs) s a rest before after old new f is no_read no_write =
     ends.completes s a before after old new (subst (λ (w : Option Answer). Rattle.zb_command.specs.Outcomes.Ends s w before after old new) is f) no_read no_write
 completes Auditing s a rest before after old new f is no_read no_write = absurd (cc)
+completes Serving s a rest before after old new f is no_read no_write = absurd (cc)

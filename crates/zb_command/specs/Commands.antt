@@ -9,7 +9,7 @@ use Rattle.zb_command.specs.KeyWords.{all_keys, keys_in}
 -- schedule for N routers and devices; `inspect JOBS` writes the report on the capture on its input, worked out by so many jobs;
 -- `sniff JOBS KEY ..` does that for the frames of the capture file on its input, under at most 256 keys; `campaign COUNT START JOBS` plays
 -- that many made schedules from the start value START on, by so many jobs, and writes what they come to; `audit` judges the transcript on its
--- input
+-- input; `admin PATH` carries out the script on its input on the store in the file of that path
 pub data Task : Type 0 where
   Playing : Task
   Installing : (code : Bytes) → Task
@@ -18,6 +18,7 @@ pub data Task : Type 0 where
   Sniffing : (jobs : ℕ) (keys : List Key) → Task
   Campaigning : (count start jobs : ℕ) → Task
   Auditing : Task
+  Serving : Task
 
 -- a number from 1 on
 abbrev pub positive : Option ℕ → Option ℕ
@@ -56,6 +57,7 @@ word_and_operand word operand =
     if bytes_eq word (codes "install") && nat_lt (length operand) 4294967295 then Some (Installing operand)
     else if bytes_eq word (codes "make") then making (count_of 60 operand)
     else if bytes_eq word (codes "inspect") then inspecting (count_of 64 operand)
+    else if bytes_eq word (codes "admin") then Some Serving
     else None
 
 abbrev pub campaigning : Option ℕ → Option ℕ → Option ℕ → Option Task

@@ -5,6 +5,7 @@ pub mod Commands
 pub mod Statuses
 pub mod Outcomes
 pub mod Auditing
+pub mod Serving
 pub mod Finishing
 pub mod Words
 pub mod Inputs

@@ -12,7 +12,7 @@ use Rattle.zb_sched.specs.Printed.{printed}
 use Rattle.zb_sched.specs.Reading.{schedule_in}
 use Rattle.zb_sched.specs.Valid.{IsSchedule}
 use Rattle.zb_command.specs.Answers.{Answer, Writes, Refuses, Exceeds, longest, output_of}
-use Rattle.zb_command.specs.Commands.{Task, Playing, Installing, Making, Inspecting, Sniffing, Campaigning, Auditing}
+use Rattle.zb_command.specs.Commands.{Task, Playing, Installing, Making, Inspecting, Sniffing, Campaigning, Auditing, Serving}
 use Rattle.zb_command.specs.declared.status.Status.{Status}
 use Rattle.zb_command.specs.declared.status.Status.TheVariants as status
 
@@ -51,6 +51,7 @@ ReadsToEnd (Inspecting jobs) left = IsAtEnd left
 ReadsToEnd (Sniffing jobs keys) left = IsAtEnd left
 ReadsToEnd (Campaigning count start jobs) left = Unit {0}
 ReadsToEnd Auditing left = IsAtEnd left
+ReadsToEnd Serving left = IsAtEnd left
 
 -- What the statuses say of the bytes written: nothing was, or a front of the output.
 abbrev pub WritesNothing : Status → Option Bytes → Option Bytes → Type 0

@@ -1,5 +1,7 @@
 -- How the program ends: the number and the text of each status.
-use Rattle.std.specs.Prelude.{ℕ, ◌++◌, [], codes, decimal}
+use Rattle.std.specs.Prelude.{ℕ, ◌++◌, [], codes, decimal, Result, Ok, Err}
+use Rattle.zb_admin.specs.declared.fault.AdminFault.{AdminFault}
+use Rattle.zb_admin.specs.declared.fault.AdminFault.TheVariants as served
 use Rattle.zb_capture.specs.declared.fault.CaptureCause.{CaptureCause}
 use Rattle.zb_capture.specs.declared.fault.CaptureCause.TheVariants as capture
 use Rattle.zb_install.specs.declared.code_error.CodeError.{CodeError}
@@ -9,6 +11,8 @@ use Rattle.zb_pcap.specs.declared.fault.PcapCause.{PcapCause}
 use Rattle.zb_pcap.specs.declared.fault.PcapCause.TheVariants as pcap
 use Rattle.zb_sched.specs.declared.error.SchedCause.{SchedCause}
 use Rattle.zb_sched.specs.declared.error.SchedCause.TheVariants as fault
+use Rattle.zb_script.specs.declared.error.ScriptCause.{ScriptCause}
+use Rattle.zb_script.specs.declared.error.ScriptCause.TheVariants as script
 use Rattle.zb_text.specs.Fields.{short_text}
 use Rattle.zb_text.specs.Words.{then}
 use Rattle.zb_command.specs.declared.status.Status.{Status}
@@ -96,3 +100,24 @@ pcap_cause pcap.Version = cause.Version
 pcap_cause pcap.Link = cause.Link
 pcap_cause pcap.Cut = cause.Cut
 pcap_cause pcap.TooMany = cause.TooMany
+
+-- what is wrong with a line of a script
+abbrev pub script_cause : ScriptCause → Cause
+script_cause script.Syntax = cause.Syntax
+script_cause script.DuplicateNode = cause.DuplicateNode
+script_cause script.Block = cause.Block
+script_cause script.UnknownNode = cause.UnknownNode
+script_cause script.BadCode = cause.BadCode
+script_cause script.Backup = cause.Backup
+script_cause script.TooMany = cause.TooMany
+script_cause script.NoCentre = cause.NoCentre
+
+-- how serving a script ends
+abbrev pub served_status : Result (Unit {0}) AdminFault → Status
+served_status (Ok done) = status.Ok
+served_status (Err served.Disk) = status.DiskFault
+served_status (Err served.NoStore) = status.NoStore
+served_status (Err (served.BadStore at)) = status.BadStore at
+served_status (Err served.Worn) = status.Worn
+served_status (Err served.Write) = status.WriteFault
+served_status (Err served.NoMemory) = status.NoMemory

@@ -1,9 +1,9 @@
 -- A command of the program as a task.
 use Rattle.std.specs.Prelude.{◌<◌, ◌≤◌, ◌^◌, ◌-◌, length, map, string_bytes, ⊤}
 use Rattle.zb_command.specs.KeyWords.{keys_in}
-use Rattle.zb_command.specs.Commands.{Task, Playing, Installing, Making, Inspecting, Sniffing, Campaigning, Auditing}
+use Rattle.zb_command.specs.Commands.{Task, Playing, Installing, Making, Inspecting, Sniffing, Campaigning, Auditing, Serving}
 use Rattle.zb_command.specs.declared.command.Command.{Command}
-use Rattle.zb_command.specs.declared.command.Command.TheVariants.{Play, Install, Make, Inspect, Sniff, Campaign, Audit}
+use Rattle.zb_command.specs.declared.command.Command.TheVariants.{Play, Install, Make, Inspect, Sniff, Campaign, Audit, Admin}
 
 abbrev pub task : Command → Task
 task Play = Playing
@@ -13,6 +13,7 @@ task (Inspect jobs) = Inspecting jobs
 task (Sniff jobs words) = Sniffing jobs (keys_in (map string_bytes words.now))
 task (Campaign count start jobs) = Campaigning count start jobs
 task Audit = Auditing
+task Admin = Serving
 
 -- A code has fewer than 2^32 - 1 bytes; a made schedule has 1 to 60 routers and devices; jobs are 1 to 64;
 -- at most 256 keys are given; a campaign has 1 to 1,000 runs, and the start value of its last run is below 2^32.
@@ -24,3 +25,4 @@ Fits (Inspect jobs) = (1 ≤ jobs) × (jobs ≤ 64)
 Fits (Sniff jobs words) = (1 ≤ jobs) × (jobs ≤ 64) × (length words.now ≤ 256)
 Fits (Campaign count start jobs) = (1 ≤ count) × (count ≤ 1000) × (start ≤ 4294966295) × (1 ≤ jobs) × (jobs ≤ 64)
 Fits Audit = ⊤
+Fits Admin = ⊤

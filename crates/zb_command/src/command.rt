@@ -45,6 +45,8 @@ pub(crate) enum Command<'a> {
     },
     /// Judges the transcript on the input.
     Audit,
+    /// Carries out the script on the input on a store.
+    Admin,
 }
 
 /// Reads the words after the program's name as a command.
@@ -102,6 +104,8 @@ fn with_operand<'a>(word: &str, operand: &'a str) -> Option<Command<'a>>
     } else if word == "inspect" {
         let jobs = count(operand, 64)?;
         Some(Command::Inspect { jobs })
+    } else if word == "admin" {
+        Some(Command::Admin)
     } else {
         None
     }

@@ -1,6 +1,7 @@
 //! The commands of the program, and `run`, which carries out one of them over a source and a sink.
 #![tactic(auto)]
 
+mod admin;
 mod audit;
 mod campaign;
 mod capture;

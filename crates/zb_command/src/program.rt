@@ -1,16 +1,19 @@
 //! The top call: one command over a source and a sink.
 ghost use Rattle.std.specs.Prelude.{◌≡◌, ◌⊎◌, ℕ, Some, None, IfSome, map, string_bytes};
 ghost use Rattle.std.specs.Io.KnownBytes.{IsAtEnd};
+ghost use Rattle.zb_admin.specs.Serving.{outside};
 ghost use Rattle.zb_base.specs.Outside.{Rose};
 ghost use Rattle.zb_command.specs.Answers.{Answer, Refuses, Exceeds, longest, status_of, wanted};
 ghost use Rattle.zb_command.specs.Auditing.{Audits};
-ghost use Rattle.zb_command.specs.Commands.{Task, Auditing, Playing, Making, task_of};
+ghost use Rattle.zb_command.specs.Commands.{Task, Auditing, Playing, Making, Serving, task_of};
 ghost use Rattle.zb_command.specs.Finishing.{Finishes};
 ghost use Rattle.zb_command.specs.Inputs.{TakesAtMost};
 ghost use Rattle.zb_command.specs.Outcomes.{IsWritten, Made, Played, ReadsToEnd, WritesFront, WritesNothing};
+ghost use Rattle.zb_command.specs.Serving.{Serviced};
 ghost use Rattle.zb_command.specs.Words.{task, Fits};
 ghost use Rattle.zb_command.specs.declared.status.Cause.{Cause};
 
+use crate::admin::serve_input;
 use crate::audit::audit_input;
 use crate::campaign::write_campaign;
 use crate::command::{Command, read_words};
@@ -25,14 +28,14 @@ use std::thread::Threads;
 use zb_base::{Sink, Source};
 use zb_disk::Disk;
 
-/// Runs the command that the words after the program's name are. No command uses the store yet.
+/// Runs the command that the words after the program's name are. `admin` alone uses the store.
 pub fn run<T: Threads + Sync, R: Source, W: Sink, D: Disk>(
     rt: &T,
     alloc: Global,
     words: &[String],
     input: &mut R,
     output: &mut W,
-    _store: &mut D,
+    store: &mut D,
 ) -> Status
     // `Usage` comes exactly where the words are no command.
     ensures usage { result ≡ Status.Usage → task_of (map string_bytes words.now) ≡ None }
@@ -55,6 +58,11 @@ pub fn run<T: Threads + Sync, R: Source, W: Sink, D: Disk>(
     // status has the first bad line, or the first that is no text of a line.
     ensures audited { task_of (map string_bytes words.now) ≡ Some Auditing → Audits result (R.rest input.old)
         (W.taken output.old) (W.taken output.new) (W.faults output.old) (W.faults output.new) }
+    // `admin` served the script that its input is over the store, so far as the status says; other commands leave it.
+    ensures served { task_of (map string_bytes words.now) ≡ Some Serving
+        → Serviced (outside D.tells D.state W.taken W.faults) result (R.rest input.old) store.old output.old
+        store.new output.new }
+    ensures store { (task_of (map string_bytes words.now) ≡ Some Serving → ⊥) → store.new ≡ store.old }
     // The cause of each other answer.
     ensures read_fault { result ≡ Status.ReadFault → Rose (R.faults input.old) (R.faults input.new) }
     ensures write_fault { result ≡ Status.WriteFault → Rose (W.faults output.old) (W.faults output.new) }
@@ -77,21 +85,26 @@ pub fn run<T: Threads + Sync, R: Source, W: Sink, D: Disk>(
 {
     match read_words(words) {
         None => Status::Usage,
-        Some(command) => carry_out(rt, alloc, command, input, output),
+        Some(command) => carry_out(rt, alloc, command, input, output, store),
     }
 }
 
 /// Carries out a command.
-fn carry_out<T: Threads + Sync, R: Source, W: Sink>(
+fn carry_out<T: Threads + Sync, R: Source, W: Sink, D: Disk>(
     rt: &T,
     alloc: Global,
     command: Command,
     input: &mut R,
     output: &mut W,
+    store: &mut D,
 ) -> Status
     requires { Fits command }
     ensures ends { Finishes (task command.entry) result (R.rest input.old) (W.taken output.old)
         (W.taken output.new) (W.faults output.old) (W.faults output.new) }
+    ensures served { task command.entry ≡ Serving
+        → Serviced (outside D.tells D.state W.taken W.faults) result (R.rest input.old) store.old output.old
+        store.new output.new }
+    ensures store { (task command.entry ≡ Serving → ⊥) → store.new ≡ store.old }
     ensures end { result ≡ Status.Ok → ReadsToEnd (task command.entry) (R.rest input.new) }
     ensures few { TakesAtMost (R.rest input.old) (R.rest input.new) 16777217 }
     ensures played { task command.entry ≡ Playing → result ≡ Status.Ok
@@ -110,5 +123,6 @@ fn carry_out<T: Threads + Sync, R: Source, W: Sink>(
             write_campaign(rt, alloc, count, start, jobs, output)
         }
         Command::Audit => audit_input(alloc, input, output),
+        Command::Admin => serve_input(alloc, input, output, store),
     }
 }

@@ -11,6 +11,7 @@ use zb_capture::CaptureCause;
 use zb_install::CodeError;
 use zb_pcap::PcapCause;
 use zb_sched::SchedCause;
+use zb_script::ScriptCause;
 
 /// Says how a run ended. Its number is the status of the process.
 #[derive(Clone, Copy, Debug, PartialEq, Eq)]
@@ -143,6 +144,26 @@ impl From<CaptureCause> for Cause {
             CaptureCause::BadCode => Cause::BadCode,
             CaptureCause::TooMany => Cause::TooMany,
             CaptureCause::AddressTaken => Cause::AddressTaken,
+        }
+    }
+}
+
+impl From<ScriptCause> for Cause {
+    ghost use Rattle.std.specs.Prelude.{◌≡◌};
+    ghost use Rattle.zb_command.specs.Statuses.{script_cause};
+
+    ghost from_gives = { λ e c. c ≡ script_cause e };
+
+    fn from(cause: ScriptCause) -> Cause {
+        match cause {
+            ScriptCause::Syntax => Cause::Syntax,
+            ScriptCause::DuplicateNode => Cause::DuplicateNode,
+            ScriptCause::Block => Cause::Block,
+            ScriptCause::UnknownNode => Cause::UnknownNode,
+            ScriptCause::BadCode => Cause::BadCode,
+            ScriptCause::Backup => Cause::Backup,
+            ScriptCause::TooMany => Cause::TooMany,
+            ScriptCause::NoCentre => Cause::NoCentre,
         }
     }
 }

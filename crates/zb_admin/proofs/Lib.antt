@@ -1,0 +1,5 @@
+pub mod StoreLemmas
+pub mod RowLemmas
+pub mod RunLemmas
+pub mod CommandLemmas
+pub mod ServeLemmas

@@ -1,0 +1,9 @@
+use Rattle.std.proofs.Common.{◌∙◌}
+use Rattle.zb_admin.proofs.StoreLemmas.{read_back}
+use Rattle.zb_admin.proofs.store.skipped.Goals as goal
+
+pub returns-clause-centre : goal.returns-clause-centre
+returns-clause-centre c = c.skip.ensures.role ∙ (read_back c.args.kept.now _ c.requires c.in-Ok.ensures.found).0
+
+pub returns-clause-widths : goal.returns-clause-widths
+returns-clause-widths c = c.skip.ensures.widths (read_back c.args.kept.now _ c.requires c.in-Ok.ensures.found).1

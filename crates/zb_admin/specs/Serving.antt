@@ -1,0 +1,115 @@
+-- What serving a script does to the disk and to the output, command by command, and what follows of it.
+use Rattle.std.specs.Prelude.{ℕ, ◌≡◌, ◌⊎◌, List, [], ◌∷◌, Option, Some, Result, Ok, Err, IfErr, OnOk, OnErr, IsTrue, ⊤}
+use Rattle.std.specs.Io.KnownBytes.{Appends}
+use Rattle.zb_admin.specs.declared.fault.AdminFault.{AdminFault}
+use Rattle.zb_admin.specs.declared.fault.AdminFault.TheVariants.{Disk, NoStore, BadStore, Worn, Write, NoMemory}
+use Rattle.zb_admin.specs.Commands.{IsBetween, WasThereOrEmpty, lays_out}
+use Rattle.zb_admin.specs.Served.{done, served, served_text}
+use Rattle.zb_admin.specs.Standing.{CanBeServed, IsWornOut, Stands, StandsAs, found_on}
+use Rattle.zb_base.specs.Outside.{AppendsFront, Rose}
+use Rattle.zb_disk.specs.View.{Telling, View, LeavesOnly}
+use Rattle.zb_host.specs.Hosts.{Hosted}
+use Rattle.zb_model.specs.Rules.{Setting}
+use Rattle.zb_model.specs.State.{NodeState}
+use Rattle.zb_network.specs.Settings.{setting_for}
+use Rattle.zb_script.specs.declared.script.Script.{Script}
+use Rattle.zb_script.specs.declared.script.Step.{Step}
+use Rattle.zb_store.specs.Layout.{Standing, stands}
+use Rattle.zb_stored_tables.specs.Cores.{CoreValue}
+use Rattle.zb_text.specs.Pages.{page}
+
+-- what the definitions below have of a disk and a sink: their ghost members
+pub record Outside (D W : Type 0) : Type 1 where
+  pub tells : Telling
+  pub state : D → View
+  pub taken : W → Option (List ℕ)
+  pub faults : W → ℕ
+
+-- the ghost members of a disk and a sink, as such
+abbrev pub outside : {D W : Type 0} → Telling → (D → View) → (W → Option (List ℕ)) → (W → ℕ) → Outside D W
+outside tells state taken faults = record { tells = tells; state = state; taken = taken; faults = faults }
+
+abbrev pub Ended : Type 0
+Ended = Result (Unit {0}) AdminFault
+
+-- ---- command by command
+
+-- The calls of the disk for one command went through: what stands after it stands in every image.
+pub record IsStored (c : Setting) (step : Step) (standing : Option NodeState) (old new : View) : Type 0 where
+  pub between : IsBetween (lays_out step.order standing) standing (done c step standing).after old new
+  pub after : (image : List ℕ) → new.images image → StandsAs (done c step standing).after image
+
+-- The script ends at this command: it failed before its lines were written, or a front of them was.
+abbrev pub EndsAt : {D W : Type 0} → Outside D W → Setting → Step → Option NodeState → D → W → D → W → Type 0
+EndsAt x c step standing old before new after =
+    (IsBetween (lays_out step.order standing) standing (done c step standing).after (x.state old) (x.state new) × (after ≡ before))
+    ⊎ (IsStored c step standing (x.state old) (x.state new) × AppendsFront (x.taken before) (x.taken after) (page (done c step standing).lines))
+
+-- The commands are served in their order. Of each one first the disk is called, while nothing is written; once what stands
+-- after it is stored, its lines are written, while the disk stays as it is; then comes the next one.
+abbrev pub Runs : {D W : Type 0} → Outside D W → Setting → List Step → Option NodeState → D → W → Ended → D → W → Type 0
+Runs x c [] standing old before result new after = (result ≡ Ok tt) × (new ≡ old) × (after ≡ before)
+Runs {D} {W} x c (step ∷ steps) standing old before result new after =
+    ((fault : AdminFault) × (result ≡ Err fault) × EndsAt x c step standing old before new after)
+    ⊎ ((disk : D) × (sink : W) × IsStored c step standing (x.state old) (x.state disk)
+    × Appends (x.taken before) (x.taken sink) (page (done c step standing).lines)
+    × Runs x c steps (done c step standing).after disk sink result new after)
+
+-- A command was served, and what stands after it; or the script ends at it.
+pub record HasServed {D W : Type 0} (x : Outside D W) (c : Setting) (step : Step) (standing : Option NodeState) (old : D) (before : W) (result : Ended) (centre : Option (Hosted CoreValue)) (new : D) (after : W) : Type 0 where
+  pub stored : OnOk result (IsStored c step standing (x.state old) (x.state new))
+  pub stands_so : OnOk result (Stands c (done c step standing).after centre (x.state new))
+  pub lines : OnOk result (Appends (x.taken before) (x.taken after) (page (done c step standing).lines))
+  pub cut : OnErr result (EndsAt x c step standing old before new after)
+
+-- When each fault of commands comes, once the store was judged.
+abbrev pub IsServiceFault : {D W : Type 0} → Outside D W → Setting → Option (Hosted CoreValue) → D → W → D → W → AdminFault → Type 0
+IsServiceFault x c centre old before new after Disk = Rose (x.state old).faults (x.state new).faults
+IsServiceFault x c centre old before new after NoStore = IsTrue x.tells.content → ⊥
+IsServiceFault x c centre old before new after (BadStore at) = IsTrue x.tells.content → ⊥
+IsServiceFault x c centre old before new after Worn = IsTrue x.tells.content → (b : Option NodeState) → Stands c b centre (x.state old)
+    → (z : Standing) × (stands (x.state new).seen ≡ Some z) × IsWornOut z
+IsServiceFault x c centre old before new after Write = Rose (x.faults before) (x.faults after)
+IsServiceFault x c centre old before new after NoMemory = ⊤
+
+-- ---- the whole script
+
+-- The store was judged and opened, and then the commands were served. While it is opened, an image is empty or stands for what
+-- one stood for before.
+abbrev pub IsServed : {D W : Type 0} → Outside D W → Setting → List Step → Option NodeState → D → W → Ended → D → W → Type 0
+IsServed {D} x c steps standing old before result new after =
+    (disk : D) × LeavesOnly (x.state old) (x.state disk) (WasThereOrEmpty (x.state old))
+    × ((image : List ℕ) → (x.state disk).images image → StandsAs standing image)
+    × Runs x c steps standing disk before result new after
+
+-- or it couldn't be opened
+abbrev pub IsUnopened : {D W : Type 0} → Outside D W → D → W → Ended → D → W → Type 0
+IsUnopened x old before result new after =
+    ((fault : AdminFault) × (result ≡ Err fault)) × LeavesOnly (x.state old) (x.state new) (WasThereOrEmpty (x.state old)) × (after ≡ before)
+
+-- When each fault comes. The two of a store that is no centre's come before anything is written.
+abbrev pub IsAdminFault : {D W : Type 0} → Outside D W → D → W → D → W → AdminFault → Type 0
+IsAdminFault x old before new after Disk = Rose (x.state old).faults (x.state new).faults
+IsAdminFault x old before new after NoStore = IsTrue x.tells.content → (found_on (x.state old).seen ≡ Err NoStore) × (after ≡ before)
+IsAdminFault x old before new after (BadStore at) = IsTrue x.tells.content → (found_on (x.state old).seen ≡ Err (BadStore at)) × (after ≡ before)
+IsAdminFault x old before new after Worn = IsTrue x.tells.content → CanBeServed (x.state old) → (z : Standing) × (stands (x.state new).seen ≡ Some z) × IsWornOut z
+IsAdminFault x old before new after Write = Rose (x.faults before) (x.faults after)
+IsAdminFault x old before new after NoMemory = ⊤
+
+-- A script was served.
+pub record Serves {D W : Type 0} (x : Outside D W) (script : Script) (old : D) (before : W) (result : Ended) (new : D) (after : W) : Type 0 where
+  -- a store that is no centre's is refused
+  pub found : OnOk result (IsTrue x.tells.content → (standing : Option NodeState) × (found_on (x.state old).seen ≡ Ok standing))
+  -- at Ok all lines were written, and every image stands for the last record
+  pub whole : OnOk result (IsTrue x.tells.content → CanBeServed (x.state old) → (standing : Option NodeState) → found_on (x.state old).seen ≡ Ok standing
+      → Appends (x.taken before) (x.taken after) (served_text (setting_for script.config) script.steps standing))
+  pub last : OnOk result (IsTrue x.tells.content → CanBeServed (x.state old) → (standing : Option NodeState) → found_on (x.state old).seen ≡ Ok standing
+      → (image : List ℕ) → (x.state new).images image → StandsAs (served (setting_for script.config) script.steps standing).after image)
+  -- at a fault a front of them was
+  pub front : OnErr result (IsTrue x.tells.content → CanBeServed (x.state old) → (standing : Option NodeState) → found_on (x.state old).seen ≡ Ok standing
+      → AppendsFront (x.taken before) (x.taken after) (served_text (setting_for script.config) script.steps standing))
+  -- command by command: what stands after a command is stored before its lines are written
+  pub run : IsTrue x.tells.content → CanBeServed (x.state old) → (standing : Option NodeState) → found_on (x.state old).seen ≡ Ok standing
+      → IsUnopened x old before result new after ⊎ IsServed x (setting_for script.config) script.steps standing old before result new after
+  -- when each fault comes
+  pub faults : IfErr result (IsAdminFault x old before new after)
