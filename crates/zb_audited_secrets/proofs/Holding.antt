@@ -1,6 +1,6 @@
 -- Who holds which keys, by names and by addresses.
-use Rattle.std.proofs.Common.{◌≡◌, ℕ, ◌&&◌, ◌||◌, Bool, true, false, cond, List, [], ◌∷◌, ◌++◌, fold, flat_map, is_some, nat_eq, bytes_eq, refl, sym, ap, ◌∙◌, subst}
-use Rattle.std.specs.List.{AllByRecursion, list_any}
+use Rattle.std.proofs.Common.{◌≡◌, ℕ, ◌&&◌, ◌||◌, cond, List, [], ◌∷◌, ◌++◌, fold, flat_map, nat_eq, refl, sym, ap, ◌∙◌, subst}
+use Rattle.std.specs.List.{list_any}
 use Rattle.zb_declared.specs.Naming.{declared_in, declares, is_centres, is_of}
 use Rattle.zb_declared.specs.Secrets as audit
 use Rattle.zb_grouped.specs.Printing.{printed}
@@ -13,11 +13,11 @@ use Rattle.zb_model.specs.Readings.{station_line, stations_of}
 use Rattle.zb_model.specs.Secrets as secrets
 use Rattle.zb_model.specs.Tools.{Tools}
 use Rattle.zb_model_laws.proofs.Basics.{append-nil'}
-use Rattle.zb_said.specs.Naming.{IsDeclared, name_of}
+use Rattle.zb_said.specs.Naming.{IsDeclared, NamesDiffer, name_of}
 use Rattle.zb_said.specs.Said.{IsOfNodes, line_for}
 use Rattle.zb_said.proofs.Parts.{term_again}
 use Rattle.zb_audited_secrets.specs.Agreeing.{HoldSame}
-use Rattle.zb_audited_secrets.proofs.Leading.{Begins, Leads, TellsApart, all_of_nodes, by_line, centres_same, declared_same, declares_same, leads_right, named_same, tells_apart, whose_same}
+use Rattle.zb_audited_secrets.proofs.Leading.{Begins, Leads, TellsApart, all_of_nodes, begins_left, by_line, centres_same, declared_same, declares_same, leads_right, named_same, tells_apart, whose_same}
 use Rattle.zb_audited_secrets.proofs.Showing.{flat_where, removed_same, terms_same}
 
 -- ---- behind all node lines
@@ -52,7 +52,7 @@ none_held : (known : List Station) (d : ℕ) (p : Station) (front : List Station
 unfolding line_for
 none_held known d p front = refl
 
-ever_from_same : (known front : List Station) → AreApart known → Rattle.zb_said.specs.Naming.NamesDiffer known → (d : ℕ) (h : List log.Line) → Leads known front h
+ever_from_same : (known front : List Station) → AreApart known → NamesDiffer known → (d : ℕ) (h : List log.Line) → Leads known front h
     → audit.along (audit.held_by d) front (printed known h) ≡ secrets.ever_from front d h
 ever_from_same known front a differ d [] all = refl
 ever_from_same known front a differ d (m ∷ h) all =
@@ -119,7 +119,7 @@ none_sealed : (known : List Station) (d : ℕ) (p : Station) (front : List Stati
 unfolding line_for
 none_sealed known d p front = refl
 
-sealed_from : (known front : List Station) → AreApart known → Rattle.zb_said.specs.Naming.NamesDiffer known → (d : ℕ) (h : List log.Line) → Leads known front h
+sealed_from : (known front : List Station) → AreApart known → NamesDiffer known → (d : ℕ) (h : List log.Line) → Leads known front h
     → audit.along (lockout.sealed_by d) front (printed known h) ≡ flat_map (claims.seals_of d) h
 sealed_from known front a differ d [] all = refl
 sealed_from known front a differ d (m ∷ h) all =
@@ -133,7 +133,7 @@ sealed_same : (known : List Station) (h : List log.Line) → Begins known h → 
 unfolding stations_of
 sealed_same known h b d front since same =
     let whole : Begins known (front ++ since) = subst (Begins known) (sym same) b in
-    ap (λ ps. audit.along (lockout.sealed_by d) ps (printed known since)) (declared_same known front (Rattle.zb_audited_secrets.proofs.Leading.begins_left known front since whole))
+    ap (λ ps. audit.along (lockout.sealed_by d) ps (printed known since)) (declared_same known front (begins_left known front since whole))
     ∙ sealed_from known (fold station_line [] front) (are_apart known h b) b.named.differ d since (leads_right known [] front since whole.leads)
 
 pub hold_same : (tools : Tools) (known : List Station) (h : List log.Line) → Begins known h → HoldSame tools known h

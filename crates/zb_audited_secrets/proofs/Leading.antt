@@ -1,5 +1,5 @@
 -- Lines whose node lines come first, and who is who behind them.
-use Rattle.std.proofs.Common.{◌≡◌, ℕ, ◌&&◌, ◌||◌, ◌⊎◌, Bool, true, false, cond, not, List, [], ◌∷◌, ◌++◌, fold, map, find, Option, Some, None, is_some, nat_eq, bytes_eq, unwrap_or, refl, sym, ap, ◌∙◌, subst, append_assoc, eqb-true, eq-eqb, inl, inr, ⊎_elim}
+use Rattle.std.proofs.Common.{◌≡◌, ℕ, ◌&&◌, ◌||◌, ◌⊎◌, Bool, true, false, cond, not, List, [], ◌∷◌, ◌++◌, fold, find, Option, Some, None, is_some, nat_eq, bytes_eq, unwrap_or, refl, sym, ap, ◌∙◌, subst, append_assoc, eqb-true, eq-eqb, ⊎_elim}
 use Rattle.std.specs.List.{AllByRecursion, list_any}
 use Rattle.std.specs.Option.{option_map}
 use Rattle.std.proofs.lemmas.Bool.{and_parts, false≢true, not-true}
@@ -15,8 +15,9 @@ use Rattle.zb_model.specs.Fits.{all_apart}
 use Rattle.zb_model.specs.Rules.{station_of}
 use Rattle.zb_model.specs.Secrets.{is_the_centre, joins}
 use Rattle.zb_model.specs.State.{is_centre}
-use Rattle.zb_model_laws.proofs.Basics.{append-nil', nat_eq-refl}
-use Rattle.zb_said.specs.Naming.{AreNamed, IsDeclared, NamesDiffer, name_of}
+use Rattle.zb_model_laws.proofs.Basics.{nat_eq-refl}
+use Rattle.zb_node_types.specs.Changes.{model_role}
+use Rattle.zb_said.specs.Naming.{AreNamed, IsDeclared, NamesDiffer, name_of, name_or_none}
 use Rattle.zb_said.specs.Parts.{role_for}
 use Rattle.zb_said.specs.Said.{IsOfNodes, line_for}
 use Rattle.zb_said.proofs.Naming.{each_name, named_again}
@@ -111,7 +112,7 @@ new_name (q ∷ front) p more differ =
     by_name false e none = none
 
 as_model : (p : Station) → Station
-as_model p = record { name = p.name; eui = p.eui; short = p.short; role = Rattle.zb_node_types.specs.Changes.model_role (role_for p.role); out_block = p.out_block; in_block = p.in_block }
+as_model p = record { name = p.name; eui = p.eui; short = p.short; role = model_role (role_for p.role); out_block = p.out_block; in_block = p.in_block }
 
 is_model : (p : Station) → as_model p ≡ p
 unfolding as_model
@@ -160,7 +161,7 @@ tells_apart known fits n its j there =
     (λ e. (bytes_eq-Decides (name_of known j) (name_of known n)).1 (ap (name_of known) (eqb-true j n e)))
 
 abbrev name_or_other : Bool → Station → Option Station → Bytes
-name_or_other b p o = Rattle.zb_said.specs.Naming.name_or_none (cond b (Some p) o)
+name_or_other b p o = name_or_none (cond b (Some p) o)
 
 itself : (p : Station) (front : List Station) → station_named (p ∷ front) p.name ≡ Some p
 unfolding station_named
@@ -183,11 +184,11 @@ named_front (p ∷ front) more n differ its = by_first (nat_eq p.eui n) its (λ 
     rest : Option Station
     rest = find (λ (q : Station). nat_eq q.eui n) (front ++ more)
 
-    by_first : (b : Bool) → is_some (cond b (Some p) rest) ≡ true → (is_some rest ≡ true → station_named front (Rattle.zb_said.specs.Naming.name_or_none rest) ≡ find (λ (q : Station). nat_eq q.eui n) front)
+    by_first : (b : Bool) → is_some (cond b (Some p) rest) ≡ true → (is_some rest ≡ true → station_named front (name_or_none rest) ≡ find (λ (q : Station). nat_eq q.eui n) front)
         → station_named (p ∷ front) (name_or_other b p rest) ≡ cond b (Some p) (find (λ (q : Station). nat_eq q.eui n) front)
     by_first true found more_ = itself p front
     by_first false found more_ =
-        another p front (Rattle.zb_said.specs.Naming.name_or_none rest) (each_name (λ name. bytes_eq p.name name ≡ false) (front ++ more) n differ.0 found) ∙ more_ found
+        another p front (name_or_none rest) (each_name (λ name. bytes_eq p.name name ≡ false) (front ++ more) n differ.0 found) ∙ more_ found
 
 pub named_same : (known front : List Station) (n : ℕ) → NamesDiffer known → IsFrontOf known front → IsDeclared known n → station_named front (name_of known n) ≡ station_of front n
 named_same known front n differ is its =
@@ -251,7 +252,7 @@ unfolding name_of
 centre_named known front p n fits apart is e its =
     let here : find (λ (s : Station). is_centre s.role) known ≡ Some p = subst (λ ps. find (λ (s : Station). is_centre s.role) ps ≡ Some p) (sym is.1) (found_left (λ (s : Station). is_centre s.role) front is.0 p e) in
     let own : station_of known p.eui ≡ Some p = found_first (λ (s : Station). is_centre s.role) known p apart here in
-    let name : name_of known p.eui ≡ p.name = ap Rattle.zb_said.specs.Naming.name_or_none own in
+    let name : name_of known p.eui ≡ p.name = ap name_or_none own in
     ap (λ x. bytes_eq x (name_of known n)) (sym name) ∙ tells_apart known fits n its p.eui (ap is_some own)
 
 pub centres_same : (known front : List Station) (n : ℕ) → AreNamed known → all_apart (λ (a b : Station). nat_eq a.eui b.eui) known ≡ true → IsFrontOf known front → IsDeclared known n

@@ -1,6 +1,6 @@
 -- The live network keys of a node, by its name and in its state.
-use Rattle.std.proofs.Common.{◌≡◌, ℕ, ◌&&◌, ◌||◌, Bool, true, false, cond, List, [], ◌∷◌, ◌++◌, fold, length, get_or, ◌<◌, nat_eq, bytes_eq, refl, sym, ap, ◌∙◌}
-use Rattle.std.specs.List.{AllByRecursion, Any, list_any}
+use Rattle.std.proofs.Common.{◌≡◌, ℕ, ◌&&◌, ◌||◌, Bool, true, false, cond, List, [], ◌∷◌, fold, nat_eq, bytes_eq, refl, sym, ap, ◌∙◌}
+use Rattle.std.specs.List.{AllByRecursion, list_any}
 use Rattle.std.proofs.lemmas.Bool.{false≢true}
 use Rattle.std.proofs.lemmas.List.Folds.{list_any-from_Any}
 use Rattle.zb_declared.specs.Secrets as audit

@@ -1,27 +1,28 @@
 -- Each line of a run that gives or installs a network key meets no row of that key at its node.
-use Rattle.std.proofs.Common.{◌≡◌, ℕ, ◌+◌, ◌&&◌, Bool, true, false, cond, not, List, [], ◌∷◌, ◌++◌, map, flat_map, length, Option, Some, None, nat_eq, refl, sym, ap, ◌∙◌, subst, append_assoc, eqb-true}
+use Rattle.std.proofs.Common.{◌≡◌, ℕ, ◌+◌, ◌||◌, Bool, true, false, cond, not, List, [], ◌∷◌, ◌++◌, fold, map, flat_map, length, Option, Some, None, nat_eq, refl, sym, ap, ◌∙◌}
 use Rattle.std.specs.List.{AllByRecursion, list_any}
 use Rattle.std.proofs.lemmas.Bool.{and_parts, false≢true, not-true}
-use Rattle.zb_model.specs.Answer.{Answer, answer, answer_by, counting_of}
+use Rattle.zb_model.specs.Answer.{Answer, answer, counting_of}
 use Rattle.zb_model.specs.Claims.{Each}
-use Rattle.zb_model.specs.Data.{Bytes, Draw, DropNet, DropLink, Install, Active, Row, Pair, Became, Live, Removed, Roll, Told, Untold, Edit, Reserve, Floor, Start, Moved, Place, Reason, Down, NoFrame, WrongState, Station, Task, Received, DoRoll, Layer, Nwk, Aps}
+use Rattle.zb_model.specs.Data.{Bytes, Draw, DropNet, DropLink, Install, Active, Row, Pair, Became, Live, Removed, Roll, Told, Untold, Edit, Reserve, Floor, Start, Moved, Reason, Down, NoFrame, WrongState, Device, Station, Task, Received, DoRoll, Layer, Nwk, Aps}
 use Rattle.zb_model.specs.Fits.{all_apart, all_fit, fits, keeps_rules}
-use Rattle.zb_model.specs.Lines.{Line, Declared, GivenNet, GivenLink, Counter, Changed, Commit, Accept, Refuse, Seal, Forge, Send, Inject, Stopped, DownReset, DownDisk, Boot, Dump, End}
-use Rattle.zb_model.specs.Play.{Schedule, Node, Event, Own, RollOver, Deliver, Reset, PowerOn, ShowRecord, ArmStop, ArmFail, InjectBytes, ForgeNet, ForgeNetAps, ForgeOpen, Step, Disk, Armed, NotArmed, StopAfter, FailAt, Calls, BootCalls, stations, net_line, link_line, limit_line, start, setting_of, disk_of, with_disk, falls, stands, calls_for, leaves_both, commit_lines, stored_lines, told_lines, group_of, cut_of, fallen_line, answer_step, boot_step, refused_step, task_step, deliver_step, frame_at, supply, forged_net, forged_both, forged_open, step_by, step, groups}
+use Rattle.zb_model.specs.Lines.{Line, Declared, GivenNet, Counter, Changed, DownReset, Boot}
+use Rattle.zb_model.specs.Play.{Schedule, Node, Event, Own, RollOver, Deliver, Reset, PowerOn, ShowRecord, ArmStop, ArmFail, InjectBytes, ForgeNet, ForgeNetAps, ForgeOpen, Step, Disk, Armed, NotArmed, Calls, BootCalls, stations, net_line, link_line, limit_line, start, setting_of, disk_of, with_disk, falls, stands, calls_for, leaves_both, commit_lines, stored_lines, told_lines, group_of, cut_of, fallen_line, answer_step, boot_step, refused_step, task_step, deliver_step, frame_at, supply, forged_net, forged_both, forged_open, step_by, step, groups}
 use Rattle.zb_model.specs.Readings.{state_of, heard_line, speaker, after, is_up, air}
-use Rattle.zb_model.specs.Rules.{centre_of}
+use Rattle.zb_model.specs.Rules.{Setting, centre_of}
 use Rattle.zb_model.specs.Schedules.{IsSchedule}
 use Rattle.zb_model.specs.State.{NodeState, NetKey, has_net, applied, new_node}
 use Rattle.zb_model.specs.Tools.{Tools}
 use Rattle.zb_model.specs.Transcript.{end_line, run_lines, transcript}
 use Rattle.zb_model_fits.proofs.Tests.{apart_seen}
 use Rattle.zb_model_laws.specs.Events.{BeforeEach}
-use Rattle.zb_model_laws.proofs.Basics.{append-nil', each-append, state-snoc}
+use Rattle.zb_model_laws.proofs.Basics.{each-append, state-snoc}
 use Rattle.zb_model_laws.proofs.EventStates.{answer_to}
+use Rattle.zb_model_laws.proofs.FreshLines.{all-append}
 use Rattle.zb_model_laws.proofs.Groups.{changed-line}
 use Rattle.zb_model_shown.specs.Along.{OfNode, IsAsDeclared, IsRuled, euis_differ}
 use Rattle.zb_model_shown.proofs.Ready.{declared_along, ruled_along}
-use Rattle.zb_model_steps.proofs.Walks.{OfTold, commit-all, fallen-all, told-all}
+use Rattle.zb_model_steps.proofs.Walks.{OfTold, commit-all, fallen-all, map-all, told-all}
 use Rattle.zb_model_storable.specs.Storing.{OpensAsJudged}
 use Rattle.zb_model_storable.proofs.Answers.{all_stored}
 
@@ -173,7 +174,7 @@ both_of_node P Q R f (ForgeNet to from source key sequence counter content) p q 
 both_of_node P Q R f (ForgeNetAps to from source key sequence counter label base aps_counter command) p q = tt
 both_of_node P Q R f (ForgeOpen to from source label base aps_counter command) p q = tt
 
-abbrev Before : (NodeState → Rattle.zb_model.specs.Rules.Setting → ℕ → Type 0) → Schedule → List Line → Event → Type 0
+abbrev Before : (NodeState → Setting → ℕ → Type 0) → Schedule → List Line → Event → Type 0
 Before P w h event = OfNode (λ n. P (state_of h n) (setting_of w n) n) event
 
 groups_lively : (tools : Tools) → OpensAsJudged tools → (w : Schedule) (h : List Line) (ds : List Disk) (number : ℕ) (events : List Event) → BeforeEach (Before IsRuled w) tools w h ds number events
@@ -204,7 +205,7 @@ other_none h n given m other none =
     ap (λ (s : NodeState). s.nets) (state-snoc h (GivenNet n given.0 given.1) m.station.eui
     ∙ ap (λ b. cond b (after (GivenNet n given.0 given.1) (state_of h m.station.eui)) (state_of h m.station.eui)) other) ∙ none
 
-or_none : (a b : Bool) → Rattle.std.specs.Prelude.◌||◌ a b ≡ false → (a ≡ false) × (b ≡ false)
+or_none : (a b : Bool) → (a || b) ≡ false → (a ≡ false) × (b ≡ false)
 or_none true b e = absurd (false≢true (sym e))
 or_none false b e = (refl, e)
 
@@ -233,7 +234,7 @@ nets_lively h (m ∷ ms) differ all =
     by_net None none some = none
     by_net (Some given) none some = (none_has given.0 (state_of h m.station.eui).nets all.0, some given)
 
-declared_none : (n : ℕ) (ps : List Station) (s : NodeState) → s.nets ≡ [] → (Rattle.std.specs.Prelude.fold (heard_line n) s (map Declared ps)).nets ≡ []
+declared_none : (n : ℕ) (ps : List Station) (s : NodeState) → s.nets ≡ [] → (fold (heard_line n) s (map Declared ps)).nets ≡ []
 unfolding heard_line speaker after
 declared_none n [] s none = none
 declared_none n (p ∷ ps) s none = declared_none n ps (heard_line n s (Declared p)) (by_test (nat_eq p.eui n))
@@ -245,11 +246,11 @@ declared_none n (p ∷ ps) s none = declared_none n ps (heard_line n s (Declared
 all_none : (ps : List Station) (ms : List Node) → AllByRecursion (HasNoNets (map Declared ps)) ms
 unfolding state_of
 all_none ps [] = tt
-all_none ps (m ∷ ms) = (declared_none m.station.eui ps (new_node Rattle.zb_model.specs.Data.Role.Device) refl, all_none ps ms)
+all_none ps (m ∷ ms) = (declared_none m.station.eui ps (new_node Device) refl, all_none ps ms)
 
 quiet_each : (f : Node → List Line) → ((m : Node) → AllByRecursion Quiet (f m)) → (ms : List Node) → AllByRecursion Quiet (flat_map f ms)
 quiet_each f each [] = tt
-quiet_each f each (m ∷ ms) = Rattle.zb_model_laws.proofs.FreshLines.all-append Quiet (f m) (flat_map f ms) (each m) (quiet_each f each ms)
+quiet_each f each (m ∷ ms) = all-append Quiet (f m) (flat_map f ms) (each m) (quiet_each f each ms)
 
 quiet_link : (centre n : ℕ) (o : Option Bytes) → AllByRecursion Quiet (link_line centre n o)
 quiet_link centre n None = tt
@@ -262,12 +263,12 @@ quiet_limit n layer v false = (λ h. tt, tt)
 start_lively : (w : Schedule) → euis_differ w ≡ true → Each IsLively [] (start w)
 unfolding start euis_differ
 start_lively w differ =
-    each-append IsLively [] (map Declared (stations w)) (nets ++ (links ++ limits)) (quiet_lines [] (map Declared (stations w)) (Rattle.zb_model_steps.proofs.Walks.map-all Quiet Declared (λ p h. tt) (stations w)))
+    each-append IsLively [] (map Declared (stations w)) (nets ++ (links ++ limits)) (quiet_lines [] (map Declared (stations w)) (map-all Quiet Declared (λ p h. tt) (stations w)))
     (each-append IsLively (map Declared (stations w)) nets (links ++ limits) (nets_lively (map Declared (stations w)) w.nodes nodes (all_none (stations w) w.nodes))
     (quiet_lines (map Declared (stations w) ++ nets) (links ++ limits)
-    (Rattle.zb_model_laws.proofs.FreshLines.all-append Quiet links limits (quiet_each (λ (m : Node). link_line (centre_of (stations w)) m.station.eui m.code) (λ m. quiet_link (centre_of (stations w)) m.station.eui m.code) w.nodes)
+    (all-append Quiet links limits (quiet_each (λ (m : Node). link_line (centre_of (stations w)) m.station.eui m.code) (λ m. quiet_link (centre_of (stations w)) m.station.eui m.code) w.nodes)
     (quiet_each (λ (m : Node). limit_line m.station.eui Nwk m.start_nwk ++ limit_line m.station.eui Aps m.start_aps)
-    (λ m. Rattle.zb_model_laws.proofs.FreshLines.all-append Quiet (limit_line m.station.eui Nwk m.start_nwk) (limit_line m.station.eui Aps m.start_aps) (quiet_limit m.station.eui Nwk m.start_nwk (nat_eq m.start_nwk 0)) (quiet_limit m.station.eui Aps m.start_aps (nat_eq m.start_aps 0))) w.nodes))))
+    (λ m. all-append Quiet (limit_line m.station.eui Nwk m.start_nwk) (limit_line m.station.eui Aps m.start_aps) (quiet_limit m.station.eui Nwk m.start_nwk (nat_eq m.start_nwk 0)) (quiet_limit m.station.eui Aps m.start_aps (nat_eq m.start_aps 0))) w.nodes))))
   where
     nets : List Line
     nets = flat_map net_lines w.nodes

@@ -1,14 +1,14 @@
 -- A node's live network keys, as its lines say them one after the other.
-use Rattle.std.proofs.Common.{◌≡◌, ℕ, ◌&&◌, ◌||◌, Bool, true, false, cond, List, [], ◌∷◌, ◌++◌, fold, map, filter, nat_eq, refl, sym, ap, ◌∙◌, subst, append_assoc, eqb-true}
+use Rattle.std.proofs.Common.{◌≡◌, ℕ, ◌+◌, max, Option, Some, None, ◌&&◌, ◌||◌, Bool, true, false, cond, List, [], ◌∷◌, ◌++◌, fold, map, filter, nat_eq, refl, sym, ap, ◌∙◌, append_assoc, eqb-true}
 use Rattle.std.specs.List.{list_any}
 use Rattle.std.proofs.lemmas.Bool.{false≢true}
 use Rattle.std.proofs.lemmas.List.Folds.{list_any-append}
 use Rattle.zb_model.specs.Claims.{Each}
-use Rattle.zb_model.specs.Data.{Bytes, Device, Draw, DropNet, DropLink, Install, Active, Row, Pair, Became, Live, Removed, Roll, Told, Untold, Edit, Move, Reserve, Floor, Start, Moved, Term, Layer, Nwk, Aps}
+use Rattle.zb_model.specs.Data.{Bytes, Draw, DropNet, DropLink, Install, Active, Row, Pair, Became, Live, Removed, Roll, Told, Untold, Edit, Move, Reserve, Floor, Start, Moved, Term, Layer, Nwk, Aps}
 use Rattle.zb_model.specs.Lines.{Line, Declared, GivenNet, GivenLink, Counter, Changed, Commit, Accept, Refuse, Seal, Forge, Send, Inject, Stopped, DownReset, DownDisk, Boot, Dump, End}
 use Rattle.zb_model.specs.Readings.{state_of, heard_line, speaker, after}
 use Rattle.zb_model.specs.State.{NodeState, NetKey, same_key, has_net, live_nets, at_net, of_active, reserved, started_at, next_at, net_floor, net_kept, booted_net, declared_at, dropped_net, new_net, given_net, moved, applied, after_sealing, sealed_at, after_accepting, after_hearing, after_boot, with_given_net, with_given_link, with_declared}
-use Rattle.zb_model_laws.proofs.Basics.{append-nil', same_key-eq, same_key-refl, state-snoc}
+use Rattle.zb_model_laws.proofs.Basics.{append-nil', same_key-eq, state-snoc}
 use Rattle.zb_audited_secrets.proofs.Lively.{IsLively}
 
 -- whether the last line of a node that speaks of a network key gives or installs it
@@ -64,18 +64,18 @@ at_one f a k = record { key = λ r. key_ (same_key r.key a) r; live = λ r. live
 left_at : (f : NetKey → NetKey) → Leaves f → (a key : Bytes) (nets : List NetKey) → has_live key (at_net a f nets) ≡ has_live key nets
 left_at f k a key nets = left (λ r. cond (same_key r.key a) (f r) r) (at_one f a k) key nets
 
-left_of : (f : NetKey → NetKey) → Leaves f → (o : Rattle.std.specs.Prelude.Option Bytes) (key : Bytes) (nets : List NetKey) → has_live key (of_active f o nets) ≡ has_live key nets
-left_of f k Rattle.std.specs.Prelude.None key nets = refl
-left_of f k (Rattle.std.specs.Prelude.Some a) key nets = left_at f k a key nets
+left_of : (f : NetKey → NetKey) → Leaves f → (o : Option Bytes) (key : Bytes) (nets : List NetKey) → has_live key (of_active f o nets) ≡ has_live key nets
+left_of f k None key nets = refl
+left_of f k (Some a) key nets = left_at f k a key nets
 
 declared_leaves : (v : ℕ) → Leaves (declared_at v)
 declared_leaves v = record { key = λ r. key_ r.started r; live = λ r. live_ r.started r }
   where
-    key_ : (b : Bool) (r : NetKey) → (cond b (record r { limit = Rattle.std.specs.Prelude.max r.limit v; next = Rattle.std.specs.Prelude.max r.next v }) r).key ≡ r.key
+    key_ : (b : Bool) (r : NetKey) → (cond b (record r { limit = max r.limit v; next = max r.next v }) r).key ≡ r.key
     key_ true r = refl
     key_ false r = refl
 
-    live_ : (b : Bool) (r : NetKey) → (cond b (record r { limit = Rattle.std.specs.Prelude.max r.limit v; next = Rattle.std.specs.Prelude.max r.next v }) r).live ≡ r.live
+    live_ : (b : Bool) (r : NetKey) → (cond b (record r { limit = max r.limit v; next = max r.next v }) r).live ≡ r.live
     live_ true r = refl
     live_ false r = refl
 
@@ -149,11 +149,11 @@ edit_lives e n (Moved m) key s h is fits = move_lives e n m key s h is fits
 
 heard_lives : (layer : Layer) (k : Bytes) (from c : ℕ) (key : Bytes) (s : NodeState) → has_live key (after_hearing layer k from c s).nets ≡ has_live key s.nets
 unfolding after_hearing
-heard_lives Nwk k from c key s = left_at (net_kept from (Rattle.std.specs.Prelude.◌+◌ c 1)) (record { key = λ r. refl; live = λ r. refl }) k key s.nets
+heard_lives Nwk k from c key s = left_at (net_kept from (c + 1)) (record { key = λ r. refl; live = λ r. refl }) k key s.nets
 heard_lives Aps k from c key s = refl
 
 sealed_lives : (layer : Layer) (t : Term) (key : Bytes) (s : NodeState) → has_live key (sealed_at layer t s).nets ≡ has_live key s.nets
-sealed_lives Nwk t key s = left_at (next_at (Rattle.std.specs.Prelude.◌+◌ t.counter 1)) (record { key = λ r. refl; live = λ r. refl }) t.base key s.nets
+sealed_lives Nwk t key s = left_at (next_at (t.counter + 1)) (record { key = λ r. refl; live = λ r. refl }) t.base key s.nets
 sealed_lives Aps t key s = refl
 
 declared_lives : (layer : Layer) (v : ℕ) (key : Bytes) (s : NodeState) → has_live key (with_declared layer v s).nets ≡ has_live key s.nets

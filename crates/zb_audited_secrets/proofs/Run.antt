@@ -5,6 +5,7 @@ use Rattle.zb_model.specs.Claims.{Each}
 use Rattle.zb_model.specs.Data.{Bytes, Layer, Nwk, Aps, Station}
 use Rattle.zb_model.specs.Lines.{Line, Declared, Counter}
 use Rattle.zb_model.specs.Play.{Schedule, Node, Event, Own, RollOver, Deliver, Reset, PowerOn, ShowRecord, ArmStop, ArmFail, InjectBytes, ForgeNet, ForgeNetAps, ForgeOpen, Disk, stations, net_line, link_line, limit_line, start, step, groups}
+use Rattle.zb_model.specs.Readings.{station_line}
 use Rattle.zb_model.specs.Rules.{centre_of}
 use Rattle.zb_model.specs.Schedules.{IsSchedule}
 use Rattle.zb_model.specs.Tools.{Tools}
@@ -19,7 +20,7 @@ use Rattle.zb_model_steps.proofs.Walks.{Asked, OfNode, OfOutside, step-has}
 use Rattle.zb_model_storable.specs.Storing.{OpensAsJudged}
 use Rattle.zb_said.specs.Naming.{AreNamed}
 use Rattle.zb_said.specs.Said.{IsOfNodes}
-use Rattle.zb_audited_secrets.specs.Agreeing.{ReadSame, RunReadSame}
+use Rattle.zb_audited_secrets.specs.Agreeing.{RunReadSame}
 use Rattle.zb_audited_secrets.proofs.Holding.{hold_same}
 use Rattle.zb_audited_secrets.proofs.Leading.{Begins, Leads, NotNode, leads_left, name_same, no_station}
 use Rattle.zb_audited_secrets.proofs.LiveKeys.{live_keys_same}
@@ -136,7 +137,7 @@ parts tools w =
 leads_behind : (known front : List Station) (h : List Line) → front ≡ known → AllByRecursion (IsOfNodes known) h → AllByRecursion NotNode h → Leads known front h
 leads_behind known front [] same of not = tt
 leads_behind known front (m ∷ h) same of not =
-    (inr (same, of.0, not.0), leads_behind known (Rattle.zb_model.specs.Readings.station_line front m) h (no_station front m not.0 ∙ same) of.1 not.1)
+    (inr (same, of.0, not.0), leads_behind known (station_line front m) h (no_station front m not.0 ∙ same) of.1 not.1)
 
 leads_nodes : (known front ps : List Station) (h : List Line) → known ≡ front ++ ps → AllByRecursion (IsOfNodes known) h → AllByRecursion NotNode h → Leads known front (map Declared ps ++ h)
 leads_nodes known front [] h same of not = leads_behind known front h (sym (same ∙ append-nil' front)) of not

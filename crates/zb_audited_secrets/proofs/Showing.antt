@@ -1,5 +1,5 @@
 -- What printed lines show of keys, whatever their nodes are called.
-use Rattle.std.proofs.Common.{◌≡◌, ℕ, Bool, true, false, cond, List, [], ◌∷◌, ◌++◌, map, flat_map, length, refl, sym, ap, ◌∙◌, add-one}
+use Rattle.std.proofs.Common.{◌≡◌, ℕ, suc, Bool, true, false, cond, List, [], ◌∷◌, ◌++◌, flat_map, length, refl, ap, ◌∙◌}
 use Rattle.std.specs.List.{AllByRecursion, list_any}
 use Rattle.zb_declared.specs.Secrets as audit
 use Rattle.zb_grouped.specs.Printing.{printed}
@@ -23,7 +23,7 @@ printed_snoc known (x ∷ h) m = ap (λ ls. line_for known x ∷ ls) (printed_sn
 
 printed_length : (known : List Station) (h : List log.Line) → length (printed known h) ≡ length h
 printed_length known [] = refl
-printed_length known (m ∷ h) = ap Rattle.std.specs.Prelude.suc (printed_length known h)
+printed_length known (m ∷ h) = ap suc (printed_length known h)
 
 -- what each line says, they all say
 pub flat_each : {A : Type 0} (known : List Station) (f : Line → List A) (g : log.Line → List A) → ((m : log.Line) → f (line_for known m) ≡ g m) → (h : List log.Line) → flat_map f (printed known h) ≡ flat_map g h

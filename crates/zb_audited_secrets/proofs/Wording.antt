@@ -1,7 +1,6 @@
 -- The two words of the end line, by names and by addresses.
-use Rattle.std.proofs.Common.{◌≡◌, ◌&&◌, ◌||◌, not, Bool, true, false, List, [], ◌∷◌, ◌++◌, refl, sym, ap, ◌∙◌, subst, append_assoc}
+use Rattle.std.proofs.Common.{◌≡◌, ◌&&◌, ◌||◌, not, Bool, List, [], ◌∷◌, ◌++◌, refl, sym, ap, ◌∙◌, subst, append_assoc}
 use Rattle.std.specs.List.{AllByRecursion, list_any}
-use Rattle.zb_declared.specs.Naming.{declared_in}
 use Rattle.zb_declared.specs.Secrets as audit
 use Rattle.zb_grouped.specs.Printing.{printed}
 use Rattle.zb_model.specs.Data as model
