@@ -1,21 +1,21 @@
 -- What stands in the answer of a node to a task: what each change is stored for, and what each accepted and each sealed
 -- term calls for.
-use Rattle.std.proofs.Common.{◌≡◌, ℕ, ◌<◌, ◌≤◌, ◌+◌, min, Bool, true, false, cond, ◌&&◌, ◌⊎◌, inl, inr, List, [], ◌∷◌, ◌++◌, map, Option, Some, None, option_map, option_to_list, nat_eq, nat_lt, nat_le, flat_map, refl, sym, ap, ◌∙◌, subst, arith, lt-ltb, leb-true, leb-false}
+use Rattle.std.proofs.Common.{◌≡◌, ℕ, ◌<◌, ◌≤◌, ◌+◌, min, Bool, true, false, cond, ◌&&◌, ◌⊎◌, inl, inr, List, [], ◌∷◌, ◌++◌, map, Option, Some, None, nat_eq, nat_lt, nat_le, flat_map, refl, sym, ap, ◌∙◌, subst, arith, lt-ltb, leb-true, leb-false}
 use Rattle.std.proofs.lemmas.Bool.{false≢true, and_parts}
 use Rattle.std.specs.List.{AllByRecursion}
 use Rattle.zb_model.specs.Data.{Bytes, Layer, Nwk, Aps, Term, Task, Move, Draw, DropNet, DropLink, Install, Active, Row, Pair, Became, Live, Removed, Roll, Told, Untold, Edit, Reserve, Floor, Start, Moved}
 use Rattle.zb_model.specs.Lines.{Line, Changed, Seal}
 use Rattle.zb_model.specs.State.{greatest_counter, NodeState, NetKey, at_net, dropped_net, has_net, new_net, next_counter, same_layer, stored_limit}
 use Rattle.zb_model.specs.Tools.{Tools}
-use Rattle.zb_model.specs.Rules.{Plan, Sending, Setting}
-use Rattle.zb_model.specs.Answer.{Answer, Counting, activated, answer_by, counting_of, edits_of, floor_edit, is_started_key, may_seal, move_edits, moves_of, out_of, plan_of, reserve_edit, reserve_of, seals_at, sending_of, start_edit, start_for, stored_floor}
+use Rattle.zb_model.specs.Rules.{Plan, Sending}
+use Rattle.zb_model.specs.Answer.{Answer, Counting, activated, answer_by, counting_of, edits_of, is_started_key, may_seal, plan_of, reserve_of, seals_at, sending_of, start_edit, start_for, stored_floor}
 use Rattle.zb_model.specs.Readings.{air, is_up, state_of}
-use Rattle.zb_model.specs.Play.{Disk, Own, Schedule, answer_step, commit_lines, disk_of, group_of, refuse_lines, refused_step, send_lines, setting_of, step, step_by, stored_lines, task_step, told_lines}
+use Rattle.zb_model.specs.Play.{Own, Schedule, answer_step, disk_of, group_of, refuse_lines, refused_step, send_lines, setting_of, step, step_by, stored_lines, task_step, told_lines}
 use Rattle.zb_model.specs.Schedules.{IsSchedule, Names}
 use Rattle.zb_model_laws.specs.Opening.{Opens}
 use Rattle.zb_model_laws.proofs.EventStates.{answer_to}
 use Rattle.zb_model_laws.proofs.FreshLines.{all-append}
-use Rattle.zb_model_laws.proofs.Judged.{AcceptsFit, In, Judged, plan-accepts}
+use Rattle.zb_model_laws.proofs.Judged.{AcceptsFit, In, plan-accepts}
 use Rattle.zb_model_laws.proofs.Runs.{me-of}
 use Rattle.zb_model_laws.proofs.Sound.{sound}
 use Rattle.zb_model_counted.specs.Counted.{IsActive, IsCounted, TakesCounter, block_reserved, has_started, reserve_called, reserve_line, start_value}

@@ -1,10 +1,7 @@
 -- Whatever lines follow the start of a run, the first node that they declare by the name of one of its nodes is that node.
-use Rattle.std.proofs.Common.{◌≡◌, Bool, true, false, cond, ℕ, List, [], ◌∷◌, ◌++◌, map, fold, find, Option, Some, None, is_some, nat_eq, bytes_eq, refl, sym, ap, ◌∙◌, subst, append_assoc}
+use Rattle.std.proofs.Common.{◌≡◌, Bool, true, false, cond, ℕ, List, [], ◌∷◌, ◌++◌, map, fold, find, Option, Some, None, is_some, nat_eq, bytes_eq, refl, sym, ap, ◌∙◌, append_assoc}
 use Rattle.std.proofs.lemmas.Bool.{false≢true}
 use Rattle.std.proofs.lemmas.Slice.Eq.{bytes_eq-Decides}
-use Rattle.std.specs.List.{AllByRecursion}
-use Rattle.std.specs.Option.{option_map}
-use Rattle.zb_base.specs.declared.node.Role.{Role}
 use Rattle.zb_declared.specs.Naming.{declared_in, declares, or_added, station_named, with_station}
 use Rattle.zb_grouped.specs.Printing.{printed}
 use Rattle.zb_model.specs.Data as model

@@ -1,18 +1,16 @@
 -- Each kind of line adds up where what is read of its node before its group is what the node's state says.
-use Rattle.std.proofs.Common.{◌≡◌, ℕ, ◌+◌, min, Bool, true, false, cond, not, ◌&&◌, ◌||◌, ◌⊎◌, inl, inr, List, [], ◌∷◌, ◌++◌, fold, Option, Some, None, is_some, nat_eq, nat_lt, nat_le, bytes_eq, flat_map, refl, sym, ap, ◌∙◌, subst, eq-eqb, eqb-true}
+use Rattle.std.proofs.Common.{◌≡◌, ℕ, ◌+◌, min, Bool, true, false, not, ◌&&◌, ◌||◌, ◌⊎◌, inl, inr, List, [], ◌∷◌, ◌++◌, fold, Option, Some, None, is_some, nat_eq, nat_lt, bytes_eq, flat_map, refl, sym, ap, ◌∙◌, eq-eqb}
 use Rattle.std.proofs.lemmas.Bool.{and_from, and_parts, false≢true, or_left, or_right}
 use Rattle.std.proofs.lemmas.Slice.Eq.{bytes_eq-Decides}
-use Rattle.std.specs.List.{AllByRecursion, list_all, list_any}
-use Rattle.std.specs.Option.{option_map, option_or}
+use Rattle.std.specs.List.{list_all, list_any}
+use Rattle.std.specs.Option.{option_or}
 use Rattle.zb_declared.specs.Groups.{flat}
 use Rattle.zb_model.specs.Answer.{stored_floor}
 use Rattle.zb_model.specs.Data as model
 use Rattle.zb_model.specs.Data.{Bytes, Station, Term}
-use Rattle.zb_model.specs.Fits.{net_stored, link_stored}
 use Rattle.zb_model.specs.Lines as log
 use Rattle.zb_model.specs.Play.{Schedule, setting_of, stations}
 use Rattle.zb_model.specs.Readings.{state_of}
-use Rattle.zb_model.specs.State as state
 use Rattle.zb_model.specs.State.{NodeState, greatest_counter, next_counter, stored_limit}
 use Rattle.zb_model_counted.specs.Counted as counted
 use Rattle.zb_model_counted.specs.Counted.{IsActive, block_reserved}

@@ -1,5 +1,5 @@
 -- The lines of a node's answer add up, of a whole group and of one that a stop or a failure cut.
-use Rattle.std.proofs.Common.{◌≡◌, ℕ, ◌+◌, min, Bool, true, false, cond, ◌&&◌, ◌||◌, ◌⊎◌, inl, inr, List, [], ◌∷◌, ◌++◌, map, length, Option, Some, None, is_some, nat_eq, nat_le, bytes_eq, flat_map, refl, sym, ap, ◌∙◌, subst, append_assoc, eq-eqb}
+use Rattle.std.proofs.Common.{◌≡◌, ℕ, ◌+◌, Bool, true, false, cond, ◌&&◌, ◌||◌, ◌⊎◌, inl, inr, List, [], ◌∷◌, ◌++◌, map, length, Option, Some, None, is_some, nat_eq, nat_le, bytes_eq, flat_map, refl, sym, ap, ◌∙◌, subst, append_assoc, eq-eqb}
 use Rattle.std.proofs.lemmas.Bool.{and_from, and_parts, false≢true, or_left, or_right}
 use Rattle.std.specs.List.{AllByRecursion, list_all, list_any}
 use Rattle.zb_base.specs.declared.label.Layer.{Layer}
@@ -14,7 +14,7 @@ use Rattle.zb_model.specs.State.{greatest_counter}
 use Rattle.zb_model_laws.proofs.Basics.{append-nil'}
 use Rattle.zb_model_laws.proofs.FreshLines.{all-append}
 use Rattle.zb_model_laws.proofs.Judged.{In, all-in}
-use Rattle.zb_model_real.specs.Terms.{layer_of, term_of}
+use Rattle.zb_model_real.specs.Terms.{layer_of}
 use Rattle.zb_recount.specs.Counting.{accepted, accepted_in, activates, ahead, cuts, floor_fits, is_counted, seals_at, starts, uncounted_in}
 use Rattle.zb_recount.specs.Readings as read
 use Rattle.zb_said.specs.Naming.{name_of}

@@ -1,21 +1,20 @@
 -- All lines of a run add up, group by group.
-use Rattle.std.proofs.Common.{◌≡◌, ℕ, ◌+◌, Bool, true, false, cond, ◌&&◌, ◌||◌, List, [], ◌∷◌, ◌++◌, map, length, Option, Some, None, nat_eq, bytes_eq, refl, sym, ap, ◌∙◌, subst, unwrap_or}
-use Rattle.std.proofs.lemmas.Bool.{false≢true}
+use Rattle.std.proofs.Common.{◌≡◌, ℕ, ◌+◌, Bool, true, false, cond, ◌&&◌, ◌||◌, List, [], ◌∷◌, ◌++◌, length, Option, Some, None, bytes_eq, refl, sym, ap, ◌∙◌, subst, unwrap_or}
 use Rattle.std.specs.List.{AllByRecursion, list_any}
 use Rattle.std.specs.Option.{option_map, option_or}
 use Rattle.zb_base.specs.declared.label.Layer.{Layer}
 use Rattle.zb_base.specs.declared.label.Layer.TheVariants as layer
-use Rattle.zb_declared.specs.Groups.{flat, groups as read_groups}
+use Rattle.zb_declared.specs.Groups.{flat}
 use Rattle.zb_declared.specs.Naming.{declared_in, station_named}
-use Rattle.zb_grouped.specs.Grouping.{groups_from, groups_of, with_group}
+use Rattle.zb_grouped.specs.Grouping.{groups_from, with_group}
 use Rattle.zb_grouped.specs.Printing.{all_printed, printed}
 use Rattle.zb_grouped.proofs.Grouped.{is_grouped}
 use Rattle.zb_model.specs.Answer.{Answer, counting_of}
 use Rattle.zb_model.specs.Data as model
 use Rattle.zb_model.specs.Data.{Bytes, Down, DoRoll, NoFrame, Reason, Received, Station, Task, Term, WrongState}
 use Rattle.zb_model.specs.Lines as log
-use Rattle.zb_model.specs.Play.{ArmFail, ArmStop, Armed, BootCalls, Calls, Deliver, Disk, Event, ForgeNet, ForgeNetAps, ForgeOpen, InjectBytes, NotArmed, Own, PowerOn, Reset, RollOver, Schedule, ShowRecord, Step, answer_step, boot_step, calls_for, cut_of, deliver_step, disk_of, fallen_line, falls, forged_both, forged_net, forged_open, frame_at, group_of, groups, leaves_both, refused_step, setting_of, start, stations, step, step_by, supply, task_step, with_disk}
-use Rattle.zb_model.specs.Readings.{is_up, state_of}
+use Rattle.zb_model.specs.Play.{ArmFail, ArmStop, BootCalls, Deliver, Disk, Event, ForgeNet, ForgeNetAps, ForgeOpen, InjectBytes, NotArmed, Own, PowerOn, Reset, RollOver, Schedule, ShowRecord, Step, answer_step, boot_step, calls_for, cut_of, deliver_step, disk_of, fallen_line, falls, forged_both, forged_net, forged_open, frame_at, group_of, groups, leaves_both, refused_step, start, stations, step, step_by, supply, task_step, with_disk}
+use Rattle.zb_model.specs.Readings.{is_up}
 use Rattle.zb_model.specs.Schedules.{IsSchedule, Names, NamesNode}
 use Rattle.zb_model.specs.Tools.{Tools}
 use Rattle.zb_model.specs.Transcript.{end_line, run_lines, transcript}
@@ -37,14 +36,14 @@ use Rattle.zb_model_storable.specs.Storing.{OpensAsJudged}
 use Rattle.zb_readings.specs.Reading.{ReadFrom, Reads as NodeReads}
 use Rattle.zb_readings.proofs.EachLine.{TellsApart, tells_apart}
 use Rattle.zb_readings.proofs.Reading.{run_reads}
-use Rattle.zb_recount.specs.Counting.{is_counted, uncounted, uncounted_from, uncounted_in}
+use Rattle.zb_recount.specs.Counting.{is_counted, uncounted, uncounted_from}
 use Rattle.zb_recount.specs.Readings as read
 use Rattle.zb_said.specs.Naming.{AreNamed, name_of}
 use Rattle.zb_said.specs.Said.{IsOfNodes, line_for}
 use Rattle.zb_trace.specs.declared.line.Line.{Line}
 use Rattle.zb_audited_counts.proofs.Answers.{AnswerFits, answer_fits}
 use Rattle.zb_audited_counts.proofs.Blocks.{KnowsNodes, more_knows, start_knows}
-use Rattle.zb_audited_counts.proofs.Groups.{CountsBehind, EachCounts, GroupCounts, cut_counts, fallen_counts, none_uncounted, plain_group, whole_counts}
+use Rattle.zb_audited_counts.proofs.Groups.{CountsBehind, GroupCounts, cut_counts, fallen_counts, none_uncounted, plain_group, whole_counts}
 use Rattle.zb_audited_counts.proofs.EachKind.{Told}
 use Rattle.zb_audited_counts.specs.Keeping.{KeepsFourth}
 
