@@ -1,0 +1,23 @@
+//! Removed devices are locked out of the printed lines of each run, as the audit reads them. The laws stand as the
+//! contracts of functions with empty bodies; docs/THEOREMS.md says them in words.
+#![tactic(auto)]
+
+ghost use Rattle.std.specs.Prelude.{List};
+ghost use Rattle.zb_audited_locks.specs.Beginnings.{RunBegins};
+ghost use Rattle.zb_audited_locks.specs.Fronts.{LocksFronts};
+ghost use Rattle.zb_model.specs.Play.{Schedule};
+ghost use Rattle.zb_model.specs.Tools.{Tools};
+ghost use Rattle.zb_trace.specs.declared.line.Line.{Line};
+
+/// Says of any lines that lockout of them is lockout of each front of them, so that no line is the first with which it
+/// fails exactly where it holds.
+#[tactic(auto, using(crate::proofs::Prefixes::locks_fronts))]
+pub fn fronts_of_locked_lines_are_locked()
+    ensures { (tools : Tools) (lines : List Line) → LocksFronts tools lines }
+{}
+
+/// Says that the lines before the group of a line of a run, as the audit has them, are the run before its event.
+#[tactic(auto, using(crate::proofs::Events::begins))]
+pub fn groups_of_a_run_begin_with_their_events()
+    ensures { (tools : Tools) (w : Schedule) → RunBegins tools w }
+{}
