@@ -1,10 +1,10 @@
 -- The events of a run's lines: those of each event have its number, as the audit reads it and as the model does, and the
 -- numbers rise. So what is before the group of a line is what comes before its event.
-use Rattle.std.proofs.Common.{◌≡◌, ℕ, ◌+◌, ◌<◌, ◌≤◌, Bool, true, false, cond, not, List, [], ◌∷◌, ◌++◌, map, filter, flat_map, length, fold, Option, Some, None, ◌⊎◌, inl, inr, nat_eq, refl, sym, ap, ◌∙◌, subst, append_assoc, eqb-true, eq-eqb, arith}
+use Rattle.std.proofs.Common.{◌≡◌, ℕ, ◌+◌, ◌<◌, ◌≤◌, Bool, true, false, cond, not, List, [], ◌∷◌, ◌++◌, map, filter, flat_map, length, Option, Some, None, ◌⊎◌, inl, inr, nat_eq, refl, sym, ap, ◌∙◌, subst, append_assoc, eqb-true, eq-eqb, arith}
 use Rattle.std.specs.List.{AllByRecursion}
 use Rattle.std.proofs.lemmas.List.{append-nil}
 use Rattle.std.proofs.lemmas.List.Elements.{filter-append}
-use Rattle.zb_audited_locks.specs.Beginnings.{Begins, BeginsAt, RunBegins, numbered}
+use Rattle.zb_audited_locks.specs.Beginnings.{Begins, RunBegins, numbered}
 use Rattle.zb_declared.specs.Groups.{event_of as read_event, same_event}
 use Rattle.zb_grouped.specs.Printing.{printed}
 use Rattle.zb_lockout.specs.Before.{before_group}

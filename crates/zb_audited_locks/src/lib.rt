@@ -2,11 +2,19 @@
 //! contracts of functions with empty bodies; docs/THEOREMS.md says them in words.
 #![tactic(auto)]
 
-ghost use Rattle.std.specs.Prelude.{List};
+ghost use Rattle.std.specs.Prelude.{◌≡◌, true, List};
 ghost use Rattle.zb_audited_locks.specs.Beginnings.{RunBegins};
 ghost use Rattle.zb_audited_locks.specs.Fronts.{LocksFronts};
-ghost use Rattle.zb_model.specs.Play.{Schedule};
+ghost use Rattle.zb_audited_locks.specs.Keeping.{KeepsFifth};
+ghost use Rattle.zb_model.specs.Play.{Schedule, stations};
+ghost use Rattle.zb_model.specs.Schedules.{IsSchedule};
 ghost use Rattle.zb_model.specs.Tools.{Tools};
+ghost use Rattle.zb_model_laws.specs.Commanding.{OneCentre, ShowsKeys};
+ghost use Rattle.zb_model_laws.specs.KeysApart.{KeysApart};
+ghost use Rattle.zb_model_laws.specs.Opening.{Opens};
+ghost use Rattle.zb_model_shown.specs.Along.{euis_differ};
+ghost use Rattle.zb_model_storable.specs.Storing.{OpensAsJudged};
+ghost use Rattle.zb_said.specs.Naming.{AreNamed};
 ghost use Rattle.zb_trace.specs.declared.line.Line.{Line};
 
 /// Says of any lines that lockout of them is lockout of each front of them, so that no line is the first with which it
@@ -20,4 +28,12 @@ pub fn fronts_of_locked_lines_are_locked()
 #[tactic(auto, using(crate::proofs::Events::begins))]
 pub fn groups_of_a_run_begin_with_their_events()
     ensures { (tools : Tools) (w : Schedule) → RunBegins tools w }
+{}
+
+/// Says that no line of a run breaks the fifth clause of the audit: where both words of the end line hold, removed
+/// devices are locked out of the lines.
+#[tactic(auto, using(crate::proofs::Fifth::keeps_fifth))]
+pub fn runs_keep_the_fifth_clause()
+    ensures { (tools : Tools) → Opens tools → OpensAsJudged tools → ShowsKeys tools → (w : Schedule) → IsSchedule w
+        → euis_differ w ≡ true → OneCentre w → KeysApart w → AreNamed (stations w) → KeepsFifth tools w }
 {}

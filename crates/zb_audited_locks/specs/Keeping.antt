@@ -1,0 +1,11 @@
+-- The lines of a run with which lockout fails first: none.
+use Rattle.std.specs.Prelude.{◌≡◌, None}
+use Rattle.zb_audit.specs.Faults.{unlocked}
+use Rattle.zb_grouped.specs.Printing.{printed}
+use Rattle.zb_model.specs.Play.{Schedule, stations}
+use Rattle.zb_model.specs.Tools.{Tools}
+use Rattle.zb_model.specs.Transcript.{transcript}
+
+-- the fifth clause of the audit: where both words of the end line hold, removed devices are locked out of each front of the lines
+abbrev pub KeepsFifth : Tools → Schedule → Type 0
+KeepsFifth tools w = unlocked tools (printed (stations w) (transcript tools w)) ≡ None
