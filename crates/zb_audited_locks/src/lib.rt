@@ -17,21 +17,25 @@ ghost use Rattle.zb_model_storable.specs.Storing.{OpensAsJudged};
 ghost use Rattle.zb_said.specs.Naming.{AreNamed};
 ghost use Rattle.zb_trace.specs.declared.line.Line.{Line};
 
-/// Says of any lines that lockout of them is lockout of each front of them, so that no line is the first with which it
-/// fails exactly where it holds.
+/// Says that lockout of any lines, whoever wrote them, is lockout of each front of them.
+///
+/// So no line is the first with which lockout fails exactly where it holds of all.
 #[tactic(auto, using(crate::proofs::Prefixes::locks_fronts))]
 pub fn fronts_of_locked_lines_are_locked()
     ensures { (tools : Tools) (lines : List Line) → LocksFronts tools lines }
 {}
 
-/// Says that the lines before the group of a line of a run, as the audit has them, are the run before its event.
+/// Says that what an audit has before the group of a run's line is the run before its event.
 #[tactic(auto, using(crate::proofs::Events::begins))]
 pub fn groups_of_a_run_begin_with_their_events()
     ensures { (tools : Tools) (w : Schedule) → RunBegins tools w }
 {}
 
-/// Says that no line of a run breaks the fifth clause of the audit: where both words of the end line hold, removed
-/// devices are locked out of the lines.
+/// Says that no line of a run breaks the fifth clause of the audit, which is lockout.
+///
+/// Where both words of the end line hold, removed devices are locked out of the printed lines and of each front of them.
+/// `ShowsKeys` is of the frames: what a node's own frame shows of a key is the key of the command that is in it.
+/// `KeysApart` is of the schedule: its keys are different keys.
 #[tactic(auto, using(crate::proofs::Fifth::keeps_fifth))]
 pub fn runs_keep_the_fifth_clause()
     ensures { (tools : Tools) → Opens tools → OpensAsJudged tools → ShowsKeys tools → (w : Schedule) → IsSchedule w
