@@ -14,8 +14,8 @@ ghost use Rattle.zb_said.specs.Naming.{AreNamed};
 
 /// Says that no line of a run breaks the sixth clause of the audit: the last line ends it well, and no other ends it.
 ///
-/// Its number of events is at least that of each event, its counts are right, and its two words are those that the audit
-/// reads by names.
+/// Its number of events is at least that of each event, its counts are right, and its two words are those that the
+/// audit reads by names.
 #[tactic(auto, using(crate::proofs::Endings::keeps_sixth))]
 pub fn runs_keep_the_sixth_clause()
     ensures { (tools : Tools) → OpensAsJudged tools → (w : Schedule) → IsSchedule w → euis_differ w ≡ true

@@ -1,5 +1,5 @@
-//! No line of the run of a schedule breaks a claim of the audit, so the audit answers the verdict on it. The laws stand
-//! as the contracts of functions that do nothing; docs/THEOREMS.md says them in words.
+//! No line of the run of a schedule breaks a claim of the audit, which so answers the verdict on it. The laws stand as
+//! the contracts of functions that do nothing; docs/THEOREMS.md says them in words.
 #![tactic(auto)]
 
 ghost use Rattle.std.specs.Prelude.{◌≡◌, Ok};
@@ -14,8 +14,8 @@ use zb_model_schedules::texts_read_as_schedules;
 
 /// Says that no line of the run of a schedule is bad, with real frames, whatever happens in it.
 ///
-/// So an audit of its printed lines answers just the verdict on it, unless memory is lacking: the seals and accepts that
-/// its end line counts, and lockout where both words of that line hold.
+/// So an audit of its printed lines answers just the verdict on it, unless memory is lacking: the seals and accepts
+/// that its end line counts, and lockout where both words of that line hold.
 pub fn runs_are_sound()
     ensures { (p : Schedule) → IsSchedule p → IsSound (schedule_of p) }
 {
