@@ -1,0 +1,11 @@
+pub mod Lists
+pub mod States
+mod Questions
+mod Outcomes
+mod OwnRules
+mod CommandRules
+mod Judged
+mod Frames
+mod Answers
+mod Records
+mod Runs
