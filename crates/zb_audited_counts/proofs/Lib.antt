@@ -1,0 +1,5 @@
+pub mod Answers
+pub mod Blocks
+pub mod EachKind
+pub mod Groups
+pub mod Runs
