@@ -1,0 +1,4 @@
+pub mod Prefixes
+pub mod Events
+pub mod Locks
+pub mod Fifth
