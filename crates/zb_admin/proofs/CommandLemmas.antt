@@ -1,17 +1,24 @@
 -- One command: what its calls leave is what its definition says.
-use Rattle.std.proofs.Common.{◌≡◌, ℕ, Bool, false, List, [], Option, Some, None, Result, Ok, Err, OnOk, IsTrue, option_map, refl, ap, ◌∙◌, subst}
-use Rattle.zb_admin.specs.Commands.{IsCarriedOut, IsCommandFault, IsEventFault, IsTold, items_of, lays_out}
-use Rattle.zb_admin.specs.Served.{Done, done, on_empty, on_store, outcome_lines}
-use Rattle.zb_admin.specs.Standing.{IsEmpty, IsUp, IsWornOut, Stands}
+use Rattle.std.proofs.Common.{◌≡◌, ℕ, ◌++◌, ◌∷◌, inl, Bool, true, false, List, [], Option, Some, None, Result, Ok, Err, OnOk, IsTrue, option_map, refl, sym, ap, ◌∙◌, subst}
+use Rattle.std.specs.Prelude.{codes, is_some, IsOk}
+use Rattle.zb_admin.specs.Commands.{HasHandled, HasLaidOut, IsCarriedOut, IsCommandFault, IsEventFault, IsTold, is_own, items_of, lays_out}
+use Rattle.zb_admin.specs.Served.{Done, IsRefusal, does, done, handled, on_empty, on_store, outcome_lines}
+use Rattle.zb_admin.specs.Standing.{IsEmpty, IsUp, IsWornOut, Stands, StandsAs, StandsAsEither, recorded}
+use Rattle.zb_admin.specs.Texts.{listed, ok_line, refuse_line}
+use Rattle.zb_admin.proofs.RunLemmas.{page_more}
+use Rattle.zb_backup.specs.Format.{backup_text}
+use Rattle.zb_admin.proofs.RefusedLemmas.{is_no_refusal, refused_by, some_mapped}
 use Rattle.zb_admin.specs.declared.fault.AdminFault.{AdminFault}
 use Rattle.zb_admin.specs.declared.fault.AdminFault.TheVariants.{Disk, NoStore, BadStore, Worn, Write, NoMemory}
-use Rattle.zb_disk.specs.View.{Telling, View}
-use Rattle.zb_host.specs.Hosts.{Hosted}
+use Rattle.zb_disk.proofs.Moments.{started, still_refl}
+use Rattle.zb_disk.specs.View.{Telling, View, IsStill}
+use Rattle.zb_host.specs.Hosts.{Gives, Hosted}
 use Rattle.zb_host.specs.declared.outcome.Outcome.{Outcome}
-use Rattle.zb_model.specs.Answer.{Answer}
+use Rattle.zb_model.specs.Answer.{Answer, answer}
 use Rattle.zb_node_types.specs.Changes.{reason}
 use Rattle.zb_node_types.specs.declared.refusal.Refusal.{Refusal}
 use Rattle.zb_seal.specs.declared.term.Term.{Term}
+use Rattle.zb_base.specs.declared.key.Key.{Key}
 use Rattle.zb_model.specs.Play.{no_station}
 use Rattle.zb_model.specs.Rules.{Setting}
 use Rattle.zb_model.specs.State.{NodeState}
@@ -20,6 +27,10 @@ use Rattle.zb_script.specs.declared.script.Order.TheVariants.{Init, Provision, R
 use Rattle.zb_script.specs.declared.script.Step.{Step}
 use Rattle.zb_store.specs.Layout.{Standing, stands}
 use Rattle.zb_stored_tables.specs.Cores.{CoreValue}
+use Rattle.zb_stored_tables.specs.Stored.{restored}
+use Rattle.zb_text.specs.Pages.{ended, page}
+use Rattle.zb_model.specs.Data.{Centre, Task}
+use Rattle.zb_model_real.specs.Real.{real}
 
 pub always : {T E P : Type 0} (r : Result T E) → P → OnOk r P
 always (Ok x) p = p
@@ -28,6 +39,14 @@ always (Err e) p = tt
 pub on_ok_then : {T E P Q : Type 0} (r : Result T E) → (P → Q) → OnOk r P → OnOk r Q
 on_ok_then (Ok x) f p = f p
 on_ok_then (Err e) f p = tt
+
+-- every image stands for what the centre has
+pub images_stand : (c : Setting) (b : Option NodeState) (centre : Option (Hosted CoreValue)) (v : View) → Stands c b centre v → (image : List ℕ) → v.images image → StandsAs b image
+images_stand c None None v empty image there = empty.images image there
+images_stand c None (Some host) v stood image there = absurd stood
+images_stand c (Some s) None v stood image there = absurd stood
+images_stand c (Some s) (Some host) v up image there =
+    (up.standing, up.current.held.whole image there, subst (λ (x : CoreValue). Gives (restored Centre) up.standing (recorded x)) up.core up.current.gives_it)
 
 pub no_setting : Setting
 no_setting = record { me = no_station; stations = [] }
@@ -47,7 +66,16 @@ event_command tells old new host NoMemory h = tt
 pub told_lines : (line : ℕ) (out : Outcome Term Refusal) (a : Answer) → IsTold out a → outcome_lines line (option_map reason out.refused) (items_of out.frame) ≡ outcome_lines line a.refusal a.frame
 told_lines line out a is = ap (λ r. outcome_lines line r (items_of out.frame)) is.refusal ∙ ap (λ f. outcome_lines line a.refusal f) is.frame
 
-lays_some : (o : Order) (s : NodeState) → lays_out o (Some s) ≡ false
+-- a refused event of its own
+pub event_spared : (tells : Telling) (c : Setting) (line : ℕ) (task : Task) (s : NodeState) (before after : Hosted CoreValue) (old new : View) (out : Outcome Term Refusal) → HasHandled tells c task before old (Ok out) after new → IsTrue tells.content → IsUp c s before old → is_own task ≡ true
+    → IsRefusal (handled c line task s) → IsStill old new × ((handled c line task s).after ≡ Some s)
+event_spared tells c line task s before after old new out h told up own refusal =
+    let a = answer real c s task in
+    let some : is_some a.refusal ≡ true = refused_by line a.refusal a.frame (handled c line task s).after refusal in
+    let kept = h.spared own (sym (some_mapped reason out.refused) ∙ ap is_some (h.told s up).refusal ∙ some) in
+    (kept.0, ap (λ (x : CoreValue). Some x.tables) (sym (h.up told s up).core ∙ kept.1 ∙ up.core))
+
+pub lays_some : (o : Order) (s : NodeState) → lays_out o (Some s) ≡ false
 lays_some (Init key) s = refl
 lays_some (Provision device code) s = refl
 lays_some (Remove device via) s = refl
@@ -65,10 +93,61 @@ unfolding done
 carried_some c step None was host old front r centre new text is stood each = absurd (subst (λ (o : Option (Hosted CoreValue)). Stands c None o old) is stood)
 carried_some c step (Some s) was host old front r centre new text is stood each =
     let h = each s (subst (λ (o : Option (Hosted CoreValue)). Stands c (Some s) o old) is stood) in
-    record { after = h.after; lines = h.lines; between = λ e. h.between refl }
+    record { after = h.after; lines = h.lines; between = λ e. h.between refl; spared = h.spared }
 
 pub carried_none : (c : Setting) (step : Step) (b : Option NodeState) (was : Option (Hosted CoreValue)) (old : View) (front : List ℕ) (r : Result (Unit {0}) AdminFault) (centre : Option (Hosted CoreValue)) (new : View) (text : List ℕ) → was ≡ None → Stands c b was old
     → (IsEmpty old → IsCarriedOut c (lays_out step.order None) None (on_empty step.line step.order) old front r centre new text) → IsCarriedOut c (lays_out step.order b) b (done c step b) old front r centre new text
 unfolding done
 carried_none c step None was old front r centre new text is stood each = each (subst (λ (o : Option (Hosted CoreValue)). Stands c None o old) is stood)
 carried_none c step (Some s) was old front r centre new text is stood each = absurd (subst (λ (o : Option (Hosted CoreValue)). Stands c (Some s) o old) is stood)
+
+-- ---- commands that leave the disk as it is
+
+pub carried_still : (c : Setting) (lays : Bool) (b : Option NodeState) (centre : Option (Hosted CoreValue)) (v : View) (front : List ℕ) (r : Result (Unit {0}) AdminFault) (text : List ℕ) (d : Done) → ((image : List ℕ) → v.since v.moment image → v.images image) → Stands c b centre v
+    → d.after ≡ b → OnOk r (text ≡ front ++ page d.lines) → IsCarriedOut c lays b d v front r centre v text
+carried_still c lays b centre v front r text d only_now stood same lines = record {
+  after = always r (subst (λ (o : Option NodeState). Stands c o centre v) (sym same) stood);
+  lines = lines;
+  between = λ e. started v (StandsAsEither b d.after) only_now (λ image there. inl (images_stand c b centre v stood image there));
+  spared = always r (λ refusal. (still_refl v, same));
+}
+
+-- ---- commands that make a new store
+
+pub carried_new : (c : Setting) (s : NodeState) (old new : View) (front : List ℕ) (r : Result (Unit {0}) AdminFault) (centre : Option (Hosted CoreValue)) (text : List ℕ) (number : ℕ) → OnOk r (Stands c (Some s) centre new) → OnOk r (text ≡ front ++ page (ok_line number ∷ []))
+    → IsCarriedOut c true None (does number [] s) old front r centre new text
+carried_new c s old new front r centre text number stood lines = record {
+  after = stood;
+  lines = lines;
+  between = λ e. absurd (cc);
+  spared = always r (λ refusal. absurd (is_no_refusal (does number [] s) [] number refl refusal));
+}
+
+-- what a command does where nothing stands
+pub carried_for : (c : Setting) (line : ℕ) (old : View) (front : List ℕ) (r : Result (Unit {0}) AdminFault) (centre : Option (Hosted CoreValue)) (new : View) (text : List ℕ) (o p : Order) → o ≡ p
+    → IsCarriedOut c (lays_out p None) None (on_empty line p) old front r centre new text → IsCarriedOut c (lays_out o None) None (on_empty line o) old front r centre new text
+carried_for c line old front r centre new text o p same h = subst (λ (q : Order). IsCarriedOut c (lays_out q None) None (on_empty line q) old front r centre new text) (sym same) h
+
+pub new_stands : (tells : Telling) (c : Setting) (s : NodeState) (old new : View) (made : Result (Hosted CoreValue) AdminFault) (r : Result (Unit {0}) AdminFault) (centre : Option (Hosted CoreValue)) → HasLaidOut tells c s old made new → IsTrue tells.content
+    → OnOk r ((h : Hosted CoreValue) → made ≡ Ok h → centre ≡ Some h) → OnOk r (IsOk made) → OnOk r (Stands c (Some s) centre new)
+new_stands tells c s old new (Ok h) (Ok x) centre laid told kept is = subst (λ (o : Option (Hosted CoreValue)). Stands c (Some s) o new) (sym (kept h refl)) (laid.up told)
+new_stands tells c s old new (Err f) (Ok x) centre laid told kept is = let none : false ≡ true = is in absurd (cc)
+new_stands tells c s old new made (Err f) centre laid told kept is = tt
+
+-- a command other than these two
+pub carried_refused : (c : Setting) (line : ℕ) (o : Order) (centre : Option (Hosted CoreValue)) (v : View) (front : List ℕ) (r : Result (Unit {0}) AdminFault) (text : List ℕ) → ((image : List ℕ) → v.since v.moment image → v.images image) → IsEmpty v → centre ≡ None
+    → ((key : Key) → o ≡ Init key → ⊥) → ((by : ℕ) (bytes : _) → o ≡ Restore by bytes → ⊥) → OnOk r (text ≡ front ++ page (refuse_line line (codes "empty") ∷ [])) → IsCarriedOut c (lays_out o None) None (on_empty line o) v front r centre v text
+carried_refused c line (Init key) centre v front r text only_now empty none not_init not_restore lines = absurd (not_init key refl)
+carried_refused c line (Provision device code) centre v front r text only_now empty none not_init not_restore lines = carried_still c false None centre v front r text _ only_now (subst (λ (x : Option (Hosted CoreValue)). Stands c None x v) (sym none) empty) refl lines
+carried_refused c line (Remove device via) centre v front r text only_now empty none not_init not_restore lines = carried_still c false None centre v front r text _ only_now (subst (λ (x : Option (Hosted CoreValue)). Stands c None x v) (sym none) empty) refl lines
+carried_refused c line Lists centre v front r text only_now empty none not_init not_restore lines = carried_still c false None centre v front r text _ only_now (subst (λ (x : Option (Hosted CoreValue)). Stands c None x v) (sym none) empty) refl lines
+carried_refused c line Backup centre v front r text only_now empty none not_init not_restore lines = carried_still c false None centre v front r text _ only_now (subst (λ (x : Option (Hosted CoreValue)). Stands c None x v) (sym none) empty) refl lines
+carried_refused c line (Restore by bytes) centre v front r text only_now empty none not_init not_restore lines = absurd (not_restore by bytes refl)
+
+-- the lines of a list and of a backup
+pub listed_text : (front text : List ℕ) (t s : NodeState) (line : ℕ) → t ≡ s → text ≡ front ++ (page (listed t) ++ page (ok_line line ∷ [])) → text ≡ front ++ page (listed s ++ ok_line line ∷ [])
+listed_text front text t s line same is =
+    is ∙ ap (λ l. front ++ l) (sym (page_more (listed t) (ok_line line ∷ []))) ∙ ap (λ (x : NodeState). front ++ page (listed x ++ ok_line line ∷ [])) same
+
+pub backup_lines : (front text : List ℕ) (t s : NodeState) (line : ℕ) → t ≡ s → text ≡ front ++ (ended (backup_text t) ++ page (ok_line line ∷ [])) → text ≡ front ++ page (backup_text s ∷ ok_line line ∷ [])
+backup_lines front text t s line same is = is ∙ ap (λ (x : NodeState). front ++ page (backup_text x ∷ ok_line line ∷ [])) same

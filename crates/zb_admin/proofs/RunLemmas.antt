@@ -3,7 +3,8 @@ use Rattle.std.proofs.Common.{◌≡◌, ℕ, zero, suc, inl, inr, List, [], ◌
 use Rattle.std.proofs.KnownBytes.{Appends-nil, Appends-trans}
 use Rattle.std.specs.Io.KnownBytes.{Appends}
 use Rattle.zb_admin.specs.Served.{done, served}
-use Rattle.zb_admin.specs.Serving.{Ended, Outside, Runs}
+use Rattle.zb_admin.specs.Outside.{Outside}
+use Rattle.zb_admin.specs.Serving.{Ended, Runs}
 use Rattle.zb_admin.specs.Standing.{StandsAs}
 use Rattle.zb_admin.specs.declared.fault.AdminFault.{AdminFault}
 use Rattle.zb_base.specs.Outside.{AppendsFront}
@@ -13,7 +14,7 @@ use Rattle.zb_model.specs.State.{NodeState}
 use Rattle.zb_script.specs.declared.script.Step.{Step}
 use Rattle.zb_text.specs.Pages.{ended, page}
 
-page_more : (xs ys : List Bytes) → page (xs ++ ys) ≡ page xs ++ page ys
+pub page_more : (xs ys : List Bytes) → page (xs ++ ys) ≡ page xs ++ page ys
 page_more [] ys = refl
 page_more (x ∷ xs) ys = ap (λ l. ended x ++ l) (page_more xs ys) ∙ sym (append_assoc (ended x) (page xs) (page ys))
 
@@ -29,10 +30,10 @@ take_behind : (xs ys : Bytes) (n : ℕ) → (m : ℕ) × (take m (xs ++ ys) ≡ 
 take_behind [] ys n = (n, refl)
 take_behind (x ∷ xs) ys n = let r = take_behind xs ys n in (suc r.0, ap (λ l. x ∷ l) r.1)
 
-front_within : (a b : Option Bytes) (xs ys : Bytes) → AppendsFront a b xs → AppendsFront a b (xs ++ ys)
+pub front_within : (a b : Option Bytes) (xs ys : Bytes) → AppendsFront a b xs → AppendsFront a b (xs ++ ys)
 front_within a b xs ys f = let r = take_front xs ys f.0 in (r.0, subst (Appends a b) (sym r.1) f.1)
 
-front_behind : (a b c : Option Bytes) (xs ys : Bytes) → Appends a b xs → AppendsFront b c ys → AppendsFront a c (xs ++ ys)
+pub front_behind : (a b c : Option Bytes) (xs ys : Bytes) → Appends a b xs → AppendsFront b c ys → AppendsFront a c (xs ++ ys)
 front_behind a b c xs ys first f = let r = take_behind xs ys f.0 in (r.0, subst (Appends a c) (sym r.1) (Appends-trans a b c xs (take f.0 ys) first f.1))
 
 not_both : {A : Type 0} (result : Ended) (f : AdminFault) → result ≡ Ok tt → result ≡ Err f → A

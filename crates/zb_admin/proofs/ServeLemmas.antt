@@ -3,15 +3,19 @@ use Rattle.std.proofs.Common.{◌≡◌, ℕ, ◌≤◌, ◌<◌, ◌+◌, inl, 
 use Rattle.std.proofs.KnownBytes.{Appends-nil}
 use Rattle.std.proofs.lemmas.List.{drop_all, drop_more}
 use Rattle.std.specs.Io.KnownBytes.{Appends}
-use Rattle.zb_admin.specs.Commands.{IsCarriedOut, IsCommandFault, IsJudged, IsJudgeFault, lays_out, tables_in}
+use Rattle.zb_admin.specs.Commands.{IsCarriedOut, IsCommandFault, IsJudged, IsJudgeFault, WasThereOrEmpty, lays_out, tables_in}
 use Rattle.zb_admin.specs.Served.{done}
-use Rattle.zb_admin.specs.Serving.{Ended, HasServed, IsAdminFault, IsServiceFault, IsStored, Outside, Runs, Serves}
+use Rattle.zb_admin.specs.Moments.{IsRun}
+use Rattle.zb_admin.specs.Outside.{Outside}
+use Rattle.zb_admin.specs.Serving.{Ended, HasServed, IsAdminFault, IsServiceFault, IsStored, Runs, Serves}
 use Rattle.zb_admin.specs.Standing.{CanBeServed, Stands, StandsAs, found_on, recorded}
 use Rattle.zb_admin.specs.declared.fault.AdminFault.{AdminFault}
 use Rattle.zb_admin.specs.declared.fault.AdminFault.TheVariants.{Disk, NoStore, BadStore, Worn, Write, NoMemory}
+use Rattle.zb_admin.proofs.CommandLemmas.{images_stand}
+use Rattle.zb_admin.proofs.MomentLemmas.{all_of_run, script_goes}
 use Rattle.zb_admin.proofs.RunLemmas.{run_front, run_last, run_whole}
 use Rattle.zb_base.specs.Outside.{AppendsFront, Rose}
-use Rattle.zb_disk.specs.View.{View}
+use Rattle.zb_disk.specs.View.{LeavesOnly, View}
 use Rattle.zb_host.specs.Hosts.{Gives, Hosted}
 use Rattle.zb_model.specs.Data.{Centre}
 use Rattle.zb_model.specs.Rules.{Setting}
@@ -22,14 +26,6 @@ use Rattle.zb_script.specs.declared.script.Step.{Step}
 use Rattle.zb_stored_tables.specs.Cores.{CoreValue}
 use Rattle.zb_stored_tables.specs.Stored.{restored}
 use Rattle.zb_text.specs.Pages.{page}
-
--- every image stands for what the centre has
-pub images_stand : (c : Setting) (b : Option NodeState) (centre : Option (Hosted CoreValue)) (v : View) → Stands c b centre v → (image : List ℕ) → v.images image → StandsAs b image
-images_stand c None None v empty image there = empty.images image there
-images_stand c None (Some host) v stood image there = absurd stood
-images_stand c (Some s) None v stood image there = absurd stood
-images_stand c (Some s) (Some host) v up image there =
-    (up.standing, up.current.held.whole image there, subst (λ (x : CoreValue). Gives (restored Centre) up.standing (recorded x)) up.core up.current.gives_it)
 
 -- The commands from a place on lead, from here, to what all commands lead to from the beginning.
 pub record GoesOn {D W : Type 0} (x : Outside D W) (c : Setting) (steps : List Step) (first : Option NodeState) (disk0 : D) (out0 : W) (i : ℕ) (centre : Option (Hosted CoreValue)) (disk : D) (out : W) : Type 0 where
@@ -62,7 +58,7 @@ all_served x c steps first disk0 out0 i centre disk out long now = now.leads (Ok
 -- ---- one command
 
 stored_by : (c : Setting) (step : Step) (b : Option NodeState) (centre : Option (Hosted CoreValue)) (old new : View) (front text : List ℕ) → IsCarriedOut c (lays_out step.order b) b (done c step b) old front (Ok tt) centre new text → IsStored c step b old new
-stored_by c step b centre old new front text h = record { between = h.between; after = images_stand c (done c step b).after centre new h.after }
+stored_by c step b centre old new front text h = record { between = h.between; after = images_stand c (done c step b).after centre new h.after; spared = h.spared }
 
 lines_by : (c : Setting) (step : Step) (b : Option NodeState) (centre : Option (Hosted CoreValue)) (old new : View) (front text : List ℕ) → front ≡ [] → IsCarriedOut c (lays_out step.order b) b (done c step b) old front (Ok tt) centre new text → text ≡ page (done c step b).lines
 lines_by c step b centre old new front text none h = h.lines ∙ ap (λ l. l ++ page (done c step b).lines) none
@@ -139,6 +135,9 @@ module _ {D W : Type 0} (x : Outside D W) (script : Script) (old : D) (before : 
   judge_fault new Write h = absurd h
   judge_fault new NoMemory h = tt
 
+  unopened_run : (new : D) → LeavesOnly (x.state old) (x.state new) (WasThereOrEmpty (x.state old)) → (standing : Option NodeState) → IsRun x c script.steps standing old before new before
+  unopened_run new opening standing = record { opened = new; opening = opening; moments = []; goes = refl }
+
   pub not_opened : (new : D) (f : AdminFault) → IsJudged x.tells (setting_for script.config) (x.state old) (Err f) (x.state new) → Serves x script old before (Err f) new before
   not_opened new f h = record {
     found = tt;
@@ -146,6 +145,8 @@ module _ {D W : Type 0} (x : Outside D W) (script : Script) (old : D) (before : 
     last = tt;
     front = λ told can standing is. (0, Appends-nil (x.taken before));
     run = λ told can standing is. inl ((f, refl), h.moments can told, refl);
+    moments = λ told can standing is. unopened_run new (h.moments can told) standing;
+    all = λ told can s is. all_of_run x c script.steps s before old new before (unopened_run new (h.moments can told) (Some s));
     faults = judge_fault new f h.faults;
   }
 
@@ -165,6 +166,11 @@ module _ {D W : Type 0} (x : Outside D W) (script : Script) (old : D) (before : 
   service_fault centre disk new after Write count judged h = h
   service_fault centre disk new after NoMemory count judged h = tt
 
+  moments_of : (disk new : D) (after : W) (result : Ended) (standing : Option NodeState) → LeavesOnly (x.state old) (x.state disk) (WasThereOrEmpty (x.state old))
+      → Runs x c script.steps standing disk before result new after → IsRun x c script.steps standing old before new after
+  moments_of disk new after result standing opening runs =
+      let way = script_goes x c script.steps standing before disk result new after runs in record { opened = disk; opening = opening; moments = way.0; goes = way.1 }
+
   pub opened : (centre : Option (Hosted CoreValue)) (disk new : D) (after : W) (result : Ended) → IsJudged x.tells (setting_for script.config) (x.state old) (Ok centre) (x.state disk) → (x.state old).faults ≤ (x.state disk).faults
       → (IsTrue x.tells.content → (b : Option NodeState) → Stands (setting_for script.config) b centre (x.state disk) → Runs x (setting_for script.config) script.steps b disk before result new after)
       → IfErr result (IsServiceFault x (setting_for script.config) centre disk before new after) → Serves x script old before result new after
@@ -178,6 +184,8 @@ module _ {D W : Type 0} (x : Outside D W) (script : Script) (old : D) (before : 
     run = λ told can standing is.
         let stood = begun centre disk judged told can standing is in
         inr (disk, judged.moments can told, images_stand c standing centre (x.state disk) stood, runs told standing stood);
+    moments = λ told can standing is. moments_of disk new after (Ok tt) standing (judged.moments can told) (runs told standing (begun centre disk judged told can standing is));
+    all = λ told can s is. all_of_run x c script.steps s before old new after (moments_of disk new after (Ok tt) (Some s) (judged.moments can told) (runs told (Some s) (begun centre disk judged told can (Some s) is)));
     faults = tt;
   }
   opened centre disk new after (Err f) judged count runs faults = record {
@@ -188,6 +196,8 @@ module _ {D W : Type 0} (x : Outside D W) (script : Script) (old : D) (before : 
     run = λ told can standing is.
         let stood = begun centre disk judged told can standing is in
         inr (disk, judged.moments can told, images_stand c standing centre (x.state disk) stood, runs told standing stood);
+    moments = λ told can standing is. moments_of disk new after (Err f) standing (judged.moments can told) (runs told standing (begun centre disk judged told can standing is));
+    all = λ told can s is. all_of_run x c script.steps s before old new after (moments_of disk new after (Err f) (Some s) (judged.moments can told) (runs told (Some s) (begun centre disk judged told can (Some s) is)));
     faults = service_fault centre disk new after f count judged faults;
   }
 

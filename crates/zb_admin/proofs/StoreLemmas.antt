@@ -5,7 +5,8 @@ use Rattle.std.specs.List.{concat, list_all}
 use Rattle.zb_admin.specs.Served.{first_tables}
 use Rattle.zb_backup.specs.Reading as backup
 use Rattle.zb_backup.specs.Reading.{IsOfCentre, has_widths, is_byte, is_counter, is_eui, is_key}
-use Rattle.zb_admin.specs.Commands.{HasBooted, HasFound, HasHandled, HasLaidOut, IsBootFault, IsEventFault, IsJudgeFault, IsJudged, IsLayOutFault, IsTold, WasThereOrEmpty, tables_after}
+use Rattle.zb_admin.specs.Commands.{HasBooted, HasFound, HasHandled, HasLaidOut, IsBootFault, IsEventFault, IsJudgeFault, IsJudged, IsLayOutFault, IsTold, WasThereOrEmpty, is_own, tables_after}
+use Rattle.zb_admin.proofs.RefusedLemmas.{none_changed, refused_edits, refused_effect, some_mapped}
 use Rattle.zb_admin.specs.Standing.{CanBeServed, IsEmpty, IsUp, IsWornOut, StandsAsEither, fault_of, found_on, found_store, found_tables, recorded}
 use Rattle.zb_admin.specs.declared.fault.AdminFault.{AdminFault}
 use Rattle.zb_admin.specs.declared.fault.AdminFault.TheVariants.{Disk as AdminDisk, NoStore, BadStore, Worn as AdminWorn, Write, NoMemory as LackOfMemory}
@@ -30,6 +31,7 @@ use Rattle.zb_model.specs.Rules.{Setting}
 use Rattle.zb_model.specs.State.{LinkKey, NetKey, NodeState, PairKey, after_boot, applied_all, shown, with_declared, with_given_net}
 use Rattle.zb_model_real.specs.Real.{real}
 use Rattle.zb_network.specs.Settings.{setting_for}
+use Rattle.zb_node_types.specs.Changes.{reason}
 use Rattle.zb_node_types.specs.declared.change.Change.{Change}
 use Rattle.zb_node_types.specs.declared.refusal.Refusal.{Refusal}
 use Rattle.zb_plan.specs.Answers.{IsAnswer}
@@ -353,6 +355,17 @@ module _ (c : Setting) (event : CentreEvent) (before after : Hosted CoreValue) (
       subst (λ (t : List ℕ). LeavesOnly old new (StandsForEither (restored Centre) (record_of s) t)) (ap recorded (next_core s up.core))
       (subst (λ (t : List ℕ). LeavesOnly old new (StandsForEither (restored Centre) t (recorded after.core))) (ap recorded up.core) (moments up.standing up.current told))
 
+  -- a refused event of its own changes nothing
+  pub spared_so : (old new : View) (changes : List Change) (out : Outcome Term Refusal) → out ≡ p.out → changes ≡ p.changes.items → shown before.core.tables ≡ before.core.tables → (changes ≡ [] → IsStill old new)
+      → is_own task ≡ true → is_some out.refused ≡ true → IsStill old new × (after.core ≡ before.core)
+  spared_so old new changes out same_out same forgets still own refused =
+      let is = plan.answer_is task refl in
+      let a = answer real before.core.setting before.core.tables task in
+      let some : is_some a.refusal ≡ true = ap is_some (sym is.refusal) ∙ some_mapped reason p.out.refused ∙ sym (ap (λ (o : Outcome Term Refusal). is_some o.refused) same_out) ∙ refused in
+      let none : changes ≡ [] = same ∙ none_changed p.changes.items (is.changes ∙ refused_edits before.core.setting before.core.tables task own some) in
+      let tables : shown (answered a before.core.tables) ≡ before.core.tables = ap shown (refused_effect before.core.setting before.core.tables task own some) ∙ forgets in
+      (still none, core_plan_leads Centre IsTaskOf before.core after.core event p plan leads task refl ∙ ap (λ (t : NodeState). let y : CoreValue = record { setting = before.core.setting; tables = t } in y) tables)
+
   -- what a commit leaves, and no commit
   abbrev pub Kept : Telling → View → View → List Change → Type 0
   Kept tells old new changes = changes ≢ [] → (z : Standing) → IsCurrent (restored Centre) recorded z before old → IsTrue tells.content
@@ -413,14 +426,15 @@ event_fault tells c before old new Worn reads h still = λ told s up.
 -- the call for an event
 
 pub handled_ok : (tells : Telling) (c : Setting) (event : CentreEvent) (before after : Hosted CoreValue) (p : CorePlan) (plan : IsCorePlan Centre IsTaskOf before.core event p) (leads : IsCoreAfter before.core p after.core) (old new : View) (changes : List Change) (out : Outcome Term Refusal)
-    → out ≡ p.out → Kept c event before after p plan leads tells old new changes → Idle c event before after p plan leads old new changes → (changes ≢ [] → after.whole ≡ false) → (changes ≡ [] → after.whole ≡ before.whole)
+    → out ≡ p.out → changes ≡ p.changes.items → shown before.core.tables ≡ before.core.tables → (changes ≡ [] → IsStill old new) → Kept c event before after p plan leads tells old new changes → Idle c event before after p plan leads old new changes → (changes ≢ [] → after.whole ≡ false) → (changes ≡ [] → after.whole ≡ before.whole)
     → ((z : Standing) → IsCurrent (restored Centre) recorded z before old → IsTrue tells.content → LeavesOnly old new (StandsForEither (restored Centre) (recorded before.core) (recorded after.core)))
     → is_some after.store ≡ true → HasHandled tells c (task_of event) before old (Ok out) after new
-handled_ok tells c event before after p plan leads old new changes out same kept idle entry whole moments store = record {
+handled_ok tells c event before after p plan leads old new changes out same same_changes forgets still kept idle entry whole moments store = record {
   told = λ s up. subst (λ (o : Outcome Term Refusal). IsTold o (answer real c s (task_of event))) (sym same) (told_so c event before after p plan leads old s up);
   up = up_after c event before after p plan leads tells old new changes kept idle entry whole;
   store = store;
   moments = moments_so c event before after p plan leads tells old new moments;
+  spared = spared_so c event before after p plan leads old new changes out same same_changes forgets still;
   faults = tt;
 }
 
@@ -433,6 +447,7 @@ handled_err tells c event before after p plan leads old new f g same reads momen
   up = tt;
   store = tt;
   moments = moments_so c event before after p plan leads tells old new moments;
+  spared = tt;
   faults = subst (IsEventFault tells c old new before) (sym same) (event_fault tells c before old new f reads fault still);
 }
 

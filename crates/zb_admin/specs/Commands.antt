@@ -4,14 +4,14 @@ use Rattle.std.specs.List.{concat}
 use Rattle.arrayvec.specs.ArrayVec.{ArrayVec}
 use Rattle.zb_admin.specs.declared.fault.AdminFault.{AdminFault}
 use Rattle.zb_admin.specs.declared.fault.AdminFault.TheVariants.{Disk, NoStore, BadStore, Worn, Write, NoMemory}
-use Rattle.zb_admin.specs.Served.{Done}
+use Rattle.zb_admin.specs.Served.{Done, IsRefusal}
 use Rattle.zb_admin.specs.Standing.{CanBeServed, IsUp, IsWornOut, Stands, StandsAsEither, found_on, found_tables}
 use Rattle.zb_base.specs.Outside.{Rose}
-use Rattle.zb_disk.specs.View.{Telling, View, LeavesOnly}
+use Rattle.zb_disk.specs.View.{Telling, View, IsStill, LeavesOnly}
 use Rattle.zb_host.specs.Hosts.{Hosted}
 use Rattle.zb_host.specs.declared.outcome.Outcome.{Outcome}
 use Rattle.zb_model.specs.Answer.{Answer, answer, answered}
-use Rattle.zb_model.specs.Data.{Bytes, Centre, Task}
+use Rattle.zb_model.specs.Data.{Bytes, Centre, Task, Received}
 use Rattle.zb_model.specs.Rules.{Setting}
 use Rattle.zb_model.specs.State.{NodeState, shown}
 use Rattle.zb_model_real.specs.Real.{real}
@@ -101,6 +101,11 @@ pub record IsTold (out : Outcome Term Refusal) (a : Answer) : Type 0 where
   pub refusal : option_map reason out.refused ≡ a.refusal
   pub frame : items_of out.frame ≡ a.frame
 
+-- an event of the centre's own, and no frame that was delivered
+abbrev pub is_own : Task → Bool
+is_own (Received bytes draw) = false
+is_own _ = true
+
 -- the tables after an event
 abbrev pub tables_after : Setting → Task → NodeState → NodeState
 tables_after c task s = shown (answered (answer real c s task) s)
@@ -118,6 +123,8 @@ pub record HasHandled (tells : Telling) (c : Setting) (task : Task) (before : Ho
   pub up : OnOk result (IsTrue tells.content → (s : NodeState) → IsUp c s before old → IsUp c (tables_after c task s) after new)
   pub store : OnOk result (is_some after.store ≡ true)
   pub moments : IsTrue tells.content → (s : NodeState) → IsUp c s before old → LeavesOnly old new (StandsAsEither (Some s) (Some (tables_after c task s)))
+  -- a refused event of its own leaves the disk and the tables as they were
+  pub spared : IfOk result (λ out. is_own task ≡ true → is_some out.refused ≡ true → IsStill old new × (after.core ≡ before.core))
   pub faults : IfErr result (IsEventFault tells c old new before)
 
 -- ---- one command
@@ -138,6 +145,8 @@ pub record IsCarriedOut (c : Setting) (lays : Bool) (before : Option NodeState) 
   pub after : OnOk result (Stands c d.after centre new)
   pub lines : OnOk result (text ≡ front ++ page d.lines)
   pub between : IsBetween lays before d.after old new
+  -- a refused command leaves the disk as it was, and what stands
+  pub spared : OnOk result (IsRefusal d → IsStill old new × (d.after ≡ before))
 
 -- It lacks memory, the disk failed, or the generations are used up.
 abbrev pub IsCommandFault : Telling → View → Option (Hosted CoreValue) → View → AdminFault → Type 0

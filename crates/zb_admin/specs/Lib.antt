@@ -4,4 +4,6 @@ pub mod Served
 pub mod Standing
 pub mod Faults
 pub mod Commands
+pub mod Outside
+pub mod Moments
 pub mod Serving

@@ -1,6 +1,6 @@
 -- What a script's commands write, and what stands after them. What stands is the tables of the centre, with their counters in
 -- memory; or nothing, where the disk is empty.
-use Rattle.std.specs.Prelude.{ℕ, List, [], ◌∷◌, ◌++◌, codes, Option, Some, None, Result, Ok, Err}
+use Rattle.std.specs.Prelude.{ℕ, ◌≡◌, List, [], ◌∷◌, ◌++◌, codes, Option, Some, None, Result, Ok, Err}
 use Rattle.zb_admin.specs.Texts.{ok_line, refuse_line, send_line, reason_text, listed}
 use Rattle.zb_backup.specs.Format.{backup_text}
 use Rattle.zb_install.specs.Code.{code_key}
@@ -24,6 +24,10 @@ pub record Done : Type 0 where
 
 abbrev pub refused : ℕ → Bytes → Option NodeState → Done
 refused number why standing = record { lines = refuse_line number why ∷ []; after = standing }
+
+-- its line is a refusal
+abbrev pub IsRefusal : Done → Type 0
+IsRefusal d = (number : ℕ) × (why : Bytes) × (d.lines ≡ refuse_line number why ∷ [])
 
 abbrev pub does : ℕ → List Bytes → NodeState → Done
 does number lines tables = record { lines = lines ++ ok_line number ∷ []; after = Some tables }

@@ -4,10 +4,12 @@ use Rattle.std.specs.Io.KnownBytes.{Appends}
 use Rattle.zb_admin.specs.declared.fault.AdminFault.{AdminFault}
 use Rattle.zb_admin.specs.declared.fault.AdminFault.TheVariants.{Disk, NoStore, BadStore, Worn, Write, NoMemory}
 use Rattle.zb_admin.specs.Commands.{IsBetween, WasThereOrEmpty, lays_out}
-use Rattle.zb_admin.specs.Served.{done, served, served_text}
+pub use Rattle.zb_admin.specs.Outside.{Outside, outside}
+use Rattle.zb_admin.specs.Moments.{IsOfRun, IsRun}
+use Rattle.zb_admin.specs.Served.{IsRefusal, done, served, served_text}
 use Rattle.zb_admin.specs.Standing.{CanBeServed, IsWornOut, Stands, StandsAs, found_on}
 use Rattle.zb_base.specs.Outside.{AppendsFront, Rose}
-use Rattle.zb_disk.specs.View.{Telling, View, LeavesOnly}
+use Rattle.zb_disk.specs.View.{View, IsStill, LeavesOnly}
 use Rattle.zb_host.specs.Hosts.{Hosted}
 use Rattle.zb_model.specs.Rules.{Setting}
 use Rattle.zb_model.specs.State.{NodeState}
@@ -18,17 +20,6 @@ use Rattle.zb_store.specs.Layout.{Standing, stands}
 use Rattle.zb_stored_tables.specs.Cores.{CoreValue}
 use Rattle.zb_text.specs.Pages.{page}
 
--- what the definitions below have of a disk and a sink: their ghost members
-pub record Outside (D W : Type 0) : Type 1 where
-  pub tells : Telling
-  pub state : D → View
-  pub taken : W → Option (List ℕ)
-  pub faults : W → ℕ
-
--- the ghost members of a disk and a sink, as such
-abbrev pub outside : {D W : Type 0} → Telling → (D → View) → (W → Option (List ℕ)) → (W → ℕ) → Outside D W
-outside tells state taken faults = record { tells = tells; state = state; taken = taken; faults = faults }
-
 abbrev pub Ended : Type 0
 Ended = Result (Unit {0}) AdminFault
 
@@ -38,6 +29,8 @@ Ended = Result (Unit {0}) AdminFault
 pub record IsStored (c : Setting) (step : Step) (standing : Option NodeState) (old new : View) : Type 0 where
   pub between : IsBetween (lays_out step.order standing) standing (done c step standing).after old new
   pub after : (image : List ℕ) → new.images image → StandsAs (done c step standing).after image
+  -- a refused command leaves the disk as it was, and what stands
+  pub spared : IsRefusal (done c step standing) → IsStill old new × ((done c step standing).after ≡ standing)
 
 -- The script ends at this command: it failed before its lines were written, or a front of them was.
 abbrev pub EndsAt : {D W : Type 0} → Outside D W → Setting → Step → Option NodeState → D → W → D → W → Type 0
@@ -111,5 +104,12 @@ pub record Serves {D W : Type 0} (x : Outside D W) (script : Script) (old : D) (
   -- command by command: what stands after a command is stored before its lines are written
   pub run : IsTrue x.tells.content → CanBeServed (x.state old) → (standing : Option NodeState) → found_on (x.state old).seen ≡ Ok standing
       → IsUnopened x old before result new after ⊎ IsServed x (setting_for script.config) script.steps standing old before result new after
+  -- at every moment of the whole script: each image stands for what stands after some first commands, and each command is among
+  -- them of whose lines a byte was written
+  pub moments : IsTrue x.tells.content → CanBeServed (x.state old) → (standing : Option NodeState) → found_on (x.state old).seen ≡ Ok standing
+      → IsRun x (setting_for script.config) script.steps standing old before new after
+  -- where a store stands at first, that is so of all images at all moments of the call
+  pub all : IsTrue x.tells.content → CanBeServed (x.state old) → (s : NodeState) → found_on (x.state old).seen ≡ Ok (Some s)
+      → LeavesOnly (x.state old) (x.state new) (IsOfRun x (setting_for script.config) script.steps (Some s) old)
   -- when each fault comes
   pub faults : IfErr result (IsAdminFault x old before new after)

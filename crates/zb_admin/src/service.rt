@@ -2,7 +2,7 @@
 ghost use Rattle.std.specs.Prelude.{◌≡◌, ◌≤◌, ◌⊎◌, ◌++◌, ◌∷◌, [], Option as Maybe, Some, None, Ok, Err, false, true, is_some, option_map, IfErr, IfOk, IsOk, OnOk, OnErr, IsTrue};
 ghost use Rattle.std.specs.Io.KnownBytes.{Appends};
 ghost use Rattle.std.specs.List.{AllByRecursion};
-ghost use Rattle.zb_admin.specs.Commands.{HasStore, IsCarriedOut, IsCommandFault, IsShort, items_of, lays_out};
+ghost use Rattle.zb_admin.specs.Commands.{HasStore, IsCarriedOut, IsCommandFault, IsShort, is_own, items_of, lays_out};
 ghost use Rattle.zb_admin.specs.Served.{done, handled, on_empty, on_store, outcome_lines, sent_lines};
 ghost use Rattle.zb_admin.specs.Serving.{HasServed, IsServiceFault, Runs, Serves, outside};
 ghost use Rattle.zb_admin.specs.Standing.{IsEmpty, IsUp, Stands};
@@ -24,7 +24,7 @@ ghost use Rattle.zb_text.specs.Pages.{ended, page as page_of};
 use crate::AdminFault;
 use crate::lines::{put_ok, put_refusal, put_refused, put_sent};
 use crate::rows::put_tables;
-use crate::store::{handle, init, judge, restore};
+use crate::store::{centre_tables, handle, init, judge, restore};
 use std::alloc::{AllocError, Global};
 use zb_backup::write_backup;
 use zb_base::{Config, Failed, Frame, NoMemory, Role, Sink};
@@ -129,7 +129,7 @@ fn back_up(alloc: Global, page: &mut Vec<u8>, line: u32, tables: &Tables) -> Res
     Ok(())
 }
 
-// Lets the centre handle the event of a line, and prints how it went.
+// Lets the centre handle the event of a line, one of its own, and prints how it went.
 fn handle_event<D: Disk>(
     host: &mut Host<Centre>,
     disk: &mut D,
@@ -137,7 +137,8 @@ fn handle_event<D: Disk>(
     event: &CentreEvent,
     page: &mut Vec<u8>,
 ) -> Result<(), AdminFault>
-    requires { IsTrue (is_some host.old.store) }
+    requires up { IsTrue (is_some host.old.store) }
+    requires own { is_own (task_of event.now) ≡ true }
     ensures carried { IsTrue D.tells.content → (c : Setting) (s : NodeState) → IsUp c s host.old (D.state disk.old)
         → IsCarriedOut c false (Some s) (handled c line (task_of event.now) s) (D.state disk.old) page.old.items
         result (Some host.new) (D.state disk.new) page.new.items }
@@ -185,8 +186,8 @@ fn on_store<D: Disk>(
             };
             handle_event(host, disk, step.line, &event, page)
         }
-        Order::List => show(page, step.line, host.core().node().tables()),
-        Order::Backup => back_up(alloc, page, step.line, host.core().node().tables()),
+        Order::List => show(page, step.line, centre_tables(host)),
+        Order::Backup => back_up(alloc, page, step.line, centre_tables(host)),
         Order::Restore { skip: _, bytes: _ } => refuse(page, step.line, b"exists"),
     }
 }

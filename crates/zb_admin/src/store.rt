@@ -9,7 +9,7 @@ ghost use Rattle.zb_keys.specs.Declarations.{declared_state};
 ghost use Rattle.zb_model.specs.Data as model;
 ghost use Rattle.zb_model.specs.Record.{record_of};
 ghost use Rattle.zb_model.specs.Rules.{Setting};
-ghost use Rattle.zb_model.specs.State.{NodeState, after_boot};
+ghost use Rattle.zb_model.specs.State.{NodeState, after_boot, shown};
 ghost use Rattle.zb_network.specs.Settings.{setting_for};
 ghost use Rattle.zb_record.specs.Ranges.{FitsBytes};
 ghost use Rattle.zb_record.specs.Records.{record_read};
@@ -116,8 +116,11 @@ fn format<D: Disk>(
     match Store::format(alloc, disk, &room[..len]) {
         Ok(_) => Ok(()),
         Err(StoreFault::Disk) => Err(AdminFault::Disk),
-        // It has no other fault but want of memory.
-        Err(_) => Err(AdminFault::NoMemory),
+        Err(StoreFault::NoMemory) => Err(AdminFault::NoMemory),
+        // A record isn't too large, and there is no other fault.
+        Err(StoreFault::NoRecord) => unreachable!(),
+        Err(StoreFault::TooLarge { len: _ }) => unreachable!(),
+        Err(StoreFault::Worn) => unreachable!(),
     }
 }
 
@@ -227,9 +230,25 @@ pub(crate) fn restore<D: Disk>(
     }
 }
 
+/// Answers the tables of a centre that is up.
+pub(crate) fn centre_tables(host: &Host<Centre>) -> &Tables
+    requires { IsTrue (is_some host.now.store) }
+    ensures { result.now ≡ host.now.core.tables }
+{
+    host.core().node().tables()
+}
+
+// Says what holds of the tables of a centre that is up; does nothing.
+fn keep_rules(host: &Host<Centre>)
+    requires { IsTrue (is_some host.now.store) }
+    ensures { shown host.now.core.tables ≡ host.now.core.tables }
+{
+    centre_tables(host).keep_rules();
+}
+
 /// Lets the centre handle an event, and answers what goes out once its changes are stored.
 ///
-/// Requires a centre that is up. Errors: `Disk`, `Worn`.
+/// A refused one of its own changes nothing. Requires a centre that is up. Errors: `Disk`, `Worn`.
 pub(crate) fn handle<D: Disk>(
     host: &mut Host<Centre>,
     disk: &mut D,
@@ -240,6 +259,7 @@ pub(crate) fn handle<D: Disk>(
         host.new (D.state disk.new) }
     ensures count { (D.state disk.old).faults ≤ (D.state disk.new).faults }
 {
+    keep_rules(host);
     match host.handle(disk, event) {
         Ok((_changes, out)) => Ok(out),
         Err(fault) => Err(of_host(fault)),

@@ -29,9 +29,10 @@ use zb_stored_tables::{StoredTables, hold_ranges};
 /// A contract sees it as its setting and its tables. The base keys change no answer.
 #[derive(Drop)]
 pub struct NodeCore {
-    network: Network,
+    // The two large parts have places of their own, since a boot hands the whole from call to call.
+    network: Box<Network>,
     tables: StoredTables,
-    memo: KeyMemo,
+    memo: Box<KeyMemo>,
 }
 
 impl Model for NodeCore {
@@ -40,9 +41,9 @@ impl Model for NodeCore {
 
     ghost Value = { CoreValue };
 
-    ghost view = { λ c. record { setting = c.network; tables = c.tables } };
+    ghost view = { λ c. record { setting = c.network.value; tables = c.tables } };
 
-    ghost invariant = { λ c. c.tables.role ≡ c.network.me.role };
+    ghost invariant = { λ c. c.tables.role ≡ c.network.value.me.role };
 }
 
 impl NodeCore {
@@ -70,11 +71,12 @@ impl NodeCore {
         ensures fault { IfErr result (IsRestoreFault (restored (model_role role) content.now payloads.now)) }
     {
         let tables = StoredTables::restore(alloc, role, content, payloads)?;
-        let network = Network::new(config);
+        let network = Box::new(alloc, Network::new(config))?;
+        let memo = Box::new(alloc, KeyMemo::new())?;
         Ok(NodeCore {
             network,
             tables,
-            memo: KeyMemo::new(),
+            memo,
         })
     }
 
@@ -82,7 +84,7 @@ impl NodeCore {
     pub fn network(&self) -> &Network
         ensures { result.now ≡ self.now.setting }
     {
-        &self.network
+        self.network.as_ref()
     }
 
     /// Answers the node's tables.
@@ -94,7 +96,7 @@ impl NodeCore {
 
     /// Answers the base keys that were used last.
     pub fn memo(&self) -> &KeyMemo {
-        &self.memo
+        self.memo.as_ref()
     }
 
     /// Says that a plan which is the policy's answer to some task can be stored; does nothing.
@@ -104,7 +106,7 @@ impl NodeCore {
     {
         self.tables.keep_rules();
         hold_ranges(&plan.changes);
-        self.network.in_block();
+        self.network.as_ref().in_block();
     }
 
     /// Carries a plan out: makes its changes, keeps what it accepted, and counts what it sealed.
@@ -115,10 +117,11 @@ impl NodeCore {
         ensures { IsCoreAfter self.old plan.now self.new }
     {
         carry_out(&mut self.tables, plan);
-        remember(&mut self.memo, &plan.out.accepted_nwk);
-        remember(&mut self.memo, &plan.out.accepted_aps);
-        remember(&mut self.memo, &plan.out.sealed_aps);
-        remember(&mut self.memo, &plan.out.sealed_nwk);
+        let memo = self.memo.as_mut();
+        remember(memo, &plan.out.accepted_nwk);
+        remember(memo, &plan.out.accepted_aps);
+        remember(memo, &plan.out.sealed_aps);
+        remember(memo, &plan.out.sealed_nwk);
     }
 
     /// Writes the record of the node's tables, and answers its length.

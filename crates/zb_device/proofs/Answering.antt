@@ -1,6 +1,7 @@
 -- The answer to an event of a router's or device's own is that of its rule.
-use Rattle.std.proofs.Common.{◌≡◌, refl, Bool, true, false, None}
-use Rattle.zb_device.specs.Tasks.{IsTaskOf}
+use Rattle.std.proofs.Common.{◌≡◌, ℕ, refl, Bool, true, false, None}
+use Rattle.arrayvec.specs.ArrayVec.{ArrayVec}
+use Rattle.zb_device.specs.Tasks.{IsTaskOf, own_task}
 use Rattle.zb_device.specs.declared.event.DeviceEvent.{DeviceEvent}
 use Rattle.zb_device.specs.declared.event.DeviceEvent.TheVariants.{Knock, Rejoin, Deliver, Timer, Say, Ask, Tell}
 use Rattle.zb_host.specs.declared.outcome.Outcome.{Outcome}
@@ -49,6 +50,31 @@ pub member_answer : (c : Setting) (s : NodeState) (known task : Task) (o : model
 unfolding answer
 member_answer c s known task o r member is_its rule same a =
     rw (same, own_plan_is c s known is_its, member_own c s known member, rule) a
+
+not_delivered : (e : DeviceEvent) → ((bytes : ArrayVec ℕ) → e ≡ Deliver bytes → ⊥) → is_own (own_task e) ≡ true
+not_delivered Knock other = refl
+not_delivered Rejoin other = refl
+not_delivered (Deliver bytes) other = absurd (other bytes refl)
+not_delivered Timer other = refl
+not_delivered (Say to bytes) other = refl
+not_delivered (Ask partner) other = refl
+not_delivered (Tell partner bytes) other = refl
+
+the_task : (e : DeviceEvent) (task : Task) → ((bytes : ArrayVec ℕ) → e ≡ Deliver bytes → ⊥) → IsTaskOf e task → task ≡ own_task e
+the_task Knock task other is = is
+the_task Rejoin task other is = is
+the_task (Deliver bytes) task other is = absurd (other bytes refl)
+the_task Timer task other is = is
+the_task (Say to bytes) task other is = is
+the_task (Ask partner) task other is = is
+the_task (Tell partner bytes) task other is = is
+
+-- what is planned by the rule of an event's task is the answer to it
+pub event_answer : (c : Setting) (s : NodeState) (e : DeviceEvent) (task : Task) (r : Plan (Outcome Term Refusal)) → is_centre c.me.role ≡ false → ((bytes : ArrayVec ℕ) → e ≡ Deliver bytes → ⊥)
+    → IsTaskOf e task → IsAnswer r (answer_to real c s (own_plan (own_at_member real c s (own_task e)))) → IsAnswer r (answer real c s task)
+unfolding answer
+event_answer c s e task r member other is a =
+    rw (the_task e task other is, own_plan_is c s (own_task e) (not_delivered e other), member_own c s (own_task e) member) a
 
 -- there is a task for each event
 pub some_task : (e : DeviceEvent) → (task : Task) × IsTaskOf e task

@@ -1,5 +1,5 @@
 -- The tasks of the policy that an event of a device or router stands for.
-use Rattle.std.specs.Prelude.{◌≡◌, Option}
+use Rattle.std.specs.Prelude.{◌≡◌, None, Option}
 use Rattle.zb_device.specs.declared.event.DeviceEvent.{DeviceEvent}
 use Rattle.zb_device.specs.declared.event.DeviceEvent.TheVariants.{Knock, Rejoin, Deliver, Timer, Say, Ask, Tell}
 use Rattle.zb_model.specs.Data.{Bytes, Task, SayTo, TellTo, DoKnock, DoRejoin, DoTimer, AskFor, Received}
@@ -13,3 +13,13 @@ IsTaskOf Timer task = task ≡ DoTimer
 IsTaskOf (Say to bytes) task = task ≡ SayTo to.0 bytes.items
 IsTaskOf (Ask partner) task = task ≡ AskFor partner.0
 IsTaskOf (Tell partner bytes) task = task ≡ TellTo partner.0 bytes.items
+
+-- the task of an event of the node's own; that of a delivery is one with no draw
+abbrev pub own_task : DeviceEvent → Task
+own_task Knock = DoKnock
+own_task Rejoin = DoRejoin
+own_task (Deliver bytes) = Received bytes.items None
+own_task Timer = DoTimer
+own_task (Say to bytes) = SayTo to.0 bytes.items
+own_task (Ask partner) = AskFor partner.0
+own_task (Tell partner bytes) = TellTo partner.0 bytes.items

@@ -1,13 +1,18 @@
 //! The plan of a router or device for each of its own events.
 ghost use Rattle.std.specs.Prelude.{◌≡◌, false};
-ghost use Rattle.zb_device.specs.Tasks.{IsTaskOf};
+ghost use Rattle.zb_base.specs.declared.place.Place.TheVariants.{Event};
+ghost use Rattle.zb_device.specs.Tasks.{IsTaskOf, own_task};
 ghost use Rattle.zb_model.specs.Answer.{answer};
 ghost use Rattle.zb_model.specs.Data.{Task};
+ghost use Rattle.zb_model.specs.OwnEvents.{own_at_member};
 ghost use Rattle.zb_model.specs.State.{is_centre};
 ghost use Rattle.zb_model_real.specs.Real.{real};
-ghost use Rattle.zb_plan.specs.Answers.{IsAnswer};
+ghost use Rattle.zb_plan.specs.Answers.{IsAnswer, answer_to};
+ghost use Rattle.zb_plan.specs.Storing.{own_plan};
+ghost use Rattle.zb_rules.specs.Outcomes.{Keeps, decided, told};
 
 use crate::event::DeviceEvent;
+use zb_base::Place;
 use zb_core::NodeCore;
 use zb_delivery::plan_received;
 use zb_host::{Outcome, Plan};
@@ -16,7 +21,7 @@ use zb_member_rules::{ask, knock, member_timer, rejoin, tell};
 use zb_network::Network;
 use zb_node_types::Refusal;
 use zb_plan::plan_own;
-use zb_rules::say;
+use zb_rules::{Effect, say};
 use zb_seal::{KeyMemo, Term};
 use zb_send::Payload;
 
@@ -28,6 +33,38 @@ fn copied(bytes: &Payload) -> Payload
         Ok(copy) => copy,
         Err(_) => Payload::new(),
     }
+}
+
+// Decides an event of the node's own by its rule. A delivery is none.
+fn decide(network: &Network, tables: &Tables, event: &DeviceEvent) -> Result<Effect, Refusal>
+    ensures rule { decided result ≡ told (own_at_member real network.now tables.now (own_task event.now)) }
+    ensures keeps { Keeps Event result }
+{
+    match event {
+        DeviceEvent::Knock => knock(network, tables),
+        DeviceEvent::Rejoin => rejoin(tables),
+        DeviceEvent::Deliver { .. } => Err(Refusal::Policy {
+            place: Place::Event,
+        }),
+        DeviceEvent::Timer => member_timer(network, tables),
+        DeviceEvent::Say { to, bytes } => say(tables, *to, copied(bytes)),
+        DeviceEvent::Ask { partner } => ask(network, tables, *partner),
+        DeviceEvent::Tell { partner, bytes } => tell(network, tables, *partner, copied(bytes)),
+    }
+}
+
+// Plans an event of the node's own by its rule. The decision has its place here, so that a delivery clears none.
+fn plan_by_rule(
+    network: &Network,
+    tables: &Tables,
+    memo: &KeyMemo,
+    event: &DeviceEvent,
+    plan: &mut Plan<Outcome<Term, Refusal>>,
+)
+    ensures { IsAnswer plan.new (answer_to real network.now tables.now
+        (own_plan (own_at_member real network.now tables.now (own_task event.now)))) }
+{
+    plan_own(network, tables, memo, &decide(network, tables, event), plan);
 }
 
 /// Plans an event by its rule, from what the node knows of its network, its tables and its base keys.
@@ -44,8 +81,6 @@ fn plan_event(
     ensures { (task : Task) → IsTaskOf event.now task → IsAnswer plan.new (answer real network.now tables.now task) }
 {
     match event {
-        DeviceEvent::Knock => plan_own(network, tables, memo, &knock(network, tables), plan),
-        DeviceEvent::Rejoin => plan_own(network, tables, memo, &rejoin(tables), plan),
         DeviceEvent::Deliver { bytes } => plan_received(
             network,
             tables,
@@ -54,30 +89,7 @@ fn plan_event(
             None,
             plan,
         ),
-        DeviceEvent::Timer => plan_own(network, tables, memo, &member_timer(network, tables), plan),
-        DeviceEvent::Say { to, bytes } => plan_own(
-            network,
-            tables,
-            memo,
-            &say(tables, *to, copied(bytes)),
-            plan,
-        ),
-        DeviceEvent::Ask { partner } => plan_own(
-            network,
-            tables,
-            memo,
-            &ask(network, tables, *partner),
-            plan,
-        ),
-        DeviceEvent::Tell { partner, bytes } => {
-            plan_own(
-                network,
-                tables,
-                memo,
-                &tell(network, tables, *partner, copied(bytes)),
-                plan,
-            )
-        }
+        _ => plan_by_rule(network, tables, memo, event, plan),
     }
 }
 

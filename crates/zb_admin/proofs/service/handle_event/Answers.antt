@@ -3,7 +3,7 @@ use Rattle.zb_centre.specs.Tasks.{task_of}
 use Rattle.zb_model.specs.Answer.{answer}
 use Rattle.zb_model_real.specs.Real.{real}
 use Rattle.zb_text.specs.Pages.{page}
-use Rattle.zb_admin.proofs.CommandLemmas.{always, event_command, no_setting, on_ok_then, told_lines}
+use Rattle.zb_admin.proofs.CommandLemmas.{always, event_command, event_spared, no_setting, on_ok_then, told_lines}
 use Rattle.zb_admin.proofs.service.handle_event.Goals as goal
 
 pub returns-in-Ok-clause-carried : goal.returns-in-Ok-clause-carried
@@ -14,13 +14,14 @@ returns-in-Ok-clause-carried g c = λ told setting s up.
       after = always c.tell.result (h.up told s up);
       lines = on_ok_then c.tell.result (λ text. text ∙ ap (λ l. c.args.page.now.items ++ page l) (told_lines c.args.line c.in-Ok.out (answer real setting s (task_of c.args.event.now)) is)) c.tell.ensures.text;
       between = λ e. h.moments told s up;
+      spared = always c.tell.result (event_spared g.D.Disk.tells setting c.args.line (task_of c.args.event.now) s c.args.host.now c.handle.new.host (g.D.Disk.state c.args.disk.now) (g.D.Disk.state c.handle.new.disk) c.in-Ok.out h told up c.requires.own);
     }
 
 pub returns-in-Ok-clause-store : goal.returns-in-Ok-clause-store
 returns-in-Ok-clause-store g c = always c.tell.result (c.in-Ok.ensures.handled no_setting).store
 
 pub returns-in-Err-clause-carried : goal.returns-in-Err-clause-carried
-returns-in-Err-clause-carried g c = λ told setting s up. record { after = tt; lines = tt; between = λ e. (c.in-Err.ensures.handled setting).moments told s up }
+returns-in-Err-clause-carried g c = λ told setting s up. record { after = tt; lines = tt; between = λ e. (c.in-Err.ensures.handled setting).moments told s up; spared = tt }
 
 pub returns-in-Err-clause-faults : goal.returns-in-Err-clause-faults
 returns-in-Err-clause-faults g c = event_command g.D.Disk.tells (g.D.Disk.state c.args.disk.now) (g.D.Disk.state c.handle.new.disk) c.args.host.now c.in-Err.fault (λ setting. (c.in-Err.ensures.handled setting).faults)
