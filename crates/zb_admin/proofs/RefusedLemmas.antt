@@ -1,8 +1,8 @@
 -- A refused command: its event makes no changes, and its line is no other's.
-use Rattle.std.proofs.Common.{◌≡◌, ℕ, Bool, true, false, List, [], ◌∷◌, ◌++◌, get_or, map, Option, Some, None, option_map, refl, sym, ap, ◌∙◌, subst, arith}
+use Rattle.std.proofs.Common.{◌≡◌, ℕ, true, List, [], ◌∷◌, ◌++◌, get_or, Option, Some, None, option_map, refl, sym, ap, ◌∙◌, subst, arith}
 use Rattle.std.specs.Prelude.{is_some}
 use Rattle.zb_admin.specs.Commands.{is_own}
-use Rattle.zb_admin.specs.Served.{Done, IsRefusal, handled, outcome_lines, sent_lines}
+use Rattle.zb_admin.specs.Served.{Done, IsRefusal, outcome_lines, sent_lines}
 use Rattle.zb_admin.specs.Texts.{ok_line, refuse_line}
 use Rattle.zb_model.specs.Answer.{Answer, answer, answer_by, answered, counting_of, edits_of, may_seal, out_of, plan_of, reserve_of}
 use Rattle.zb_model.specs.Data.{Bytes, Reason, Task, SayTo, TellTo, DoKnock, DoRejoin, DoTimer, AskFor, HasChild, DoProvision, DoRemove, DoRoll, DoSwitch, DoAgain, DoShare, Received}

@@ -1,5 +1,5 @@
 -- The loop over the commands: what is served so far, and how one command more goes on.
-use Rattle.std.proofs.Common.{◌≡◌, ℕ, ◌≤◌, ◌<◌, ◌+◌, inl, inr, List, [], ◌++◌, drop, get_or, length, Option, Some, None, Result, Ok, Err, IfErr, OnOk, OnErr, IsTrue, refl, sym, ap, ◌∙◌, subst, arith}
+use Rattle.std.proofs.Common.{◌≡◌, ℕ, ◌≤◌, ◌<◌, ◌+◌, inl, inr, List, [], ◌++◌, drop, get_or, length, Option, Some, Result, Ok, Err, IfErr, OnOk, OnErr, IsTrue, refl, sym, ap, ◌∙◌, subst, arith}
 use Rattle.std.proofs.KnownBytes.{Appends-nil}
 use Rattle.std.proofs.lemmas.List.{drop_all, drop_more}
 use Rattle.std.specs.Io.KnownBytes.{Appends}
@@ -8,7 +8,7 @@ use Rattle.zb_admin.specs.Served.{done}
 use Rattle.zb_admin.specs.Moments.{IsRun}
 use Rattle.zb_admin.specs.Outside.{Outside}
 use Rattle.zb_admin.specs.Serving.{Ended, HasServed, IsAdminFault, IsServiceFault, IsStored, Runs, Serves}
-use Rattle.zb_admin.specs.Standing.{CanBeServed, Stands, StandsAs, found_on, recorded}
+use Rattle.zb_admin.specs.Standing.{CanBeServed, Stands, found_on}
 use Rattle.zb_admin.specs.declared.fault.AdminFault.{AdminFault}
 use Rattle.zb_admin.specs.declared.fault.AdminFault.TheVariants.{Disk, NoStore, BadStore, Worn, Write, NoMemory}
 use Rattle.zb_admin.proofs.CommandLemmas.{images_stand}
@@ -16,15 +16,13 @@ use Rattle.zb_admin.proofs.MomentLemmas.{all_of_run, script_goes}
 use Rattle.zb_admin.proofs.RunLemmas.{run_front, run_last, run_whole}
 use Rattle.zb_base.specs.Outside.{AppendsFront, Rose}
 use Rattle.zb_disk.specs.View.{LeavesOnly, View}
-use Rattle.zb_host.specs.Hosts.{Gives, Hosted}
-use Rattle.zb_model.specs.Data.{Centre}
+use Rattle.zb_host.specs.Hosts.{Hosted}
 use Rattle.zb_model.specs.Rules.{Setting}
 use Rattle.zb_model.specs.State.{NodeState}
 use Rattle.zb_network.specs.Settings.{setting_for}
 use Rattle.zb_script.specs.declared.script.Script.{Script}
 use Rattle.zb_script.specs.declared.script.Step.{Step}
 use Rattle.zb_stored_tables.specs.Cores.{CoreValue}
-use Rattle.zb_stored_tables.specs.Stored.{restored}
 use Rattle.zb_text.specs.Pages.{page}
 
 -- The commands from a place on lead, from here, to what all commands lead to from the beginning.
