@@ -27,7 +27,7 @@ use crate::rows::put_tables;
 use crate::store::{centre_tables, handle, init, judge, restore};
 use std::alloc::{AllocError, Global};
 use zb_backup::write_backup;
-use zb_base::{Config, Failed, Frame, NoMemory, Role, Sink};
+use zb_base::{Config, Failed, Frame, Sink};
 use zb_centre::{Centre, CentreEvent};
 use zb_disk::Disk;
 use zb_host::{Host, Outcome};
@@ -105,16 +105,6 @@ fn show(page: &mut Vec<u8>, line: u32, tables: &Tables) -> Result<(), AdminFault
     Ok(())
 }
 
-// Writes the backup of tables. Those of a centre's host have its role, so it lacks memory alone.
-fn backup(alloc: Global, tables: &Tables) -> Result<Vec<u8>, NoMemory>
-    ensures { IfOk result (λ v. v.items ≡ backup_text tables.now) }
-{
-    match tables.role() {
-        Role::Centre => write_backup(alloc, tables),
-        _ => Err(NoMemory),
-    }
-}
-
 // Prints the backup of tables, for the command of a line.
 #[tactic(auto, using(std::proofs::Common::append_assoc))]
 fn back_up(alloc: Global, page: &mut Vec<u8>, line: u32, tables: &Tables) -> Result<(), AdminFault>
@@ -122,7 +112,7 @@ fn back_up(alloc: Global, page: &mut Vec<u8>, line: u32, tables: &Tables) -> Res
         ≡ page.old.items ++ (ended (backup_text tables.now) ++ page_of (ok_line line ∷ []))) }
     ensures short { IsShort result }
 {
-    let text = backup(alloc, tables)?;
+    let text = write_backup(alloc, tables)?;
     put(page, text.as_slice())?;
     end_line(page)?;
     confirm(page, line)?;

@@ -228,16 +228,15 @@ pub(crate) fn backup_value(alloc: Global, tables: &Tables) -> Result<Value, Allo
     })
 }
 
-/// Writes the backup of a centre's tables: one line of compact JSON, without its end.
+/// Writes the backup of tables: one line of compact JSON, without its end.
 ///
-/// It says what the tables' record says, so it reads as these tables after a boot. Counters and floors that stand in
-/// memory alone aren't in it.
+/// It says what the record of a centre's tables says, so that of a centre reads as its tables after a boot. Counters
+/// and floors that stand in memory alone aren't in it.
 ///
 /// Errors: `NoMemory` where memory is short.
 pub fn write_backup(alloc: Global, tables: &Tables) -> Result<Vec<u8>, NoMemory>
-    requires centre { tables.now.role ≡ Centre }
     ensures text { IfOk result (λ v. v.items ≡ backup_text tables.now) }
-    ensures again { IfOk result (λ v. backup_in v.items ≡ Some (after_boot tables.now)) }
+    ensures again { IfOk result (λ v. tables.now.role ≡ Centre → backup_in v.items ≡ Some (after_boot tables.now)) }
 {
     let value = backup_value(alloc, tables)?;
     tables.keep_rules();

@@ -12,11 +12,11 @@ returns-clause-text c =
     let same = c.in_ok-value.ensures.value in c.in_ok-text.ensures.text (ap has_float same ∙ (backup_has c.args.tables.now).whole) ∙ ap compact_text same
 
 pub returns-clause-again : goal.returns-clause-again
-returns-clause-again c =
+returns-clause-again c = λ centre.
     let s = c.args.tables.now in
     let same = c.in_ok-value.ensures.value in
     text_complete c.in_ok-text.text.items (after_boot s) (record {
       utf8 = c.in_ok-text.ensures.utf8;
       reads = c.in_ok-text.ensures.reads_back (omega (arith, ap depth same, (backup_has s).depth)) ∙ ap Some (same ∙ sym (backup_same s));
-      kept = centre_booted s c.requires.centre c.keep_rules.ensures.rules c.keep_rules.ensures.forgets c.in_ok-value.ensures.fits;
+      kept = centre_booted s centre c.keep_rules.ensures.rules c.keep_rules.ensures.forgets c.in_ok-value.ensures.fits;
     })
