@@ -1,5 +1,5 @@
 -- How the program ends: the number and the text of each status.
-use Rattle.std.specs.Prelude.{ℕ, ◌++◌, [], codes, decimal, Result, Ok, Err}
+use Rattle.std.specs.Prelude.{ℕ, ◌++◌, [], ◌∷◌, codes, decimal, Result, Ok, Err}
 use Rattle.zb_admin.specs.declared.fault.AdminFault.{AdminFault}
 use Rattle.zb_admin.specs.declared.fault.AdminFault.TheVariants as served
 use Rattle.zb_capture.specs.declared.fault.CaptureCause.{CaptureCause}
@@ -67,6 +67,11 @@ text_of (status.TooLong limit) = codes "too long" ++ then (decimal limit)
 text_of (status.Broken line clause) = codes "broken" ++ then (decimal line) ++ then (decimal clause)
 text_of (status.BadStore at) = codes "bad store" ++ then (decimal at)
 text_of status.Worn = codes "worn"
+
+-- what is said of it on standard output: its text with a line feed, or nothing
+abbrev pub line_of : Bytes → Bytes
+line_of [] = []
+line_of (c ∷ text) = (c ∷ text) ++ 10 ∷ []
 
 -- what is wrong with an install code
 abbrev pub cause_of : CodeError → Cause

@@ -1,4 +1,8 @@
 //! The run of the process: the words of its command line, its standard input and its standard output.
+ghost use Rattle.std.specs.Io.KnownBytes.{Appends};
+ghost use Rattle.std.specs.Prelude.{OnOk};
+ghost use Rattle.zb_base.specs.Outside.{HasCause};
+ghost use Rattle.zb_command.specs.Statuses.{line_of, text_of};
 
 use crate::program::run;
 use crate::status::Status;
@@ -87,12 +91,14 @@ fn words_after_name<H: Env + AllocGlobal>(rt: &H) -> io::Result<Vec<String>> {
 }
 
 /// Writes the text of a status, with a line feed, but for those of which nothing is said.
-fn tell<W: Sink>(status: &Status, output: &mut W) -> Result<(), Failed> {
-    match status {
-        Status::Ok | Status::WriteFault => Ok(()),
-        _ => {
-            output.write(status.text().as_str().as_bytes())?;
-            output.write(b"\n")
-        }
+fn tell<W: Sink>(status: &Status, output: &mut W) -> Result<(), Failed>
+    ensures told { OnOk result (Appends (W.taken output.old) (W.taken output.new) (line_of (text_of status.now))) }
+    ensures cause { HasCause (W.faults output.old) (W.faults output.new) result }
+{
+    let text = status.text();
+    if text.is_empty() {
+        return Ok(());
     }
+    output.write(text.as_str().as_bytes())?;
+    output.write(b"\n")
 }
