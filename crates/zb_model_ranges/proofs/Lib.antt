@@ -1,5 +1,5 @@
-pub mod Lists
-pub mod States
+mod Lists
+mod States
 mod Questions
 mod Outcomes
 mod OwnRules
@@ -8,4 +8,4 @@ mod Judged
 mod Frames
 mod Answers
 mod Records
-mod Runs
+pub mod Runs

@@ -1,4 +1,5 @@
--- All lines of a run are in their ranges: what the lines so far say of a node is in its range, so what its next answer says is.
+-- All lines of a run are in their ranges: what the lines so far say of a node is in its range, so what its next answer
+-- says is.
 use Rattle.std.proofs.Common.{◌≡◌, ℕ, ◌+◌, ◌*◌, ◌-◌, ◌≤◌, Bool, true, false, cond, nat_eq, List, [], ◌∷◌, ◌++◌, map, find, fold, flat_map, length, slice_get, Option, Some, None, IfSome, option_map, is_some, refl, sym, ap, ◌∙◌, subst, arith, length-append}
 use Rattle.std.specs.List.{AllByRecursion}
 use Rattle.std.proofs.lemmas.Bool.{false≢true}

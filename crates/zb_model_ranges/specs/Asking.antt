@@ -1,5 +1,5 @@
--- What is asked so that all values in the lines of a run are in their ranges: of the values that a schedule declares and its events
--- bring, and of the tools.
+-- What is asked so that all values in the lines of a run are in their ranges: of the values that a schedule declares
+-- and its events bring, and of the tools.
 use Rattle.std.specs.Prelude.{◌≡◌, ◌≤◌, ◌+◌, ℕ, length, IfSome, ⊤}
 use Rattle.std.specs.List.{AllByRecursion}
 use Rattle.zb_model.specs.Data.{Bytes, Term, Command, TransportNet, TransportApp, TransportLink, UpdateDevice, RemoveDevice, RequestApp, RequestLink, SwitchKey, Tunnel, VerifyKey, ConfirmKey, Task, SayTo, TellTo, DoKnock, DoRejoin, DoTimer, AskFor, HasChild, DoProvision, DoRemove, DoRoll, DoSwitch, DoAgain, DoShare, Received}
@@ -84,8 +84,8 @@ ShownInRange Broken = ⊤
 abbrev pub ApsInRange : ApsShown → Type 0
 ApsInRange a = IsShort a.body × IfSome a.auxiliary (λ (x : ApsAuxiliary). IfSome x.source IsEui)
 
--- What is sealed, spelled and hashed is of bytes; a sealed term has 4 bytes more than its header and its content, and a command but
--- a Tunnel at most 35. What is read of such bytes, and what they open to, is in its range.
+-- What is sealed, spelled and hashed is of bytes; a sealed term has 4 bytes more than its header and its content, and
+-- a command but a Tunnel at most 35. What is read of such bytes, and what they open to, is in its range.
 pub record KeepsRanges (tools : Tools) : Type 0 where
   pub wire : (t : Term) → TermInRange t → AreBytes (tools.wire t)
   pub wire_length : (t : Term) → TermInRange t → length (tools.wire t) ≡ length t.header + length t.content + 4

@@ -1,5 +1,5 @@
-//! The values in the lines of a run are in the ranges of their fields. The law stands as the contract of a function with
-//! an empty body; docs/THEOREMS.md says it in words.
+//! The values in the lines of a run are in the ranges of their fields. The law stands as the contract of a function
+//! with an empty body; docs/THEOREMS.md says it in words.
 #![tactic(auto)]
 
 ghost use Rattle.std.specs.Prelude.{◌≡◌, true};
