@@ -1,0 +1,5 @@
+pub mod Plain
+pub mod Knowing
+pub mod Counting
+pub mod Locking
+pub mod Judging
