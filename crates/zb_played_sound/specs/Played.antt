@@ -28,7 +28,8 @@ last_line w = end_line real (length w.events) (run_lines real w)
 
 -- A verdict says what an end line does: as many seals and accepts, and locked exactly where both its words are yes.
 abbrev pub SaysAsEnd : Verdict → log.Line → Type 0
-SaysAsEnd v (log.End events seals accepts refusals ideal private) = (v.seals ≡ seals) × (v.accepts ≡ accepts) × (v.locked ≡ (ideal && private))
+SaysAsEnd v (log.End events seals accepts refusals ideal private) =
+    (v.seals ≡ seals) × (v.accepts ≡ accepts) × (v.locked ≡ (ideal && private))
 SaysAsEnd v _ = ⊥
 
 -- The audit wrote the line of that verdict, or the source, the sink or the memory failed.
@@ -39,9 +40,15 @@ EndsSound v status.ReadFault before after = Unit {0}
 EndsSound v status.NoMemory before after = Unit {0}
 EndsSound v s before after = ⊥
 
--- The text of the run that an input gives is that of a sound transcript, on which this verdict is the only one: no line of
--- it is no line, and none breaks a claim. Where it is no longer than the longest input, `audit` writes that verdict, or the
--- source, the sink or the memory failed.
+-- However `audit` ends on the text, it ends so.
+abbrev pub EndsOn : Bytes → Verdict → Type 0
+EndsOn text v =
+    (s : Status) (before after : Option Bytes) (old new : ℕ) → Audits s (Some text) before after old new
+    → EndsSound v s before after
+
+-- The text of the run that an input gives is that of a sound transcript, on which this verdict is the only one: no line
+-- of it is no line, and none breaks a claim. Where it is no longer than the longest input, `audit` writes that verdict,
+-- or the source, the sink or the memory failed.
 pub record IsPlayedSound (input text : Bytes) : Type 0 where
   pub plan : sched.Schedule
   pub reads : schedule_in input ≡ Ok plan
@@ -51,4 +58,4 @@ pub record IsPlayedSound (input text : Bytes) : Type 0 where
   pub only : (other : Verdict) → IsSoundText text other → other ≡ verdict
   pub all_lines : (line : ℕ) → IsFirstBad text line → ⊥
   pub unbroken : (line clause : ℕ) → IsBrokenText text line clause → ⊥
-  pub ends : length text ≤ longest → (s : Status) (before after : Option Bytes) (old new : ℕ) → Audits s (Some text) before after old new → EndsSound verdict s before after
+  pub ends : length text ≤ longest → EndsOn text verdict

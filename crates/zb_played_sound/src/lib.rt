@@ -1,5 +1,5 @@
-//! What `play` writes is never called broken, and never refused, by `audit`. The law stands as the contract of a function
-//! that does nothing; docs/THEOREMS.md says it in words.
+//! What `play` writes is never called broken, and never refused, by `audit`. The law stands as the contract of a
+//! function that does nothing; docs/THEOREMS.md says it in words.
 #![tactic(auto)]
 
 ghost use Rattle.zb_model.specs.Data.{Bytes};
