@@ -14,18 +14,26 @@ use std::thread::Threads;
 use zb_base::{Failed, Sink, StdSink, StdSource};
 use zb_disk::FileDisk;
 
+/// How many bytes of output are held back, but for those of `admin`.
+const HELD_BACK: usize = 65_536;
+
 /// Runs the command that the words of the process are, over its standard input and output.
 ///
 /// Where it didn't end well it says so on standard output. What standard output holds back is handed on at the end, and
-/// fails as a write does.
+/// fails as a write does. Of `admin` it holds back nothing.
 pub fn run_process<H: Env + Input + Print + Files + AllocGlobal + Threads + Sync + Drop>(
     rt: &H,
 ) -> Status {
-    let Ok(writer) = BufWriter::with_capacity(rt.alloc(), 65_536, io::writer(rt)) else {
-        return without_room(rt);
+    let words = match words_after_name(rt) {
+        Ok(words) => words,
+        Err(error) => return end_at_once(rt, without_words(&error)),
+    };
+    let room = room_for(words.as_slice());
+    let Ok(writer) = BufWriter::with_capacity(rt.alloc(), room, io::writer(rt)) else {
+        return end_at_once(rt, Status::NoMemory);
     };
     let mut output = StdSink::new(writer);
-    let status = run_words(rt, &mut output);
+    let status = run_words(rt, words.as_slice(), &mut output);
     let told = tell(&status, &mut output);
     if told.is_err() || output.flush().is_err() {
         return Status::WriteFault;
@@ -33,35 +41,39 @@ pub fn run_process<H: Env + Input + Print + Files + AllocGlobal + Threads + Sync
     status
 }
 
-/// Says that there is no memory left where there is none to hold output back in.
-fn without_room<H: Print>(rt: &H) -> Status {
-    match tell(&Status::NoMemory, &mut StdSink::new(io::writer(rt))) {
-        Ok(()) => Status::NoMemory,
+/// Answers how many bytes of output are held back: none of `admin`, whose lines go out as their commands are stored.
+fn room_for(words: &[String]) -> usize {
+    match words {
+        [word, ..] => {
+            if word.as_str() == "admin" {
+                0
+            } else {
+                HELD_BACK
+            }
+        }
+        [] => HELD_BACK,
+    }
+}
+
+/// Says how a run ended before it wrote anything, and holds nothing back.
+fn end_at_once<H: Print>(rt: &H, status: Status) -> Status {
+    match tell(&status, &mut StdSink::new(io::writer(rt))) {
+        Ok(()) => status,
         Err(_) => Status::WriteFault,
     }
 }
 
 /// Runs the command, and writes into `output`.
-fn run_words<H: Env + Input + Files + AllocGlobal + Threads + Sync + Drop, W: Write>(
+fn run_words<H: Input + Files + AllocGlobal + Threads + Sync + Drop, W: Write>(
     rt: &H,
+    words: &[String],
     output: &mut StdSink<W>,
 ) -> Status {
-    let words = match words_after_name(rt) {
-        Ok(words) => words,
-        Err(error) => return without_words(&error),
-    };
-    let Ok(mut store) = FileDisk::new(rt, path_in(words.as_slice())) else {
+    let Ok(mut store) = FileDisk::new(rt, path_in(words)) else {
         return Status::NoMemory;
     };
     let mut input = StdSource::new(rt.reader());
-    run(
-        rt,
-        rt.alloc(),
-        words.as_slice(),
-        &mut input,
-        output,
-        &mut store,
-    )
+    run(rt, rt.alloc(), words, &mut input, output, &mut store)
 }
 
 /// Answers the status where the words can't be had. A word that isn't UTF-8 is none of a command.

@@ -1,0 +1,270 @@
+//! Scripts: what a worked one says, and the first bad line and cause of texts that are none.
+ghost use Rattle.std.specs.Prelude.{IfOk};
+ghost use Rattle.zb_script.specs.Scripts.{IsScript};
+
+use std::process::Abort;
+use std::test::Fail;
+use zb_base::{Config, Eui, Key, OrMemory, Role, Short};
+use zb_script::{Order, Script, ScriptCause, ScriptError, Step, read};
+
+/// The centre and one device.
+const NODES: &str = "centre c 00124B0000000001 4 2\npeer d device 00124B0000000002 1A2B\n";
+
+const CENTRE: Eui = Eui(0x00124B0000000001);
+
+const DEVICE: Eui = Eui(0x00124B0000000002);
+
+/// The network key, and the link key of the device's install code.
+const KEY: Key = Key([0, 1, 2, 3, 4, 5, 6, 7, 8, 9, 10, 11, 12, 13, 14, 15]);
+
+const LINK_KEY: Key = Key([
+    0x66, 0xB6, 0x90, 0x09, 0x81, 0xE1, 0xEE, 0x3C, 0xA4, 0x20, 0x6B, 0x6B, 0x86, 0x1C, 0x02, 0xBB,
+]);
+
+/// Each command, up to the backup that the last one restores.
+const WORKED: &str = "# a network key\n\ninit 000102030405060708090A0B0C0D0E0F\r\n\
+    provision d 83FED3407A939723A5C639B26916D505C3B5\nlist\nremove d via c\nbackup\nrestore 1000 ";
+
+/// The backup of a centre that has nothing yet.
+const EMPTY: &str =
+    "{\"active\":null,\"aps\":0,\"links\":[],\"nets\":[],\"nwk\":0,\"pairs\":[],\"roll\":\"idle\",\
+    \"version\":3}";
+
+/// Its record.
+const EMPTY_RECORD: [u8; 20] = [
+    3, 0, 0, 0, 0, 0, 0, 0, 0, 0, 0, 0, 0, 0, 0xFF, 0xFF, 0, 0, 0, 0,
+];
+
+/// Texts whose last line is the first bad one, its number, and its first cause.
+const HEADS: [(&str, u32, ScriptCause); 16] = [
+    ("", 1, ScriptCause::NoCentre),
+    ("# nothing\n\n", 3, ScriptCause::NoCentre),
+    // Lines out of order.
+    ("list\n", 1, ScriptCause::Syntax),
+    ("restore 0 {}\n", 1, ScriptCause::Syntax),
+    (
+        "peer d device 00124B0000000002 1A2B\n",
+        1,
+        ScriptCause::Syntax,
+    ),
+    (
+        "centre c 00124B0000000001 4 2\ncentre e 00124B0000000003 4 2",
+        2,
+        ScriptCause::Syntax,
+    ),
+    // Words out of their ranges.
+    ("centre c 0000000000000000 4 2", 1, ScriptCause::Syntax),
+    ("centre c FFFFFFFFFFFFFFFF 4 2", 1, ScriptCause::Syntax),
+    ("centre c 00124B0000000001 04 2", 1, ScriptCause::Syntax),
+    (
+        "centre c 00124B0000000001 4294967296 2",
+        1,
+        ScriptCause::Syntax,
+    ),
+    ("centre C 00124B0000000001 4 2", 1, ScriptCause::Syntax),
+    ("centre c 00124B0000000001 4 2 ", 1, ScriptCause::Syntax),
+    ("centre c 00124B0000000001 0 2", 1, ScriptCause::Block),
+    ("centre c 00124B0000000001 65537 2", 1, ScriptCause::Block),
+    ("centre c 00124B0000000001 4 0", 1, ScriptCause::Block),
+    ("centre c 00124B0000000001 4 1025", 1, ScriptCause::Block),
+];
+
+/// Lines behind the centre and the device of which the last one is bad, its number, and its first cause.
+const TAILS: [(&str, u32, ScriptCause); 31] = [
+    (
+        "peer e centre 00124B0000000003 0000",
+        3,
+        ScriptCause::Syntax,
+    ),
+    (
+        "peer e router 00124B0000000003 0000",
+        3,
+        ScriptCause::Syntax,
+    ),
+    (
+        "peer e router 00124B0000000003 FFF8",
+        3,
+        ScriptCause::Syntax,
+    ),
+    (
+        "peer d router 00124B0000000003 0001",
+        3,
+        ScriptCause::DuplicateNode,
+    ),
+    (
+        "peer c router 00124B0000000003 0001",
+        3,
+        ScriptCause::DuplicateNode,
+    ),
+    (
+        "peer e router 00124B0000000001 0001",
+        3,
+        ScriptCause::DuplicateNode,
+    ),
+    (
+        "peer e router 00124B0000000003 1A2B",
+        3,
+        ScriptCause::DuplicateNode,
+    ),
+    (
+        "list\npeer e router 00124B0000000003 0001",
+        4,
+        ScriptCause::Syntax,
+    ),
+    (
+        "list\ncentre e 00124B0000000003 4 2",
+        4,
+        ScriptCause::Syntax,
+    ),
+    (
+        "peer e router 00124B0000000003 0001\nnope",
+        4,
+        ScriptCause::Syntax,
+    ),
+    (
+        "init 000102030405060708090A0B0C0D0E",
+        3,
+        ScriptCause::Syntax,
+    ),
+    (
+        "init 000102030405060708090A0B0C0D0E0F 0",
+        3,
+        ScriptCause::Syntax,
+    ),
+    ("list ", 3, ScriptCause::Syntax),
+    ("backup\r", 3, ScriptCause::Syntax),
+    ("provision d 0", 3, ScriptCause::Syntax),
+    ("provision d", 3, ScriptCause::Syntax),
+    ("remove d c", 3, ScriptCause::Syntax),
+    ("roll", 3, ScriptCause::Syntax),
+    ("restore 5", 3, ScriptCause::Syntax),
+    ("restore 4294967296 {}", 3, ScriptCause::Syntax),
+    ("restore 5 ", 3, ScriptCause::Backup),
+    ("restore 5 {}", 3, ScriptCause::Backup),
+    ("restore 5 \u{e9}", 3, ScriptCause::Backup),
+    ("provision e 00", 3, ScriptCause::UnknownNode),
+    (
+        "provision c 83FED3407A939723A5C639B26916D505C3B5",
+        3,
+        ScriptCause::UnknownNode,
+    ),
+    ("remove c via c", 3, ScriptCause::UnknownNode),
+    ("remove d via d", 3, ScriptCause::UnknownNode),
+    ("remove d via e", 3, ScriptCause::UnknownNode),
+    (
+        "peer e device 00124B0000000003 0001\nremove d via e",
+        4,
+        ScriptCause::UnknownNode,
+    ),
+    ("provision d 00", 3, ScriptCause::BadCode),
+    ("provision d -", 3, ScriptCause::BadCode),
+];
+
+/// Reads a text that is no longer than an input may be.
+pub(crate) fn read_text(
+    rt: &(impl AllocGlobal + Abort),
+    text: &str,
+) -> Result<Script, OrMemory<ScriptError>>
+    ensures { IfOk result IsScript }
+{
+    assert!(rt; text.len() < 1 << 24);
+    read(rt.alloc(), text.as_bytes())
+}
+
+/// Whether a text was refused at that line for that cause.
+fn is_refused(
+    answer: &Result<Script, OrMemory<ScriptError>>,
+    line: u32,
+    cause: ScriptCause,
+) -> bool {
+    match answer {
+        Err(OrMemory::Fault(error)) => error.line == line && error.cause == cause,
+        _ => false,
+    }
+}
+
+/// Whether a configuration is that of the centre beside one device.
+fn is_of_the_centre(config: &Config) -> bool {
+    let [centre, device] = config.peers.as_slice() else {
+        return false;
+    };
+    config.me == 0
+        && config.out_block == 4
+        && config.in_block == 2
+        && centre.role == Role::Centre
+        && centre.eui == CENTRE
+        && device.eui == DEVICE
+        && device.short == Short(0x1A2B)
+}
+
+/// Whether an order is the one that the worked script has at that place.
+fn is_worked(place: usize, order: &Order) -> bool {
+    match order {
+        Order::Init { key } => place == 0 && *key == KEY,
+        Order::Provision { device, code } => place == 1
+            && *device == DEVICE
+            && code.link_key() == LINK_KEY,
+        Order::List => place == 2,
+        Order::Remove { device, via } => place == 3 && *device == DEVICE && *via == CENTRE,
+        Order::Backup => place == 4,
+        Order::Restore { skip, bytes } => place == 5
+            && *skip == 1000
+            && bytes.as_slice() == EMPTY_RECORD.as_slice(),
+    }
+}
+
+/// Whether the steps are those of the worked script, which begin on its fifth line.
+fn are_worked(steps: &[Step]) -> bool {
+    for (place, step) in steps.iter().enumerate() {
+        if step.line as usize != place + 5 || !is_worked(place, &step.order) {
+            return false;
+        }
+    }
+    steps.len() == 6
+}
+
+#[test]
+fn a_worked_script(rt: HostRuntime) -> Result<(), Fail> {
+    let text = format!(in rt.alloc(); "{NODES}{WORKED}{EMPTY}")?;
+    let script = read_text(&rt, text.as_str())?;
+    assert!(rt; is_of_the_centre(&script.config) && are_worked(script.steps.as_slice()));
+    Ok(())
+}
+
+#[test]
+fn first_bad_lines(rt: HostRuntime) -> Result<(), Fail> {
+    for (text, line, cause) in HEADS {
+        assert!(rt; is_refused(&read_text(&rt, text), line, cause));
+    }
+    for (tail, line, cause) in TAILS {
+        let text = format!(in rt.alloc(); "{NODES}{tail}")?;
+        assert!(rt; is_refused(&read_text(&rt, text.as_str()), line, cause));
+    }
+    Ok(())
+}
+
+#[test]
+fn as_many_lines_as_may_stand(rt: HostRuntime) -> Result<(), Fail> {
+    let mut text = String::from_str(rt.alloc(), NODES)?;
+    for _ in 0..10_000u32 {
+        text.push_str("list\n")?;
+    }
+    assert!(rt; read_text(&rt, text.as_str()).is_ok());
+    text.push_str("list\n")?;
+    assert!(rt; is_refused(&read_text(&rt, text.as_str()), 10_003, ScriptCause::TooMany));
+    Ok(())
+}
+
+#[test]
+fn as_many_peers_as_may_stand(rt: HostRuntime) -> Result<(), Fail> {
+    let mut text = String::from_str(rt.alloc(), NODES)?;
+    for i in 100..162u32 {
+        text.push_str(format!(in rt.alloc();
+            "peer p{i} router 00124B0000000{i} 0{i}\n"
+        )?.as_str())?;
+    }
+    assert!(rt; read_text(&rt, text.as_str()).is_ok());
+    text.push_str("peer q router 00124B0000000999 0999\n")?;
+    assert!(rt; is_refused(&read_text(&rt, text.as_str()), 65, ScriptCause::TooMany));
+    Ok(())
+}
