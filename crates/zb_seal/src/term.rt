@@ -7,6 +7,8 @@ use zb_base::{Eui, Frame, Key, Label, Layer};
 /// significant byte first. The header is authenticated and stays in clear; the content is encrypted too.
 #[derive(Clone, Debug, Drop, PartialEq, Eq, PartialOrd, Ord)]
 pub struct Term {
+    /// The frame counter of the auxiliary header. It stands first, since terms of one key mostly differ in it.
+    pub counter: u32,
     /// The layer that is secured.
     pub layer: Layer,
     /// The network key or link key from which the sealing key comes.
@@ -15,8 +17,6 @@ pub struct Term {
     pub label: Label,
     /// The IEEE address of the node that sealed, or for which a forger wrote the frame.
     pub source: Eui,
-    /// The frame counter of the auxiliary header.
-    pub counter: u32,
     /// The security control byte of the auxiliary header, with the real level in its low three bits.
     pub control: u8,
     /// The layer's header with its auxiliary header and the real level: the authenticated part.

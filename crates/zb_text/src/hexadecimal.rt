@@ -1,6 +1,6 @@
 //! Strings of bytes in hexadecimal digits, read in either case and written in upper case.
 
-ghost use Rattle.std.specs.Prelude.{◌≡◌, ◌≤◌, ◌<◌, ◌/◌, [], ◌∷◌, ◌++◌, length, OnOk, IfSome};
+ghost use Rattle.std.specs.Prelude.{◌≡◌, ◌+◌, ◌≤◌, ◌<◌, ◌/◌, [], ◌∷◌, ◌++◌, length, OnOk, IfSome, vec_len, vec_capacity};
 ghost use Rattle.std.specs.Option.{option_map};
 ghost use Rattle.std.specs.Result.{result_ok};
 ghost use Rattle.hex.specs.Hex.{decode_of, encode_upper, hex_digit_value, IsBytes};
@@ -96,24 +96,30 @@ fn pair_value(high: u8, low: u8) -> Option<u8>
     Some(high * 16 + low)
 }
 
-/// Prints bytes in two digits each.
+/// Prints bytes in two digits each. It takes the room for all of them at once.
 #[tactic(auto, using(crate::proofs::Digits::one_more_byte), unfolding(hex::specs::Hex::encode_with))]
 pub fn put_digits(out: &mut Vec<u8>, bytes: &[u8]) -> Result<(), AllocError>
     ensures { OnOk result (out.new.items ≡ out.old.items ++ encode_upper bytes.now) }
 {
+    out.reserve(2 * bytes.len())?;
     for byte in bytes {
-        out.extend_from_slice(&pair(*byte))?;
+        put_pair(out, *byte);
     }
     Ok(())
 }
 
 const DIGITS: [u8; 16] = *b"0123456789ABCDEF";
 
+/// Prints a byte in two digits. Requires room for them.
 #[tactic(auto, unfolding(hex::specs::Hex::encode_with))]
-fn pair(byte: u8) -> [u8; 2]
-    ensures { result ≡ encode_upper (byte ∷ []) }
+fn put_pair(out: &mut Vec<u8>, byte: u8)
+    requires { vec_len out.old + 2 ≤ vec_capacity out.old }
+    ensures items { out.new.items ≡ out.old.items ++ encode_upper (byte ∷ []) }
+    ensures len { vec_len out.new ≡ vec_len out.old + 2 }
+    ensures room { vec_capacity out.new ≡ vec_capacity out.old }
 {
-    [DIGITS[(byte >> 4) as usize], DIGITS[(byte & 15) as usize]]
+    out.push_reserved(DIGITS[(byte >> 4) as usize]);
+    out.push_reserved(DIGITS[(byte & 15) as usize]);
 }
 
 /// Prints bytes in two digits each, or `-` for no bytes.

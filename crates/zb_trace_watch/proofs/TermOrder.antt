@@ -1,6 +1,6 @@
 -- The order of terms tells them apart by all their parts.
 use Rattle.zb_model.specs.State.{same_layer, same_label}
-use Rattle.std.proofs.Common.{◌≡◌, Bool, true, ◌&&◌, refl, ap, sym, ◌∙◌}
+use Rattle.std.proofs.Common.{◌≡◌, Bool, true, false, ◌&&◌, nat_eq, bytes_eq, refl, ap, sym, ◌∙◌}
 use Rattle.std.specs.Ordering.{is_eq, ordering_then}
 use Rattle.std.specs.declared.cmp.Ordering.{Ordering}
 use Rattle.std.specs.declared.cmp.Ordering.TheVariants.{Less, Equal, Greater}
@@ -60,16 +60,33 @@ label_alike label.Load label.Load = refl
 part : (o p : Ordering) (a b : Bool) → is_eq o ≡ a → is_eq p ≡ b → is_eq (ordering_then o p) ≡ (a && b)
 part o p a b e f = then_alike o p ∙ ap (λ (x : Bool). x && is_eq p) e ∙ ap (λ (x : Bool). a && x) f
 
-pub term_alike : (a b : Term) → is_eq (term_cmp a b) ≡ same_term (model_term a) (model_term b)
-unfolding same_term
-term_alike a b =
-    part _ _ _ _ (layer_alike a.layer b.layer)
+and_false : (a : Bool) → (a && false) ≡ false
+and_false true = refl
+and_false false = refl
+
+-- the first of six facts may as well stand fifth
+fifth : (c l b k s r : Bool) → (c && (l && (b && (k && (s && r))))) ≡ (l && (b && (k && (s && (c && r)))))
+fifth c true true true true r = refl
+fifth c true true true false r = and_false c
+fifth c true true false s r = and_false c
+fifth c true false k s r = and_false c
+fifth c false b k s r = and_false c
+
+in_order : (a b : Term) → is_eq (term_cmp a b) ≡ (nat_eq a.counter b.counter && (same_layer (model_layer a.layer) (model_layer b.layer)
+    && (bytes_eq a.base.0 b.base.0 && (same_label (model_label a.label) (model_label b.label) && (nat_eq a.source.0 b.source.0
+    && (nat_eq a.control b.control && (bytes_eq a.header.items b.header.items && bytes_eq a.content.items b.content.items)))))))
+in_order a b =
+    part _ _ _ _ (number_so a.counter b.counter)
+    (part _ _ _ _ (layer_alike a.layer b.layer)
     (part _ _ _ _ (bytes_alike a.base.0 b.base.0)
     (part _ _ _ _ (label_alike a.label b.label)
     (part _ _ _ _ (number_so a.source.0 b.source.0)
-    (part _ _ _ _ (number_so a.counter b.counter)
     (part _ _ _ _ (number_so a.control b.control)
     (part _ _ _ _ (bytes_alike a.header.items b.header.items) (bytes_alike a.content.items b.content.items)))))))
+
+pub term_alike : (a b : Term) → is_eq (term_cmp a b) ≡ same_term (model_term a) (model_term b)
+unfolding same_term
+term_alike a b = in_order a b ∙ fifth _ _ _ _ _ _
 
 same_again : (a b : Term) → same_term (model_term a) (model_term b) ≡ true → same_term (model_term b) (model_term a) ≡ true
 same_again a b h = sym (term_alike b a) ∙ ap is_eq (tied_back term_laws.total-law a b (equal (term_cmp a b) (term_alike a b ∙ h)))
