@@ -54,9 +54,9 @@ pub(crate) fn carry_out(tables: &mut StoredTables, plan: &Plan<Outcome<Term, Ref
     count(tables, &plan.out.sealed_nwk);
 }
 
-// Keeps the base key of a term for the frames to come.
+// Keeps the key that seals a term for the frames to come.
 pub(crate) fn remember(memo: &mut KeyMemo, term: &Option<Term>) {
     if let Some(term) = term {
-        memo.keep(&term.base);
+        memo.keep(term.label, &term.base);
     }
 }

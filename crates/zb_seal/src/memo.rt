@@ -1,23 +1,32 @@
-//! Base keys whose sealing keys were expanded before, so that no frame expands a key again.
+//! Sealing keys that were derived and expanded before, so that no frame expands a key again.
 ghost use Rattle.std.specs.Prelude.{◌≡◌, ◌<◌, IfOk, IfSome, OnErr, length};
+ghost use Rattle.zb_seal.specs.Keys.{sealing_key as key_of};
 ghost use Rattle.zb_seal.specs.Opening.{opened};
 ghost use Rattle.zb_seal.specs.Wire.{wire, wire_length};
 
 use crate::envelope::{Envelope, OpenError};
 use crate::key::sealing_key;
 use crate::sealing::{wire, wire_with};
-use crate::sealing_keys::SealingKeys;
 use crate::term::Term;
 use zb_aes::Cipher;
-use zb_base::{Eui, Frame, Key};
+use zb_base::{Eui, Frame, Key, Label};
 use zb_cursor::TooLong;
 
-/// The base keys that were used last, with their sealing keys expanded: at most 8.
+/// A base key, a label, and the sealing key that comes of both, expanded once.
+#[derive(Drop)]
+struct Expanded {
+    base: Key,
+    label: Label,
+    cipher: Cipher,
+    ghost is_its_key: { cipher ≡ key_of label base.0 },
+}
+
+/// The sealing keys that were used last, expanded: at most 8.
 ///
 /// What it has changes no answer: a key that it lacks is expanded for the one call.
 #[derive(Drop)]
 pub struct KeyMemo {
-    keys: [Option<SealingKeys>; 8],
+    keys: [Option<Expanded>; 8],
     next: usize,
 }
 
@@ -30,27 +39,31 @@ impl KeyMemo {
         }
     }
 
-    /// Answers the sealing keys of a base key, if they were kept.
-    pub fn find(&self, key: &Key) -> Option<&SealingKeys>
-        ensures { IfSome result (λ keys. keys.now ≡ key.now) }
+    /// Answers the sealing key that a label makes of a base key, if it was kept.
+    pub fn find(&self, label: Label, base: &Key) -> Option<&Cipher>
+        ensures { IfSome result (λ cipher. cipher.now ≡ key_of label base.now.0) }
     {
         for kept in &self.keys {
-            if let Some(keys) = kept {
-                if *keys.base() == *key {
-                    return Some(keys);
+            if let Some(expanded) = kept {
+                if expanded.label == label && expanded.base == *base {
+                    return Some(&expanded.cipher);
                 }
             }
         }
         None
     }
 
-    /// Expands a base key and keeps it, in place of the one that came first where there is no room.
-    pub fn keep(&mut self, key: &Key) {
-        if self.find(key).is_some() {
+    /// Derives and expands a sealing key and keeps it, in place of the one that came first where there is no room.
+    pub fn keep(&mut self, label: Label, base: &Key) {
+        if self.find(label, base).is_some() {
             return;
         }
         let place = self.next % 8;
-        self.keys[place] = Some(SealingKeys::new(key));
+        self.keys[place] = Some(Expanded {
+            base: *base,
+            label,
+            cipher: Cipher::new(&sealing_key(label, base).0),
+        });
         self.next = (place + 1) % 8;
     }
 
@@ -62,11 +75,8 @@ impl KeyMemo {
     pub fn open(&self, envelope: Envelope, key: &Key, given: Option<Eui>) -> Result<Term, OpenError>
         ensures { result ≡ opened envelope key.now given }
     {
-        match self.find(key) {
-            Some(keys) => {
-                let cipher = keys.of(envelope.label);
-                envelope.open_with(key, cipher, given)
-            }
+        match self.find(envelope.label, key) {
+            Some(cipher) => envelope.open_with(key, cipher, given),
             None => {
                 let sealing = sealing_key(envelope.label, key);
                 envelope.open_with(key, &Cipher::new(&sealing.0), given)
@@ -84,8 +94,8 @@ impl KeyMemo {
         ensures long { OnErr result (127 < wire_length term.now) }
         ensures len { length (wire term.now) ≡ wire_length term.now }
     {
-        match self.find(&term.base) {
-            Some(keys) => wire_with(term, keys.of(term.label)),
+        match self.find(term.label, &term.base) {
+            Some(cipher) => wire_with(term, cipher),
             None => wire(term),
         }
     }
