@@ -54,7 +54,7 @@ counted_ok : {E : Type 0} (m new : Medium) → refuses m.arming 0 ≡ false → 
 unfolding counted
 counted_ok m new goes later arming torn calls faults = record {
   calls = calls;
-  cause = record { later = omega arith; failed = tt };
+  cause = record { later = omega arith; unrisen = faults ∙ ap (λ b. cond b (risen m.faults 1) m.faults) goes; failed = tt };
   time = elapses m new;
   foretold = λ told. record {
     refusal = sym goes;
@@ -70,7 +70,7 @@ counted_err : {E : Type 0} (m : Medium) (e : E) → refuses m.arming 0 ≡ true 
 unfolding counted
 counted_err m e refused later = record {
   calls = refl;
-  cause = record { later = later; failed = subst (λ b. risen m.faults 1 ≤ cond b (risen m.faults 1) m.faults) (sym refused) (omega arith) };
+  cause = record { later = later; unrisen = tt; failed = subst (λ b. risen m.faults 1 ≤ cond b (risen m.faults 1) m.faults) (sym refused) (omega arith) };
   time = elapses m (counted m);
   foretold = λ told. record { refusal = sym refused; later = λ k. later_refusals m.arming k; off = λ k. later_off m.arming k; on = tt; torn = refl };
 }

@@ -1,5 +1,5 @@
 pub mod Lists
-pub mod Flags
+pub mod Windows
 pub mod Images
 pub mod Calls
 pub mod Tearing

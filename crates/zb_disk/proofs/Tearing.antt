@@ -1,11 +1,11 @@
 -- What the power leaves when it comes back after a stop.
-use Rattle.std.proofs.Common.{◌≡◌, ◌⊎◌, inl, inr, ⊎_elim, ℕ, zero, suc, ◌+◌, ◌-◌, ◌%◌, ◌≤◌, ◌<◌, List, [], ◌∷◌, ◌++◌, length, get_or, set, take, drop, replicate, Bool, true, false, nat_le, nat_lt, min, if◌then◌else◌, refl, sym, ◌∙◌, ap, arith, take-append-drop, length-set, get_or-set_same, get_or-set_other, append_assoc}
-use Rattle.std.proofs.lemmas.List.{ext_get_or, drop_more, drop-set-lt, take-set-le, take_more_set, take_more, set_split, take-append-le, length-take-le, get_or-take, get_or-drop, get_or_past, drop-drop}
-use Rattle.std.proofs.lemmas.Bool.{false≢true, cases_lt, cases_eq, cases_Bool, lt-ltb, and_parts, leb-true, ltb-true}
+use Rattle.std.proofs.Common.{◌≡◌, ◌⊎◌, inl, inr, ⊎_elim, ℕ, zero, suc, ◌+◌, ◌-◌, ◌%◌, ◌≤◌, ◌<◌, List, [], ◌∷◌, ◌++◌, length, get_or, set, take, drop, replicate, Bool, true, false, nat_lt, if◌then◌else◌, refl, sym, ◌∙◌, ap, arith, take-append-drop, length-set, get_or-set_same, get_or-set_other, append_assoc, length-drop}
+use Rattle.std.proofs.lemmas.List.{ext_get_or, drop_more, drop-set-lt, take-set-le, take_more_set, take_more, set_split, take-append-le, length-take-le, get_or-take, get_or-drop, drop-drop, drop_at, drop_all, take_all, append-nil, length-replicate, get_or-replicate, get_or_append_left}
+use Rattle.std.proofs.lemmas.Bool.{false≢true, cases_lt, cases_eq, cases_Bool, lt-ltb}
 use Rattle.zb_disk.specs.View.{Torn, IsUnsynced, Only, overwrite}
-use Rattle.zb_disk.specs.declared.runs.Run.{Run}
-use Rattle.zb_disk.specs.Memory.{LiesIn, Medium, IsImage, tear, torn_by, settled, synced, powered, is_stopped, memory_view}
+use Rattle.zb_disk.specs.Memory.{Medium, IsImage, tear, torn_by, settled, synced, powered, is_stopped, memory_view}
 use Rattle.zb_disk.specs.declared.memory.Arming.TheVariants.{Unarmed}
+use Rattle.zb_disk.specs.MemoryInside.{flags_around}
 use Rattle.zb_disk.specs.MemoryLaws.{image_seen}
 use Rattle.zb_disk.proofs.Images.{torn_stands, one_image, lowered}
 
@@ -162,6 +162,13 @@ tear_down p phase bytes new written i whole in_bytes in_new in_written down same
     at_front : (l : List ℕ) (i : ℕ) → get_or l i 0 ≡ get_or (drop i l) 0 0
     at_front l i = let here : i + 0 ≡ i = omega arith in ap (λ (j : ℕ). get_or l j 0) (sym here) ∙ sym (get_or-drop i l 0 0)
 
+length-torn_some : (p bytes : List ℕ) (written : List Bool) (some : Bool) → length (if some then tear p 0 bytes written else bytes) ≡ length bytes
+length-torn_some p bytes written true = length-tear p 0 bytes written
+length-torn_some p bytes written false = refl
+
+pub length-torn_by : (p bytes : List ℕ) (written : List Bool) → length (torn_by p bytes written) ≡ length bytes
+length-torn_by p bytes written = length-torn_some p bytes written (nat_lt 0 (length p))
+
 torn_by_image : (p : List ℕ) (bytes : List ℕ) (written : List Bool) (grown : ℕ) (some : Bool) → IsImage bytes written grown (if some then tear p 0 bytes written else bytes)
 torn_by_image p bytes written grown true = image_torn p bytes written grown
 torn_by_image p bytes written grown false = image_seen bytes written grown
@@ -211,30 +218,31 @@ torn_from_here p (b ∷ bytes) [] (suc n) none =
 torn_from_here p (b ∷ bytes) (true ∷ written) (suc n) none = absurd (false≢true (sym (none 0 (omega arith))))
 torn_from_here p (b ∷ bytes) (false ∷ written) (suc n) none = ap (λ (l : List ℕ). b ∷ l) (torn_from_here p bytes written n (λ k low. none (suc k) (omega arith)))
 
-before : (span : Run) (written : List Bool) → LiesIn span written → (k : ℕ) → k < span.start → get_or written k false ≡ false
-before span written lies k low = elim (cases_Bool (get_or written k false)) [
-  | inl up ↦ let parts = and_parts (nat_le span.start k) (nat_lt k span.end) (lies k up) in absurd (omega (arith, leb-true span.start k parts.0))
-  | inr down ↦ down
-]
+-- what is torn behind the window's end stands
+tear_part : (p : List ℕ) (phase : ℕ) (bytes : List ℕ) (w rest : List Bool) → length w ≤ length bytes → ((k : ℕ) → get_or rest k false ≡ false)
+    → tear p phase bytes (w ++ rest) ≡ tear p phase (take (length w) bytes) w ++ drop (length w) bytes
+tear_part p phase bytes [] rest within none = none_torn p phase bytes rest none
+tear_part p phase [] (x ∷ w) rest within none = absurd (omega arith)
+tear_part p phase (b ∷ bytes) (true ∷ w) rest within none = ap (λ (l : List ℕ). get_or p (phase % length p) 0 ∷ l) (tear_part p (phase + 1) bytes w rest (omega arith) none)
+tear_part p phase (b ∷ bytes) (false ∷ w) rest within none = ap (λ (l : List ℕ). b ∷ l) (tear_part p 0 bytes w rest (omega arith) none)
 
-behind : (span : Run) (written : List Bool) → LiesIn span written → (k : ℕ) → min span.end (length written) ≤ k → get_or written k false ≡ false
-behind span written lies k late = elim (cases_Bool (get_or written k false)) [
-  | inr down ↦ down
-  | inl up ↦
-      let parts = and_parts (nat_le span.start k) (nat_lt k span.end) (lies k up) in
-      elim (cases_lt k (length written)) [
-        | inl within ↦ absurd (omega (arith, ltb-true k span.end parts.1))
-        | inr past ↦ get_or_past written k false past
-      ]
-]
+-- what a stop leaves is torn inside the window alone
+pub torn_window : (p : List ℕ) (bytes : List ℕ) (base : ℕ) (w : List Bool) → base + length w ≤ length bytes
+    → take base bytes ++ (tear p 0 (take (length w) (drop base bytes)) w ++ drop (length w) (drop base bytes)) ≡ tear p 0 bytes (flags_around base w (length bytes))
+unfolding flags_around
+torn_window p bytes base w within =
+    let m = length bytes - base - length w in
+    let front = replicate base false in
+    let all = front ++ w ++ replicate m false in
+    let cut : drop base all ≡ w ++ replicate m false = ap (λ (l : List Bool). drop base l) (append_assoc front w (replicate m false)) ∙ drop_at front (w ++ replicate m false) base (length-replicate base false) in
+    ap (λ (l : List ℕ). take base bytes ++ l) (sym (tear_part p 0 (drop base bytes) w (replicate m false) (omega (arith, length-drop base bytes)) (lowered m)))
+    ∙ ap (λ (l : List Bool). take base bytes ++ tear p 0 (drop base bytes) l) (sym cut)
+    ∙ torn_from_here p bytes all base (λ k low.
+    ap (λ (l : List Bool). get_or l k false) (append_assoc front w (replicate m false)) ∙ get_or_append_left front (w ++ replicate m false) false k (omega (arith, length-replicate base false)) ∙ get_or-replicate base k false false low)
 
--- where the span begins, and behind its end
-pub torn_at_first : (p : List ℕ) (bytes : List ℕ) (written : List Bool) (span : Run) → LiesIn span written
-    → take span.start bytes ++ tear p 0 (drop span.start bytes) (drop span.start written) ≡ tear p 0 bytes written
-torn_at_first p bytes written span lies = torn_from_here p bytes written span.start (before span written lies)
-
-pub torn_at_last : (p : List ℕ) (phase : ℕ) (bytes new : List ℕ) (written : List Bool) (span : Run) (i : ℕ) (whole : List ℕ) → LiesIn span written → min span.end (length written) ≤ i
-    → drop i new ≡ drop i bytes → take i new ++ tear p phase (drop i bytes) (drop i written) ≡ whole → new ≡ whole
-torn_at_last p phase bytes new written span i whole lies late same so_far =
-    let rest : tear p phase (drop i bytes) (drop i written) ≡ drop i bytes = none_torn p phase (drop i bytes) (drop i written) (λ k. get_or-drop i written k false ∙ behind span written lies (i + k) (omega arith)) in
-    sym (take-append-drop i new) ∙ ap (λ (l : List ℕ). take i new ++ l) (same ∙ sym rest) ∙ so_far
+-- behind the last flag
+pub torn_at_last : (p : List ℕ) (phase : ℕ) (bytes new : List ℕ) (written : List Bool) (i : ℕ) (whole : List ℕ) → length bytes ≤ i → length new ≤ i
+    → take i new ++ tear p phase (drop i bytes) (drop i written) ≡ whole → new ≡ whole
+torn_at_last p phase bytes new written i whole late late_new so_far =
+    sym (take_all i new late_new) ∙ sym (append-nil (take i new))
+    ∙ ap (λ (l : List ℕ). take i new ++ tear p phase l (drop i written)) (sym (drop_all i bytes late)) ∙ so_far

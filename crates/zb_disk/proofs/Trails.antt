@@ -80,7 +80,7 @@ trail_write_ok t at bytes = record {
   refused = tt;
   counted = record {
     calls = refl;
-    cause = record { later = omega arith; failed = tt };
+    cause = record { later = omega arith; unrisen = refl; failed = tt };
     time = elapses t (writes at bytes) (record t { steps = writes at bytes ∷ t.steps; taken = t.taken + length bytes; calls = risen t.calls 1 }) refl refl;
     foretold = λ told. absurd (false≢true told);
   };
@@ -95,7 +95,7 @@ trail_sync_ok t = record {
   images_kept = tt;
   counted = record {
     calls = refl;
-    cause = record { later = omega arith; failed = tt };
+    cause = record { later = omega arith; unrisen = refl; failed = tt };
     time = elapses t syncs (record t { steps = syncs ∷ t.steps; calls = risen t.calls 1 }) refl refl;
     foretold = λ told. absurd (false≢true told);
   };
@@ -105,7 +105,7 @@ counted_err : {E : Type 0} (t : Trail) (e : E) → t.faults ≤ (refused t).faul
 unfolding refused
 counted_err t e later = record {
   calls = refl;
-  cause = record { later = later; failed = omega arith };
+  cause = record { later = later; unrisen = tt; failed = omega arith };
   time = same_time t (record t { calls = risen t.calls 1; faults = risen t.faults 1 }) refl refl;
   foretold = λ told. absurd (false≢true told);
 }

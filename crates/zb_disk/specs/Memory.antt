@@ -1,10 +1,8 @@
 -- A disk in memory: what it reads, which bytes were written since the last sync, and what is armed.
-use Rattle.std.specs.Prelude.{ℕ, ◌+◌, ◌-◌, ◌%◌, ◌≤◌, ◌<◌, ◌≡◌, ◌==◌, ◌&&◌, List, [], ◌∷◌, ◌++◌, length, get_or, replicate, take, drop, Bool, true, false, nat_le, nat_lt, if◌then◌else◌}
-use Rattle.std.specs.List.{list_any}
+use Rattle.std.specs.Prelude.{ℕ, ◌+◌, ◌-◌, ◌%◌, ◌≤◌, ◌<◌, ◌≡◌, ◌==◌, List, [], ◌∷◌, ◌++◌, length, get_or, replicate, take, drop, Bool, true, false, nat_le, nat_lt, if◌then◌else◌}
 use Rattle.zb_base.specs.Outside.{risen}
 use Rattle.zb_disk.specs.declared.memory.Arming.{Arming}
 use Rattle.zb_disk.specs.declared.memory.Arming.TheVariants.{Unarmed, Stop, Fail, Stopped}
-use Rattle.zb_disk.specs.declared.runs.Run.{Run}
 use Rattle.zb_disk.specs.View.{View, Telling}
 
 -- a disk in memory
@@ -150,14 +148,3 @@ memory_view m = record {
   moment = 0;
   since = λ t. IsImage m.bytes m.written m.grown;
 }
-
-abbrev pub is_within : ℕ → Run → Bool
-is_within k run = nat_le run.start k && nat_lt k run.end
-
--- each written byte is in one of the runs
-unfoldable pub Covers : List Run → List Bool → Type 0
-Covers runs written = (k : ℕ) → get_or written k false ≡ true → list_any (is_within k) runs ≡ true
-
--- each written byte is in this run
-abbrev pub LiesIn : Run → List Bool → Type 0
-LiesIn run written = (k : ℕ) → get_or written k false ≡ true → is_within k run ≡ true

@@ -3,8 +3,8 @@
 
 mod disk;
 mod file;
+mod flags;
 mod memory;
-mod runs;
 mod trail;
 
 pub use disk::Disk;

@@ -3,11 +3,12 @@ ghost use Rattle.std.specs.Prelude.{OnOk, if◌then◌else◌, ◌-◌, replicat
 ghost use Rattle.zb_disk.specs.View.{overwrite, window, Only, IsUnsynced};
 ghost use Rattle.zb_base.specs.Outside.{risen};
 ghost use Rattle.zb_disk.specs.Calls.{IsRead, IsWrite, IsSync};
-ghost use Rattle.zb_disk.specs.Memory.{LiesIn, Medium, refuses, after_call, is_stopped, armed, tear, torn_by, counted, stored, synced, after_read, after_write, after_sync, powered, fresh, memory_tells, memory_view};
+ghost use Rattle.zb_disk.specs.Memory.{Medium, refuses, after_call, is_stopped, armed, tear, torn_by, counted, stored, synced, after_read, after_write, after_sync, powered, fresh, memory_tells, memory_view};
+ghost use Rattle.zb_disk.specs.MemoryInside.{flags_around};
 ghost use Rattle.zb_disk.specs.MemoryLaws.{image_seen};
 
 use crate::Disk;
-use crate::runs::{Run, lower_all, mark, note, overlay, put, span_of};
+use crate::flags::{add, overlay, put};
 use arrayvec::ArrayVec;
 use std::alloc::Global;
 use std::marker::Model;
@@ -15,9 +16,6 @@ use zb_base::{Failed, NoMemory};
 
 /// The bytes of a disk.
 const SIZE: usize = 131_072;
-
-/// How many runs of written bytes are told apart between two syncs.
-const RUNS: usize = 1_024;
 
 /// Says which calls a disk in memory is going to refuse.
 #[derive(Clone, Copy, Debug, PartialEq, Eq)]
@@ -74,15 +72,18 @@ fn arm(arming: &mut Arming, next: Arming)
 
 /// Stores its bytes in memory, refuses the calls that it is armed for, and tears what a stop catches.
 ///
-/// Its room is taken when it is made, and its other calls take no memory. It tells what it reads and its images, that a
-/// refused call leaves all as it was, and which calls it will refuse. It tells nothing of past moments.
+/// Its room is taken when it is made, and its other calls take no memory. It tells what it reads and its images, that
+/// a refused call leaves all as it was, and which calls it will refuse. It tells nothing of past moments.
 #[derive(Drop)]
 pub struct MemDisk {
-    // What is read, and of each byte whether it was written since the last sync.
+    // What is read.
     bytes: Vec<u8>,
+    // Where the newest write that isn't synced begins and ends.
+    from: usize,
+    to: usize,
+    // Of each byte from `base` on whether an older write that isn't synced reached it. None reached another byte.
+    base: usize,
     written: Vec<bool>,
-    // The runs that have all bytes written since the last sync.
-    runs: Vec<Run>,
     // How many bytes lie past the end that the last sync left.
     grown: usize,
     arming: Arming,
@@ -113,12 +114,12 @@ impl MemDisk {
     {
         let mut content = Vec::with_capacity(alloc, SIZE)?;
         content.extend_from_slice(bytes)?;
-        let mut written = Vec::with_capacity(alloc, SIZE)?;
-        written.resize(bytes.len(), false)?;
         Ok(MemDisk {
             bytes: content,
-            written,
-            runs: Vec::with_capacity(alloc, RUNS)?,
+            from: 0,
+            to: 0,
+            base: 0,
+            written: Vec::with_capacity(alloc, SIZE)?,
             grown: 0,
             arming: Arming::Unarmed,
             torn: ArrayVec::new(),
@@ -132,8 +133,10 @@ impl MemDisk {
         ensures { self.new ≡ fresh [] }
     {
         self.bytes.clear();
+        self.from = 0;
+        self.to = 0;
+        self.base = 0;
         self.written.clear();
-        self.runs.clear();
         self.grown = 0;
         self.arming = Arming::Unarmed;
         self.torn = ArrayVec::new();
@@ -205,8 +208,13 @@ impl MemDisk {
             self.settle();
             return;
         }
-        let span = span_of(&self.runs);
-        tear_all(&mut self.bytes, &self.written, self.torn.as_slice(), span);
+        self.base = add(&mut self.written, self.base, self.from, self.to);
+        tear_all(
+            &mut self.bytes,
+            self.base,
+            &self.written,
+            self.torn.as_slice(),
+        );
         self.arming = Arming::Unarmed;
         self.settle();
     }
@@ -248,8 +256,9 @@ impl MemDisk {
         let end = start + piece.len();
         self.grown += end.saturating_sub(self.bytes.len());
         put(&mut self.bytes, start, piece);
-        mark(&mut self.written, start, end);
-        note(&mut self.runs, start, end);
+        self.base = add(&mut self.written, self.base, self.from, self.to);
+        self.from = start;
+        self.to = end;
     }
 
     // Makes what is read the one image.
@@ -257,8 +266,9 @@ impl MemDisk {
     fn settle(&mut self)
         ensures { self.new ≡ synced self.old }
     {
-        lower_all(&mut self.written, &self.runs);
-        self.runs.clear();
+        self.from = 0;
+        self.to = 0;
+        self.written.clear();
         self.grown = 0;
     }
 }
@@ -339,29 +349,36 @@ fn blank(buf: &mut [u8], from: usize)
     buf[from..].fill(0);
 }
 
-// Each longest run of written bytes becomes the pattern, repeated, if there is one. All of them lie in the span.
-fn tear_all(bytes: &mut Vec<u8>, written: &[bool], pattern: &[u8], span: Run)
-    requires flags { length written.now ≡ length bytes.old.items }
-    requires within { LiesIn span written.now }
-    ensures after { bytes.new.items ≡ torn_by pattern.now bytes.old.items written.now }
+// Each longest run of written bytes becomes the pattern, repeated, if there is one. The flags begin at `base`.
+fn tear_all(bytes: &mut Vec<u8>, base: usize, written: &[bool], pattern: &[u8])
+    requires { base + length written.now ≤ length bytes.old.items }
+    ensures after { bytes.new.items
+        ≡ torn_by pattern.now bytes.old.items (flags_around base written.now (length bytes.old.items)) }
     ensures size { vec_len bytes.new ≡ vec_len bytes.old }
     ensures room { vec_capacity bytes.new ≡ vec_capacity bytes.old }
 {
     if !pattern.is_empty() {
-        tear_runs(bytes, written, pattern, span);
+        tear_window(bytes, base, written, pattern);
     }
 }
 
-// Each longest run of written bytes becomes the pattern, repeated. All of them lie in the span.
-fn tear_runs(bytes: &mut [u8], written: &[bool], pattern: &[u8], span: Run)
+// Each longest run of written bytes becomes the pattern, repeated. The flags begin at `base`.
+fn tear_window(bytes: &mut [u8], base: usize, written: &[bool], pattern: &[u8])
+    requires some { 0 < length pattern.now }
+    requires within { base + length written.now ≤ length bytes.old }
+    ensures { bytes.new ≡ tear pattern.now 0 bytes.old (flags_around base written.now (length bytes.old)) }
+{
+    tear_runs(&mut bytes[base..base + written.len()], written, pattern);
+}
+
+// Each longest run of written bytes becomes the pattern, repeated. Each byte has a flag.
+fn tear_runs(bytes: &mut [u8], written: &[bool], pattern: &[u8])
     requires flags { length written.now ≡ length bytes.old }
     requires some { 0 < length pattern.now }
-    requires within { LiesIn span written.now }
     ensures { bytes.new ≡ tear pattern.now 0 bytes.old written.now }
 {
-    let end = span.end.min(written.len());
     let mut phase = 0;
-    for i in span.start..end {
+    for i in 0..written.len() {
         if written[i] {
             bytes[i] = pattern[phase % pattern.len()];
             phase += 1;

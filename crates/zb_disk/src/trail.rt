@@ -5,8 +5,8 @@ ghost use Rattle.zb_disk.specs.Trail.{replayed, has_room, refused, kept_write, k
 ghost use Rattle.zb_disk.specs.TrailLaws.{left_now, trail_counts_now, trail_only_now};
 
 use crate::Disk;
+use crate::flags::put;
 use crate::memory::copy_window;
-use crate::runs::put;
 use std::alloc::Global;
 use std::marker::Model;
 use zb_base::{Failed, NoMemory};

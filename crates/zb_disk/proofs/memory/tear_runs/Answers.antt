@@ -1,15 +1,8 @@
-use Rattle.std.proofs.Common.{◌+◌, ◌≤◌, ◌<◌, List, ◌++◌, ℕ, length, take, drop, min, refl, ◌∙◌, ap, arith}
+use Rattle.std.proofs.Common.{◌+◌, ◌<◌, List, ◌++◌, ℕ, length, take, drop, ◌∙◌, ap, arith}
 use Rattle.zb_disk.specs.Memory.{tear}
-use Rattle.zb_disk.proofs.Tearing.{tear_up, tear_down, torn_at_first, torn_at_last}
+use Rattle.zb_disk.proofs.Tearing.{tear_up, tear_down, torn_at_last}
 use Rattle.zb_disk.proofs.memory.tear_runs.Goals as goal
 use Rattle.zb_disk.proofs.memory.tear_runs.Goals.{then-written-i, else-written-i}
-
-pub loop-i-init : goal.loop-i-init
-loop-i-init c = record {
-  rest = refl;
-  so_far = torn_at_first c.args.pattern.now c.args.bytes.now c.args.written.now c.args.span c.requires.within;
-  phase = omega arith;
-}
 
 pub loop-i-preserved : goal.loop-i-preserved
 loop-i-preserved c =
@@ -19,7 +12,7 @@ loop-i-preserved c =
     let i = c.loop-i.i in
     let inv = c.loop-i.invariant in
     let whole = tear p 0 bytes written in
-    let in_written : i < length written = omega (arith, c.loop-i-test.true, c.min-end.ensures) in
+    let in_written : i < length written = omega (arith, c.loop-i-test.true) in
     let in_bytes : i < length bytes = omega arith in
     let in_new : i < length c.loop-i.bytes = omega arith in
     elim c.if-written-i.branch [
@@ -41,7 +34,5 @@ loop-i-preserved c =
     ]
 
 pub returns : goal.returns
-returns c =
-    let late : min c.args.span.end (length c.args.written.now) ≤ c.loop-i.i = omega (arith, c.loop-i-test.false, c.min-end.ensures) in
-    torn_at_last c.args.pattern.now c.loop-i.phase c.args.bytes.now c.loop-i.bytes c.args.written.now c.args.span c.loop-i.i (tear c.args.pattern.now 0 c.args.bytes.now c.args.written.now)
-    c.requires.within late c.loop-i.invariant.rest c.loop-i.invariant.so_far
+returns c = torn_at_last c.args.pattern.now c.loop-i.phase c.args.bytes.now c.loop-i.bytes c.args.written.now c.loop-i.i (tear c.args.pattern.now 0 c.args.bytes.now c.args.written.now)
+    (omega (arith, c.loop-i-test.false)) (omega (arith, c.loop-i-test.false)) c.loop-i.invariant.so_far
