@@ -1,7 +1,7 @@
 -- One command: what its calls leave is what its definition says.
-use Rattle.std.proofs.Common.{◌≡◌, ℕ, ◌++◌, ◌∷◌, inl, Bool, true, false, List, [], Option, Some, None, Result, Ok, Err, OnOk, IsTrue, option_map, refl, sym, ap, ◌∙◌, subst}
+use Rattle.std.proofs.Common.{◌≡◌, ◌⊎◌, ℕ, ◌++◌, ◌∷◌, inl, inr, Bool, true, false, List, [], Option, Some, None, Result, Ok, Err, IfErr, OnOk, IsTrue, option_map, refl, sym, ap, ◌∙◌, subst}
 use Rattle.std.specs.Prelude.{codes, is_some, IsOk}
-use Rattle.zb_admin.specs.Commands.{HasHandled, HasLaidOut, IsCarriedOut, IsCommandFault, IsEventFault, IsTold, is_own, items_of, lays_out}
+use Rattle.zb_admin.specs.Commands.{HasHandled, HasLaidOut, IsCarriedOut, IsCommandFault, IsEventFault, IsLayOutFault, IsShort, IsTold, is_own, items_of, lays_out}
 use Rattle.zb_admin.specs.Served.{Done, IsRefusal, does, done, handled, on_empty, on_store, outcome_lines}
 use Rattle.zb_admin.specs.Standing.{IsEmpty, IsUp, IsWornOut, Stands, StandsAs, StandsAsEither, recorded}
 use Rattle.zb_admin.specs.Texts.{listed, ok_line, refuse_line}
@@ -11,6 +11,7 @@ use Rattle.zb_admin.proofs.RefusedLemmas.{is_no_refusal, refused_by, some_mapped
 use Rattle.zb_admin.specs.declared.fault.AdminFault.{AdminFault}
 use Rattle.zb_admin.specs.declared.fault.AdminFault.TheVariants.{Disk, NoStore, BadStore, Worn, Write, NoMemory}
 use Rattle.zb_disk.proofs.Moments.{started, still_refl}
+use Rattle.zb_disk.specs.Calls.{Unrisen}
 use Rattle.zb_disk.specs.View.{Telling, View, IsStill}
 use Rattle.zb_host.specs.Hosts.{Gives, Hosted}
 use Rattle.zb_host.specs.declared.outcome.Outcome.{Outcome}
@@ -61,7 +62,13 @@ event_command tells old new host Worn h = λ told c before is. by_standing c bef
     by_standing c None is told = absurd is
     by_standing c (Some s) is told = h c told s is
 event_command tells old new host Write h = h no_setting
-event_command tells old new host NoMemory h = tt
+event_command tells old new host NoMemory h = absurd (h no_setting)
+
+-- a command whose lines found no memory
+pub short_command : (tells : Telling) (old new : View) (centre : Option (Hosted CoreValue)) (r : Result (Unit {0}) AdminFault)
+    → IsShort r → Unrisen old.faults new.faults → IfErr r (IsCommandFault tells old centre new)
+short_command tells old new centre (Ok x) short same = tt
+short_command tells old new centre (Err f) short same = subst (IsCommandFault tells old centre new) (sym short) same
 
 pub told_lines : (line : ℕ) (out : Outcome Term Refusal) (a : Answer) → IsTold out a → outcome_lines line (option_map reason out.refused) (items_of out.frame) ≡ outcome_lines line a.refusal a.frame
 told_lines line out a is = ap (λ r. outcome_lines line r (items_of out.frame)) is.refusal ∙ ap (λ f. outcome_lines line a.refusal f) is.frame
@@ -133,6 +140,30 @@ pub new_stands : (tells : Telling) (c : Setting) (s : NodeState) (old new : View
 new_stands tells c s old new (Ok h) (Ok x) centre laid told kept is = subst (λ (o : Option (Hosted CoreValue)). Stands c (Some s) o new) (sym (kept h refl)) (laid.up told)
 new_stands tells c s old new (Err f) (Ok x) centre laid told kept is = let none : false ≡ true = is in absurd (cc)
 new_stands tells c s old new made (Err f) centre laid told kept is = tt
+
+-- the faults of a command that makes a new store
+laid_command : (tells : Telling) (old new : View) (f : AdminFault) → IsLayOutFault tells old new f → IsCommandFault tells old None new f
+laid_command tells old new Disk h = h
+laid_command tells old new NoStore h = h
+laid_command tells old new (BadStore at) h = h
+laid_command tells old new Worn h = absurd h
+laid_command tells old new Write h = h
+laid_command tells old new NoMemory h = h
+
+pub kept_command : (tells : Telling) (c : Setting) (s : NodeState) (old new : View) (made : Result (Hosted CoreValue) AdminFault)
+    (r : Result (Unit {0}) AdminFault) → HasLaidOut tells c s old made new
+    → IfErr r (λ f. (made ≡ Err f) ⊎ (IsOk made × (f ≡ NoMemory))) → IfErr r (IsCommandFault tells old None new)
+kept_command tells c s old new made (Ok x) laid fault = tt
+kept_command tells c s old new made (Err f) laid (inl is) =
+    laid_command tells old new f (subst (λ (m : Result (Hosted CoreValue) AdminFault). IfErr m (IsLayOutFault tells old new)) is laid.faults)
+kept_command tells c s old new (Ok h) (Err f) laid (inr is) = subst (IsCommandFault tells old None new) (sym is.1) laid.unrisen
+kept_command tells c s old new (Err e) (Err f) laid (inr is) = let none : false ≡ true = is.0 in absurd (cc)
+
+pub kept_unrisen : (tells : Telling) (c : Setting) (s : NodeState) (old new : View) (made : Result (Hosted CoreValue) AdminFault)
+    (r : Result (Unit {0}) AdminFault) → HasLaidOut tells c s old made new → OnOk r (IsOk made) → OnOk r (Unrisen old.faults new.faults)
+kept_unrisen tells c s old new (Ok h) (Ok x) laid is = laid.unrisen
+kept_unrisen tells c s old new (Err f) (Ok x) laid is = let none : false ≡ true = is in absurd (cc)
+kept_unrisen tells c s old new made (Err f) laid is = tt
 
 -- a command other than these two
 pub carried_refused : (c : Setting) (line : ℕ) (o : Order) (centre : Option (Hosted CoreValue)) (v : View) (front : List ℕ) (r : Result (Unit {0}) AdminFault) (text : List ℕ) → ((image : List ℕ) → v.since v.moment image → v.images image) → IsEmpty v → centre ≡ None

@@ -15,6 +15,7 @@ use Rattle.zb_admin.proofs.CommandLemmas.{images_stand}
 use Rattle.zb_admin.proofs.MomentLemmas.{all_of_run, script_goes}
 use Rattle.zb_admin.proofs.RunLemmas.{run_front, run_last, run_whole}
 use Rattle.zb_base.specs.Outside.{AppendsFront, Rose}
+use Rattle.zb_disk.specs.Calls.{Unrisen}
 use Rattle.zb_disk.specs.View.{LeavesOnly, View}
 use Rattle.zb_host.specs.Hosts.{Hosted}
 use Rattle.zb_model.specs.Rules.{Setting}
@@ -91,7 +92,7 @@ command_fault x c centre old new before after NoStore h = h
 command_fault x c centre old new before after (BadStore at) h = h
 command_fault x c centre old new before after Worn h = λ told b stood. h told c b stood
 command_fault x c centre old new before after Write h = absurd h
-command_fault x c centre old new before after NoMemory h = tt
+command_fault x c centre old new before after NoMemory h = h
 
 -- ---- the commands
 
@@ -110,14 +111,16 @@ module _ {D W : Type 0} (x : Outside D W) (c : Setting) (steps : List Step) (fir
 rose_later : (a b n : ℕ) → a ≤ b → Rose b n → Rose a n
 rose_later a b n le rose = omega (arith, le, rose)
 
-pub fault_later : {D W : Type 0} (x : Outside D W) (c : Setting) (centre next : Option (Hosted CoreValue)) (old disk new : D) (before out after : W) (f : AdminFault) → (x.state old).faults ≤ (x.state disk).faults → x.faults before ≤ x.faults out
+pub fault_later : {D W : Type 0} (x : Outside D W) (c : Setting) (centre next : Option (Hosted CoreValue)) (old disk new : D) (before out after : W) (f : AdminFault)
+    → Unrisen (x.state old).faults (x.state disk).faults → x.faults before ≤ x.faults out
     → (IsTrue x.tells.content → (b : Option NodeState) → Stands c b centre (x.state old) → (now : Option NodeState) × Stands c now next (x.state disk)) → IsServiceFault x c next disk out new after f → IsServiceFault x c centre old before new after f
-fault_later x c centre next old disk new before out after Disk count more on h = rose_later (x.state old).faults (x.state disk).faults (x.state new).faults count h
-fault_later x c centre next old disk new before out after NoStore count more on h = h
-fault_later x c centre next old disk new before out after (BadStore at) count more on h = h
-fault_later x c centre next old disk new before out after Worn count more on h = λ told b stood. let s = on told b stood in h told s.0 s.1
-fault_later x c centre next old disk new before out after Write count more on h = rose_later (x.faults before) (x.faults out) (x.faults after) more h
-fault_later x c centre next old disk new before out after NoMemory count more on h = tt
+fault_later x c centre next old disk new before out after Disk same more on h =
+    rose_later (x.state old).faults (x.state disk).faults (x.state new).faults (omega (arith, same)) h
+fault_later x c centre next old disk new before out after NoStore same more on h = h
+fault_later x c centre next old disk new before out after (BadStore at) same more on h = h
+fault_later x c centre next old disk new before out after Worn same more on h = λ told b stood. let s = on told b stood in h told s.0 s.1
+fault_later x c centre next old disk new before out after Write same more on h = rose_later (x.faults before) (x.faults out) (x.faults after) more h
+fault_later x c centre next old disk new before out after NoMemory same more on h = h ∙ same
 
 -- ---- the script
 
@@ -131,7 +134,7 @@ module _ {D W : Type 0} (x : Outside D W) (script : Script) (old : D) (before : 
   judge_fault new (BadStore at) h = λ told. (h told, refl)
   judge_fault new Worn h = absurd h
   judge_fault new Write h = absurd h
-  judge_fault new NoMemory h = tt
+  judge_fault new NoMemory h = h
 
   unopened_run : (new : D) → LeavesOnly (x.state old) (x.state new) (WasThereOrEmpty (x.state old)) → (standing : Option NodeState) → IsRun x c script.steps standing old before new before
   unopened_run new opening standing = record { opened = new; opening = opening; moments = []; goes = refl }
@@ -162,7 +165,7 @@ module _ {D W : Type 0} (x : Outside D W) (script : Script) (old : D) (before : 
   service_fault centre disk new after (BadStore at) count judged h = λ told. absurd (h told)
   service_fault centre disk new after Worn count judged h = λ told can. h told (tables_in centre) (judged.stands_so told can)
   service_fault centre disk new after Write count judged h = h
-  service_fault centre disk new after NoMemory count judged h = tt
+  service_fault centre disk new after NoMemory count judged h = h ∙ judged.unrisen
 
   moments_of : (disk new : D) (after : W) (result : Ended) (standing : Option NodeState) → LeavesOnly (x.state old) (x.state disk) (WasThereOrEmpty (x.state old))
       → Runs x c script.steps standing disk before result new after → IsRun x c script.steps standing old before new after

@@ -1,5 +1,5 @@
 -- The centre over its store: what a boot, the judgement of a store, a new store and an event leave.
-use Rattle.std.proofs.Common.{◌≡◌, ◌≢◌, ℕ, ◌<◌, ◌≤◌, ◌||◌, inl, inr, ◌⊎◌, Bool, true, false, not, if◌then◌else◌, List, [], ◌∷◌, get_or, length, Option, Some, None, Result, Ok, Err, IfOk, IfErr, IsTrue, refl, sym, ap, ◌∙◌, subst, arith, eqb-true}
+use Rattle.std.proofs.Common.{◌≡◌, ◌≢◌, ℕ, ◌<◌, ◌||◌, inl, inr, ◌⊎◌, Bool, true, false, not, if◌then◌else◌, List, [], ◌∷◌, get_or, length, Option, Some, None, Result, Ok, Err, IfErr, IsTrue, refl, sym, ap, ◌∙◌, subst, arith, eqb-true}
 use Rattle.std.specs.Prelude.{◌==◌, is_some, nat_eq}
 use Rattle.std.specs.List.{concat, list_all}
 use Rattle.zb_admin.specs.Served.{first_tables}
@@ -11,6 +11,7 @@ use Rattle.zb_admin.specs.Standing.{CanBeServed, IsEmpty, IsUp, IsWornOut, Stand
 use Rattle.zb_admin.specs.declared.fault.AdminFault.{AdminFault}
 use Rattle.zb_admin.specs.declared.fault.AdminFault.TheVariants.{Disk as AdminDisk, NoStore, BadStore, Worn as AdminWorn, Write, NoMemory as LackOfMemory}
 use Rattle.zb_base.specs.Outside.{Rose}
+use Rattle.zb_base.specs.declared.fault.OrMemory.TheVariants.{Fault}
 use Rattle.zb_base.specs.declared.node.Config.{Config}
 use Rattle.zb_centre.specs.Tasks.{IsTaskOf, task_of}
 use Rattle.zb_centre.specs.declared.event.CentreEvent.{CentreEvent}
@@ -18,6 +19,7 @@ use Rattle.zb_core.proofs.PlanLaws.{core_plan_leads}
 use Rattle.zb_core.specs.CorePlans.{CorePlan, IsCoreAfter, IsCorePlan}
 use Rattle.zb_disk.proofs.Moments.{still_leaves, still_then, weakened}
 use Rattle.zb_disk.specs.View.{Telling, View, IsStill, LeavesOnly}
+use Rattle.zb_disk.specs.Calls.{Unrisen}
 use Rattle.zb_host.specs.HostFaults as host
 use Rattle.zb_host.specs.Hosts.{Gives, Hosted, IsCurrent, StandsForEither, is_full, writes_whole}
 use Rattle.zb_host.specs.Plans.{gives, bad}
@@ -34,6 +36,8 @@ use Rattle.zb_network.specs.Settings.{setting_for}
 use Rattle.zb_node_types.specs.Changes.{reason}
 use Rattle.zb_node_types.specs.declared.change.Change.{Change}
 use Rattle.zb_node_types.specs.declared.refusal.Refusal.{Refusal}
+use Rattle.zb_node_types.specs.declared.fault.KeyError.{KeyError}
+use Rattle.zb_node_types.specs.declared.fault.KeyError.TheVariants.{KeyOld, KeysFull, RowsFull, KeyInUse, NoRow, WrongHash, BadRecord as BadBytes}
 use Rattle.zb_plan.specs.Answers.{IsAnswer}
 use Rattle.zb_seal.specs.declared.term.Term.{Term}
 use Rattle.zb_keys.specs.Declarations.{first_state}
@@ -42,7 +46,7 @@ use Rattle.zb_record.proofs.Tested.{fits_from, fits_true}
 use Rattle.zb_record.proofs.WholeAgain.{record_again}
 use Rattle.zb_record.specs.Ranges as ranges
 use Rattle.zb_record.specs.Ranges.{FitsBytes, fits_widths}
-use Rattle.zb_record.specs.Records.{record_read}
+use Rattle.zb_record.specs.Records.{BadPlace, record_read}
 use Rattle.zb_store.specs.Layout.{Standing, slot, stands}
 use Rattle.zb_store.specs.Store.{AllWhole, IsHeld, Place, WasThere, formatted, place_of}
 use Rattle.zb_stored_tables.proofs.CoreLaws.{none_storable, state_keeps}
@@ -50,8 +54,8 @@ use Rattle.zb_stored_tables.specs.Cores.{CoreValue, IsBooted}
 use Rattle.zb_stored_tables.specs.Stored.{IsKept, IsStoredAfter, restored, state_given}
 use Rattle.zb_stored_tables.specs.Stored as stored
 
-later : (a b n : ℕ) → a ≤ b → Rose b n → Rose a n
-later a b n le rose = omega (arith, le, rose)
+later : (a b n : ℕ) → Unrisen a b → Rose b n → Rose a n
+later a b n same rose = omega (arith, same, rose)
 
 -- ---- a boot
 
@@ -74,7 +78,7 @@ bad_found at (Err n) e = let same : n ≡ at = cc in ap (λ m. Err (BadStore m))
 pub boot_fault : (tells : Telling) (old new : View) (f : HostFault) → host.IsBootFault tells (restored Centre) old new f → IsBootFault tells old new (fault_of f)
 unfolding restored
 boot_fault tells old new (Disk changes) h = h.0
-boot_fault tells old new NoMemory h = tt
+boot_fault tells old new NoMemory h = h
 boot_fault tells old new NoRecord h = h
 boot_fault tells old new (BadRecord at) h = λ told. let found = h told in (found.0, found.1, bad_found at (state_given Centre found.0.content (concat found.0.payloads)) found.2)
 boot_fault tells old new Worn h = absurd h
@@ -106,28 +110,16 @@ module _ (tells : Telling) (config : Config) (old new : View) (centre : Hosted C
         first = λ is. eqb-true (get_or a.0.content 0 0) 1 (sym a.4 ∙ is);
       }
 
-  pub has_booted : Answering → Readies → Boots → (AllWhole old → IsTrue tells.content → LeavesOnly old new (WasThere old)) → is_some centre.store ≡ true → HasBooted tells (setting_for config) old (Ok centre) new
-  has_booted answers ready core moments store = record {
+  pub has_booted : Answering → Readies → Boots → (AllWhole old → IsTrue tells.content → LeavesOnly old new (WasThere old)) → is_some centre.store ≡ true
+      → Unrisen old.faults new.faults → HasBooted tells (setting_for config) old (Ok centre) new
+  has_booted answers ready core moments store unrisen = record {
     found = found_so answers core;
     up = up_so answers ready core;
     store = store;
     moments = moments;
     faults = tt;
+    unrisen = unrisen;
   }
-
--- it is up, or memory was short
-pub has_booted_up : (tells : Telling) (config : Config) (old new : View) (centre : Hosted CoreValue) (r : Result (Hosted CoreValue) AdminFault) → Answering tells config old new centre → Readies tells config old new centre → Boots tells config old new centre
-    → (AllWhole old → IsTrue tells.content → LeavesOnly old new (WasThere old)) → IfOk r (λ h. (h ≡ centre) × (is_some h.store ≡ true)) → IfErr r (λ f. f ≡ LackOfMemory) → HasBooted tells (setting_for config) old r new
-has_booted_up tells config old new centre (Ok h) answers ready core moments same fault =
-    subst (λ (x : Hosted CoreValue). HasBooted tells (setting_for config) old (Ok x) new) (sym same.0)
-    (has_booted tells config old new centre answers ready core moments (subst (λ (x : Hosted CoreValue). is_some x.store ≡ true) same.0 same.1))
-has_booted_up tells config old new centre (Err f) answers ready core moments same fault = record {
-  found = tt;
-  up = tt;
-  store = tt;
-  moments = moments;
-  faults = subst (IsBootFault tells old new) (sym fault) tt;
-}
 
 -- ---- the judgement of a store
 
@@ -161,14 +153,15 @@ found_none : (bytes : List ℕ) → bytes ≡ [] → found_on bytes ≡ Ok None
 unfolding found_on
 found_none bytes e = ap found_on e
 
-pub judged_empty : (tells : Telling) (c : Setting) (old new : View) → ((image : List ℕ) → old.since old.moment image → old.images image) → (IsTrue tells.content → old.images old.seen) → IsStill old new → (IsTrue tells.content → 0 ≡ length old.seen)
+pub judged_empty : (tells : Telling) (c : Setting) (old new : View) → ((image : List ℕ) → old.since old.moment image → old.images image) → (IsTrue tells.content → old.images old.seen) → IsStill old new → Unrisen old.faults new.faults → (IsTrue tells.content → 0 ≡ length old.seen)
     → IsJudged tells c old (Ok None) new
-judged_empty tells c old new only_now reads still size = record {
+judged_empty tells c old new only_now reads still same size = record {
   found = λ told. found_none old.seen (none_of old.seen (sym (size told)));
   stands_so = λ told can. empty can (none_of old.seen (sym (size told))) (reads told);
   store = tt;
   moments = λ can told. still_leaves old new (WasThereOrEmpty old) still only_now (there old can);
   faults = tt;
+  unrisen = same;
 }
   where
     empty : CanBeServed old → old.seen ≡ [] → old.images old.seen → IsEmpty new
@@ -199,38 +192,40 @@ found_tables_of old mid s still some (z, stand, given, widths) =
     by_width true e = refl
     by_width false e = absurd (cc)
 
-judge_fault : (tells : Telling) (old mid new : View) (f : AdminFault) → old.faults ≤ mid.faults → IsStill old mid → IsNotEmpty tells old → IsBootFault tells mid new f → IsJudgeFault tells old new f
-judge_fault tells old mid new AdminDisk le still some h = later old.faults mid.faults new.faults le h
-judge_fault tells old mid new NoStore le still some h = λ told. found_some old.seen (some told) ∙ ap found_store (ap stands (sym still.same.seen) ∙ h told)
-judge_fault tells old mid new (BadStore at) le still some h = λ told. let z = h told in found_some old.seen (some told) ∙ ap found_store (ap stands (sym still.same.seen) ∙ z.1) ∙ z.2
-judge_fault tells old mid new AdminWorn le still some h = h
-judge_fault tells old mid new Write le still some h = h
-judge_fault tells old mid new LackOfMemory le still some h = h
+judge_fault : (tells : Telling) (old mid new : View) (f : AdminFault) → Unrisen old.faults mid.faults → IsStill old mid → IsNotEmpty tells old → IsBootFault tells mid new f → IsJudgeFault tells old new f
+judge_fault tells old mid new AdminDisk same still some h = later old.faults mid.faults new.faults same h
+judge_fault tells old mid new NoStore same still some h = λ told. found_some old.seen (some told) ∙ ap found_store (ap stands (sym still.same.seen) ∙ h told)
+judge_fault tells old mid new (BadStore at) same still some h = λ told. let z = h told in found_some old.seen (some told) ∙ ap found_store (ap stands (sym still.same.seen) ∙ z.1) ∙ z.2
+judge_fault tells old mid new AdminWorn same still some h = h
+judge_fault tells old mid new Write same still some h = h
+judge_fault tells old mid new LackOfMemory same still some h = h ∙ same
 
 judged_moments : (tells : Telling) (old mid new : View) → IsStill old mid → IsNotEmpty tells old → (AllWhole mid → IsTrue tells.content → LeavesOnly mid new (WasThere mid)) → CanBeServed old → IsTrue tells.content → LeavesOnly old new (WasThereOrEmpty old)
 judged_moments tells old mid new still some moments (inl empty) told = absurd (some told empty.seen)
 judged_moments tells old mid new still some moments (inr whole) told = still_then old mid new (WasThereOrEmpty old) still (weakened mid new (WasThere mid) (WasThereOrEmpty old) (was_still old mid still) (moments (whole_still old mid still whole) told))
 
-pub judged_up : (tells : Telling) (c : Setting) (old mid new : View) (centre : Hosted CoreValue) → IsStill old mid → IsNotEmpty tells old → HasBooted tells c mid (Ok centre) new → IsJudged tells c old (Ok (Some centre)) new
-judged_up tells c old mid new centre still some booted = record {
+pub judged_up : (tells : Telling) (c : Setting) (old mid new : View) (centre : Hosted CoreValue) → Unrisen old.faults mid.faults → IsStill old mid → IsNotEmpty tells old → HasBooted tells c mid (Ok centre) new → IsJudged tells c old (Ok (Some centre)) new
+judged_up tells c old mid new centre same still some booted = record {
   found = λ told. found_tables_of old mid centre.core.tables still (some told) (booted.found told);
   stands_so = stands_so;
   store = booted.store;
   moments = judged_moments tells old mid new still some booted.moments;
   faults = tt;
+  unrisen = booted.unrisen ∙ same;
 }
   where
     stands_so : IsTrue tells.content → CanBeServed old → IsUp c centre.core.tables centre new
     stands_so told (inl empty) = absurd (some told empty.seen)
     stands_so told (inr whole) = booted.up told (whole_still old mid still whole)
 
-pub judged_failed : (tells : Telling) (c : Setting) (old mid new : View) (r : Result (Hosted CoreValue) AdminFault) (f : AdminFault) → old.faults ≤ mid.faults → IsStill old mid → IsNotEmpty tells old → HasBooted tells c mid r new → r ≡ Err f → IsJudged tells c old (Err f) new
-judged_failed tells c old mid new r f le still some booted is = record {
+pub judged_failed : (tells : Telling) (c : Setting) (old mid new : View) (r : Result (Hosted CoreValue) AdminFault) (f : AdminFault) → Unrisen old.faults mid.faults → IsStill old mid → IsNotEmpty tells old → HasBooted tells c mid r new → r ≡ Err f → IsJudged tells c old (Err f) new
+judged_failed tells c old mid new r f same still some booted is = record {
   found = tt;
   stands_so = tt;
   store = tt;
   moments = judged_moments tells old mid new still some booted.moments;
-  faults = judge_fault tells old mid new f le still some (subst (λ (x : Result (Hosted CoreValue) AdminFault). IfErr x (IsBootFault tells mid new)) is booted.faults);
+  faults = judge_fault tells old mid new f same still some (subst (λ (x : Result (Hosted CoreValue) AdminFault). IfErr x (IsBootFault tells mid new)) is booted.faults);
+  unrisen = tt;
 }
 
 -- a size that isn't 0
@@ -245,29 +240,31 @@ can_still : (old mid : View) → IsStill old mid → CanBeServed old → CanBeSe
 can_still old mid still (inl empty) = inl (same_empty old mid still empty)
 can_still old mid still (inr whole) = inr (whole_still old mid still whole)
 
-judge_fault_then : (tells : Telling) (old mid new : View) (f : AdminFault) → old.faults ≤ mid.faults → IsStill old mid → IsJudgeFault tells mid new f → IsJudgeFault tells old new f
-judge_fault_then tells old mid new AdminDisk le still h = later old.faults mid.faults new.faults le h
-judge_fault_then tells old mid new NoStore le still h = λ told. ap found_on (sym still.same.seen) ∙ h told
-judge_fault_then tells old mid new (BadStore at) le still h = λ told. ap found_on (sym still.same.seen) ∙ h told
-judge_fault_then tells old mid new AdminWorn le still h = h
-judge_fault_then tells old mid new Write le still h = h
-judge_fault_then tells old mid new LackOfMemory le still h = h
+judge_fault_then : (tells : Telling) (old mid new : View) (f : AdminFault) → Unrisen old.faults mid.faults → IsStill old mid → IsJudgeFault tells mid new f → IsJudgeFault tells old new f
+judge_fault_then tells old mid new AdminDisk same still h = later old.faults mid.faults new.faults same h
+judge_fault_then tells old mid new NoStore same still h = λ told. ap found_on (sym still.same.seen) ∙ h told
+judge_fault_then tells old mid new (BadStore at) same still h = λ told. ap found_on (sym still.same.seen) ∙ h told
+judge_fault_then tells old mid new AdminWorn same still h = h
+judge_fault_then tells old mid new Write same still h = h
+judge_fault_then tells old mid new LackOfMemory same still h = h ∙ same
 
 -- the judgement behind the call for the size, which changes nothing
-pub judged_then : (tells : Telling) (c : Setting) (old mid new : View) (r : Result (Option (Hosted CoreValue)) AdminFault) → old.faults ≤ mid.faults → IsStill old mid → IsJudged tells c mid r new → IsJudged tells c old r new
-judged_then tells c old mid new (Ok o) le still judged = record {
+pub judged_then : (tells : Telling) (c : Setting) (old mid new : View) (r : Result (Option (Hosted CoreValue)) AdminFault) → Unrisen old.faults mid.faults → IsStill old mid → IsJudged tells c mid r new → IsJudged tells c old r new
+judged_then tells c old mid new (Ok o) same still judged = record {
   found = λ told. ap found_on (sym still.same.seen) ∙ judged.found told;
   stands_so = λ told can. judged.stands_so told (can_still old mid still can);
   store = judged.store;
   moments = λ can told. still_then old mid new (WasThereOrEmpty old) still (weakened mid new (WasThereOrEmpty mid) (WasThereOrEmpty old) (was_there_still old mid still) (judged.moments (can_still old mid still can) told));
   faults = tt;
+  unrisen = judged.unrisen ∙ same;
 }
-judged_then tells c old mid new (Err f) le still judged = record {
+judged_then tells c old mid new (Err f) same still judged = record {
   found = tt;
   stands_so = tt;
   store = tt;
   moments = λ can told. still_then old mid new (WasThereOrEmpty old) still (weakened mid new (WasThereOrEmpty mid) (WasThereOrEmpty old) (was_there_still old mid still) (judged.moments (can_still old mid still can) told));
-  faults = judge_fault_then tells old mid new f le still judged.faults;
+  faults = judge_fault_then tells old mid new f same still judged.faults;
+  unrisen = tt;
 }
 
 pub judged_unread : (tells : Telling) (c : Setting) (old new : View) → ((image : List ℕ) → old.since old.moment image → old.images image) → IsStill old new → Rose old.faults new.faults → IsJudged tells c old (Err AdminDisk) new
@@ -277,6 +274,7 @@ judged_unread tells c old new only_now still rose = record {
   store = tt;
   moments = λ can told. still_leaves old new (WasThereOrEmpty old) still only_now (there old can);
   faults = rose;
+  unrisen = tt;
 }
 
 -- ---- a new store
@@ -314,16 +312,17 @@ module _ (tells : Telling) (c : Setting) (s : NodeState) (widths : FitsBytes s) 
       let same : z ≡ formatted (record_of s) = some_of z (formatted (record_of s)) (sym stand ∙ stand_so told) in
       sym (ok_of s t (sym (ap (λ (y : Standing). state_given Centre y.content (concat y.payloads)) same ∙ given) ∙ gives_t))
 
-  pub laid_out : (old : View) (r : Result (Hosted CoreValue) AdminFault) → old.faults ≤ mid.faults → HasBooted tells c mid r new → HasLaidOut tells c s old r new
-  laid_out old (Ok centre) le booted = record {
+  pub laid_out : (old : View) (r : Result (Hosted CoreValue) AdminFault) → Unrisen old.faults mid.faults → HasBooted tells c mid r new → HasLaidOut tells c s old r new
+  laid_out old (Ok centre) same booted = record {
     up = λ told. subst (λ (t : NodeState). IsUp c t centre new) (tables_so centre.core.tables told (booted.found told)) (booted.up told (all_whole told));
     store = booted.store;
     faults = tt;
+    unrisen = booted.unrisen ∙ same;
   }
-  laid_out old (Err f) le booted = record { up = tt; store = tt; faults = fault f booted.faults }
+  laid_out old (Err f) same booted = record { up = tt; store = tt; faults = fault f booted.faults; unrisen = tt }
     where
       fault : (f : AdminFault) → IsBootFault tells mid new f → IsLayOutFault tells old new f
-      fault AdminDisk h = later old.faults mid.faults new.faults le h
+      fault AdminDisk h = later old.faults mid.faults new.faults same h
       fault NoStore h = λ told. let e : None ≡ Some (formatted (record_of s)) = sym (h told) ∙ stand_so told in absurd (cc)
       fault (BadStore at) h = λ told.
           let z = h told in
@@ -331,7 +330,7 @@ module _ (tells : Telling) (c : Setting) (s : NodeState) (widths : FitsBytes s) 
           no_fault at s widths (sym (ap (λ (y : Standing). found_tables (state_given Centre y.content (concat y.payloads))) same ∙ ap found_tables given) ∙ z.2)
       fault AdminWorn h = h
       fault Write h = h
-      fault LackOfMemory h = h
+      fault LackOfMemory h = h ∙ same
 
 -- ---- an event
 
@@ -458,6 +457,7 @@ booted_failed tells c old new f g same moments fault = record {
   store = tt;
   moments = moments;
   faults = subst (IsBootFault tells old new) (sym same) (boot_fault tells old new f fault);
+  unrisen = tt;
 }
 
 -- ---- tables for a new store
@@ -505,3 +505,17 @@ read_back bytes t (s, kept, is) read =
     let again : ◌≡◌ {A = Result NodeState ℕ} (Ok (shown (after_boot s))) (Ok t) = sym (record_again s kept.rules (has_fits s kept.widths)) ∙ sym (ap record_read is) ∙ read in
     let same : t ≡ s = sym (ok_of (shown (after_boot s)) t again) ∙ ap shown kept.booted ∙ kept.forgets in
     (ap (λ (x : NodeState). x.role) same ∙ kept.role, subst FitsBytes (sym same) (has_fits s kept.widths))
+
+-- the record of a backup's tables has no fault
+pub no_bad_place : (bytes : List ℕ) (e : KeyError) → (s : NodeState) × IsOfCentre s × (bytes ≡ record_of s)
+    → BadPlace (Fault e) (length bytes) (record_read bytes) → ⊥
+no_bad_place bytes (KeyOld place) kept bad_place = bad_place
+no_bad_place bytes KeysFull kept bad_place = bad_place
+no_bad_place bytes RowsFull kept bad_place = bad_place
+no_bad_place bytes (KeyInUse partner) kept bad_place = bad_place
+no_bad_place bytes NoRow kept bad_place = bad_place
+no_bad_place bytes WrongHash kept bad_place = bad_place
+no_bad_place bytes (BadBytes place) (s, kept, is) (left, wrong, there) =
+    let again : ◌≡◌ {A = Result NodeState ℕ} (Ok (shown (after_boot s))) (Err left) =
+    sym (record_again s kept.rules (has_fits s kept.widths)) ∙ sym (ap record_read is) ∙ wrong in
+    absurd (cc)

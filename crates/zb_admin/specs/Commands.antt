@@ -8,6 +8,7 @@ use Rattle.zb_admin.specs.Served.{Done, IsRefusal}
 use Rattle.zb_admin.specs.Standing.{CanBeServed, IsUp, IsWornOut, Stands, StandsAsEither, found_on, found_tables}
 use Rattle.zb_base.specs.Outside.{Rose}
 use Rattle.zb_disk.specs.View.{Telling, View, IsStill, LeavesOnly}
+use Rattle.zb_disk.specs.Calls.{Unrisen}
 use Rattle.zb_host.specs.Hosts.{Hosted}
 use Rattle.zb_host.specs.declared.outcome.Outcome.{Outcome}
 use Rattle.zb_model.specs.Answer.{Answer, answer, answered}
@@ -27,7 +28,7 @@ use Rattle.zb_stored_tables.specs.Cores.{CoreValue}
 use Rattle.zb_stored_tables.specs.Stored.{state_given}
 use Rattle.zb_text.specs.Pages.{page}
 
--- ---- the store is booted, judged, laid out
+-- ---- the store is booted, judged, laid out; where memory is short the disk's count of faults stands
 
 abbrev pub IsBootFault : Telling → View → View → AdminFault → Type 0
 IsBootFault tells old new Disk = Rose old.faults new.faults
@@ -35,7 +36,7 @@ IsBootFault tells old new NoStore = IsTrue tells.content → stands old.seen ≡
 IsBootFault tells old new (BadStore at) = IsTrue tells.content → (z : Standing) × (stands old.seen ≡ Some z) × (found_tables (state_given Centre z.content (concat z.payloads)) ≡ Err (BadStore at))
 IsBootFault tells old new Worn = ⊥
 IsBootFault tells old new Write = ⊥
-IsBootFault tells old new NoMemory = ⊤
+IsBootFault tells old new NoMemory = Unrisen old.faults new.faults
 
 -- the record and the entries that stand give these tables
 abbrev pub HasFound : View → NodeState → Type 0
@@ -47,6 +48,7 @@ pub record HasBooted (tells : Telling) (c : Setting) (old : View) (result : Resu
   pub store : IfOk result (λ centre. is_some centre.store ≡ true)
   pub moments : AllWhole old → IsTrue tells.content → LeavesOnly old new (WasThere old)
   pub faults : IfErr result (IsBootFault tells old new)
+  pub unrisen : OnOk result (Unrisen old.faults new.faults)
 
 -- the tables of the centre, if one is up
 abbrev pub tables_in : Option (Hosted CoreValue) → Option NodeState
@@ -63,7 +65,7 @@ IsJudgeFault tells old new NoStore = IsTrue tells.content → found_on old.seen 
 IsJudgeFault tells old new (BadStore at) = IsTrue tells.content → found_on old.seen ≡ Err (BadStore at)
 IsJudgeFault tells old new Worn = ⊥
 IsJudgeFault tells old new Write = ⊥
-IsJudgeFault tells old new NoMemory = ⊤
+IsJudgeFault tells old new NoMemory = Unrisen old.faults new.faults
 
 -- while a store is judged, an image is empty, or stands for what one stood for before
 abbrev pub WasThereOrEmpty : View → List ℕ → Type 0
@@ -75,6 +77,7 @@ pub record IsJudged (tells : Telling) (c : Setting) (old : View) (result : Resul
   pub store : IfOk result HasStore
   pub moments : CanBeServed old → IsTrue tells.content → LeavesOnly old new (WasThereOrEmpty old)
   pub faults : IfErr result (IsJudgeFault tells old new)
+  pub unrisen : OnOk result (Unrisen old.faults new.faults)
 
 -- A disk that tells its content stands for the record that was just written.
 abbrev pub IsLayOutFault : Telling → View → View → AdminFault → Type 0
@@ -83,13 +86,14 @@ IsLayOutFault tells old new NoStore = IsTrue tells.content → ⊥
 IsLayOutFault tells old new (BadStore at) = IsTrue tells.content → ⊥
 IsLayOutFault tells old new Worn = ⊥
 IsLayOutFault tells old new Write = ⊥
-IsLayOutFault tells old new NoMemory = ⊤
+IsLayOutFault tells old new NoMemory = Unrisen old.faults new.faults
 
 -- a store was made with the record of these tables, and the centre booted from it
 pub record HasLaidOut (tells : Telling) (c : Setting) (s : NodeState) (old : View) (result : Result (Hosted CoreValue) AdminFault) (new : View) : Type 0 where
   pub up : IfOk result (λ centre. IsTrue tells.content → IsUp c s centre new)
   pub store : IfOk result (λ centre. is_some centre.store ≡ true)
   pub faults : IfErr result (IsLayOutFault tells old new)
+  pub unrisen : OnOk result (Unrisen old.faults new.faults)
 
 -- ---- an event of the centre
 
@@ -148,14 +152,14 @@ pub record IsCarriedOut (c : Setting) (lays : Bool) (before : Option NodeState) 
   -- a refused command leaves the disk as it was, and what stands
   pub spared : OnOk result (IsRefusal d → IsStill old new × (d.after ≡ before))
 
--- It lacks memory, the disk failed, or the generations are used up.
+-- It lacks memory, and the disk's count of faults stands; or the disk failed, or the generations are used up.
 abbrev pub IsCommandFault : Telling → View → Option (Hosted CoreValue) → View → AdminFault → Type 0
 IsCommandFault tells old centre new Disk = Rose old.faults new.faults
 IsCommandFault tells old centre new NoStore = IsTrue tells.content → ⊥
 IsCommandFault tells old centre new (BadStore at) = IsTrue tells.content → ⊥
 IsCommandFault tells old centre new Worn = IsTrue tells.content → (c : Setting) (before : Option NodeState) → Stands c before centre old → (z : Standing) × (stands new.seen ≡ Some z) × IsWornOut z
 IsCommandFault tells old centre new Write = ⊥
-IsCommandFault tells old centre new NoMemory = ⊤
+IsCommandFault tells old centre new NoMemory = Unrisen old.faults new.faults
 
 -- there was no memory left
 abbrev pub IsShort : {T : Type 0} → Result T AdminFault → Type 0

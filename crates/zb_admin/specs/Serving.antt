@@ -1,5 +1,5 @@
 -- What serving a script does to the disk and to the output, command by command, and what follows of it.
-use Rattle.std.specs.Prelude.{ℕ, ◌≡◌, ◌⊎◌, List, [], ◌∷◌, Option, Some, Result, Ok, Err, IfErr, OnOk, OnErr, IsTrue, ⊤}
+use Rattle.std.specs.Prelude.{ℕ, ◌≡◌, ◌⊎◌, List, [], ◌∷◌, Option, Some, Result, Ok, Err, IfErr, OnOk, OnErr, IsTrue}
 use Rattle.std.specs.Io.KnownBytes.{Appends}
 use Rattle.zb_admin.specs.declared.fault.AdminFault.{AdminFault}
 use Rattle.zb_admin.specs.declared.fault.AdminFault.TheVariants.{Disk, NoStore, BadStore, Worn, Write, NoMemory}
@@ -10,6 +10,7 @@ use Rattle.zb_admin.specs.Served.{IsRefusal, done, served, served_text}
 use Rattle.zb_admin.specs.Standing.{CanBeServed, IsWornOut, Stands, StandsAs, found_on}
 use Rattle.zb_base.specs.Outside.{AppendsFront, Rose}
 use Rattle.zb_disk.specs.View.{View, IsStill, LeavesOnly}
+use Rattle.zb_disk.specs.Calls.{Unrisen}
 use Rattle.zb_host.specs.Hosts.{Hosted}
 use Rattle.zb_model.specs.Rules.{Setting}
 use Rattle.zb_model.specs.State.{NodeState}
@@ -55,7 +56,7 @@ pub record HasServed {D W : Type 0} (x : Outside D W) (c : Setting) (step : Step
   pub lines : OnOk result (Appends (x.taken before) (x.taken after) (page (done c step standing).lines))
   pub cut : OnErr result (EndsAt x c step standing old before new after)
 
--- When each fault of commands comes, once the store was judged.
+-- When each fault of commands comes, once the store was judged. Where memory is short the disk's count of faults stands.
 abbrev pub IsServiceFault : {D W : Type 0} → Outside D W → Setting → Option (Hosted CoreValue) → D → W → D → W → AdminFault → Type 0
 IsServiceFault x c centre old before new after Disk = Rose (x.state old).faults (x.state new).faults
 IsServiceFault x c centre old before new after NoStore = IsTrue x.tells.content → ⊥
@@ -63,7 +64,7 @@ IsServiceFault x c centre old before new after (BadStore at) = IsTrue x.tells.co
 IsServiceFault x c centre old before new after Worn = IsTrue x.tells.content → (b : Option NodeState) → Stands c b centre (x.state old)
     → (z : Standing) × (stands (x.state new).seen ≡ Some z) × IsWornOut z
 IsServiceFault x c centre old before new after Write = Rose (x.faults before) (x.faults after)
-IsServiceFault x c centre old before new after NoMemory = ⊤
+IsServiceFault x c centre old before new after NoMemory = Unrisen (x.state old).faults (x.state new).faults
 
 -- ---- the whole script
 
@@ -80,14 +81,15 @@ abbrev pub IsUnopened : {D W : Type 0} → Outside D W → D → W → Ended →
 IsUnopened x old before result new after =
     ((fault : AdminFault) × (result ≡ Err fault)) × LeavesOnly (x.state old) (x.state new) (WasThereOrEmpty (x.state old)) × (after ≡ before)
 
--- When each fault comes. The two of a store that is no centre's come before anything is written.
+-- When each fault comes. The two of a store that is no centre's come before anything is written. Where memory is short
+-- the disk's count of faults stands.
 abbrev pub IsAdminFault : {D W : Type 0} → Outside D W → D → W → D → W → AdminFault → Type 0
 IsAdminFault x old before new after Disk = Rose (x.state old).faults (x.state new).faults
 IsAdminFault x old before new after NoStore = IsTrue x.tells.content → (found_on (x.state old).seen ≡ Err NoStore) × (after ≡ before)
 IsAdminFault x old before new after (BadStore at) = IsTrue x.tells.content → (found_on (x.state old).seen ≡ Err (BadStore at)) × (after ≡ before)
 IsAdminFault x old before new after Worn = IsTrue x.tells.content → CanBeServed (x.state old) → (z : Standing) × (stands (x.state new).seen ≡ Some z) × IsWornOut z
 IsAdminFault x old before new after Write = Rose (x.faults before) (x.faults after)
-IsAdminFault x old before new after NoMemory = ⊤
+IsAdminFault x old before new after NoMemory = Unrisen (x.state old).faults (x.state new).faults
 
 -- A script was served.
 pub record Serves {D W : Type 0} (x : Outside D W) (script : Script) (old : D) (before : W) (result : Ended) (new : D) (after : W) : Type 0 where

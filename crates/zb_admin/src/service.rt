@@ -11,6 +11,7 @@ ghost use Rattle.zb_backup.specs.Format.{backup_text};
 ghost use Rattle.zb_base.specs.Config.{IsConfig};
 ghost use Rattle.zb_base.specs.Outside.{AppendsFront, Rose};
 ghost use Rattle.zb_centre.specs.Tasks.{task_of};
+ghost use Rattle.zb_disk.specs.Calls.{Unrisen};
 ghost use Rattle.zb_host.specs.Hosts.{Hosted};
 ghost use Rattle.zb_model.specs.Data as model;
 ghost use Rattle.zb_model.specs.Rules.{Setting};
@@ -136,6 +137,7 @@ fn handle_event<D: Disk>(
     ensures faults { IfErr result
         (IsCommandFault D.tells (D.state disk.old) (Some host.old) (D.state disk.new)) }
     ensures count { (D.state disk.old).faults ≤ (D.state disk.new).faults }
+    ensures unrisen { OnOk result (Unrisen (D.state disk.old).faults (D.state disk.new).faults) }
 {
     match handle(host, disk, event) {
         Ok(out) => tell(page, line, &out),
@@ -159,6 +161,7 @@ fn on_store<D: Disk>(
     ensures faults { IfErr result
         (IsCommandFault D.tells (D.state disk.old) (Some host.old) (D.state disk.new)) }
     ensures count { (D.state disk.old).faults ≤ (D.state disk.new).faults }
+    ensures unrisen { OnOk result (Unrisen (D.state disk.old).faults (D.state disk.new).faults) }
 {
     match &step.order {
         Order::Init { key: _ } => refuse(page, step.line, b"exists"),
@@ -192,7 +195,7 @@ fn keep(
     ensures kept { OnOk result ((h : Hosted CoreValue) → made ≡ Ok h → centre.new ≡ Some h) }
     ensures made { OnOk result (IsOk made) }
     ensures text { OnOk result (page.new.items ≡ page.old.items ++ page_of (ok_line line ∷ [])) }
-    ensures fault { IfErr result (λ f. (made ≡ Err f) ⊎ (f ≡ AdminFault.NoMemory)) }
+    ensures fault { IfErr result (λ f. (made ≡ Err f) ⊎ (IsOk made × (f ≡ AdminFault.NoMemory))) }
 {
     match made {
         Ok(host) => {
@@ -224,6 +227,7 @@ fn on_empty<D: Disk>(
     ensures faults { IfErr result
         (IsCommandFault D.tells (D.state disk.old) None (D.state disk.new)) }
     ensures count { (D.state disk.old).faults ≤ (D.state disk.new).faults }
+    ensures unrisen { OnOk result (Unrisen (D.state disk.old).faults (D.state disk.new).faults) }
 {
     match &step.order {
         Order::Init { key } => {
@@ -260,6 +264,7 @@ fn carry_out<D: Disk>(
     ensures faults { IfErr result
         (IsCommandFault D.tells (D.state disk.old) centre.old (D.state disk.new)) }
     ensures count { (D.state disk.old).faults ≤ (D.state disk.new).faults }
+    ensures unrisen { OnOk result (Unrisen (D.state disk.old).faults (D.state disk.new).faults) }
 {
     match centre {
         Some(host) => on_store(alloc, host, disk, step, page),
@@ -305,6 +310,7 @@ fn serve_step<D: Disk, W: Sink>(
     ensures faults { IfErr result (IsServiceFault (outside D.tells D.state W.taken W.faults) (setting_for config.now)
         centre.old disk.old out.old disk.new out.new) }
     ensures count { (D.state disk.old).faults ≤ (D.state disk.new).faults }
+    ensures unrisen { OnOk result (Unrisen (D.state disk.old).faults (D.state disk.new).faults) }
     ensures later { W.faults out.old ≤ W.faults out.new }
 {
     match carry_out(alloc, config, centre, disk, step, page) {

@@ -5,6 +5,7 @@ ghost use Rattle.zb_admin.specs.Served.{first_tables, tables_of};
 ghost use Rattle.zb_backup.specs.Reading.{IsOfCentre};
 ghost use Rattle.zb_base.specs.Config.{IsConfig};
 ghost use Rattle.zb_centre.specs.Tasks.{task_of};
+ghost use Rattle.zb_disk.specs.Calls.{Unrisen};
 ghost use Rattle.zb_keys.specs.Declarations.{declared_state};
 ghost use Rattle.zb_model.specs.Data as model;
 ghost use Rattle.zb_model.specs.Record.{record_of};
@@ -21,7 +22,7 @@ ghost use Rattle.zb_stored_tables.specs.Cores.{IsOfRole};
 use crate::AdminFault;
 use crate::fault::of_host;
 use std::alloc::Global;
-use zb_base::{Config, Failed, Key, NoMemory, Role};
+use zb_base::{Config, Failed, Key, NoMemory, OrMemory, Role};
 use zb_centre::{Centre, CentreEvent};
 use zb_disk::Disk;
 use zb_host::{Host, Outcome};
@@ -31,18 +32,6 @@ use zb_seal::Term;
 use zb_skip::skip;
 use zb_store::{RECORD_ROOM, Store, StoreFault};
 
-// Answers the host again. One that was just booted is up.
-fn while_up(host: Host<Centre>) -> Result<Host<Centre>, AdminFault>
-    ensures same { IfOk result (λ h. (h ≡ host) × (is_some h.store ≡ true)) }
-    ensures fault { IfErr result (λ f. f ≡ AdminFault.NoMemory) }
-{
-    if host.is_up() {
-        Ok(host)
-    } else {
-        Err(AdminFault::NoMemory)
-    }
-}
-
 // Boots the centre whose store stands on the disk.
 fn boot<D: Disk>(alloc: Global, config: &Config, disk: &mut D) -> Result<Host<Centre>, AdminFault>
     requires config { IsConfig config.now }
@@ -51,7 +40,7 @@ fn boot<D: Disk>(alloc: Global, config: &Config, disk: &mut D) -> Result<Host<Ce
     ensures count { (D.state disk.old).faults ≤ (D.state disk.new).faults }
 {
     match Host::boot(alloc, config, disk) {
-        Ok(host) => while_up(host),
+        Ok(host) => Ok(host),
         Err(fault) => Err(of_host(fault)),
     }
 }
@@ -111,6 +100,7 @@ fn format<D: Disk>(
         → IsHeld (formatted (record_of tables.now)) (D.state disk.new)) }
     ensures faults { IfErr result (IsLayOutFault D.tells (D.state disk.old) (D.state disk.new)) }
     ensures count { (D.state disk.old).faults ≤ (D.state disk.new).faults }
+    ensures unrisen { OnOk result (Unrisen (D.state disk.old).faults (D.state disk.new).faults) }
 {
     let len = tables.record_bytes(room) as usize;
     match Store::format(alloc, disk, &room[..len]) {
@@ -198,8 +188,9 @@ fn skipped(alloc: Global, by: u32, kept: &[u8]) -> Result<Tables, NoMemory>
 {
     let mut tables = match Tables::from_record(alloc, kept) {
         Ok(tables) => tables,
-        // The bytes are a record: memory is short.
-        Err(_) => return Err(NoMemory),
+        Err(OrMemory::NoMemory) => return Err(NoMemory),
+        // The bytes are a record.
+        Err(OrMemory::Fault(_)) => unreachable!(),
     };
     skip(&mut tables, by);
     Ok(tables)
@@ -258,6 +249,7 @@ pub(crate) fn handle<D: Disk>(
     ensures handled { (c : Setting) → HasHandled D.tells c (task_of event.now) host.old (D.state disk.old) result
         host.new (D.state disk.new) }
     ensures count { (D.state disk.old).faults ≤ (D.state disk.new).faults }
+    ensures unrisen { OnOk result (Unrisen (D.state disk.old).faults (D.state disk.new).faults) }
 {
     keep_rules(host);
     match host.handle(disk, event) {

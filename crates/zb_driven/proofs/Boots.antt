@@ -6,7 +6,8 @@ use Rattle.zb_base.specs.Outside.{risen}
 use Rattle.zb_base.specs.declared.fault.OrMemory.{OrMemory}
 use Rattle.zb_base.specs.declared.fault.OrMemory.TheVariants.{Fault, NoMemory as Lacking}
 use Rattle.zb_node_types.specs.declared.change.Change.{Change}
-use Rattle.zb_disk.specs.View.{Only}
+use Rattle.zb_disk.specs.View.{Only, View}
+use Rattle.zb_disk.specs.Calls.{Unrisen}
 use Rattle.zb_disk.specs.Memory.{Medium, is_stopped, powered, memory_tells, memory_view}
 use Rattle.zb_store.specs.Layout.{Standing, IsWhole}
 use Rattle.zb_store.specs.Layout.{stands as stands_on}
@@ -136,6 +137,15 @@ IsThere (Some s) = Unit {0}
 abbrev IsGood : Restored → Type 0
 IsGood (gives w) = Unit {0}
 IsGood (bad at) = ⊥
+
+-- a boot that lacked memory left the count of faults
+pub lacked : (restored : Restoring) (old new : View) (fault : HostFault) (fall : Fall) → boot_cause fault fall ≡ Lacking
+    → IsBootFault memory_tells restored old new fault → Unrisen old.faults new.faults
+lacked restored old new (Disk changes) fall cause of_fault = absurd (subst IsLack (sym cause) tt)
+lacked restored old new NoMemory fall cause of_fault = of_fault
+lacked restored old new NoRecord fall cause of_fault = absurd (subst IsLack (sym cause) tt)
+lacked restored old new (BadRecord at) fall cause of_fault = absurd (subst IsLack (sym cause) tt)
+lacked restored old new Worn fall cause of_fault = absurd of_fault
 
 -- a boot of a node at rest fails for the disk or for want of memory alone
 pub has_fallen_at_boot : {C : Type 0} (words : Words C Medium) (s : Standing) (w : List ℕ) (a : Armed) (old m : Medium) (fault : HostFault) (seen fall : Fall) → IsDown words s w a old

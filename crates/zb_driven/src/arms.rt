@@ -28,7 +28,8 @@ pub enum Arms {
 
 /// Arms a disk that isn't off. It counts from now on.
 pub(crate) fn arm(disk: &mut MemDisk, arms: &Arms)
-    ensures { is_stopped disk.old.arming ≡ false → disk.new ≡ armed_medium (armed_of arms.now) disk.old }
+    ensures armed { is_stopped disk.old.arming ≡ false → disk.new ≡ armed_medium (armed_of arms.now) disk.old }
+    ensures faults { disk.new.faults ≡ disk.old.faults }
 {
     match arms {
         Arms::Unarmed => {}
@@ -48,7 +49,8 @@ fn copied(torn: &ArrayVec<u8, 32>) -> ArrayVec<u8, 32>
 
 /// Takes back what was armed, if anything was.
 pub(crate) fn disarm(disk: &mut MemDisk, arms: &Arms)
-    ensures { disk.new ≡ disarmed_medium (armed_of arms.now) disk.old }
+    ensures disarmed { disk.new ≡ disarmed_medium (armed_of arms.now) disk.old }
+    ensures faults { disk.new.faults ≡ disk.old.faults }
 {
     match arms {
         Arms::Unarmed => {}

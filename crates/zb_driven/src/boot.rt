@@ -2,6 +2,7 @@
 ghost use Rattle.std.specs.Prelude.{◌≡◌, List, ℕ, IfOk, IfErr, IsTrue, is_some};
 ghost use Rattle.std.specs.List.{concat};
 ghost use Rattle.zb_base.specs.Config.{IsConfig};
+ghost use Rattle.zb_disk.specs.Calls.{Unrisen};
 ghost use Rattle.zb_store.specs.Layout.{Standing};
 ghost use Rattle.zb_driven.specs.Arms.{armed_of};
 ghost use Rattle.zb_driven.specs.Driven.{memory_words, IsDown, WasBooted, HasFallenAtBoot, boot_cause};
@@ -43,6 +44,7 @@ pub fn boot_armed<C: Core>(
         → IsDown (memory_words C.restored C.recorded C.payload) s w (armed_of arms.now) disk.old
         → HasFallenAtBoot s (armed_of arms.now) disk.old fall disk.new) }
     ensures up { IfOk result (λ h. IsTrue (is_some h.store)) }
+    ensures lacks { IfErr result (λ e. e ≡ OrMemory.NoMemory → Unrisen disk.old.faults disk.new.faults) }
 {
     arm(disk, arms);
     match Host::boot(alloc, config, disk) {

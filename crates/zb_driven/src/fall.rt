@@ -19,9 +19,11 @@ pub enum Fall {
 }
 
 /// Brings the power back and takes back what was armed, if anything was. Answers whether the disk was off.
+#[tactic(auto, unfolding(zb_disk::specs::Memory::powered))]
 pub(crate) fn recover(disk: &mut MemDisk, arms: &Arms) -> Fall
     ensures fall { result ≡ fall_seen (is_stopped disk.old.arming) }
     ensures disk { disk.new ≡ disarmed_medium (armed_of arms.now) (powered disk.old) }
+    ensures faults { disk.new.faults ≡ disk.old.faults }
     ensures only { Only (powered disk.old).bytes (memory_view (powered disk.old)).images }
 {
     let fall = seen(disk.is_off());

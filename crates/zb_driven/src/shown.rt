@@ -1,7 +1,8 @@
 //! The record that a node's disk stands for.
-ghost use Rattle.std.specs.Prelude.{◌≡◌, ◌≤◌, List, ℕ, length, IfOk};
+ghost use Rattle.std.specs.Prelude.{◌≡◌, ◌≤◌, List, ℕ, length, IfOk, OnErr};
 ghost use Rattle.zb_base.specs.Config.{IsConfig};
 ghost use Rattle.zb_disk.specs.View.{IsStill};
+ghost use Rattle.zb_disk.specs.Calls.{Unrisen};
 ghost use Rattle.zb_disk.specs.Memory.{memory_view};
 ghost use Rattle.zb_store.specs.Layout.{Standing, IsWhole, stands};
 ghost use Rattle.zb_store.specs.Sizes.{record_room, payloads_room};
@@ -34,6 +35,7 @@ pub fn dump<C: Core>(
     requires role { C.is_of_role config.now }
     requires room { record_room ≤ length room.old }
     ensures still { IsStill (memory_view disk.old) (memory_view disk.new) }
+    ensures lacks { OnErr result (Unrisen disk.old.faults disk.new.faults) }
     ensures exact { IfOk result (λ r. IsRecordOf C.restored (stands disk.old.bytes) r room.new) }
     ensures shown { IfOk result (λ r. (s : Standing) (w : List ℕ) → IsWhole s disk.old.bytes → IsUnarmed disk.old
         → Gives C.restored s w → IsShown r room.new w) }

@@ -3,6 +3,7 @@ use Rattle.std.specs.Prelude.{◌≡◌, [], Bool, true, Option, Some, None, IsT
 use Rattle.std.specs.List.{concat}
 use Rattle.zb_base.specs.Outside.{Rose}
 use Rattle.zb_disk.specs.View.{Telling, View}
+use Rattle.zb_disk.specs.Calls.{Unrisen}
 use Rattle.zb_store.specs.Layout.{Standing, stands}
 use Rattle.zb_store.specs.Store.{Place}
 use Rattle.zb_host.specs.declared.fault.CommitFault.{CommitFault}
@@ -24,10 +25,10 @@ IsHandleFault whole store old new NoRecord = ⊥
 IsHandleFault whole store old new (BadRecord at) = ⊥
 IsHandleFault whole store old new Worn = (whole ≡ true) × ((p : Place) × (store ≡ Some p) × (p.generation ≡ 18446744073709551615))
 
--- of `boot`: the disk, want of memory, no open slot, or what stands gives no core
+-- of `boot`: the disk, want of memory, where the count of faults stands, no open slot, or what stands gives no core
 abbrev pub IsBootFault : Telling → Restoring → View → View → HostFault → Type 0
 IsBootFault tells restored old new (Disk changes) = Rose old.faults new.faults × (changes.items ≡ [])
-IsBootFault tells restored old new NoMemory = Unit {0}
+IsBootFault tells restored old new NoMemory = Unrisen old.faults new.faults
 IsBootFault tells restored old new NoRecord = IsTrue tells.content → stands old.seen ≡ None
 IsBootFault tells restored old new (BadRecord at) = IsTrue tells.content → (s : Standing) × (stands old.seen ≡ Some s) × (restored s.content (concat s.payloads) ≡ bad at)
 IsBootFault tells restored old new Worn = ⊥

@@ -3,6 +3,7 @@ use Rattle.std.specs.Prelude.{ℕ, ◌≡◌, ◌≢◌, ◌≤◌, ◌==◌, �
 use Rattle.std.specs.List.{concat}
 use Rattle.zb_base.specs.Outside.{Rose}
 use Rattle.zb_disk.specs.View.{Telling, View, IsStill, LeavesOnly}
+use Rattle.zb_disk.specs.Calls.{Unrisen}
 use Rattle.zb_store.specs.declared.fault.StoreFault.{StoreFault}
 use Rattle.zb_store.specs.declared.fault.StoreFault.TheVariants.{Disk, NoRecord, TooLarge, NoMemory, Worn}
 use Rattle.zb_store.specs.Sizes.{entries_room}
@@ -95,3 +96,4 @@ pub record IsCommit (tells : Telling) (whole : Bool) (content payload : List ℕ
   pub worn : whole ≡ true → store.generation ≡ 18446744073709551615 → result ≡ Err Worn
   pub untouched : IsErrOf result Worn → IsStill old new
   pub count : old.faults ≤ new.faults
+  pub unrisen : OnOk result (Unrisen old.faults new.faults)

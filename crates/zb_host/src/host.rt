@@ -2,6 +2,7 @@
 ghost use Rattle.std.specs.Prelude.{if◌then◌else◌, Some, None, ◌≡◌, ◌≢◌, ◌==◌, ◌≤◌, ◌⊎◌, [], List, ℕ, length, get_or, Bool, true, false, is_some, IsTrue, IsErrOf, IfOk, IfErr, OnOk, OnErr};
 ghost use Rattle.zb_base.specs.Config.{IsConfig};
 ghost use Rattle.zb_disk.specs.View.{IsStill};
+ghost use Rattle.zb_disk.specs.Calls.{Unrisen};
 ghost use Rattle.zb_store.specs.Layout.{Standing, stands};
 ghost use Rattle.zb_store.specs.Sizes.{record_room};
 ghost use Rattle.zb_store.specs.Steps.{WentThrough};
@@ -101,6 +102,7 @@ impl<C: Core> Host<C> {
         ensures faults { IfErr result
             (IsHandleFault (writes_whole self.old) self.old.store (D.state disk.old) (D.state disk.new)) }
         ensures count { (D.state disk.old).faults ≤ (D.state disk.new).faults }
+        ensures unrisen { OnOk result (Unrisen (D.state disk.old).faults (D.state disk.new).faults) }
     {
         let mut plan = Plan::new();
         match self.handle_into(disk, event, &mut plan) {
@@ -161,6 +163,7 @@ impl<C: Core> Host<C> {
         ensures faults { IfErr result
             (IsUnstored (writes_whole self.old) self.old.store (D.state disk.old) (D.state disk.new)) }
         ensures count { (D.state disk.old).faults ≤ (D.state disk.new).faults }
+        ensures unrisen { OnOk result (Unrisen (D.state disk.old).faults (D.state disk.new).faults) }
     {
         self.core.plan(event, plan);
         self.core.apply(plan);
@@ -219,6 +222,8 @@ impl<C: Core> Host<C> {
             → (s : Standing) → stands (D.state disk.old).seen ≡ Some s
             → OpenStop D.tells s (D.state disk.old) (D.state disk.new)) }
         ensures count { (D.state disk.old).faults ≤ (D.state disk.new).faults }
+        ensures up { IfOk result (λ h. IsTrue (is_some h.store)) }
+        ensures unrisen { OnOk result (Unrisen (D.state disk.old).faults (D.state disk.new).faults) }
     {
         let mut room = match record_space(alloc) {
             Ok(room) => room,

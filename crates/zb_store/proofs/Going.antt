@@ -1,9 +1,8 @@
 -- How runs of writes and syncs join.
 use Rattle.std.proofs.Common.{◌≡◌, inl, inr, ℕ, ◌+◌, ◌-◌, List, [], ◌∷◌, length, IsTrue, Result, Ok, Err, refl, sym, ◌∙◌, ap, subst, arith}
 use Rattle.std.proofs.lemmas.Bool.{cases_lt}
-use Rattle.zb_base.specs.Outside.{HasCause}
 use Rattle.zb_disk.specs.View.{Telling, View, Torn, Only, IsStill, LeavesOnly, overwrite}
-use Rattle.zb_disk.specs.Calls.{IsCounted, IsWrite, IsSync}
+use Rattle.zb_disk.specs.Calls.{CountsFaults, IsCounted, IsWrite, IsSync}
 use Rattle.zb_disk.proofs.Moments.{started, goes_on, goes_through, weakened}
 use Rattle.zb_store.specs.Layout.{open_gate}
 use Rattle.zb_store.specs.Steps.{WentThrough, StoppedAfter, TornFrom, PlaceStop, IsPlaced, staged, GateStop, IsStage, IsGated}
@@ -86,9 +85,18 @@ still_stopped n a b c still run = record {
   torn = λ told. run.torn told ∙ still.torn;
 }
 
-pub causes : {T E T' E' : Type 0} (a b c : ℕ) (x : T) (r : Result T' E') → HasCause {T = T} {E = E} a b (Ok x) → HasCause {T = T'} {E = E'} b c r → HasCause {T = T'} {E = E'} a c r
-causes a b c x (Ok y) first second = record { later = omega (arith, first.later, second.later); failed = tt }
-causes a b c x (Err e) first second = record { later = omega (arith, first.later, second.later); failed = omega (arith, first.later, second.failed) }
+pub causes : {T E T' E' : Type 0} (a b c : ℕ) (x : T) (r : Result T' E') → CountsFaults {T = T} {E = E} a b (Ok x)
+    → CountsFaults {T = T'} {E = E'} b c r → CountsFaults {T = T'} {E = E'} a c r
+causes a b c x (Ok y) first second = record {
+  later = omega (arith, first.later, second.later);
+  unrisen = second.unrisen ∙ first.unrisen;
+  failed = tt;
+}
+causes a b c x (Err e) first second = record {
+  later = omega (arith, first.later, second.later);
+  unrisen = tt;
+  failed = omega (arith, first.later, second.failed);
+}
 
 torn_same : (at n : ℕ) (c : List ℕ) → Torn at n c c
 torn_same at n c = record { before = λ m until within. refl; after = λ m from. refl; no_shorter = omega arith }

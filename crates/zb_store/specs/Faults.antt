@@ -1,7 +1,8 @@
 -- When each fault of a store comes.
-use Rattle.std.specs.Prelude.{ℕ, ◌<◌, ◌≤◌, ◌≡◌, ◌≢◌, List, length, None, true, IsTrue, Result, IfErr, IsErrOf}
+use Rattle.std.specs.Prelude.{ℕ, ◌<◌, ◌≤◌, ◌≡◌, ◌≢◌, List, length, None, true, IsTrue, Result, OnOk, IfErr, IsErrOf}
 use Rattle.zb_base.specs.Outside.{Rose}
 use Rattle.zb_disk.specs.View.{Telling, View, IsStill}
+use Rattle.zb_disk.specs.Calls.{Unrisen}
 use Rattle.zb_store.specs.declared.fault.StoreFault.{StoreFault}
 use Rattle.zb_store.specs.declared.fault.StoreFault.TheVariants.{Disk, NoRecord, TooLarge, NoMemory, Worn}
 use Rattle.zb_store.specs.Sizes.{record_room, payload_room}
@@ -24,20 +25,20 @@ IsPutFault store content old new (TooLarge len) = (len ≡ length content) × (r
 IsPutFault store content old new NoMemory = ⊥
 IsPutFault store content old new Worn = (length content ≤ record_room) × (store.generation ≡ 18446744073709551615)
 
--- of `format`: the disk, too large a record, or want of memory, of which nothing is said
+-- of `format`: the disk, too large a record, or want of memory, and then the count of faults stands
 abbrev pub IsFormatFault : List ℕ → View → View → StoreFault → Type 0
 IsFormatFault content old new Disk = Rose old.faults new.faults
 IsFormatFault content old new NoRecord = ⊥
 IsFormatFault content old new (TooLarge len) = (len ≡ length content) × (record_room < length content)
-IsFormatFault content old new NoMemory = Unit {0}
+IsFormatFault content old new NoMemory = Unrisen old.faults new.faults
 IsFormatFault content old new Worn = ⊥
 
--- of the calls that read: the disk, no open slot, or want of memory
+-- of the calls that read: the disk, no open slot, or want of memory, likewise
 abbrev pub IsReadFault : Telling → View → View → StoreFault → Type 0
 IsReadFault tells old new Disk = Rose old.faults new.faults
 IsReadFault tells old new NoRecord = IsTrue tells.content → stands old.seen ≡ None
 IsReadFault tells old new (TooLarge len) = ⊥
-IsReadFault tells old new NoMemory = Unit {0}
+IsReadFault tells old new NoMemory = Unrisen old.faults new.faults
 IsReadFault tells old new Worn = ⊥
 
 -- of `standing`, which takes no memory
@@ -48,12 +49,12 @@ IsStandingFault tells old new (TooLarge len) = ⊥
 IsStandingFault tells old new NoMemory = ⊥
 IsStandingFault tells old new Worn = ⊥
 
--- of a read into memory: the disk, or want of memory
+-- of a read into memory: the disk, or want of memory, likewise
 abbrev pub IsBytesFault : View → View → StoreFault → Type 0
 IsBytesFault old new Disk = Rose old.faults new.faults
 IsBytesFault old new NoRecord = ⊥
 IsBytesFault old new (TooLarge len) = ⊥
-IsBytesFault old new NoMemory = Unit {0}
+IsBytesFault old new NoMemory = Unrisen old.faults new.faults
 IsBytesFault old new Worn = ⊥
 
 -- a call that only reads: nothing changes but the count of faults, and it fails for the disk only where that is off
@@ -61,6 +62,7 @@ pub record OnlyReads {T : Type 0} (tells : Telling) (old new : View) (result : R
   pub still : IsStill old new
   pub refusal : IsErrOf result Disk → IsTrue tells.refusals → old.off 0 ≡ true
   pub count : old.faults ≤ new.faults
+  pub unrisen : OnOk result (Unrisen old.faults new.faults)
 
 -- where it wasn't the disk that failed, nothing has changed
 abbrev pub IsSpared : {T : Type 0} → Result T StoreFault → View → View → Type 0

@@ -1,6 +1,7 @@
 //! The store: where it stands, and its calls.
 ghost use Rattle.std.specs.Prelude.{Some, ◌≡◌, ◌+◌, ◌<◌, ◌≤◌, ◌^◌, [], ◌∷◌, ℕ, length, true, IsTrue, IfOk, IfErr, OnOk, OnErr, IsErrOf};
 ghost use Rattle.zb_disk.specs.View.{IsStill, LeavesOnly};
+ghost use Rattle.zb_disk.specs.Calls.{Unrisen};
 ghost use Rattle.zb_store.specs.Layout.{Standing, stands};
 ghost use Rattle.zb_store.specs.Reading.{AreCounted, AreContents};
 ghost use Rattle.zb_store.specs.Sizes.{record_room, payload_room, entries_room, payloads_room};
@@ -79,6 +80,7 @@ impl Store {
         ensures untouched { payload_room < length change.now → IsStill (D.state disk.old) (D.state disk.new) }
         ensures faults { IfErr result (IsAppendFault change.now (D.state disk.old) (D.state disk.new)) }
         ensures count { (D.state disk.old).faults ≤ (D.state disk.new).faults }
+        ensures unrisen { OnOk result (Unrisen (D.state disk.old).faults (D.state disk.new).faults) }
     {
         if change.len() > PAYLOAD_ROOM {
             return Err(StoreFault::TooLarge {
@@ -122,6 +124,7 @@ impl Store {
         ensures untouched { IsSpared result (D.state disk.old) (D.state disk.new) }
         ensures faults { IfErr result (IsPutFault self content.now (D.state disk.old) (D.state disk.new)) }
         ensures count { (D.state disk.old).faults ≤ (D.state disk.new).faults }
+        ensures unrisen { OnOk result (Unrisen (D.state disk.old).faults (D.state disk.new).faults) }
     {
         if content.len() > RECORD_ROOM {
             return Err(StoreFault::TooLarge {
@@ -163,6 +166,7 @@ impl Store {
         ensures untouched { IsSpared result (D.state disk.old) (D.state disk.new) }
         ensures faults { IfErr result (IsFormatFault first.now (D.state disk.old) (D.state disk.new)) }
         ensures count { (D.state disk.old).faults ≤ (D.state disk.new).faults }
+        ensures unrisen { OnOk result (Unrisen (D.state disk.old).faults (D.state disk.new).faults) }
     {
         if first.len() > RECORD_ROOM {
             return Err(StoreFault::TooLarge {
@@ -214,6 +218,7 @@ impl Store {
         ensures untouched { IsSpared result (D.state disk.old) (D.state disk.new) }
         ensures faults { IfErr result (IsReadFault D.tells (D.state disk.old) (D.state disk.new)) }
         ensures count { (D.state disk.old).faults ≤ (D.state disk.new).faults }
+        ensures unrisen { OnOk result (Unrisen (D.state disk.old).faults (D.state disk.new).faults) }
     {
         let buffer = Vec::with_capacity(alloc, BODY_ROOM)?;
         let contents = read_standing(alloc, disk)?;

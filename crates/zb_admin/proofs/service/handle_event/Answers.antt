@@ -1,9 +1,9 @@
-use Rattle.std.proofs.Common.{◌∙◌, ap, ◌++◌}
+use Rattle.std.proofs.Common.{◌∙◌, Some, ap, ◌++◌}
 use Rattle.zb_centre.specs.Tasks.{task_of}
 use Rattle.zb_model.specs.Answer.{answer}
 use Rattle.zb_model_real.specs.Real.{real}
 use Rattle.zb_text.specs.Pages.{page}
-use Rattle.zb_admin.proofs.CommandLemmas.{always, event_command, event_spared, no_setting, on_ok_then, told_lines}
+use Rattle.zb_admin.proofs.CommandLemmas.{always, event_command, event_spared, no_setting, on_ok_then, short_command, told_lines}
 use Rattle.zb_admin.proofs.service.handle_event.Goals as goal
 
 pub returns-in-Ok-clause-carried : goal.returns-in-Ok-clause-carried
@@ -19,6 +19,14 @@ returns-in-Ok-clause-carried g c = λ told setting s up.
 
 pub returns-in-Ok-clause-store : goal.returns-in-Ok-clause-store
 returns-in-Ok-clause-store g c = always c.tell.result (c.in-Ok.ensures.handled no_setting).store
+
+pub returns-in-Ok-clause-unrisen : goal.returns-in-Ok-clause-unrisen
+returns-in-Ok-clause-unrisen g c = always c.tell.result c.in-Ok.ensures.unrisen
+
+pub returns-in-Ok-clause-faults : goal.returns-in-Ok-clause-faults
+returns-in-Ok-clause-faults g c =
+    short_command g.D.Disk.tells (g.D.Disk.state c.args.disk.now) (g.D.Disk.state c.handle.new.disk) (Some c.args.host.now) c.tell.result
+    c.tell.ensures.short c.in-Ok.ensures.unrisen
 
 pub returns-in-Err-clause-carried : goal.returns-in-Err-clause-carried
 returns-in-Err-clause-carried g c = λ told setting s up. record { after = tt; lines = tt; between = λ e. (c.in-Err.ensures.handled setting).moments told s up; spared = tt }

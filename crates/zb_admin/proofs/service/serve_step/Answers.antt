@@ -1,5 +1,6 @@
 use Rattle.zb_admin.specs.Serving.{outside}
 use Rattle.zb_network.specs.Settings.{setting_for}
+use Rattle.zb_admin.proofs.CommandLemmas.{always}
 use Rattle.zb_admin.proofs.ServeLemmas.{command_fault, step_cut, step_written, write_fault}
 use Rattle.zb_admin.proofs.service.serve_step.Goals as goal
 
@@ -16,6 +17,9 @@ returns-in-Err-clause-served g c = λ told b stood.
 pub returns-in-Err-clause-faults : goal.returns-in-Err-clause-faults
 returns-in-Err-clause-faults g c =
     command_fault (outside g.D.Disk.tells g.D.Disk.state g.W.Sink.taken g.W.Sink.faults) (setting_for c.args.config.now) c.args.centre.now c.args.disk.now c.carry_out.new.disk c.args.out.now c.args.out.now c.in-Err.fault c.in-Err.ensures.faults
+
+pub returns-in-Ok-clause-unrisen : goal.returns-in-Ok-clause-unrisen
+returns-in-Ok-clause-unrisen g c = always c.write_page.result c.in-Ok.ensures.unrisen
 
 pub returns-in-Ok-clause-faults : goal.returns-in-Ok-clause-faults
 returns-in-Ok-clause-faults g c =

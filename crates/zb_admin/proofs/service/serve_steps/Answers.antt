@@ -1,4 +1,4 @@
-use Rattle.std.proofs.Common.{arith}
+use Rattle.std.proofs.Common.{arith, refl, ◌∙◌}
 use Rattle.zb_admin.specs.Serving.{outside}
 use Rattle.zb_network.specs.Settings.{setting_for}
 use Rattle.zb_admin.proofs.ServeLemmas.{all_served, begins, fault_later, step_ends, step_more}
@@ -9,6 +9,7 @@ loop-step-init g c = record {
   empty = c.new-page.ensures.items;
   store = c.requires.store;
   count = omega arith;
+  unrisen = refl;
   later = omega arith;
   goes = λ told first stood. begins (outside g.D.Disk.tells g.D.Disk.state g.W.Sink.taken g.W.Sink.faults) (setting_for c.args.config.now) c.args.steps.now first c.args.disk.now c.args.out.now c.args.centre.now stood;
 }
@@ -18,6 +19,7 @@ loop-step-preserved g c = record {
   empty = c.in-Ok.ensures.empty;
   store = c.in-Ok.ensures.store;
   count = omega (arith, c.loop-step.invariant.count, c.serve_step.ensures.count);
+  unrisen = c.in-Ok.ensures.unrisen ∙ c.loop-step.invariant.unrisen;
   later = omega (arith, c.loop-step.invariant.later, c.serve_step.ensures.later);
   goes = λ told first stood.
       step_more (outside g.D.Disk.tells g.D.Disk.state g.W.Sink.taken g.W.Sink.faults) (setting_for c.args.config.now) c.args.steps.now first c.args.disk.now c.args.out.now c.loop-step.step-index c.step-item.result c.loop-step-test.true c.step-item.is
@@ -38,5 +40,5 @@ returns-in-Err-clause-run g c = λ told first stood.
 pub returns-in-Err-clause-faults : goal.returns-in-Err-clause-faults
 returns-in-Err-clause-faults g c =
     fault_later (outside g.D.Disk.tells g.D.Disk.state g.W.Sink.taken g.W.Sink.faults) (setting_for c.args.config.now) c.args.centre.now c.loop-step.centre c.args.disk.now c.loop-step.disk c.serve_step.new.disk c.args.out.now c.loop-step.out c.serve_step.new.out c.in-Err.fault
-    c.loop-step.invariant.count c.loop-step.invariant.later
+    c.loop-step.invariant.unrisen c.loop-step.invariant.later
     (λ told first stood. let now = c.loop-step.invariant.goes told first stood in (now.standing, now.stood)) c.in-Err.ensures.faults

@@ -1,10 +1,11 @@
-use Rattle.zb_admin.proofs.StoreLemmas.{booted_failed, has_booted_up}
+use Rattle.zb_admin.proofs.StoreLemmas.{booted_failed, has_booted}
 use Rattle.zb_admin.proofs.store.boot.Goals as goal
 
 pub returns-in-Ok-clause-booted : goal.returns-in-Ok-clause-booted
 returns-in-Ok-clause-booted g c =
     let step = c.in-Ok.ensures.step in
-    has_booted_up g.D.Disk.tells c.args.config.now (g.D.Disk.state c.args.disk.now) (g.D.Disk.state c.boot.new.disk) c.in-Ok.host c.while_up.result step.answer step.ready c.in-Ok.ensures.core step.moments c.while_up.ensures.same c.while_up.ensures.fault
+    has_booted g.D.Disk.tells c.args.config.now (g.D.Disk.state c.args.disk.now) (g.D.Disk.state c.boot.new.disk) c.in-Ok.host
+    step.answer step.ready c.in-Ok.ensures.core step.moments c.in-Ok.ensures.up c.in-Ok.ensures.unrisen
 
 pub returns-in-Err-clause-booted : goal.returns-in-Err-clause-booted
 returns-in-Err-clause-booted g c =

@@ -18,9 +18,9 @@ returns-in-Ok-clause-handled g c = λ s up.
     let after = c.handle_into.new.self in
     let m = c.handle_into.new.disk in
     let items = c.handle_into.new.plan.changes.items in
-    let is = c.arm.ensures (on old up.unarmed) in
+    let is = c.arm.ensures.armed (on old up.unarmed) in
     let current = subst (λ (x : Medium). IsCurrent g.C.Core.restored g.C.Core.recorded s before (memory_view x)) (sym is) (armed_current g.C.Core.restored g.C.Core.recorded s before a old up.current) in
-    subst (λ (x : Medium). WasHandled words s a before old items after x) (sym c.disarm.ensures)
+    subst (λ (x : Medium). WasHandled words s a before old items after x) (sym c.disarm.ensures.disarmed)
     (was_handled words s a before after old m items up (λ some. c.in-Ok.ensures.step.kept some s current refl) (λ none. c.in-Ok.ensures.step.idle_kept none s current)
     (λ some. subst (λ (x : Medium). WentThrough memory_tells (commit_calls (writes_whole before)) (memory_view x) (memory_view m)) is (c.in-Ok.ensures.through some))
     (λ none. c.in-Ok.ensures.idle none ∙ is) c.in-Ok.ensures.entry_next c.in-Ok.ensures.idle_whole)
@@ -34,7 +34,7 @@ returns-in-Err-clause-fallen g c = λ s up.
     let after = c.handle_into.new.self in
     let m = c.handle_into.new.disk in
     let items = c.handle_into.new.plan.changes.items in
-    let is = c.arm.ensures (on old up.unarmed) in
+    let is = c.arm.ensures.armed (on old up.unarmed) in
     let current = subst (λ (x : Medium). IsCurrent g.C.Core.restored g.C.Core.recorded s before (memory_view x)) (sym is) (armed_current g.C.Core.restored g.C.Core.recorded s before a old up.current) in
     subst (λ (x : Medium). HasFallen words s a before old items c.recover.result after x) (sym c.recover.ensures.disk)
     (fallen_by words s a before after old m c.in-Err.field-0 items c.recover.result up

@@ -18,5 +18,6 @@ returns g c = λ payload.
       worn = λ whole generation. c.put.ensures.worn small generation;
       untouched = λ worn. put_untouched old new c.put.result worn c.put.ensures.untouched;
       count = c.put.ensures.count;
+      unrisen = c.put.ensures.unrisen;
     } in
     subst (λ (w : List ℕ). IsCommit g.D.Disk.tells true w payload c.args.store old new c.put.result) c.record-len.ensures.bytes it

@@ -1,4 +1,4 @@
-use Rattle.std.proofs.Common.{◌≡◌, ◌+◌, ◌-◌, List, [], ◌∷◌, ◌++◌, ℕ, suc, Some, None, length, drop, sym, ◌∙◌, ap, subst, arith, length-append}
+use Rattle.std.proofs.Common.{◌≡◌, ◌+◌, ◌-◌, List, [], ◌∷◌, ◌++◌, ℕ, suc, Some, None, length, drop, refl, sym, ◌∙◌, ap, subst, arith, length-append}
 use Rattle.zb_disk.proofs.Moments.{still_refl, still_trans}
 use Rattle.zb_store.specs.Layout.{payloads_of, extent, entry_of}
 use Rattle.zb_store.specs.Reading.{IsBehind}
@@ -10,6 +10,7 @@ pub loop-count-init : goal.loop-count-init
 loop-count-init g c = record {
   still = still_refl (g.D.Disk.state c.args.disk.now);
   later = omega arith;
+  unrisen = refl;
   short = omega arith;
   entries = λ told b is. (ap length (none_of b), ap extent (sym (none_of b)));
 }
@@ -40,6 +41,7 @@ loop-count-preserved g c =
     record {
       still = still_trans (g.D.Disk.state c.args.disk.now) (g.D.Disk.state c.loop-count.disk) (g.D.Disk.state c.entry_size.new.disk) inv.still c.entry_size.ensures.read.still;
       later = omega (arith, inv.later, c.entry_size.ensures.read.cause.later);
+      unrisen = entry.read.cause.unrisen ∙ inv.unrisen;
       short = omega (arith, inv.short, entry.small, c.from.ensures);
       entries = λ told b is.
           let so_far = inv.entries told b is in

@@ -97,4 +97,5 @@ returns-in-Err g c =
       up = tt;
       faults = subst (IsUnstored (writes_whole host) host.store old new) (sym c.fault_of.ensures) (unstored (writes_whole host) c.unwrap-store.result host.store old new f is it.faults);
       count = it.count;
+      unrisen = tt;
     }
