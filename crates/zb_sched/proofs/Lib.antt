@@ -3,10 +3,10 @@ pub mod Finished
 pub mod Kept
 pub mod Leads
 pub mod Lists
+pub mod NameLemmas
 pub mod OneCentre
 pub mod PageLemmas
 pub mod PrintedReads
 pub mod ReadLemmas
-pub mod RoleLemmas
 pub mod Splits
 pub mod SupplyLemmas

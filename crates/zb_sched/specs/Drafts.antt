@@ -1,5 +1,5 @@
 -- What the program's unfinished schedule stands for.
-use Rattle.std.specs.Prelude.{◌≡◌, List, map, Bool, Option, Some, None, find, if◌then◌else◌}
+use Rattle.std.specs.Prelude.{◌≡◌, List, map, Bool, Option, find}
 use Rattle.std.specs.Option.{option_map}
 use Rattle.zb_base.specs.declared.node.Role.{Role}
 use Rattle.zb_sched_line.specs.Said.{Bytes}
@@ -7,6 +7,7 @@ use Rattle.zb_sched_line.specs.Views.{event_of}
 use Rattle.zb_sched_line.specs.declared.event.Event.{Event}
 use Rattle.zb_sched.specs.Judge.{Seat, Seen, has_name, is_key, link_of}
 use Rattle.zb_sched.specs.Schedules.{node_of}
+use Rattle.zb_sched.specs.Valid.{Pairwise}
 use Rattle.zb_sched.specs.declared.entry.Entry.{Entry}
 
 abbrev pub seat_of : Entry → Seat
@@ -24,9 +25,10 @@ IsLinked entry = option_map (λ key. key.0) entry.link ≡ link_of (node_of entr
 abbrev pub is_linked : Bytes → Entry → Bool
 is_linked key entry = is_key key (option_map (λ link. link.0) entry.link)
 
--- The part of the node of a name, and of one node if it has that name.
+-- No two nodes have one name.
+abbrev pub AreNamedApart : List Seat → Type 0
+AreNamedApart seats = Pairwise (λ a b. a ≡ b → ⊥) (map (λ seat. seat.node.name) seats)
+
+-- The part of the node of a name.
 abbrev pub role_among : Bytes → List Entry → Option Role
 role_among name entries = option_map (λ entry. entry.node.peer.role) (find (λ entry. has_name name (seat_of entry)) entries)
-
-abbrev pub own_role : Bytes → Entry → Option Role
-own_role name entry = if has_name name (seat_of entry) then Some entry.node.peer.role else None

@@ -11,9 +11,10 @@ ghost use Rattle.zb_sched.specs.Reading.{has_centre, start, Steps};
 
 use crate::entry::{
     Entry, has_centre, has_code, has_counter, has_network, is_link, is_link_of_other, is_network,
-    is_taken, nodes_of, role, roles, set_code, set_counter, set_network,
+    is_taken, nodes_of, role_near, set_code, set_counter, set_network,
 };
 use crate::error::SchedCause;
+use crate::hints::Hints;
 use crate::schedule::Schedule;
 use crate::supply::Supply;
 use std::alloc::{AllocError, Global};
@@ -28,18 +29,20 @@ pub struct Draft {
     entries: Vec<Entry>,
     draws: Supply,
     events: Vec<Event>,
+    hints: Hints,
 }
 
 impl Model for Draft {
     ghost use Rattle.std.specs.List.{AllByRecursion};
-    ghost use Rattle.zb_sched.specs.Drafts.{seen_so_far, IsLinked};
+    ghost use Rattle.std.specs.Prelude.{map};
+    ghost use Rattle.zb_sched.specs.Drafts.{seat_of, seen_so_far, AreNamedApart, IsLinked};
     ghost use Rattle.zb_sched.specs.Judge.{Seen};
 
     ghost Value = { Seen };
 
     ghost view = { λ d. seen_so_far d.entries.items d.draws d.events.items };
 
-    ghost invariant = { λ d. AllByRecursion IsLinked d.entries.items };
+    ghost invariant = { λ d. AllByRecursion IsLinked d.entries.items × AreNamedApart (map seat_of d.entries.items) };
 }
 
 /// The well-known link key, ASCII `ZigBeeAlliance09`.
@@ -54,6 +57,7 @@ impl Draft {
             entries: Vec::new(alloc),
             draws: Supply::new(alloc),
             events: Vec::new(alloc),
+            hints: Hints::new(),
         }
     }
 
@@ -73,7 +77,7 @@ impl Draft {
     fn role(&self, name: &Name) -> Option<Role>
         ensures { result ≡ role_named name.now.bytes self.now.seats }
     {
-        role(self.entries.as_slice(), name)
+        role_near(self.entries.as_slice(), name, self.hints.place(name))
     }
 
     fn has_code(&self, name: &Name) -> bool
@@ -150,6 +154,7 @@ impl Draft {
         if 64 <= self.entries.len() {
             return refuse(SchedCause::TooMany);
         }
+        self.hints.note(&peer.name, self.entries.len());
         self.entries.push(Entry::new(peer, out_block, in_block))?;
         Ok(())
     }
@@ -260,7 +265,7 @@ impl Draft {
         ensures first { result.0 ≡ role_named first.now.bytes self.now.seats }
         ensures second { result.1 ≡ role_named second.now.bytes self.now.seats }
     {
-        roles(self.entries.as_slice(), first, second)
+        (self.role(first), self.role(second))
     }
 
     fn are_partners(&self, name: &Name, partner: &Name) -> bool
@@ -349,6 +354,7 @@ impl Draft {
             entries,
             draws,
             events,
+            hints: _,
         } = self;
         let nodes = nodes_of(alloc, entries)?;
         let keys = draws.into_keys();

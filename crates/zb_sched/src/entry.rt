@@ -3,7 +3,7 @@
 ghost use Rattle.std.specs.Prelude.{◌≡◌, ◌==◌, ◌&&◌, not, find, position, map, is_some, IfOk};
 ghost use Rattle.std.specs.List.{list_any, AllByRecursion};
 ghost use Rattle.std.specs.Option.{option_map};
-ghost use Rattle.zb_sched.specs.Drafts.{seat_of, is_linked, IsLinked, role_among};
+ghost use Rattle.zb_sched.specs.Drafts.{seat_of, is_linked, AreNamedApart, IsLinked, role_among};
 ghost use Rattle.zb_install.specs.Code.{code_key};
 ghost use Rattle.zb_sched.specs.Reading.{is_centre};
 ghost use Rattle.zb_sched.specs.Judge.{changed, coded, has_name, holding, starting, is_declared, is_key, is_taken as clashes_with, network_of};
@@ -61,19 +61,14 @@ fn find<'a>(entries: &'a [Entry], name: &Name) -> Option<&'a Entry>
     entries.iter().find(|entry| entry.node.peer.name == *name)
 }
 
-/// Answers the parts of the nodes of two names, found in one walk.
-#[tactic(auto, using(crate::proofs::RoleLemmas::role_step, crate::proofs::RoleLemmas::role_end))]
-pub fn roles(entries: &[Entry], first: &Name, second: &Name) -> (Option<Role>, Option<Role>)
-    ensures first { result.0 ≡ role_among first.now.bytes entries.now }
-    ensures second { result.1 ≡ role_among second.now.bytes entries.now }
+/// Answers the part of the node of a name, which may stand at a guessed place.
+pub fn role_near(entries: &[Entry], name: &Name, guess: usize) -> Option<Role>
+    ensures { AreNamedApart (map seat_of entries.now) → result ≡ role_among name.now.bytes entries.now }
 {
-    let mut one = None;
-    let mut two = None;
-    for entry in entries {
-        one = entry.role_unless(one, first);
-        two = entry.role_unless(two, second);
+    match entries.get(guess) {
+        Some(entry) if entry.node.peer.name == *name => Some(entry.node.peer.role),
+        _ => role(entries, name),
     }
-    (one, two)
 }
 
 /// Answers whether the node of a name has an install code.
@@ -128,6 +123,7 @@ pub fn set_code(entries: &mut Vec<Entry>, name: &Name, code: InstallCode, link: 
     ensures seats { map seat_of entries.new.items
         ≡ changed name.now.bytes (λ seat. coded code seat) (map seat_of entries.old.items) }
     ensures linked { AllByRecursion IsLinked entries.old.items → AllByRecursion IsLinked entries.new.items }
+    ensures named { AreNamedApart (map seat_of entries.old.items) → AreNamedApart (map seat_of entries.new.items) }
 {
     match place(entries.as_slice(), name) {
         Some(at) => entries[at].set_code(code, link),
@@ -140,6 +136,7 @@ pub fn set_network(entries: &mut Vec<Entry>, name: &Name, key: Key, sequence: u8
     ensures seats { map seat_of entries.new.items
         ≡ changed name.now.bytes (λ seat. holding key.0 sequence seat) (map seat_of entries.old.items) }
     ensures linked { AllByRecursion IsLinked entries.old.items → AllByRecursion IsLinked entries.new.items }
+    ensures named { AreNamedApart (map seat_of entries.old.items) → AreNamedApart (map seat_of entries.new.items) }
 {
     match place(entries.as_slice(), name) {
         Some(at) => entries[at].set_network(key, sequence),
@@ -152,6 +149,7 @@ pub fn set_counter(entries: &mut Vec<Entry>, name: &Name, layer: Layer, limit: u
     ensures seats { map seat_of entries.new.items
         ≡ changed name.now.bytes (λ seat. starting layer limit seat) (map seat_of entries.old.items) }
     ensures linked { AllByRecursion IsLinked entries.old.items → AllByRecursion IsLinked entries.new.items }
+    ensures named { AreNamedApart (map seat_of entries.old.items) → AreNamedApart (map seat_of entries.new.items) }
 {
     match place(entries.as_slice(), name) {
         Some(at) => entries[at].start_at(layer, limit),
@@ -182,14 +180,14 @@ pub fn has_centre(entries: &[Entry]) -> bool
 
 impl Entry {
     ghost use Rattle.std.specs.Prelude.{◌≡◌};
-    ghost use Rattle.zb_sched.specs.Drafts.{seat_of, is_linked, IsLinked, own_role};
-    ghost use Rattle.zb_sched_line.specs.Grammar.{or_else};
+    ghost use Rattle.zb_sched.specs.Drafts.{seat_of, is_linked, IsLinked};
     ghost use Rattle.zb_sched.specs.Judge.{is_declared, is_key, network_of, coded, holding, new_seat, starting};
     ghost use Rattle.zb_install.specs.Code.{code_key};
 
     /// Makes a node of which only its own line was read.
     pub fn new(peer: Peer, out_block: u32, in_block: u32) -> Entry
-        ensures seat { seat_of result ≡ new_seat peer.name.bytes peer.role peer.eui.0 peer.short.0 out_block in_block }
+        ensures seat { seat_of result
+            ≡ new_seat peer.name.bytes peer.role peer.eui.0 peer.short.0 out_block in_block }
         ensures linked { IsLinked result }
     {
         let node = Node {
@@ -207,15 +205,6 @@ impl Entry {
             nwk_declared: false,
             aps_declared: false,
         }
-    }
-
-    fn role_unless(&self, found: Option<Role>, name: &Name) -> Option<Role>
-        ensures { result ≡ or_else found (own_role name.now.bytes self.now) }
-    {
-        if found.is_none() && self.node.peer.name == *name {
-            return Some(self.node.peer.role);
-        }
-        found
     }
 
     fn set_code(&mut self, code: InstallCode, link: Key)

@@ -5,6 +5,7 @@
 mod draft;
 mod entry;
 mod error;
+mod hints;
 mod laws;
 mod reader;
 mod schedule;
