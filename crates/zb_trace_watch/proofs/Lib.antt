@@ -5,6 +5,7 @@ pub mod Owners
 pub mod Settling
 pub mod Declaring
 pub mod TermOrder
+pub mod TermBytes
 pub mod Exposed
 pub mod Growth
 pub mod Outsiders

@@ -60,12 +60,12 @@ label_alike label.Load label.Load = refl
 part : (o p : Ordering) (a b : Bool) → is_eq o ≡ a → is_eq p ≡ b → is_eq (ordering_then o p) ≡ (a && b)
 part o p a b e f = then_alike o p ∙ ap (λ (x : Bool). x && is_eq p) e ∙ ap (λ (x : Bool). a && x) f
 
-and_false : (a : Bool) → (a && false) ≡ false
+pub and_false : (a : Bool) → (a && false) ≡ false
 and_false true = refl
 and_false false = refl
 
 -- the first of six facts may as well stand fifth
-fifth : (c l b k s r : Bool) → (c && (l && (b && (k && (s && r))))) ≡ (l && (b && (k && (s && (c && r)))))
+pub fifth : (c l b k s r : Bool) → (c && (l && (b && (k && (s && r))))) ≡ (l && (b && (k && (s && (c && r)))))
 fifth c true true true true r = refl
 fifth c true true true false r = and_false c
 fifth c true true false s r = and_false c
@@ -86,7 +86,11 @@ in_order a b =
 
 pub term_alike : (a b : Term) → is_eq (term_cmp a b) ≡ same_term (model_term a) (model_term b)
 unfolding same_term
-term_alike a b = in_order a b ∙ fifth _ _ _ _ _ _
+term_alike a b =
+    in_order a b
+    ∙ fifth (nat_eq a.counter b.counter) (same_layer (model_layer a.layer) (model_layer b.layer)) (bytes_eq a.base.0 b.base.0)
+    (same_label (model_label a.label) (model_label b.label)) (nat_eq a.source.0 b.source.0)
+    (nat_eq a.control b.control && (bytes_eq a.header.items b.header.items && bytes_eq a.content.items b.content.items))
 
 same_again : (a b : Term) → same_term (model_term a) (model_term b) ≡ true → same_term (model_term b) (model_term a) ≡ true
 same_again a b h = sym (term_alike b a) ∙ ap is_eq (tied_back term_laws.total-law a b (equal (term_cmp a b) (term_alike a b ∙ h)))

@@ -1,10 +1,39 @@
--- What a set of terms has.
-use Rattle.std.specs.Prelude.{Bool}
+-- The bytes by which a set keeps a term, and what such a set has.
+use Rattle.std.specs.Prelude.{ℕ, zero, suc, ◌/◌, ◌%◌, Bool, List, [], ◌∷◌, ◌++◌, length, bytes_eq}
 use Rattle.std.specs.List.{list_any}
-use Rattle.zb_model.specs.Secrets.{same_term}
-use Rattle.zb_model_real.specs.Terms.{model_term}
+use Rattle.std.specs.Global.{Vec}
+use Rattle.zb_base.specs.declared.label.Label.{Label}
+use Rattle.zb_base.specs.declared.label.Label.TheVariants as label
+use Rattle.zb_base.specs.declared.label.Layer.{Layer}
+use Rattle.zb_base.specs.declared.label.Layer.TheVariants as layer
 use Rattle.zb_seal.specs.declared.term.Term.{Term}
 use Rattle.zb_trace_watch.specs.declared.terms.Terms.{Terms}
 
+-- the n lowest bytes of a number, and then what is left of it
+abbrev pub low_bytes : ℕ → ℕ → List ℕ
+low_bytes zero number = number ∷ []
+low_bytes (suc n) number = number % 256 ∷ low_bytes n (number / 256)
+
+abbrev pub layer_number : Layer → ℕ
+layer_number layer.Nwk = 0
+layer_number layer.Aps = 1
+
+abbrev pub label_number : Label → ℕ
+label_number label.Data = 0
+label_number label.Network = 1
+label_number label.Transport = 2
+label_number label.Load = 3
+
+-- a list behind its length
+abbrev pub sized : List ℕ → List ℕ
+sized bytes = length bytes ∷ bytes
+
+-- all parts of a term, one after the other
+unfoldable pub term_bytes : Term → List ℕ
+term_bytes t =
+    low_bytes 3 t.counter ++ (layer_number t.layer ∷ (sized t.base.0 ++ (label_number t.label
+    ∷ (low_bytes 7 t.source.0 ++ (t.control ∷ (sized t.header.items ++ t.content.items))))))
+
+-- whether the set has the term
 abbrev pub has_term : Terms → Term → Bool
-has_term set t = list_any (λ (other : Term). same_term (model_term t) (model_term other)) set.terms.keys
+has_term set t = list_any (λ (kept : Vec ℕ). bytes_eq (term_bytes t) kept.items) set.terms.keys

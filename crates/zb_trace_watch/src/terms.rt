@@ -1,19 +1,26 @@
 //! Sets of terms.
-ghost use Rattle.std.specs.Prelude.{◌≡◌, ◌||◌, OnOk, false};
+ghost use Rattle.std.specs.Prelude.{◌≡◌, ◌||◌, ◌++◌, ◌+◌, ◌≤◌, length, OnOk, false};
 ghost use Rattle.zb_model.specs.Secrets.{same_term};
 ghost use Rattle.zb_model_real.specs.Terms.{model_term};
 ghost use Rattle.zb_seal.specs.declared.term.Term.{Term};
-ghost use Rattle.zb_trace_watch.specs.Terms.{has_term};
+ghost use Rattle.zb_trace_watch.specs.Terms.{has_term, label_number, layer_number, low_bytes, term_bytes};
 
+use arrayvec::ArrayVec;
 use std::alloc::{AllocError, Global};
 use std::collections::BTreeSet;
+use zb_base::{Label, Layer};
 use zb_seal::Term;
+
+/// Room for the bytes of a term: two frames, and 33 bytes for its other parts.
+type TermBytes = ArrayVec<u8, 287>;
 
 /// A set of terms. Terms are one where all their parts are: bytes on the air don't count.
 #[derive(Drop)]
 pub struct Terms {
-    /// The terms, in order.
-    pub terms: BTreeSet<Term>,
+    /// The terms, each as its bytes, in order.
+    pub terms: BTreeSet<Vec<u8>>,
+    // Where the bytes of a new term are put.
+    alloc: Global,
 }
 
 impl Terms {
@@ -23,6 +30,7 @@ impl Terms {
     {
         Terms {
             terms: BTreeSet::new(alloc),
+            alloc,
         }
     }
 
@@ -30,7 +38,7 @@ impl Terms {
     pub fn has(&self, term: &Term) -> bool
         ensures { result ≡ has_term self.now term.now }
     {
-        self.terms.contains(term)
+        self.terms.contains(bytes_of(term).as_slice())
     }
 
     /// Adds a term.
@@ -38,7 +46,87 @@ impl Terms {
         ensures { OnOk result ((t : Term)
             → has_term self.new t ≡ (has_term self.old t || same_term (model_term t) (model_term term.now))) }
     {
-        self.terms.insert(term.clone()?)?;
+        let bytes = Vec::from_slice(self.alloc, bytes_of(term).as_slice())?;
+        self.terms.insert(bytes)?;
         Ok(())
     }
+}
+
+// Makes the bytes of a term.
+fn bytes_of(term: &Term) -> TermBytes
+    ensures { result.items ≡ term_bytes term.now }
+{
+    let mut bytes = ArrayVec::new();
+    put(&mut bytes, &low_bytes_4(term.counter));
+    put(&mut bytes, &[layer_number(term.layer), 16]);
+    put(&mut bytes, &term.base.0);
+    put(&mut bytes, &[label_number(term.label)]);
+    put(&mut bytes, &low_bytes_8(term.source.0));
+    put(&mut bytes, &[term.control, term.header.len() as u8]);
+    put(&mut bytes, term.header.as_slice());
+    put(&mut bytes, term.content.as_slice());
+    bytes
+}
+
+// Puts the bytes at the end, where they have room.
+fn put(out: &mut TermBytes, piece: &[u8])
+    ensures { length out.old.items + length piece.now ≤ 287 → out.new.items ≡ out.old.items ++ piece.now }
+{
+    let _ = out.try_extend_from_slice(piece);
+}
+
+fn layer_number(layer: Layer) -> u8
+    ensures { result ≡ layer_number layer }
+{
+    match layer {
+        Layer::Nwk => 0,
+        Layer::Aps => 1,
+    }
+}
+
+fn label_number(label: Label) -> u8
+    ensures { result ≡ label_number label }
+{
+    match label {
+        Label::Data => 0,
+        Label::Network => 1,
+        Label::Transport => 2,
+        Label::Load => 3,
+    }
+}
+
+fn low_bytes_4(number: u32) -> [u8; 4]
+    ensures { result ≡ low_bytes 3 number }
+{
+    let second = number / 256;
+    let third = second / 256;
+    let fourth = third / 256;
+    [
+        (number % 256) as u8,
+        (second % 256) as u8,
+        (third % 256) as u8,
+        fourth as u8,
+    ]
+}
+
+fn low_bytes_8(number: u64) -> [u8; 8]
+    ensures { result ≡ low_bytes 7 number }
+{
+    let second = number / 256;
+    let third = second / 256;
+    let fourth = third / 256;
+    let fifth = fourth / 256;
+    let sixth = fifth / 256;
+    let seventh = sixth / 256;
+    let eighth = seventh / 256;
+    [
+        (number % 256) as u8,
+        (second % 256) as u8,
+        (third % 256) as u8,
+        (fourth % 256) as u8,
+        (fifth % 256) as u8,
+        (sixth % 256) as u8,
+        (seventh % 256) as u8,
+        eighth as u8,
+    ]
 }

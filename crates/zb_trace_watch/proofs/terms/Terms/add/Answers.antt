@@ -1,19 +1,19 @@
-use Rattle.zb_model.specs.Data as model
-use Rattle.std.proofs.Common.{◌||◌, ◌∙◌, ap}
-use Rattle.std.specs.List.{each_same}
-use Rattle.zb_model.specs.Secrets.{same_term}
-use Rattle.zb_model_real.specs.Terms.{model_term}
-use Rattle.zb_seal.specs.declared.term.Term.{Term}
-use Rattle.zb_trace_watch.specs.Terms.{has_term}
-use Rattle.zb_trace_watch.proofs.Alike.{added_alike}
-use Rattle.zb_trace_watch.proofs.TermOrder.{same_model_term, term_alike, term_cmp, term_turned}
+use Rattle.std.proofs.Common.{◌≡◌, Bool, ◌||◌, bytes_eq, ℕ, ap, sym, ◌∙◌}
+use Rattle.std.specs.Cmp.Lexicographic.{slice_cmp}
+use Rattle.std.specs.Global.{Vec}
+use Rattle.std.specs.List.{list_any}
+use Rattle.std.specs.Ordering.{nat_cmp}
+use Rattle.zb_trace_watch.specs.Terms.{has_term, term_bytes}
+use Rattle.zb_trace_watch.proofs.Alike.{bytes_alike}
+use Rattle.zb_trace_watch.proofs.TermBytes.{bytes_tell, inserted_alike}
+use Rattle.zb_trace_watch.proofs.Truth.{same_bytes}
 use Rattle.zb_trace_watch.proofs.terms.Terms.add.Goals as goal
 
 pub returns : goal.returns
 returns c =
     λ t.
-    let it = c.in_ok-clone.ensures.cases in
-    added_alike term_cmp (λ (a b : Term). same_term (model_term a) (model_term b)) term_alike term_turned c.args.self.now.terms.keys c.insert.new.self.keys c.in_ok-clone.field-0 t
-    (c.in_ok-insert.ensures.updates.0 t)
-    ∙ ap (λ (s : model.Term). has_term c.args.self.now t || same_term (model_term t) s)
-    (same_model_term c.in_ok-clone.field-0 c.args.term.now it.0 it.1.0 it.1.1.0 it.1.1.1.0 it.1.1.1.1.0 it.1.1.1.1.1.0 (each_same _ _ it.1.1.1.1.1.1.0) (each_same _ _ it.1.1.1.1.1.1.1))
+    let bytes : c.in_ok-bytes.bytes.items ≡ term_bytes c.args.term.now = c.in_ok-bytes.ensures.items ∙ (c.as_slice.ensures.value ∙ c.bytes_of.ensures) in
+    ap (list_any (λ (kept : Vec ℕ). bytes_eq (term_bytes t) kept.items)) c.in_ok-insert.ensures.keys
+    ∙ (inserted_alike (λ (a b : Vec ℕ). slice_cmp nat_cmp a.items b.items) (λ (kept : Vec ℕ). bytes_eq (term_bytes t) kept.items)
+    (λ a b h. ap (bytes_eq (term_bytes t)) (same_bytes a.items b.items (sym (bytes_alike a.items b.items) ∙ h))) c.args.self.now.terms.keys c.in_ok-bytes.bytes
+    ∙ ap (λ (b : Bool). has_term c.args.self.now t || b) (ap (bytes_eq (term_bytes t)) bytes ∙ bytes_tell t c.args.term.now))
