@@ -1,5 +1,5 @@
 -- How many device calls an event of a node makes.
-use Rattle.std.proofs.Common.{◌≡◌, ℕ, zero, suc, ◌+◌, ◌≤◌, Bool, true, false, cond, List, Option, Some, None, option_map, is_some, Result, Ok, Err, OnOk, refl, sym, ap, ◌∙◌, subst, arith, add-one}
+use Rattle.std.proofs.Common.{◌≡◌, ℕ, zero, suc, ◌+◌, ◌≤◌, Bool, true, false, cond, List, Option, Some, None, option_map, is_some, Result, Ok, Err, OnOk, refl, sym, ap, ◌∙◌, subst, arith}
 use Rattle.std.proofs.lemmas.Bool.{false≢true}
 use Rattle.zb_base.specs.Outside.{risen}
 use Rattle.zb_base.specs.declared.key.Key.{Key}
@@ -16,17 +16,15 @@ use Rattle.zb_model.specs.Data as model
 use Rattle.zb_model.specs.Lines.{Line}
 use Rattle.zb_model.specs.Play as play
 use Rattle.zb_model.specs.Play.{Disk, Armed, NotArmed, StopAfter, FailAt, NoCalls, EntryCalls, RecordCalls, BootCalls, PowerOn, Schedule, count_of, falls, frame_at, setting_of, supply}
-use Rattle.zb_model.specs.Readings.{is_up, state_of}
+use Rattle.zb_model.specs.Readings.{is_up}
 use Rattle.zb_model_real.specs.Real.{real}
 use Rattle.zb_events.specs.Calls.{event_calls, fallen_call, frame_calls, made_of, task_calls}
 use Rattle.zb_model_steps.specs.Conditions.{Condition, calls_by, condition_of}
-use Rattle.zb_node.specs.Answers.{CanHave, HasBooted, HasHandled}
+use Rattle.zb_node.specs.Answers.{HasBooted, HasHandled}
 use Rattle.zb_node.specs.Tasks.{suits}
 use Rattle.zb_node.specs.Values.{NodeValue}
 use Rattle.zb_node.specs.declared.node.Handled.{Handled}
 use Rattle.zb_node.specs.declared.node.Handled.TheVariants.{Whole, Cut}
-use Rattle.zb_node_types.specs.declared.refusal.Refusal.{Refusal}
-use Rattle.zb_seal.specs.declared.term.Term.{Term}
 
 pub ok_so : {T E : Type 0} (r : Result T E) (P : Type 0) → P → OnOk r P
 ok_so (Ok x) P p = p

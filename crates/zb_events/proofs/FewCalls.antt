@@ -1,5 +1,5 @@
 -- No event makes more than six device calls.
-use Rattle.std.proofs.Common.{◌≡◌, ℕ, ◌+◌, ◌*◌, ◌≤◌, suc, Bool, true, false, cond, List, [], ◌∷◌, ◌++◌, length, Option, Some, None, refl, subst, arith, ltb-true, leb-true}
+use Rattle.std.proofs.Common.{◌≡◌, ℕ, ◌+◌, ◌*◌, ◌≤◌, Bool, true, false, cond, List, [], ◌∷◌, ◌++◌, length, Option, Some, None, refl, arith, ltb-true, leb-true}
 use Rattle.zb_model.specs.Answer.{answer}
 use Rattle.zb_model.specs.Data.{Bytes, Task, DoRoll, Received}
 use Rattle.zb_model.specs.Lines.{Line}

@@ -1,7 +1,7 @@
 -- The seats of nodes that are added one by one.
 use Rattle.std.proofs.Common.{◌≡◌, ℕ, ◌+◌, List, [], ◌∷◌, ◌++◌, length, Bool, true, false, Option, Some, None, refl, ap, sym, ◌∙◌, bytes_eq, find, get_or, map, take, ◌<◌, ◌≤◌, subst, add-zero, arith}
 use Rattle.std.proofs.lemmas.List.{length-map, length-take-le, map_push, take_more}
-use Rattle.std.specs.BTreeMap.{BTreeMap, get, is_at}
+use Rattle.std.specs.HashMap.{HashMap, get}
 use Rattle.std.specs.Option.{option_or}
 use Rattle.std.specs.Prelude.{if◌then◌else◌, unwrap_or}
 use Rattle.arrayvec.specs.ArrayString.{ArrayString}
@@ -14,14 +14,11 @@ use Rattle.zb_model_schedules.specs.Schedules.{station_for}
 use Rattle.zb_sched.specs.Schedules.{node_of}
 use Rattle.zb_sched.specs.declared.schedule.Node.{Node as Declared}
 use Rattle.zb_model.specs.State.{is_centre}
-use Rattle.zb_events.specs.Seats.{AreSeats, first_seat, has_name, is_the_centre, name_cmp, seat_in}
+use Rattle.zb_events.specs.Seats.{AreSeats, first_seat, has_name, is_the_centre, same_name, seat_in}
 use Rattle.zb_events.specs.declared.seats.Seat.{Seat}
 use Rattle.zb_events.specs.declared.seats.Seats.{Seats}
-use Rattle.zb_trace_watch.proofs.Alike.{bytes_alike}
 use Rattle.zb_trace_watch.proofs.Truth.{same_bytes}
-use Rattle.std.specs.Cmp.Lexicographic.{slice_cmp}
 use Rattle.std.specs.Map.{lookup}
-use Rattle.std.specs.Ordering.{is_eq, nat_cmp}
 use Rattle.std.proofs.Common.{cond}
 
 abbrev pub seat_at : ℕ → Station → Seat
@@ -41,10 +38,10 @@ first_more test place (p ∷ ps) q =
     (if test q then Some (seat_at (place + length (p ∷ ps)) q) else None)
     (first_more test (place + 1) ps q ∙ ap (λ (k : ℕ). option_or (first_seat test (place + 1) ps) (if test q then Some (seat_at k q) else None)) places)
 
-pub no_seats : (by_name : BTreeMap ArrayString Seat) → by_name.entries ≡ [] → AreSeats (record { by_name = by_name; centre = None }) []
-no_seats by_name e = record {
+pub no_seats : (seats : Seats) → seats.by_name.entries ≡ [] → seats.centre ≡ None → AreSeats seats []
+no_seats seats e none = record {
   named = λ name. rw e refl;
-  centre = refl;
+  centre = none;
 }
 
 -- the first value that is written for a key stays
@@ -53,14 +50,13 @@ first_value true old x none = rw (none refl) refl
 first_value false None x none = refl
 first_value false (Some y) x none = refl
 
-pub first_named : (old new : BTreeMap ArrayString Seat) (name : ArrayString) (seat : Seat) → seat_in old name ≡ None
-    → ((q : ArrayString) → get name_cmp new q ≡ cond (is_at (name_cmp name) q) (Some seat) (get name_cmp old q))
+pub first_named : {S : Type 0} (old new : HashMap ArrayString Seat S) (name : ArrayString) (seat : Seat) → seat_in old name ≡ None
+    → ((q : ArrayString) → get same_name new q ≡ cond (same_name name q) (Some seat) (get same_name old q))
     → (q : ArrayString) → seat_in new q ≡ option_or (seat_in old q) (if bytes_eq name.bytes q.bytes then Some seat else None)
 first_named old new name seat none updates q =
     updates q
-    ∙ (ap (λ (b : Bool). cond b (Some seat) (seat_in old q)) (bytes_alike name.bytes q.bytes)
     ∙ first_value (bytes_eq name.bytes q.bytes) (seat_in old q) seat
-    (λ same. ap (λ (b : List ℕ). lookup (λ (k : ArrayString). is_eq (slice_cmp nat_cmp b k.bytes)) old.entries) (sym (same_bytes name.bytes q.bytes same)) ∙ none))
+    (λ same. ap (λ (b : List ℕ). lookup (λ (k : ArrayString). bytes_eq b k.bytes) old.entries) (sym (same_bytes name.bytes q.bytes same)) ∙ none)
 
 from_none : (n : ℕ) → n ≡ 0 + n
 from_none n = omega arith
@@ -119,11 +115,11 @@ pub declared_count : (nodes : List Declared) (place : ℕ) → place ≤ length 
 declared_count nodes place few =
     sym (length-map (map node_of (take place nodes)) station_for ∙ (length-map (take place nodes) node_of ∙ length-take-le place nodes few))
 
-pub added : (old : Seats) (by_name : BTreeMap ArrayString Seat) (centre : Option Seat) (known : List Station) (p : Station) (name : ArrayString) (role : Role) (seat : Seat)
-    → ((q : ArrayString) → seat_in by_name q ≡ option_or (seat_in old.by_name q) (if bytes_eq name.bytes q.bytes then Some seat else None))
-    → centre ≡ option_or old.centre (if is_centre (model_role role) then Some seat else None) → p.name ≡ name.bytes → p.eui ≡ seat.eui.0 → p.role ≡ model_role role → seat.place ≡ length known
-    → AreSeats old known → AreSeats (record { by_name = by_name; centre = centre }) (known ++ p ∷ [])
-added old by_name centre known p name role seat updates first named eui is place before =
-    seats_more old (record { by_name = by_name; centre = centre }) known p name seat updates
+pub added : (old new : Seats) (known : List Station) (p : Station) (name : ArrayString) (role : Role) (seat : Seat)
+    → ((q : ArrayString) → seat_in new.by_name q ≡ option_or (seat_in old.by_name q) (if bytes_eq name.bytes q.bytes then Some seat else None))
+    → new.centre ≡ option_or old.centre (if is_centre (model_role role) then Some seat else None) → p.name ≡ name.bytes → p.eui ≡ seat.eui.0 → p.role ≡ model_role role → seat.place ≡ length known
+    → AreSeats old known → AreSeats new (known ++ p ∷ [])
+added old new known p name role seat updates first named eui is place before =
+    seats_more old new known p name seat updates
     (first ∙ ap (λ (r : model.Role). option_or old.centre (if is_centre r then Some seat else None)) (sym is)) named
     (ap (λ (k : ℕ). let x : Seat = record { place = k; eui = seat.eui } in x) place ∙ ap (λ (n : ℕ). let x : Seat = record { place = length known; eui = record { 0 = n } } in x) (sym eui)) before

@@ -1,7 +1,7 @@
 -- The device calls that the events of a run make of the disk of their node.
-use Rattle.std.specs.Prelude.{ℕ, ◌+◌, if◌then◌else◌, Bool, List, [], ◌∷◌, ◌++◌, Option, Some, None}
+use Rattle.std.specs.Prelude.{ℕ, ◌+◌, if◌then◌else◌, List, [], ◌∷◌, ◌++◌, Option, Some, None}
 use Rattle.zb_model.specs.Answer.{answer}
-use Rattle.zb_model.specs.Data.{Bytes, Edit, Task, DoRoll, Received}
+use Rattle.zb_model.specs.Data.{Bytes, Task, DoRoll, Received}
 use Rattle.zb_model.specs.Lines.{Line}
 use Rattle.zb_model.specs.Play.{Schedule, Disk, Event, Own, RollOver, Deliver, PowerOn, Armed, NotArmed, StopAfter, FailAt, Calls, BootCalls, count_of, falls, frame_at, step, supply}
 use Rattle.zb_model.specs.Tools.{Tools}

@@ -1,20 +1,17 @@
 -- Where nodes stand in the order of their declarations.
 use Rattle.std.specs.Prelude.{◌≡◌, ℕ, ◌+◌, Bool, if◌then◌else◌, bytes_eq, List, [], ◌∷◌, Option, Some, None}
-use Rattle.std.specs.BTreeMap.{BTreeMap, get}
-use Rattle.std.specs.Cmp.Lexicographic.{slice_cmp}
-use Rattle.std.specs.Ordering.{nat_cmp}
-use Rattle.std.specs.declared.cmp.Ordering.{Ordering}
+use Rattle.std.specs.HashMap.{HashMap, get}
 use Rattle.arrayvec.specs.ArrayString.{ArrayString}
 use Rattle.zb_model.specs.Data.{Bytes, Station}
 use Rattle.zb_model.specs.State.{is_centre}
 use Rattle.zb_events.specs.declared.seats.Seat.{Seat}
 use Rattle.zb_events.specs.declared.seats.Seats.{Seats}
 
-abbrev pub name_cmp : ArrayString → ArrayString → Ordering
-name_cmp a b = slice_cmp nat_cmp a.bytes b.bytes
+abbrev pub same_name : ArrayString → ArrayString → Bool
+same_name a b = bytes_eq a.bytes b.bytes
 
-abbrev pub seat_in : BTreeMap ArrayString Seat → ArrayString → Option Seat
-seat_in by_name name = get name_cmp by_name name
+abbrev pub seat_in : {S : Type 0} → HashMap ArrayString Seat S → ArrayString → Option Seat
+seat_in by_name name = get same_name by_name name
 
 abbrev pub has_name : Bytes → Station → Bool
 has_name name p = bytes_eq p.name name

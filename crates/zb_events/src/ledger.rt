@@ -19,7 +19,7 @@ use crate::acts::Act;
 use std::alloc::Global;
 use zb_base::{Key, Name, NoMemory};
 use zb_disk::MemDisk;
-use zb_node::{Node, Task};
+use zb_node::{Node, NodePlan, Task};
 use zb_node_types::Refusal;
 use zb_said::refuse_line;
 use zb_scribe::Scribe;
@@ -34,6 +34,8 @@ pub struct Ledger {
     pub scribe: Scribe,
     /// The text of the lines that aren't handed out yet.
     pub page: Vec<u8>,
+    /// The place of the plan of an event. What stood in it before is gone.
+    pub plan: NodePlan,
 }
 
 impl Ledger {

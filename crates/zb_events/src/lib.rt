@@ -11,4 +11,4 @@ mod seats;
 pub use acts::Act;
 pub use ledger::Ledger;
 pub use seats::{Seat, Seats};
-pub use zb_node::Node;
+pub use zb_node::{Node, NodePlan};

@@ -1,23 +1,24 @@
 //! The events of a node.
-ghost use Rattle.std.specs.Prelude.{◌≡◌, ◌≤◌, ◌+◌, ℕ, List, None, OnOk, if◌then◌else◌, map, true};
+ghost use Rattle.std.specs.Prelude.{◌≡◌, ◌≤◌, ◌<◌, ◌+◌, ◌∷◌, [], ℕ, List, None, OnOk, if◌then◌else◌, map, true};
 ghost use Rattle.zb_base.specs.declared.key.Key.{Key as key};
 ghost use Rattle.zb_disk.specs.Memory.{Medium as medium};
 ghost use Rattle.zb_model.specs.Answer.{counting_of};
 ghost use Rattle.zb_model.specs.Data.{Down as model_down, NoFrame as model_no_frame, Received, WrongState as model_wrong_state};
 ghost use Rattle.zb_model.specs.Lines as log;
 ghost use Rattle.zb_model.specs.Play as model;
-ghost use Rattle.zb_model.specs.Play.{Disk, Schedule, deliver_step, frame_at, setting_of, step, supply, task_step};
+ghost use Rattle.zb_model.specs.Play.{Disk, Schedule, deliver_step, frame_at, setting_of, stations, step, supply, task_step};
 ghost use Rattle.zb_model_real.specs.Real.{real};
 ghost use Rattle.zb_events.specs.Calls.{event_calls, frame_calls, task_calls};
 ghost use Rattle.zb_model_steps.specs.Conditions.{condition_of};
 ghost use Rattle.zb_node.specs.Tasks.{model_task, suits};
-ghost use Rattle.zb_events.specs.Told.{Before, Calls, Goes, HasRoom, IsFallen, IsRefusedFor, lines_told};
+ghost use Rattle.zb_events.specs.Told.{Adds, Before, Calls, Goes, HasRoom, IsFallen, IsRefusedFor, IsTold, fall_line, lines_told};
+ghost use Rattle.zb_said.specs.Naming.{IsCalled};
 
 use crate::ledger::Ledger;
 use zb_base::{Frame, Key, List, Name, NoMemory, Place};
 use zb_disk::MemDisk;
 use zb_driven::Fall;
-use zb_node::{Handled, Node, NodePlan, Task};
+use zb_node::{Handled, Node, Task};
 use zb_node_types::Refusal;
 use zb_said::{boot_line, disk_line, dump_line, reset_line, stopped_line};
 use zb_trace::Line;
@@ -60,22 +61,30 @@ impl Ledger {
         if !node.is_up() {
             return self.refuse(event, name, down());
         }
-        let mut plan = NodePlan::new();
-        match node.handle(disk, task, &mut plan) {
+        match node.handle(disk, task, &mut self.plan) {
             Some(Handled::Whole) => {
+                self.scribe.stored(self.alloc, &mut self.page, event, name, &self.plan.changes)?;
                 self.scribe
-                    .stored(self.alloc, &mut self.page, event, name, &plan.changes)?;
-                self.scribe
-                    .answered(self.alloc, &mut self.page, event, name, plan.out)
+                    .answered(self.alloc, &mut self.page, event, name, &self.plan.out)
             }
             Some(Handled::Cut { fall }) => {
-                let stored = &plan.changes;
+                let stored = &self.plan.changes;
                 self.scribe
                     .stored(self.alloc, &mut self.page, event, name, stored)?;
-                self.tell(&fallen_line(event, name, fall))
+                self.fallen(event, name, fall)
             }
             None => self.refuse(event, name, down()),
         }
+    }
+
+    // Tells that a stop or a failure fell on a call of a node.
+    fn fallen(&mut self, event: u32, node: Name, fall: Fall) -> Result<(), NoMemory>
+        requires room { lines_told self.old < 4294967295 }
+        ensures few { OnOk result (lines_told self.new ≤ lines_told self.old + 1) }
+        ensures adds { OnOk result ((w : Schedule) (h : List log.Line) (n : ℕ) → IsTold w h self.old
+            → IsCalled (stations w) n node.bytes → Adds w h (fall_line fall event n ∷ []) self.old self.new) }
+    {
+        self.tell(&fallen_line(event, node, fall))
     }
 
     /// Answers the arrival of a frame at a node. The frame is named by its number.

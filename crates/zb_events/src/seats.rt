@@ -10,7 +10,7 @@ ghost use Rattle.zb_events.specs.Seats.{AreSeats, first_seat, has_name, seat_in}
 ghost use Rattle.zb_sched.specs.Schedules.{node_of};
 
 use std::alloc::{AllocError, Global};
-use std::collections::BTreeMap;
+use std::collections::HashMap;
 use zb_base::{Eui, Name, Role};
 use zb_sched::Node as Declared;
 
@@ -27,7 +27,7 @@ pub struct Seat {
 #[derive(Drop)]
 pub struct Seats {
     /// The seat of the first node of each name.
-    pub by_name: BTreeMap<Name, Seat>,
+    pub by_name: HashMap<Name, Seat>,
     /// The seat of the centre.
     pub centre: Option<Seat>,
 }
@@ -38,7 +38,7 @@ impl Seats {
         ensures { IfOk result (λ seats. AreSeats seats (map station_for (map node_of nodes.now))) }
     {
         let mut seats = Seats {
-            by_name: BTreeMap::new(alloc),
+            by_name: HashMap::new(alloc),
             centre: None,
         };
         for (place, node) in nodes.iter().enumerate() {
@@ -94,7 +94,7 @@ fn first_centre(before: Option<Seat>, role: Role, seat: Seat) -> Option<Seat>
 }
 
 // Notes the seat of a name, unless one is there.
-fn name_it(by_name: &mut BTreeMap<Name, Seat>, name: Name, seat: Seat) -> Result<(), AllocError>
+fn name_it(by_name: &mut HashMap<Name, Seat>, name: Name, seat: Seat) -> Result<(), AllocError>
     ensures { OnOk result ((q : ArrayString)
         → seat_in by_name.new q
         ≡ option_or (seat_in by_name.old q) (if bytes_eq name.bytes q.bytes then Some seat else None)) }

@@ -20,7 +20,7 @@ use crate::bench::Bench;
 use std::alloc::Global;
 use zb_base::{Key, NoMemory};
 use zb_disk::MemDisk;
-use zb_events::{Act, Ledger, Node, Seat, Seats};
+use zb_events::{Act, Ledger, Node, NodePlan, Seat, Seats};
 use zb_sched::{Event, Schedule};
 use zb_scribe::Scribe;
 use zb_start::{start_nodes, tell_start};
@@ -68,6 +68,7 @@ impl<'a> Run<'a> {
                 alloc,
                 scribe,
                 page,
+                plan: NodePlan::new(),
             },
         })
     }

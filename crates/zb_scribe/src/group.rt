@@ -13,6 +13,7 @@ ghost use Rattle.zb_text.specs.Fields.{is_name};
 use crate::scribe::Scribe;
 use std::alloc::Global;
 use zb_base::{Frame, Name, NoMemory};
+use zb_cursor::frame_from;
 use zb_host::Outcome;
 use zb_node_types::{Change, Changes, Refusal};
 use zb_said::{accept_line, change_line, commit_line, refuse_line, seal_line, send_line};
@@ -75,30 +76,22 @@ impl Scribe {
         page: &mut Vec<u8>,
         event: u32,
         node: Name,
-        out: Outcome<Term, Refusal>,
+        out: &Outcome<Term, Refusal>,
     ) -> Result<(), NoMemory>
         requires { told self.old + 6 ≤ 4294967295 }
         ensures tells { OnOk result ((known : List Station) (n : ℕ) → IsCalled known n node.bytes
             → is_name node.bytes ≡ true
-            → Tells known (out_lines event n (length self.old.air + 1) out)
+            → Tells known (out_lines event n (length self.old.air + 1) out.now)
             self.old page.old.items self.new page.new.items) }
         ensures told { OnOk result (told self.new ≤ told self.old + 6) }
     {
         let number = self.next_frame();
-        let Outcome {
-            accepted_nwk,
-            accepted_aps,
-            refused,
-            sealed_aps,
-            sealed_nwk,
-            frame,
-        } = out;
-        self.accepted(alloc, page, event, node, accepted_nwk)?;
-        self.accepted(alloc, page, event, node, accepted_aps)?;
-        self.refused(alloc, page, event, node, refused)?;
-        self.sealed(alloc, page, event, node, sealed_aps)?;
-        self.sealed(alloc, page, event, node, sealed_nwk)?;
-        self.sent(alloc, page, event, node, number, frame)?;
+        self.accepted(alloc, page, event, node, &out.accepted_nwk)?;
+        self.accepted(alloc, page, event, node, &out.accepted_aps)?;
+        self.refused(alloc, page, event, node, out.refused)?;
+        self.sealed(alloc, page, event, node, &out.sealed_aps)?;
+        self.sealed(alloc, page, event, node, &out.sealed_nwk)?;
+        self.sent(alloc, page, event, node, number, &out.frame)?;
         Ok(())
     }
 
@@ -108,19 +101,37 @@ impl Scribe {
         page: &mut Vec<u8>,
         event: u32,
         node: Name,
-        term: Option<Term>,
+        term: &Option<Term>,
     ) -> Result<(), NoMemory>
         requires { told self.old < 4294967295 }
         ensures tells { OnOk result ((known : List Station) (n : ℕ) → IsCalled known n node.bytes
-            → Tells known (map (accept event n) (option_to_list (option_map model_term term)))
+            → Tells known (map (accept event n) (option_to_list (option_map model_term term.now)))
             self.old page.old.items self.new page.new.items) }
         ensures told { OnOk result (told self.new ≤ told self.old + 1) }
     {
         match term {
-            Some(term) => self.tell(alloc, page, &accept_line(event, node, term))?,
+            Some(term) => self.accept(alloc, page, event, node, term)?,
             None => {}
         }
         Ok(())
+    }
+
+    // Tells an accepted term.
+    fn accept(
+        &mut self,
+        alloc: Global,
+        page: &mut Vec<u8>,
+        event: u32,
+        node: Name,
+        term: &Term,
+    ) -> Result<(), NoMemory>
+        requires { told self.old < 4294967295 }
+        ensures tells { OnOk result ((known : List Station) (n : ℕ) → IsCalled known n node.bytes
+            → Tells known (accept event n (model_term term.now) ∷ [])
+            self.old page.old.items self.new page.new.items) }
+        ensures told { OnOk result (told self.new ≤ told self.old + 1) }
+    {
+        self.tell(alloc, page, &accept_line(event, node, copied(term)))
     }
 
     fn refused(
@@ -137,10 +148,28 @@ impl Scribe {
         ensures told { OnOk result (told self.new ≤ told self.old + 1) }
     {
         match refusal {
-            Some(refusal) => self.tell(alloc, page, &refuse_line(event, node, refusal))?,
+            Some(refusal) => self.refuse(alloc, page, event, node, refusal)?,
             None => {}
         }
         Ok(())
+    }
+
+    // Tells a refusal.
+    fn refuse(
+        &mut self,
+        alloc: Global,
+        page: &mut Vec<u8>,
+        event: u32,
+        node: Name,
+        refusal: Refusal,
+    ) -> Result<(), NoMemory>
+        requires { told self.old < 4294967295 }
+        ensures tells { OnOk result ((known : List Station) (n : ℕ) → IsCalled known n node.bytes
+            → Tells known (refused_lines event n (Some refusal))
+            self.old page.old.items self.new page.new.items) }
+        ensures told { OnOk result (told self.new ≤ told self.old + 1) }
+    {
+        self.tell(alloc, page, &refuse_line(event, node, refusal))
     }
 
     fn sealed(
@@ -149,19 +178,37 @@ impl Scribe {
         page: &mut Vec<u8>,
         event: u32,
         node: Name,
-        term: Option<Term>,
+        term: &Option<Term>,
     ) -> Result<(), NoMemory>
         requires { told self.old < 4294967295 }
         ensures tells { OnOk result ((known : List Station) (n : ℕ) → IsCalled known n node.bytes
-            → Tells known (map (seal event n) (option_to_list (option_map model_term term)))
+            → Tells known (map (seal event n) (option_to_list (option_map model_term term.now)))
             self.old page.old.items self.new page.new.items) }
         ensures told { OnOk result (told self.new ≤ told self.old + 1) }
     {
         match term {
-            Some(term) => self.tell(alloc, page, &seal_line(event, node, term))?,
+            Some(term) => self.seal(alloc, page, event, node, term)?,
             None => {}
         }
         Ok(())
+    }
+
+    // Tells a sealed term.
+    fn seal(
+        &mut self,
+        alloc: Global,
+        page: &mut Vec<u8>,
+        event: u32,
+        node: Name,
+        term: &Term,
+    ) -> Result<(), NoMemory>
+        requires { told self.old < 4294967295 }
+        ensures tells { OnOk result ((known : List Station) (n : ℕ) → IsCalled known n node.bytes
+            → Tells known (seal event n (model_term term.now) ∷ [])
+            self.old page.old.items self.new page.new.items) }
+        ensures told { OnOk result (told self.new ≤ told self.old + 1) }
+    {
+        self.tell(alloc, page, &seal_line(event, node, copied(term)))
     }
 
     fn sent(
@@ -171,19 +218,56 @@ impl Scribe {
         event: u32,
         node: Name,
         number: u32,
-        frame: Option<Frame>,
+        frame: &Option<Frame>,
     ) -> Result<(), NoMemory>
         requires { told self.old < 4294967295 }
         ensures tells { OnOk result ((known : List Station) (n : ℕ) → IsCalled known n node.bytes
             → is_name node.bytes ≡ true
-            → Tells known (send_lines event (Some n) number (items_of frame))
+            → Tells known (send_lines event (Some n) number (items_of frame.now))
             self.old page.old.items self.new page.new.items) }
         ensures told { OnOk result (told self.new ≤ told self.old + 1) }
     {
         match frame {
-            Some(bytes) => self.tell(alloc, page, &send_line(event, node, number, bytes))?,
+            Some(bytes) => self.send(alloc, page, event, node, number, bytes)?,
             None => {}
         }
         Ok(())
+    }
+
+    // Tells the frame that goes on the air.
+    fn send(
+        &mut self,
+        alloc: Global,
+        page: &mut Vec<u8>,
+        event: u32,
+        node: Name,
+        number: u32,
+        frame: &Frame,
+    ) -> Result<(), NoMemory>
+        requires { told self.old < 4294967295 }
+        ensures tells { OnOk result ((known : List Station) (n : ℕ) → IsCalled known n node.bytes
+            → is_name node.bytes ≡ true
+            → Tells known (send_lines event (Some n) number (Some frame.now.items))
+            self.old page.old.items self.new page.new.items) }
+        ensures told { OnOk result (told self.new ≤ told self.old + 1) }
+    {
+        let bytes = frame_from(frame.as_slice());
+        self.tell(alloc, page, &send_line(event, node, number, bytes))
+    }
+}
+
+// Copies a term, for its line.
+fn copied(term: &Term) -> Term
+    ensures { model_term result ≡ model_term term.now }
+{
+    Term {
+        counter: term.counter,
+        layer: term.layer,
+        base: term.base,
+        label: term.label,
+        source: term.source,
+        control: term.control,
+        header: frame_from(term.header.as_slice()),
+        content: frame_from(term.content.as_slice()),
     }
 }

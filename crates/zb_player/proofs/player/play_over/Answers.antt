@@ -33,7 +33,7 @@ returns-in_err-answer_all-clause-front g c = λ s.
       nodes = c.in_ok-run.run'.nodes;
       seats = c.in_ok-run.run'.seats;
       draws = c.in_ok-run.run'.draws;
-      ledger = record { alloc = c.in_ok-run.run'.ledger.alloc; scribe = c.in_ok-run.run'.ledger.scribe; page = c.hand_out.new.page };
+      ledger = record { alloc = c.in_ok-run.run'.ledger.alloc; scribe = c.in_ok-run.run'.ledger.scribe; page = c.hand_out.new.page; plan = c.in_ok-run.run'.ledger.plan };
     } in
     let stands1 : RunStands p (begin p) [] 1 run1 c.deref_mut.result.now =
     subst (RunStands p (begin p) [] 1 run1) (sym c.deref_mut.ensures.value)
@@ -51,7 +51,7 @@ returns-in_err-put_line-clause-front g c = λ s.
       nodes = c.in_ok-run.run'.nodes;
       seats = c.in_ok-run.run'.seats;
       draws = c.in_ok-run.run'.draws;
-      ledger = record { alloc = c.in_ok-run.run'.ledger.alloc; scribe = c.in_ok-run.run'.ledger.scribe; page = c.hand_out.new.page };
+      ledger = record { alloc = c.in_ok-run.run'.ledger.alloc; scribe = c.in_ok-run.run'.ledger.scribe; page = c.hand_out.new.page; plan = c.in_ok-run.run'.ledger.plan };
     } in
     let stands1 : RunStands p (begin p) [] 1 run1 c.deref_mut.result.now =
     subst (RunStands p (begin p) [] 1 run1) (sym c.deref_mut.ensures.value)
@@ -72,7 +72,7 @@ returns-in_err-hand_out-2-clause-front g c = λ s.
       nodes = c.in_ok-run.run'.nodes;
       seats = c.in_ok-run.run'.seats;
       draws = c.in_ok-run.run'.draws;
-      ledger = record { alloc = c.in_ok-run.run'.ledger.alloc; scribe = c.in_ok-run.run'.ledger.scribe; page = c.hand_out.new.page };
+      ledger = record { alloc = c.in_ok-run.run'.ledger.alloc; scribe = c.in_ok-run.run'.ledger.scribe; page = c.hand_out.new.page; plan = c.in_ok-run.run'.ledger.plan };
     } in
     let stands1 : RunStands p (begin p) [] 1 run1 c.deref_mut.result.now =
     subst (RunStands p (begin p) [] 1 run1) (sym c.deref_mut.ensures.value)
@@ -101,7 +101,7 @@ returns-clause-whole g c = λ s.
       nodes = c.in_ok-run.run'.nodes;
       seats = c.in_ok-run.run'.seats;
       draws = c.in_ok-run.run'.draws;
-      ledger = record { alloc = c.in_ok-run.run'.ledger.alloc; scribe = c.in_ok-run.run'.ledger.scribe; page = c.hand_out.new.page };
+      ledger = record { alloc = c.in_ok-run.run'.ledger.alloc; scribe = c.in_ok-run.run'.ledger.scribe; page = c.hand_out.new.page; plan = c.in_ok-run.run'.ledger.plan };
     } in
     let stands1 : RunStands p (begin p) [] 1 run1 c.deref_mut.result.now =
     subst (RunStands p (begin p) [] 1 run1) (sym c.deref_mut.ensures.value)
@@ -130,7 +130,7 @@ returns-clause-summary g c = λ s.
       nodes = c.in_ok-run.run'.nodes;
       seats = c.in_ok-run.run'.seats;
       draws = c.in_ok-run.run'.draws;
-      ledger = record { alloc = c.in_ok-run.run'.ledger.alloc; scribe = c.in_ok-run.run'.ledger.scribe; page = c.hand_out.new.page };
+      ledger = record { alloc = c.in_ok-run.run'.ledger.alloc; scribe = c.in_ok-run.run'.ledger.scribe; page = c.hand_out.new.page; plan = c.in_ok-run.run'.ledger.plan };
     } in
     let stands1 : RunStands p (begin p) [] 1 run1 c.deref_mut.result.now =
     subst (RunStands p (begin p) [] 1 run1) (sym c.deref_mut.ensures.value)
@@ -154,7 +154,7 @@ returns-clause-disks g c = λ s.
       nodes = c.in_ok-run.run'.nodes;
       seats = c.in_ok-run.run'.seats;
       draws = c.in_ok-run.run'.draws;
-      ledger = record { alloc = c.in_ok-run.run'.ledger.alloc; scribe = c.in_ok-run.run'.ledger.scribe; page = c.hand_out.new.page };
+      ledger = record { alloc = c.in_ok-run.run'.ledger.alloc; scribe = c.in_ok-run.run'.ledger.scribe; page = c.hand_out.new.page; plan = c.in_ok-run.run'.ledger.plan };
     } in
     let stands1 : RunStands p (begin p) [] 1 run1 c.deref_mut.result.now =
     subst (RunStands p (begin p) [] 1 run1) (sym c.deref_mut.ensures.value)

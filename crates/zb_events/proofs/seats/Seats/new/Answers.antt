@@ -1,5 +1,5 @@
 -- The nodes up to a place have their seats, and so has the next one.
-use Rattle.std.proofs.Common.{List, refl, map, take, subst, arith}
+use Rattle.std.proofs.Common.{List, None, refl, map, take, subst, arith}
 use Rattle.std.proofs.lemmas.List.{take_all}
 use Rattle.zb_events.proofs.SeatLemmas.{declared_count, declared_more, no_seats}
 use Rattle.zb_events.specs.Seats.{AreSeats}
@@ -9,7 +9,7 @@ use Rattle.zb_sched.specs.declared.schedule.Node.{Node as Declared}
 use Rattle.zb_events.proofs.seats.Seats.new.Goals as goal
 
 pub loop-place-init : goal.loop-place-init
-loop-place-init c = no_seats c.new.result c.new.ensures.empty
+loop-place-init c = no_seats (record { by_name = c.new.result; centre = None }) c.new.ensures.empty refl
 
 pub loop-place-preserved : goal.loop-place-preserved
 loop-place-preserved c =
