@@ -71,7 +71,7 @@ module _ (tools : Tools) (e : Exposure) (h : List Line)
 
 -- Two lists with the same keys: some key of one passes a test where some key of the other does.
 
-among_passes : (P : Bytes → Bool) (k : Bytes) (keys : List Key) → is_among keys k ≡ true → P k ≡ true → list_any (λ (key : Key). P key.0) keys ≡ true
+pub among_passes : (P : Bytes → Bool) (k : Bytes) (keys : List Key) → is_among keys k ≡ true → P k ≡ true → list_any (λ (key : Key). P key.0) keys ≡ true
 among_passes P k [] there h = cc
 among_passes P k (key ∷ keys) there h =
     elim (either (bytes_eq k key.0) (is_among keys k) there) [

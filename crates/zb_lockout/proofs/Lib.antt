@@ -11,9 +11,11 @@ pub mod Recalling
 pub mod Loops
 pub mod Knowing
 pub mod Reaching
+pub mod Order
 pub mod Stepping
 pub mod Judging
 pub mod Verdicts
+pub mod Forgetting
 pub mod Lines
 pub mod Pasts
 pub mod Starting

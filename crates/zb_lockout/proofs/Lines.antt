@@ -14,7 +14,7 @@ use Rattle.zb_declared.specs.declared.node.Who.{Who}
 use Rattle.zb_lockout.specs.Facts.{eui_of_node, partner_of}
 use Rattle.zb_lockout.specs.Lockout.{drawn_in, locked, refuses_line}
 use Rattle.zb_lockout.specs.Reading.{accepts}
-use Rattle.zb_lockout.specs.Standing.{Admits, CarriesSome, Forges, Holds, IsEvidence, IsHeld, IsJudged, IsPast, IsReach, IsReady, IsSafe, Judges, RaisesOne, Removes, Seals, Stands, Tells}
+use Rattle.zb_lockout.specs.Standing.{Admits, CarriesSome, Forges, Forgets, Holds, IsEvidence, IsHeld, IsJudged, IsPast, IsReach, IsReady, IsSafe, Judges, RaisesOne, Removes, Seals, Stands, Tells}
 use Rattle.zb_lockout.specs.Windows.{Claim, EachAt}
 use Rattle.zb_lockout.specs.declared.evidence.Evidence.{Evidence}
 use Rattle.zb_lockout.specs.declared.lockout.Lockout.{Lockout}
@@ -24,6 +24,7 @@ use Rattle.zb_lockout.proofs.Judging.{IsPlain, IsQuiet, IsUnsealed, drawn_judged
 use Rattle.zb_lockout.proofs.Locking.{first_more, locked_more}
 use Rattle.zb_lockout.proofs.Recalling.{centre_is, holds_where, own_is, split_or}
 use Rattle.zb_lockout.proofs.Tests.{or_none}
+use Rattle.zb_lockout.proofs.Forgetting.{evidence_kept}
 use Rattle.zb_lockout.proofs.Verdicts.{accept_judged, forge_evidence, gone_judged, live_judged, seal_evidence}
 use Rattle.zb_model.specs.Data.{Bytes, Station}
 use Rattle.zb_model.specs.Secrets.{holds}
@@ -169,12 +170,20 @@ forge_judges old new number event t who stays past carries tells forges = record
       (carried t) refl carries;
 }
 
-pub accept_judges : (s : Lockout) (number event : ℕ) (node : ArrayString) (t : program.Term) (who : Who) (stays : Bool) → stays ≡ accepts s who.place t → Judges s s number (line.Accept event node t) who stays
+pub accept_judges : (old new : Lockout) (number event : ℕ) (node : ArrayString) (t : program.Term) (who : Who) (stays : Bool) → stays ≡ accepts old who.place t
+    → new.past ≡ old.past → new.reach ≡ old.reach → Forgets old.reach.windows old.evidence new.evidence → Judges old new number (line.Accept event node t) who stays
 unfolding naming.speaker
-accept_judges s number event node t who stays is = record {
-  past = refl;
+accept_judges old new number event node t who stays is past reach forgets = record {
+  past = past;
   judged = λ tools names h find number_is speaks ready.
-      subst (λ (b : Bool). IsJudged tools s h (line.Accept event node t) b) (sym is) (accept_judged tools names s h event node t who ready speaks.place);
+      let it : IsJudged tools old h (line.Accept event node t) stays =
+      subst (λ (b : Bool). IsJudged tools old h (line.Accept event node t) b) (sym is) (accept_judged tools names old h event node t who ready speaks.place) in record {
+        reach = subst (λ (r : Reach). IsReach tools r (h ++ line.Accept event node t ∷ [])) (sym reach) it.reach;
+        evidence = evidence_kept tools old.reach old.evidence new.evidence (h ++ line.Accept event node t ∷ []) it.reach it.evidence forgets;
+        safe = λ stay. subst IsSafe (sym reach) (it.safe stay);
+        holds = it.holds;
+        fails = it.fails;
+      };
 }
 
 pub quiet_judges : (s : Lockout) (number : ℕ) (l : Line) (who : Who) → IsQuiet l → Judges s s number l who true

@@ -1,6 +1,6 @@
 -- How the reach of removed devices changes with a line.
 use Rattle.std.proofs.Common.{◌≡◌, ◌⊎◌, ℕ, ◌<◌, ◌≤◌, List, [], ◌∷◌, Bool, true, false, cond, not, ◌||◌, ◌&&◌, Option, Some, None, inl, inr, refl, arith, ap, sym, ◌∙◌, bytes_eq, nat_eq}
-use Rattle.std.specs.BTreeMap.{is_at, keys}
+use Rattle.std.specs.BTreeMap.{is_at}
 use Rattle.std.specs.Map.{keys_of, lookup}
 use Rattle.std.specs.List.{list_any}
 use Rattle.std.specs.Ordering.{is_eq}
@@ -115,8 +115,8 @@ in_keys d m (e ∷ entries) found = elim (decided (nat_eq d e.0.0)) [
       (in_keys d m entries (sym (ap (λ (b : Bool). cond b (Some e.1) (lookup (is_at (eui_cmp (record { 0 = d }))) entries)) (number_so d e.0.0 ∙ is)) ∙ found))
 ]
 
-pub some_key : (w : Windows) (number d m : ℕ) → open_at w d ≡ Some m → m ≤ number → some_open w number (keys w.removals) ≡ true
-some_key w number d m found le = some_at w number d m (keys w.removals) found le (in_keys d m w.removals.entries found)
+pub some_key : (w : Windows) (number d m : ℕ) → open_at w d ≡ Some m → m ≤ number → some_open w number (keys_of w.removals) ≡ true
+some_key w number d m found le = some_at w number d m (keys_of w.removals) found le (in_keys d m w.removals found)
 
 -- a device of a list that is removed
 pub record IsOneOpen (w : Windows) (number : ℕ) (devices : List Eui) : Type 0 where
@@ -201,7 +201,7 @@ module _ (old new : Reach) (c : Holdings Key) (start : List Key) (n : ℕ) (rais
       let it = shown_one shown raised (was_on _ (sym stays_is ∙ out)) in
       elim (either (is_shown_to_all old.windows n it.key) (some_open old.windows n (holders_of old.holders it.key)) it.shown) [
         | inl everybody ↦
-            (let one = one_open old.windows n (keys old.windows.removals) (and_right (bytes_eq it.key well_known) _ everybody) in
+            (let one = one_open old.windows n (keys_of old.windows.removals) (and_right (bytes_eq it.key well_known) _ everybody) in
             unsafe it.key one.device it.among (or_left _ _ (and_left (bytes_eq it.key well_known) _ everybody)) one.opened)
         | inr holder ↦
             (let one = one_open old.windows n (holders_of old.holders it.key) holder in

@@ -1,7 +1,7 @@
 -- Whether lockout holds with a line that removes or admits a device, seals, forges or accepts a term.
 use Rattle.std.proofs.Common.{◌≡◌, ◌⊎◌, ℕ, ◌+◌, ◌<◌, ◌≤◌, List, [], ◌∷◌, ◌++◌, length, Bool, true, false, not, ◌||◌, ◌&&◌, Option, Some, None, inl, inr, refl, arith, ap, sym, ◌∙◌, subst, bytes_eq, nat_eq}
 use Rattle.std.specs.Prelude.{nat_le, if◌then◌else◌}
-use Rattle.std.specs.BTreeMap.{keys}
+use Rattle.std.specs.Map.{keys_of}
 use Rattle.std.specs.List.{list_any, flat_map}
 use Rattle.std.specs.Option.{option_or}
 use Rattle.std.proofs.lemmas.Bool.{le-leb, leb-true}
@@ -85,7 +85,7 @@ pub seal_evidence : (tools : Tools) (names : List Bytes) (r : Reach) (old new : 
 unfolding naming.speaker
 seal_evidence tools names r old new h event node t who reach ev is seals =
     evidence_on tools r old new h (line.Seal event node t) reach ev
-    (λ x. ap (λ (f : Terms). list_any (λ (other : program.Term). same_term (model_term x) (model_term other)) f.terms.keys) seals.forged ∙ sym (or_none _))
+    (λ x. ap (λ (f : Terms). has_term f x) seals.forged ∙ sym (or_none _))
     (λ a d b w x.
     seals.sealed x d (length a)
     ∙ ap (λ (y : Bool). late_by old d (length a) x || y)
@@ -298,7 +298,7 @@ one_late w (s ∷ seals) some = elim (either (opened_by (open_at w s.device.0) s
   | inr later ↦ (let it = one_late w seals later in record { device = it.device; opened = it.opened; found = it.found; sealed = or_right _ _ it.sealed })
 ]
 
-late_open : (w : Windows) (d m n : ℕ) (seals : List LateSeal) → open_at w d ≡ Some m → m ≤ n → has_seal seals d n ≡ true → some_late w seals ≡ true
+pub late_open : (w : Windows) (d m n : ℕ) (seals : List LateSeal) → open_at w d ≡ Some m → m ≤ n → has_seal seals d n ≡ true → some_late w seals ≡ true
 late_open w d m n [] found le there = cc
 late_open w d m n (s ∷ seals) found le there = elim (either (nat_eq d s.device.0 && nat_le n s.number) (has_seal seals d n) there) [
   | inl here ↦
@@ -327,7 +327,7 @@ module _ (tools : Tools) (names : List Bytes) (s : Lockout) (h : List Line) (eve
   forged_is : (a b : List Line) → a ++ b ≡ h → list_any (same_term (model_term t)) (flat_map forged_in (a ++ b)) ≡ has_term s.evidence.forged t
   forged_is a b whole = ap (λ (g : List Line). list_any (same_term (model_term t)) (flat_map forged_in g)) whole ∙ sym (ready.evidence.forged t)
 
-  windows_open : (a : List Line) (d : ℕ) (b : List Line) → IsWindow s.reach h a d b → some_open s.reach.windows s.reach.windows.last (keys s.reach.windows.removals) ≡ true
+  windows_open : (a : List Line) (d : ℕ) (b : List Line) → IsWindow s.reach h a d b → some_open s.reach.windows s.reach.windows.last (keys_of s.reach.windows.removals) ≡ true
   windows_open a d b w =
       some_key s.reach.windows s.reach.windows.last d w.found.opened w.found.found (let le : w.found.opened ≤ length a = w.found.early in let low : length a ≤ s.reach.windows.last = w.low in omega arith)
 
@@ -347,7 +347,7 @@ module _ (tools : Tools) (names : List Bytes) (s : Lockout) (h : List Line) (eve
       forged_off : (has_term s.evidence.forged t ≡ true) ⊎ (has_term s.evidence.forged t ≡ false) → list_any (same_term (model_term t)) (flat_map forged_in (a ++ b)) ≡ false
       forged_off (inr off) = forged_is a b it.0.whole ∙ off
       forged_off (inl there) =
-          absurd (not_both (some_open s.reach.windows s.reach.windows.last (keys s.reach.windows.removals) && has_term s.evidence.forged t) (both _ _ (windows_open a d b it.0) there)
+          absurd (not_both (some_open s.reach.windows s.reach.windows.last (keys_of s.reach.windows.removals) && has_term s.evidence.forged t) (both _ _ (windows_open a d b it.0) there)
           (right_off (some_late s.reach.windows (seals_of s.evidence t)) _ none))
 
   refuses_is : (a : List Line) (d : ℕ) (b : List Line) → a ++ b ≡ h → refuses_line tools d a b taken ≡ (is_aps t.layer || (knows s.past.before who.place || not (foul a d b)))
@@ -383,14 +383,14 @@ module _ (tools : Tools) (names : List Bytes) (s : Lockout) (h : List Line) (eve
       ∙ or_left _ _ (sym (it.0.1 t) ∙ (ap (λ (e : ℕ). has_seal (seals_of s.evidence t) e (length a)) it.1.0 ∙ (ap (λ (n : ℕ). has_seal (seals_of s.evidence t) late.device n) it.1.1 ∙ late.sealed))))) [] h
       (each_some (λ a d b. IsWindow s.reach h a d b × Sealed a d b) (λ a d b. (d ≡ late.device) × (length a ≡ late.opened)) [] h in_each (ready.reach.opened late.device late.opened late.found))
 
-  out_forged : t.layer ≡ layer.Nwk → knows s.past.before who.place ≡ false → (some_open s.reach.windows s.reach.windows.last (keys s.reach.windows.removals) && has_term s.evidence.forged t) ≡ true → SomeWindow Fails [] h
+  out_forged : t.layer ≡ layer.Nwk → knows s.past.before who.place ≡ false → (some_open s.reach.windows s.reach.windows.last (keys_of s.reach.windows.removals) && has_term s.evidence.forged t) ≡ true → SomeWindow Fails [] h
   out_forged is unknown both_so =
-      let one = one_open s.reach.windows s.reach.windows.last (keys s.reach.windows.removals) (and_left _ _ both_so) in
+      let one = one_open s.reach.windows s.reach.windows.last (keys_of s.reach.windows.removals) (and_left _ _ both_so) in
       some_map (λ a d b. (IsWindow s.reach h a d b × Sealed a d b) × ((d ≡ one.device) × (length a ≡ one.opened.opened))) Fails
       (λ a d b it.
       fails_there is unknown a d b it.0.0.whole
       (list_any-append (same_term (model_term t)) (along (sealed_by d) (declared_in a) b) (flat_map forged_in (a ++ b))
-      ∙ or_right (list_any (same_term (model_term t)) (along (sealed_by d) (declared_in a) b)) _ (forged_is a b it.0.0.whole ∙ and_right (some_open s.reach.windows s.reach.windows.last (keys s.reach.windows.removals)) _ both_so))) [] h
+      ∙ or_right (list_any (same_term (model_term t)) (along (sealed_by d) (declared_in a) b)) _ (forged_is a b it.0.0.whole ∙ and_right (some_open s.reach.windows s.reach.windows.last (keys_of s.reach.windows.removals)) _ both_so))) [] h
       (each_some (λ a d b. IsWindow s.reach h a d b × Sealed a d b) (λ a d b. (d ≡ one.device) × (length a ≡ one.opened.opened)) [] h in_each (ready.reach.opened one.device one.opened.opened one.opened.is))
 
   out : (l : Layer) → t.layer ≡ l → accepts_at l s who.place t ≡ false → SomeWindow Fails [] h

@@ -1,4 +1,5 @@
 pub mod Before
+pub mod Ordered
 pub mod Lockout
 pub mod Facts
 pub mod Bags

@@ -1,6 +1,7 @@
 -- What the parts of the program's value say.
 use Rattle.std.specs.Prelude.{ℕ, Bool, true, false, not, ◌&&◌, ◌||◌, List, bytes_eq, nat_eq, nat_le, Option, Some, None}
-use Rattle.std.specs.BTreeMap.{BTreeMap, get, keys}
+use Rattle.std.specs.BTreeMap.{get, is_at}
+use Rattle.std.specs.Map.{keys_of, lookup}
 use Rattle.std.specs.List.{list_any}
 use Rattle.zb_base.specs.declared.address.Eui.{Eui}
 use Rattle.zb_base.specs.declared.key.Key.{Key}
@@ -23,8 +24,8 @@ use Rattle.zb_trace_watch.specs.Sets.{eui_cmp, key_cmp, keys_at, meet}
 use Rattle.zb_trace_watch.specs.Terms.{has_term}
 
 -- the number of the line that removed a device
-abbrev pub number_in : BTreeMap Eui ℕ → ℕ → Option ℕ
-number_in removals d = get eui_cmp removals (record { 0 = d })
+abbrev pub number_in : List (Eui × ℕ) → ℕ → Option ℕ
+number_in removals d = lookup (is_at (eui_cmp (record { 0 = d }))) removals
 
 abbrev pub open_at : Windows → ℕ → Option ℕ
 open_at w d = number_in w.removals d
@@ -33,6 +34,10 @@ open_at w d = number_in w.removals d
 abbrev pub opened_by : Option ℕ → ℕ → Bool
 opened_by None number = false
 opened_by (Some opened) number = nat_le opened number
+
+-- whether one of the devices has a number that is at most that one
+abbrev pub some_by : List (Eui × ℕ) → ℕ → List Eui → Bool
+some_by numbers number devices = list_any (λ (device : Eui). opened_by (number_in numbers device.0) number) devices
 
 -- whether one of the devices is removed by a line of at most that number
 abbrev pub some_open : Windows → ℕ → List Eui → Bool
@@ -55,7 +60,7 @@ late_of l key = or_zero (get key_cmp l.numbers (record { 0 = key }))
 
 -- whether somebody who holds the key is removed by a line of at most that number; everybody holds the well-known key
 abbrev pub is_shown_to_all : Windows → ℕ → List ℕ → Bool
-is_shown_to_all w number key = bytes_eq key well_known && some_open w number (keys w.removals)
+is_shown_to_all w number key = bytes_eq key well_known && some_open w number (keys_of w.removals)
 
 abbrev pub is_shown : Windows → Bags Key Eui → ℕ → List ℕ → Bool
 is_shown w holders number key = is_shown_to_all w number key || some_open w number (holders_of holders key)
@@ -85,7 +90,7 @@ is_late_seal w (Some device) d number = opened_by (open_at w device.0) w.last &&
 
 -- whether a term is one that was forged, or that a removed device sealed, while one is removed
 abbrev pub is_foul : Windows → Evidence → Term → Bool
-is_foul w e t = some_late w (seals_of e t) || (some_open w w.last (keys w.removals) && has_term e.forged t)
+is_foul w e t = some_late w (seals_of e t) || (some_open w w.last (keys_of w.removals) && has_term e.forged t)
 
 -- whether the node at a place has a live network key that outsiders may know
 abbrev pub knows : Before → ℕ → Bool

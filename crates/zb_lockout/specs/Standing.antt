@@ -13,13 +13,14 @@ use Rattle.zb_lockout.specs.Before.{before_group}
 use Rattle.zb_lockout.specs.Facts.{Recalls}
 use Rattle.zb_lockout.specs.Lockout.{admits, drawn_in, first_unlocked, keeps_out, locked, refuses_line, sealed_by}
 use Rattle.zb_lockout.specs.Raising.{Raises}
-use Rattle.zb_lockout.specs.Reading.{is_holder, is_late_seal, late_by, late_of, open_at}
+use Rattle.zb_lockout.specs.Reading.{is_holder, is_late_seal, late_by, late_of, open_at, opened_by}
 use Rattle.zb_lockout.specs.Windows.{EachWindow, SomeWindow}
 use Rattle.zb_lockout.specs.declared.evidence.Evidence.{Evidence}
 use Rattle.zb_lockout.specs.declared.lateness.Lateness.{Lateness}
 use Rattle.zb_lockout.specs.declared.lockout.Lockout.{Lockout}
 use Rattle.zb_lockout.specs.declared.past.Past.{Past}
 use Rattle.zb_lockout.specs.declared.reach.Reach.{Reach}
+use Rattle.zb_lockout.specs.declared.windows.Windows.{Windows}
 use Rattle.zb_model.specs.Data.{Bytes}
 use Rattle.zb_model.specs.Secrets.{holds, same_term, well_known}
 use Rattle.zb_model.specs.Tools.{Tools}
@@ -155,6 +156,12 @@ pub record Seals (r : Reach) (old new : Evidence) (device : Option Eui) (term : 
 pub record Forges (old new : Evidence) (term : Term) : Type 0 where
   pub forged : (t : Term) → has_term new.forged t ≡ (has_term old.forged t || same_term (model_term t) (model_term term))
   pub sealed : new.sealed ≡ old.sealed
+
+-- Seals are forgotten that are late of no device that is removed.
+pub record Forgets (w : Windows) (old new : Evidence) : Type 0 where
+  pub forged : new.forged ≡ old.forged
+  pub kept : (t : Term) (d number : ℕ) → opened_by (open_at w d) number ≡ true → late_by new d number t ≡ late_by old d number t
+  pub fewer : (t : Term) (d number : ℕ) → late_by new d number t ≡ true → late_by old d number t ≡ true
 
 pub record IsEvidence (e : Evidence) (h : List Line) : Type 0 where
   pub forged : (t : Term) → has_term e.forged t ≡ list_any (same_term (model_term t)) (flat_map forged_in h)

@@ -1,5 +1,5 @@
 //! Items by their owner.
-ghost use Rattle.std.specs.Prelude.{◌≡◌, ◌||◌, ◌&&◌, [], Bool, OnOk};
+ghost use Rattle.std.specs.Prelude.{◌≡◌, ◌||◌, ◌&&◌, [], Bool, OnOk, false, take, true};
 ghost use Rattle.std.specs.List.{list_any};
 ghost use Rattle.std.specs.Ordering.{is_eq};
 ghost use Rattle.zb_lockout.specs.Bags.{items_at};
@@ -62,6 +62,20 @@ impl<O: Ord + Drop, E: Drop> Bags<O, E> {
         };
         bag.add(item)?;
         self.bags.insert(owner, bag)?;
+        Ok(())
+    }
+
+    /// Keeps the first items of an owner, so many.
+    pub fn keep(&mut self, owner: &O, count: usize) -> Result<(), AllocError>
+        ensures kept { OnOk result ((test : E → Bool) (o : O) → is_eq (O.cmp owner.now o) ≡ true
+            → list_any test (items_at O.cmp self.new o) ≡ list_any test (take count (items_at O.cmp self.old owner.now))) }
+        ensures others { OnOk result ((test : E → Bool) (o : O) → is_eq (O.cmp owner.now o) ≡ false
+            → list_any test (items_at O.cmp self.new o) ≡ list_any test (items_at O.cmp self.old o)) }
+    {
+        if let Some((key, mut bag)) = self.bags.remove_entry(owner) {
+            bag.items.truncate(count);
+            self.bags.insert(key, bag)?;
+        }
         Ok(())
     }
 

@@ -1,11 +1,12 @@
 //! What outsiders may know, and each node's live network keys.
-ghost use Rattle.std.specs.Prelude.{◌≡◌, ◌&&◌, ℕ, List, OnOk, IfOk, bytes_eq, false, nat_eq, not};
+ghost use Rattle.std.specs.Prelude.{◌≡◌, ℕ, List, OnOk, IfOk, false, true};
 ghost use Rattle.zb_lockout.specs.Facts.{Learnt, lives_at};
 ghost use Rattle.zb_lockout.specs.Reading.{knows};
 ghost use Rattle.zb_trace_watch.specs.Exposure.{was_removed, IsSettled};
 ghost use Rattle.zb_trace_watch.specs.Sets.{is_carried, node_has};
 
 use crate::fact::Fact;
+use crate::shown::{Shown, drop_from};
 use std::alloc::{AllocError, Global};
 use zb_base::Key;
 use zb_trace_watch::exposure::Exposure;
@@ -18,6 +19,8 @@ pub struct Before {
     pub exposure: Exposure,
     /// The live network keys of the node at each place.
     pub live: Holdings<usize>,
+    /// Where to look first for a live key that outsiders may know.
+    pub shown: Shown,
 }
 
 impl Before {
@@ -32,6 +35,7 @@ impl Before {
         Ok(Before {
             exposure: Exposure::new(alloc)?,
             live: Holdings::new(alloc),
+            shown: Shown::new(alloc),
         })
     }
 
@@ -39,28 +43,20 @@ impl Before {
     pub fn learn(&mut self, alloc: Global, fact: Fact) -> Result<(), AllocError>
         ensures { OnOk result (Learnt self.old self.new fact) }
     {
+        self.take_in(alloc, fact)?;
+        self.shown.follow(alloc, &self.exposure, &self.live, fact)?;
+        Ok(())
+    }
+
+    fn take_in(&mut self, alloc: Global, fact: Fact) -> Result<(), AllocError>
+        ensures { OnOk result (Learnt self.old self.new fact) }
+    {
         match fact {
             Fact::Holds(device, key) => self.exposure.hold(alloc, Some(device), key),
             Fact::Carries(base, key) => self.exposure.carry(alloc, base, Some(key)),
             Fact::Removed(device) => self.exposure.remove(alloc, device),
             Fact::Lives(place, key) => self.live.add(alloc, place, key),
-            Fact::Drops(place, key) => self.drop_key(place, key),
-        }
-    }
-
-    fn drop_key(&mut self, place: usize, key: Key) -> Result<(), AllocError>
-        ensures live { OnOk result ((p : ℕ) (k : List ℕ)
-            → lives_at self.new.live p k ≡ (lives_at self.old.live p k && not (nat_eq place p && bytes_eq k key.0))) }
-        ensures exposure { OnOk result (self.new.exposure ≡ self.old.exposure) }
-    {
-        match self.live.sets.remove(&place) {
-            Some(set) => {
-                let mut keys = set;
-                keys.keys.remove(&key);
-                self.live.sets.insert(place, keys)?;
-                Ok(())
-            }
-            None => Ok(()),
+            Fact::Drops(place, key) => drop_from(&mut self.live, place, key),
         }
     }
 
@@ -68,6 +64,16 @@ impl Before {
     pub fn holds_known(&self, place: usize) -> bool
         ensures { result ≡ knows self.now place }
     {
-        self.live.meets(&place, &self.exposure.known)
+        self.is_shown(place) || self.live.meets(&place, &self.exposure.known)
+    }
+
+    // Whether the key that is noted for the place is live there and known.
+    fn is_shown(&self, place: usize) -> bool
+        ensures { result ≡ true → knows self.now place ≡ true }
+    {
+        match self.shown.first(place) {
+            Some(key) => self.live.has(&place, key) && self.exposure.known.has(key),
+            None => false,
+        }
     }
 }

@@ -1,8 +1,9 @@
 //! Which terms were forged, and which were sealed by removed devices.
-ghost use Rattle.std.specs.Prelude.{◌≡◌, ◌||◌, ◌&&◌, ℕ, OnOk, nat_eq, nat_le, false};
-ghost use Rattle.std.specs.BTreeMap.{keys};
+ghost use Rattle.std.specs.Prelude.{◌≡◌, ◌||◌, ◌&&◌, ℕ, IfOk, OnOk, drop, nat_eq, nat_le, nat_lt, false};
+ghost use Rattle.std.specs.Map.{keys_of};
 ghost use Rattle.zb_lockout.specs.Reading.{is_foul, is_late_seal, late_by, open_at, opened_by};
 ghost use Rattle.zb_lockout.specs.Reading.{seals_of, some_late, some_open};
+ghost use Rattle.zb_lockout.specs.Standing.{Forgets};
 ghost use Rattle.zb_model.specs.Secrets.{same_term};
 ghost use Rattle.zb_model_real.specs.Terms.{model_term};
 ghost use Rattle.zb_seal.specs.declared.term.Term.{Term as AnyTerm};
@@ -112,34 +113,45 @@ impl Evidence {
     }
 
     /// Tells whether a term is foul: a removed device sealed it since its removal, or a device is removed and the term
-    /// was forged.
-    pub fn is_foul(&self, windows: &Windows, term: &Term) -> bool
-        ensures { result ≡ is_foul windows.now self.now term.now }
+    /// was forged. It forgets some seals of devices that were admitted since.
+    pub fn is_foul(&mut self, windows: &Windows, term: &Term) -> Result<bool, AllocError>
+        ensures foul { IfOk result (λ foul. foul ≡ is_foul windows.now self.old term.now) }
+        ensures forgets { OnOk result (Forgets windows.now self.old self.new) }
     {
-        self.is_late(windows, term) || self.is_forged(windows, term)
+        let is_late = self.is_late(windows, term)?;
+        Ok(is_late || self.is_forged(windows, term))
     }
 
     fn is_forged(&self, windows: &Windows, term: &Term) -> bool
-        ensures { result ≡ (some_open windows.now windows.now.last (keys windows.now.removals)
+        ensures { result ≡ (some_open windows.now windows.now.last (keys_of windows.now.removals)
             && has_term self.now.forged term.now) }
     {
         windows.any_open(windows.last) && self.forged.has(term)
     }
 
-    fn is_late(&self, windows: &Windows, term: &Term) -> bool
-        ensures { result ≡ some_late windows.now (seals_of self.now term.now) }
+    // Whether a removed device sealed the term. The seals behind the last of these can't become late any more.
+    fn is_late(&mut self, windows: &Windows, term: &Term) -> Result<bool, AllocError>
+        ensures late { IfOk result (λ late. late ≡ some_late windows.now (seals_of self.old term.now)) }
+        ensures forgets { OnOk result (Forgets windows.now self.old self.new) }
     {
-        any_open(windows, self.sealed.at(term))
+        let count = up_to_open(windows, self.sealed.at(term));
+        self.sealed.keep(term, count)?;
+        Ok(count > 0)
     }
 }
 
-fn any_open(windows: &Windows, seals: &[LateSeal]) -> bool
-    ensures { result ≡ some_late windows.now seals.now }
+/// Answers how many seals there are up to the last one of a device that is still removed.
+fn up_to_open(windows: &Windows, seals: &[LateSeal]) -> usize
+    ensures any { nat_lt 0 result ≡ some_late windows.now seals.now }
+    ensures behind { some_late windows.now (drop result seals.now) ≡ false }
 {
-    for seal in seals {
+    let mut count = seals.len();
+    while count > 0 {
+        let seal = seals[count - 1];
         if seal.is_open(windows) {
-            return true;
+            return count;
         }
+        count -= 1;
     }
-    false
+    0
 }

@@ -12,8 +12,10 @@ mod fact;
 mod groups;
 mod lateness;
 mod lockout;
+mod opened;
 mod past;
 mod reach;
+mod shown;
 mod windows;
 
 pub use lockout::Lockout;

@@ -6,7 +6,7 @@ ghost use Rattle.zb_declared.specs.Standing.{IsSpeaker};
 ghost use Rattle.zb_lockout.specs.Lockout as of_lines;
 ghost use Rattle.zb_lockout.specs.Facts.{eui_of_node};
 ghost use Rattle.zb_lockout.specs.Reading.{accepts, is_foul, knows};
-ghost use Rattle.zb_lockout.specs.Standing.{Admits, CarriesSome, Forges, Holds, Judges, RaisesOne, Removes};
+ghost use Rattle.zb_lockout.specs.Standing.{Admits, CarriesSome, Forges, Forgets, Holds, Judges, RaisesOne, Removes};
 ghost use Rattle.zb_lockout.specs.Standing.{Seals, Stands, Tells};
 ghost use Rattle.zb_model.specs.Data.{Bytes};
 ghost use Rattle.zb_model.specs.Tools.{Tools};
@@ -38,12 +38,14 @@ use zb_transported::carried;
 ///   well-known key.
 /// - What the lines of a group say of keys waits until the group ends. Then it is taken in once, as a watch over a
 ///   transcript takes it in.
-/// - An accepted term is looked up among the forged ones and those that removed devices sealed.
+/// - An accepted term is looked up among the forged ones and those that removed devices sealed. Of its seals the last
+///   ones are forgotten whose devices were admitted since, up to one that is still late.
+/// - Which live network keys outsiders may know is noted for each node as they learn keys, each key once. So a node
+///   that accepts foul terms has such a key at hand, and its keys are gone through at most once: then lockout fails.
 ///
 /// Over honest transcripts, and over most others, the time grows with the length. Known to take longer: thousands of
-/// pairs of a removal and a draw of one key, where thousands of base keys lead to it or thousands of devices hold it; a
-/// term that thousands of devices sealed while they were removed, accepted thousands of times after they were admitted
-/// again; and thousands of foul terms that a node with thousands of network keys accepts. Memory grows with the length.
+/// pairs of a removal and a draw of one key, where thousands of base keys lead to it or thousands of devices hold it.
+/// Memory grows with the length.
 #[derive(Drop)]
 pub struct Lockout {
     /// The number of the first line with which lockout fails.
@@ -132,7 +134,7 @@ impl Lockout {
             Line::Live { device, .. } => Ok(self.admit(*device)),
             Line::Seal { term, .. } => self.seal(alloc, who, term),
             Line::Forge { term, .. } => self.forge(alloc, term),
-            Line::Accept { term, .. } => Ok(self.accepts(who, term)),
+            Line::Accept { term, .. } => self.accepts(who, term),
             _ => Ok(true),
         }
     }
@@ -224,20 +226,29 @@ impl Lockout {
     }
 
     // Whether the line's node may accept the term.
-    fn accepts(&self, who: Who, term: &Term) -> bool
-        ensures { result ≡ accepts self.now who.place term.now }
+    fn accepts(&mut self, who: Who, term: &Term) -> Result<bool, NoMemory>
+        ensures stays { IfOk result (λ stays. stays ≡ accepts self.old who.place term.now) }
+        ensures evidence { OnOk result (Forgets self.old.reach.windows self.old.evidence self.new.evidence) }
+        ensures reach { self.new.reach ≡ self.old.reach }
+        ensures past { self.new.past ≡ self.old.past }
+        ensures first { self.new.first ≡ self.old.first }
     {
         match term.layer {
-            Layer::Aps => true,
+            Layer::Aps => Ok(true),
             Layer::Nwk => self.may_accept(who.place, term),
         }
     }
 
-    fn may_accept(&self, place: usize, term: &Term) -> bool
-        ensures { result ≡ (not (is_foul self.now.reach.windows self.now.evidence term.now)
-            || knows self.now.past.before place) }
+    fn may_accept(&mut self, place: usize, term: &Term) -> Result<bool, NoMemory>
+        ensures stays { IfOk result (λ stays. stays
+            ≡ (not (is_foul self.old.reach.windows self.old.evidence term.now) || knows self.old.past.before place)) }
+        ensures evidence { OnOk result (Forgets self.old.reach.windows self.old.evidence self.new.evidence) }
+        ensures reach { self.new.reach ≡ self.old.reach }
+        ensures past { self.new.past ≡ self.old.past }
+        ensures first { self.new.first ≡ self.old.first }
     {
-        !self.evidence.is_foul(&self.reach.windows, term) || self.past.before.holds_known(place)
+        let is_foul = self.evidence.is_foul(&self.reach.windows, term)?;
+        Ok(!is_foul || self.past.before.holds_known(place))
     }
 }
 

@@ -1,18 +1,18 @@
 //! Devices that were removed and weren't admitted since.
 ghost use Rattle.std.specs.Prelude.{◌≡◌, ℕ, OnOk, None, Some, if◌then◌else◌, nat_eq};
-ghost use Rattle.std.specs.BTreeMap.{keys};
+ghost use Rattle.std.specs.Map.{keys_of};
 ghost use Rattle.std.specs.Option.{option_or};
-ghost use Rattle.zb_lockout.specs.Reading.{number_in, open_at, opened_by, some_open};
+ghost use Rattle.zb_lockout.specs.Reading.{open_at, opened_by, some_open};
 
+use crate::opened::Opened;
 use std::alloc::{AllocError, Global};
-use std::collections::BTreeMap;
 use zb_base::Eui;
 
 /// Holds the removed devices, each with the number of the line that removed it first since it was last admitted.
 #[derive(Drop)]
 pub struct Windows {
     /// The number of the line that removed each device.
-    pub removals: BTreeMap<Eui, u32>,
+    pub removals: Opened,
     /// The number of the last line that removed any device; 0 where there is none.
     pub last: u32,
 }
@@ -24,7 +24,7 @@ impl Windows {
         ensures last { result.last ≡ 0 }
     {
         Windows {
-            removals: BTreeMap::new(alloc),
+            removals: Opened::new(alloc),
             last: 0,
         }
     }
@@ -35,7 +35,7 @@ impl Windows {
             → open_at self.new d ≡ option_or (open_at self.old d) (if nat_eq d device.0 then Some number else None)) }
         ensures last { OnOk result (self.new.last ≡ number) }
     {
-        note(&mut self.removals, device, number)?;
+        self.removals.note(device, number)?;
         self.last = number;
         Ok(())
     }
@@ -45,29 +45,24 @@ impl Windows {
         ensures found { (d : ℕ) → open_at self.new d ≡ (if nat_eq d device.0 then None else open_at self.old d) }
         ensures last { self.new.last ≡ self.old.last }
     {
-        self.removals.remove(&device);
+        self.removals.remove(device);
     }
 
     /// Tells whether a device is removed by a line of at most that number.
     pub fn is_open(&self, device: &Eui, number: u32) -> bool
         ensures { result ≡ opened_by (open_at self.now device.now.0) number }
     {
-        match self.removals.get(device) {
-            Some(opened) => *opened <= number,
+        match self.removals.number(device) {
+            Some(opened) => opened <= number,
             None => false,
         }
     }
 
     /// Tells whether any device is removed by a line of at most that number.
     pub fn any_open(&self, number: u32) -> bool
-        ensures { result ≡ some_open self.now number (keys self.now.removals) }
+        ensures { result ≡ some_open self.now number (keys_of self.now.removals) }
     {
-        for device in self.removals.keys() {
-            if self.is_open(device, number) {
-                return true;
-            }
-        }
-        false
+        self.removals.any_by(number)
     }
 }
 
@@ -81,15 +76,4 @@ pub fn any_among(windows: &Windows, devices: &[Eui], number: u32) -> bool
         }
     }
     false
-}
-
-/// Notes the number of the line that removed a device, unless one is there.
-fn note(removals: &mut BTreeMap<Eui, u32>, device: Eui, number: u32) -> Result<(), AllocError>
-    ensures { OnOk result ((d : ℕ) → number_in removals.new d
-        ≡ option_or (number_in removals.old d) (if nat_eq d device.0 then Some number else None)) }
-{
-    if !removals.contains_key(&device) {
-        removals.insert(device, number)?;
-    }
-    Ok(())
 }

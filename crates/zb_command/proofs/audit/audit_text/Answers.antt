@@ -1,5 +1,6 @@
 -- The lines that were taken are those of the text.
 use Rattle.std.proofs.Common.{rules, ◌≡◌, ◌+◌, ◌≤◌, ◌<◌, ◌++◌, List, ℕ, length, arith}
+use Rattle.std.proofs.lemmas.Result.{err_from_is_err_and}
 use Rattle.std.specs.Option.{MatchOption}
 use Rattle.zb_model_real.specs.Real.{real}
 use Rattle.zb_trace.specs.Text.{IsProper, text}
@@ -43,3 +44,8 @@ returns-in-Err-Broken-clause-fault c =
     let s = c.loop-rest.invariant.0 in
     broken_of c.args.text.now c.loop-rest.rest.now c.loop-rest.count c.loop-rest.auditor s c.end.result c.in-Err-Broken.field-0 c.in-Err-Broken.line c.in-Err-Broken.clause
     c.in-Err-Broken.is c.in-Err-Broken.field-0-is (c.end.ensures real s.lines s.stands) none
+
+pub returns-in_err-line-2-clause-fault : goal.returns-in_err-line-2-clause-fault
+returns-in_err-line-2-clause-fault c =
+    let p = err_from_is_err_and c.from_residual-in_err-line-2.result c.from_residual-in_err-line-2.ensures.1 in
+    rw (p.1, p.2) tt

@@ -1,6 +1,7 @@
 use Rattle.std.proofs.Common.{◌≡◌, Bool, sym, refl, subst, true}
 use Rattle.zb_lockout.specs.Facts.{eui_of_node}
-use Rattle.zb_lockout.specs.Standing.{CarriesSome, Forges, Holds, Judges, RaisesOne, Removes, Seals, Tells}
+use Rattle.zb_lockout.specs.Standing.{CarriesSome, Forges, Forgets, Holds, Judges, RaisesOne, Removes, Seals, Tells}
+use Rattle.zb_lockout.specs.Reading.{accepts}
 use Rattle.zb_trace.specs.declared.line.Line.{Line}
 use Rattle.zb_transported.specs.Carrying.{carried}
 use Rattle.zb_lockout.proofs.Lines.{accept_judges, admit_judges, draw_judges, forge_judges, given_link_judges, given_net_judges, install_judges, pair_judges, quiet_judges, quiet_line, remove_judges, row_judges, seal_judges}
@@ -83,8 +84,11 @@ returns-in-Forge-clause-judges c =
 
 pub returns-in-Accept-clause-judges : goal.returns-in-Accept-clause-judges
 returns-in-Accept-clause-judges c =
-    subst (λ (l : Line). Judges c.args.self.now c.args.self.now c.args.number l c.args.who c.accepts.result) (sym c.in-Accept.is)
-    (accept_judges c.args.self.now c.args.number c.in-Accept.event c.in-Accept.node c.in-Accept.term c.args.who c.accepts.result c.accepts.ensures)
+    let kept : (stays : Bool) → Forgets c.args.self.now.reach.windows c.args.self.now.evidence c.accepts.new.self.evidence → stays ≡ accepts c.args.self.now c.args.who.place c.in-Accept.term
+    → Judges c.args.self.now c.accepts.new.self c.args.number c.args.line.now c.args.who stays =
+    λ stays forgets is. subst (λ (l : Line). Judges c.args.self.now c.accepts.new.self c.args.number l c.args.who stays) (sym c.in-Accept.is)
+    (accept_judges c.args.self.now c.accepts.new.self c.args.number c.in-Accept.event c.in-Accept.node c.in-Accept.term c.args.who stays is c.accepts.ensures.past c.accepts.ensures.reach forgets) in
+    if_ok c.accepts.result _ _ _ c.accepts.ensures.evidence c.accepts.ensures.stays kept
 
 pub returns-in_default : goal.returns-in_default
 returns-in_default c =
