@@ -82,8 +82,8 @@ const BOOT_AND_SAY: &[u8] = b"boot c\nsay c 1A2B -\n";
 
 const BOOT_AND_DUMP: &[u8] = b"boot c\nsay c 1A2B -\ndump c\n";
 
-/// The first case is a worked example. In the others a boot that finds no record of a centre, or a call of the disk that
-/// fails, ends as the disk's fault; a stop ends as a stop; a dump shows no bytes where no record of a centre stands.
+/// The first case is a worked example. In the others a boot that finds no record of a centre, or a call of the disk
+/// that fails, ends as the disk's fault; a stop ends as a stop; a dump shows no bytes where no record of a centre stands.
 const CASES: [Case; 9] = [
     Case {
         event: 4,
@@ -227,8 +227,8 @@ fn a_node_goes_on_with_the_disk_under_it(rt: HostRuntime) -> Result<(), Fail> {
     Ok(())
 }
 
-/// The records of the centre and of the device, and the entries behind them, once `BEFORE` was played: the centre stored
-/// its NWK limit of 4.
+/// The records of the centre and of the device, and the entries behind them, once `BEFORE` was played: the centre
+/// stored its NWK limit of 4.
 const HELD: [(usize, [u8; 43], &[u8]); 2] = [
     (
         0,

@@ -65,7 +65,8 @@ impl Nonces {
         ensures seen { OnOk result ((t : AnyTerm)
             → was_sealed self.new t ≡ (was_sealed self.old t || same_stamp t term.now)) }
         ensures first { OnOk result
-            (self.new.first ≡ option_or self.old.first (if not (was_sealed self.old term.now) then None else Some number)) }
+            (self.new.first
+            ≡ option_or self.old.first (if not (was_sealed self.old term.now) then None else Some number)) }
     {
         let is_new = self.seen.insert(stamp_of(term))?;
         self.first = first_bad(self.first, is_new, number);

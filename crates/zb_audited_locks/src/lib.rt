@@ -33,8 +33,8 @@ pub fn groups_of_a_run_begin_with_their_events()
 
 /// Says that no line of a run breaks the fifth clause of the audit, which is lockout.
 ///
-/// Where both words of the end line hold, removed devices are locked out of the printed lines and of each front of them.
-/// `ShowsKeys` is of the frames: what a node's own frame shows of a key is the key of the command that is in it.
+/// Where both words of the end line hold, removed devices are locked out of the printed lines and of each front of
+/// them. `ShowsKeys` is of the frames: what a node's own frame shows of a key is the key of the command that is in it.
 /// `KeysApart` is of the schedule: its keys are different keys.
 #[tactic(auto, using(crate::proofs::Fifth::keeps_fifth))]
 pub fn runs_keep_the_fifth_clause()

@@ -101,7 +101,8 @@ impl EndWords {
     }
 
     fn given_net(&mut self, alloc: Global, who: Who, key: Key) -> Result<(), NoMemory>
-        ensures { OnOk result ((tools : Tools) (names : List Bytes) (h : List AnyLine) (node : ArrayString) (sequence : ℕ)
+        ensures { OnOk result ((tools : Tools) (names : List Bytes) (h : List AnyLine)
+            (node : ArrayString) (sequence : ℕ)
             → Follows tools names who h (lines.GivenNet node key sequence) self.old self.new) }
     {
         self.passing.network_key(key)?;
@@ -110,7 +111,8 @@ impl EndWords {
     }
 
     fn given_link(&mut self, alloc: Global, who: Who, key: Key) -> Result<(), NoMemory>
-        ensures { OnOk result ((tools : Tools) (names : List Bytes) (h : List AnyLine) (node : ArrayString) (partner : AnyEui)
+        ensures { OnOk result ((tools : Tools) (names : List Bytes) (h : List AnyLine)
+            (node : ArrayString) (partner : AnyEui)
             → Follows tools names who h (lines.GivenLink node partner key) self.old self.new) }
     {
         self.passing.network_key(key)?;
@@ -128,7 +130,8 @@ impl EndWords {
     }
 
     fn install(&mut self, alloc: Global, who: Who, key: Key) -> Result<(), NoMemory>
-        ensures { OnOk result ((tools : Tools) (names : List Bytes) (h : List AnyLine) (node : ArrayString) (event sequence : ℕ)
+        ensures { OnOk result ((tools : Tools) (names : List Bytes) (h : List AnyLine)
+            (node : ArrayString) (event sequence : ℕ)
             → Follows tools names who h (lines.Install event node key sequence) self.old self.new) }
     {
         self.origins.take_in(alloc, joins(who), who.place, key)?;
@@ -157,7 +160,8 @@ impl EndWords {
     }
 
     fn pair(&mut self, alloc: Global, first: Eui, second: Eui, key: Key) -> Result<(), NoMemory>
-        ensures { OnOk result ((tools : Tools) (names : List Bytes) (h : List AnyLine) (who : AnyWho) (event : ℕ) (node : ArrayString)
+        ensures { OnOk result ((tools : Tools) (names : List Bytes) (h : List AnyLine)
+            (who : AnyWho) (event : ℕ) (node : ArrayString)
             → Follows tools names who h (lines.Pair event node first second key) self.old self.new) }
     {
         self.exposure.hold(alloc, Some(first), key)?;
@@ -181,7 +185,8 @@ impl EndWords {
     }
 
     fn seal(&mut self, alloc: Global, term: &Term) -> Result<(), NoMemory>
-        ensures { OnOk result ((tools : Tools) (names : List Bytes) (h : List AnyLine) (who : AnyWho) (event : ℕ) (node : ArrayString)
+        ensures { OnOk result ((tools : Tools) (names : List Bytes) (h : List AnyLine)
+            (who : AnyWho) (event : ℕ) (node : ArrayString)
             → Follows tools names who h (lines.Seal event node term.now) self.old self.new) }
     {
         let key = carried(term);

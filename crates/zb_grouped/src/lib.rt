@@ -6,8 +6,8 @@ ghost use Rattle.zb_grouped.specs.Grouping.{IsGrouped};
 ghost use Rattle.zb_model.specs.Play.{Schedule};
 ghost use Rattle.zb_model.specs.Tools.{Tools};
 
-/// Says that the groups of a run's lines, the longest runs of lines with one event number, are its start lines, the lines
-/// of each event that has some, and the end line.
+/// Says that the groups of a run's lines, the longest runs of lines with one event number, are its start lines, the
+/// lines of each event that has some, and the end line.
 #[tactic(auto, using(crate::proofs::Grouped::is_grouped))]
 pub fn groups_of_a_run_are_its_events()
     ensures { (tools : Tools) → (w : Schedule) → IsGrouped tools w }

@@ -66,7 +66,11 @@ impl Counters {
     /// The moment of a line at NWK.
     fn at_nwk(&self, group: u32) -> Moment
         ensures { result
-            ≡ record { group = group; boot = before_of group self.now.booted; declared = before_of group self.now.nwk.declared } }
+            ≡ record {
+              group = group;
+              boot = before_of group self.now.booted;
+              declared = before_of group self.now.nwk.declared;
+            } }
     {
         Moment {
             group,
@@ -78,7 +82,11 @@ impl Counters {
     /// The moment of a line at APS.
     fn at_aps(&self, group: u32) -> Moment
         ensures { result
-            ≡ record { group = group; boot = before_of group self.now.booted; declared = before_of group self.now.aps.declared } }
+            ≡ record {
+              group = group;
+              boot = before_of group self.now.booted;
+              declared = before_of group self.now.aps.declared;
+            } }
     {
         Moment {
             group,
@@ -357,8 +365,10 @@ impl Counters {
         line: &Line,
         node: Option<Node>,
     ) -> Result<Judgement, AllocError>
-        ensures judged { IfOk result (λ judgement. judgement ≡ judged_at group self.old (out_block_by node) (in_block_by node) line.now) }
-        ensures heard { OnOk result ((n : Bytes) → speaker line.now ≡ Some n → Hears group number n line.now self.old self.new) }
+        ensures judged { IfOk result (λ judgement. judgement
+            ≡ judged_at group self.old (out_block_by node) (in_block_by node) line.now) }
+        ensures heard { OnOk result ((n : Bytes) → speaker line.now ≡ Some n
+            → Hears group number n line.now self.old self.new) }
     {
         match line {
             Line::Counter { layer, limit, .. } => {
@@ -398,8 +408,8 @@ impl Counters {
         }
     }
 
-    /// Tells, at the end of a group, whether what a line of it needs stands there. `cut` tells whether the event was cut
-    /// short.
+    /// Tells, at the end of a group, whether what a line of it needs stands there. `cut` tells whether the event was
+    /// cut short.
     pub fn meets(&self, group: u32, cut: bool, need: &Need) -> bool
         ensures { result ≡ is_met group cut self.now need.now }
     {

@@ -69,7 +69,7 @@ impl Floor {
                 && fits_one(floor, value, block, self.greatest))
     }
 
-    /// Tells whether a floor line is called for: a frame is accepted, or in an event that was cut short the floor rises.
+    /// Tells whether a floor line is called for: a frame is accepted, or the floor rises in an event that was cut.
     pub fn is_called_for(&self, group: u32, cut: bool, value: u32) -> bool
         ensures { result ≡ calls cut group (before_of group self.now.stored) value self.now }
     {

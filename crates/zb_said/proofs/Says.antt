@@ -211,3 +211,6 @@ state_is event node s = ap (line.State event node) (sym (state_same s))
 
 pub roll_is : (event : ℕ) (node : ArrayString) (r : Rollover) → line.Roll event node r ≡ line.Roll event node (rollover_for (is_sending r))
 roll_is event node r = ap (line.Roll event node) (sym (rollover_same r))
+
+-- what each kind of change with parts of its own is
+pub ruleset changes_are = (reserve_is, floor_is, row_is, state_is, roll_is)

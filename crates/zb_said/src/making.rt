@@ -86,7 +86,7 @@ pub fn change_line(event: u32, node: Name, change: Change) -> Line
     line_of_change(event, node, change)
 }
 
-#[tactic(auto, using(crate::proofs::Says::reserve_is, crate::proofs::Says::floor_is, crate::proofs::Says::row_is, crate::proofs::Says::state_is, crate::proofs::Says::roll_is))]
+#[tactic(auto, using(crate::proofs::Says::changes_are))]
 fn line_of_change(event: u32, node: Name, change: Change) -> Line
     ensures { result ≡ edit_line event node (edit change) }
 {
