@@ -11,7 +11,7 @@ use Rattle.zb_admin.proofs.RefusedLemmas.{is_no_refusal, refused_by, some_mapped
 use Rattle.zb_admin.specs.declared.fault.AdminFault.{AdminFault}
 use Rattle.zb_admin.specs.declared.fault.AdminFault.TheVariants.{Disk, NoStore, BadStore, Worn, Write, NoMemory}
 use Rattle.zb_disk.proofs.Moments.{started, still_refl}
-use Rattle.zb_disk.specs.Calls.{Unrisen}
+use Rattle.zb_base.specs.Outside.{Unrisen}
 use Rattle.zb_disk.specs.View.{Telling, View, IsStill}
 use Rattle.zb_host.specs.Hosts.{Gives, Hosted}
 use Rattle.zb_host.specs.declared.outcome.Outcome.{Outcome}

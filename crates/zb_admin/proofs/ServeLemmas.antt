@@ -14,8 +14,7 @@ use Rattle.zb_admin.specs.declared.fault.AdminFault.TheVariants.{Disk, NoStore, 
 use Rattle.zb_admin.proofs.CommandLemmas.{images_stand}
 use Rattle.zb_admin.proofs.MomentLemmas.{all_of_run, script_goes}
 use Rattle.zb_admin.proofs.RunLemmas.{run_front, run_last, run_whole}
-use Rattle.zb_base.specs.Outside.{AppendsFront, Rose}
-use Rattle.zb_disk.specs.Calls.{Unrisen}
+use Rattle.zb_base.specs.Outside.{AppendsFront, Rose, Unrisen}
 use Rattle.zb_disk.specs.View.{LeavesOnly, View}
 use Rattle.zb_host.specs.Hosts.{Hosted}
 use Rattle.zb_model.specs.Rules.{Setting}

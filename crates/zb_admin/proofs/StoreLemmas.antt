@@ -10,7 +10,7 @@ use Rattle.zb_admin.proofs.RefusedLemmas.{none_changed, refused_edits, refused_e
 use Rattle.zb_admin.specs.Standing.{CanBeServed, IsEmpty, IsUp, IsWornOut, StandsAsEither, fault_of, found_on, found_store, found_tables, recorded}
 use Rattle.zb_admin.specs.declared.fault.AdminFault.{AdminFault}
 use Rattle.zb_admin.specs.declared.fault.AdminFault.TheVariants.{Disk as AdminDisk, NoStore, BadStore, Worn as AdminWorn, Write, NoMemory as LackOfMemory}
-use Rattle.zb_base.specs.Outside.{Rose}
+use Rattle.zb_base.specs.Outside.{Rose, Unrisen}
 use Rattle.zb_base.specs.declared.fault.OrMemory.TheVariants.{Fault}
 use Rattle.zb_base.specs.declared.node.Config.{Config}
 use Rattle.zb_centre.specs.Tasks.{IsTaskOf, task_of}
@@ -19,7 +19,6 @@ use Rattle.zb_core.proofs.PlanLaws.{core_plan_leads}
 use Rattle.zb_core.specs.CorePlans.{CorePlan, IsCoreAfter, IsCorePlan}
 use Rattle.zb_disk.proofs.Moments.{still_leaves, still_then, weakened}
 use Rattle.zb_disk.specs.View.{Telling, View, IsStill, LeavesOnly}
-use Rattle.zb_disk.specs.Calls.{Unrisen}
 use Rattle.zb_host.specs.HostFaults as host
 use Rattle.zb_host.specs.Hosts.{Gives, Hosted, IsCurrent, StandsForEither, is_full, writes_whole}
 use Rattle.zb_host.specs.Plans.{gives, bad}

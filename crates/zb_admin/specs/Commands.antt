@@ -6,9 +6,8 @@ use Rattle.zb_admin.specs.declared.fault.AdminFault.{AdminFault}
 use Rattle.zb_admin.specs.declared.fault.AdminFault.TheVariants.{Disk, NoStore, BadStore, Worn, Write, NoMemory}
 use Rattle.zb_admin.specs.Served.{Done, IsRefusal}
 use Rattle.zb_admin.specs.Standing.{CanBeServed, IsUp, IsWornOut, Stands, StandsAsEither, found_on, found_tables}
-use Rattle.zb_base.specs.Outside.{Rose}
+use Rattle.zb_base.specs.Outside.{Rose, Unrisen}
 use Rattle.zb_disk.specs.View.{Telling, View, IsStill, LeavesOnly}
-use Rattle.zb_disk.specs.Calls.{Unrisen}
 use Rattle.zb_host.specs.Hosts.{Hosted}
 use Rattle.zb_host.specs.declared.outcome.Outcome.{Outcome}
 use Rattle.zb_model.specs.Answer.{Answer, answer, answered}

@@ -8,9 +8,8 @@ pub use Rattle.zb_admin.specs.Outside.{Outside, outside}
 use Rattle.zb_admin.specs.Moments.{IsOfRun, IsRun}
 use Rattle.zb_admin.specs.Served.{IsRefusal, done, served, served_text}
 use Rattle.zb_admin.specs.Standing.{CanBeServed, IsWornOut, Stands, StandsAs, found_on}
-use Rattle.zb_base.specs.Outside.{AppendsFront, Rose}
+use Rattle.zb_base.specs.Outside.{AppendsFront, Rose, Unrisen}
 use Rattle.zb_disk.specs.View.{View, IsStill, LeavesOnly}
-use Rattle.zb_disk.specs.Calls.{Unrisen}
 use Rattle.zb_host.specs.Hosts.{Hosted}
 use Rattle.zb_model.specs.Rules.{Setting}
 use Rattle.zb_model.specs.State.{NodeState}

@@ -1,5 +1,5 @@
 //! Serving a script: command by command.
-ghost use Rattle.std.specs.Prelude.{◌≡◌, ◌≤◌, ◌⊎◌, ◌++◌, ◌∷◌, [], Option as Maybe, Some, None, Ok, Err, false, true, is_some, option_map, IfErr, IfOk, IsOk, OnOk, OnErr, IsTrue};
+ghost use Rattle.std.specs.Prelude.{◌≡◌, ◌≢◌, ◌≤◌, ◌⊎◌, ◌++◌, ◌∷◌, [], Option as Maybe, Some, None, Ok, Err, false, true, is_some, option_map, IfErr, IfOk, IsOk, OnOk, OnErr, IsTrue};
 ghost use Rattle.std.specs.Io.KnownBytes.{Appends};
 ghost use Rattle.std.specs.List.{AllByRecursion};
 ghost use Rattle.zb_admin.specs.Commands.{HasStore, IsCarriedOut, IsCommandFault, IsShort, is_own, items_of, lays_out};
@@ -9,9 +9,8 @@ ghost use Rattle.zb_admin.specs.Standing.{IsEmpty, IsUp, Stands};
 ghost use Rattle.zb_admin.specs.Texts.{listed, ok_line, refuse_line};
 ghost use Rattle.zb_backup.specs.Format.{backup_text};
 ghost use Rattle.zb_base.specs.Config.{IsConfig};
-ghost use Rattle.zb_base.specs.Outside.{AppendsFront, Rose};
+ghost use Rattle.zb_base.specs.Outside.{AppendsFront, Rose, Unrisen};
 ghost use Rattle.zb_centre.specs.Tasks.{task_of};
-ghost use Rattle.zb_disk.specs.Calls.{Unrisen};
 ghost use Rattle.zb_host.specs.Hosts.{Hosted};
 ghost use Rattle.zb_model.specs.Data as model;
 ghost use Rattle.zb_model.specs.Rules.{Setting};
@@ -279,6 +278,7 @@ fn write_page<W: Sink>(page: &mut Vec<u8>, out: &mut W) -> Result<(), AdminFault
     ensures front { OnErr result (AppendsFront (W.taken out.old) (W.taken out.new) page.old.items) }
     ensures fault { IfErr result (λ f. (f ≡ AdminFault.Write) × Rose (W.faults out.old) (W.faults out.new)) }
     ensures later { W.faults out.old ≤ W.faults out.new }
+    ensures unrisen { OnOk result (Unrisen (W.faults out.old) (W.faults out.new)) }
 {
     match hand_out(page, out) {
         Ok(()) => Ok(()),
@@ -312,6 +312,7 @@ fn serve_step<D: Disk, W: Sink>(
     ensures count { (D.state disk.old).faults ≤ (D.state disk.new).faults }
     ensures unrisen { OnOk result (Unrisen (D.state disk.old).faults (D.state disk.new).faults) }
     ensures later { W.faults out.old ≤ W.faults out.new }
+    ensures out_unrisen { result ≢ Err AdminFault.Write → Unrisen (W.faults out.old) (W.faults out.new) }
 {
     match carry_out(alloc, config, centre, disk, step, page) {
         Ok(()) => write_page(page, out),
@@ -338,6 +339,7 @@ fn serve_steps<D: Disk, W: Sink>(
         disk.old out.old result disk.new out.new }
     ensures faults { IfErr result (IsServiceFault (outside D.tells D.state W.taken W.faults) (setting_for config.now)
         centre.old disk.old out.old disk.new out.new) }
+    ensures out_unrisen { result ≢ Err AdminFault.Write → Unrisen (W.faults out.old) (W.faults out.new) }
 {
     let mut page = Vec::new(alloc);
     for step in steps {
@@ -364,7 +366,10 @@ pub fn serve<D: Disk, W: Sink>(
     out: &mut W,
 ) -> Result<(), AdminFault>
     requires { IsScript script.now }
-    ensures { Serves (outside D.tells D.state W.taken W.faults) script.now disk.old out.old result disk.new out.new }
+    ensures served { Serves (outside D.tells D.state W.taken W.faults) script.now disk.old out.old
+        result disk.new out.new }
+    // No fault of the sink is told as another one.
+    ensures out_unrisen { result ≢ Err AdminFault.Write → Unrisen (W.faults out.old) (W.faults out.new) }
 {
     match judge(alloc, &script.config, disk) {
         Ok(made) => {

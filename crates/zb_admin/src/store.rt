@@ -5,7 +5,7 @@ ghost use Rattle.zb_admin.specs.Served.{first_tables, tables_of};
 ghost use Rattle.zb_backup.specs.Reading.{IsOfCentre};
 ghost use Rattle.zb_base.specs.Config.{IsConfig};
 ghost use Rattle.zb_centre.specs.Tasks.{task_of};
-ghost use Rattle.zb_disk.specs.Calls.{Unrisen};
+ghost use Rattle.zb_base.specs.Outside.{Unrisen};
 ghost use Rattle.zb_keys.specs.Declarations.{declared_state};
 ghost use Rattle.zb_model.specs.Data as model;
 ghost use Rattle.zb_model.specs.Record.{record_of};

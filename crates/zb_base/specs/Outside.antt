@@ -1,5 +1,5 @@
 -- What the program may rely on of the objects outside it: sources, sinks and their counts of faults.
-use Rattle.std.specs.Prelude.{ℕ, ◌+◌, ◌-◌, ◌^◌, ◌≤◌, min, List, take, Option, Result, OnErr, Bool, ◌==◌}
+use Rattle.std.specs.Prelude.{ℕ, ◌+◌, ◌-◌, ◌^◌, ◌≡◌, ◌≤◌, min, List, take, Option, Result, OnOk, OnErr, Bool, ◌==◌}
 use Rattle.std.specs.List.{list_any}
 use Rattle.std.specs.Io.KnownBytes.{Appends}
 
@@ -11,9 +11,14 @@ risen count more = min (count + more) (2 ^ 64 - 1)
 abbrev pub Rose : ℕ → ℕ → Type 0
 Rose before now = risen before 1 ≤ now
 
--- a count of faults never falls, and an `Err` comes only where it rose
+-- a count stands as it was
+abbrev pub Unrisen : ℕ → ℕ → Type 0
+Unrisen before now = now ≡ before
+
+-- a count of faults never falls: it stands where the call went through, and rose where the call failed
 pub record HasCause {T E : Type 0} (before now : ℕ) (result : Result T E) : Type 0 where
   pub later : before ≤ now
+  pub unrisen : OnOk result (Unrisen before now)
   pub failed : OnErr result (Rose before now)
 
 -- known bytes grow by some front of the piece

@@ -1,6 +1,7 @@
 //! Playing the runs of a campaign, and writing what they come to.
-ghost use Rattle.std.specs.Prelude.{◌≡◌, ◌+◌, ◌≤◌, ◌<◌, ◌^◌, ℕ, List, Result};
+ghost use Rattle.std.specs.Prelude.{◌≡◌, ◌≢◌, ◌+◌, ◌≤◌, ◌<◌, ◌^◌, ℕ, List, Result, Err};
 ghost use Rattle.std.specs.List.{AllByRecursion, AllZip};
+ghost use Rattle.zb_base.specs.Outside.{Unrisen};
 ghost use Rattle.zb_campaign.specs.Answers.{Answers, last_lines};
 ghost use Rattle.zb_campaign.specs.Campaigns.{campaigned, endings, joined};
 ghost use Rattle.zb_campaign.specs.Outcomes.{Campaigns};
@@ -42,6 +43,8 @@ pub fn campaign<T: Threads + Sync, G: Gate, W: Sink>(
     ensures ends { Campaigns (campaigned count start) (W.taken out.old) (W.taken out.new) (W.faults out.old)
         (W.faults out.new) result }
     ensures later { W.faults out.old ≤ W.faults out.new }
+    // No fault of the sink is told as another one.
+    ensures unrisen { result ≢ Err CampaignFault.Write → Unrisen (W.faults out.old) (W.faults out.new) }
 {
     let shares = shares(alloc, count, jobs)?;
     let ends = play_all(rt, alloc, start, gate, shares)?;

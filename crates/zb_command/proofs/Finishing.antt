@@ -1,5 +1,5 @@
 -- What the end of any command says of its status.
-use Rattle.std.proofs.Common.{◌≡◌, ◌⊎◌, inl, inr, ℕ, Option, None, Some, IfSome, refl, sym, ap, ◌∙◌, subst}
+use Rattle.std.proofs.Common.{◌≡◌, ◌⊎◌, ℕ, Option, Some, IfSome, subst}
 use Rattle.zb_base.specs.Outside.{Rose}
 use Rattle.zb_model.specs.Data.{Bytes}
 use Rattle.zb_command.specs.Answers.{Answer, Refuses, Exceeds, longest, status_of, wanted}

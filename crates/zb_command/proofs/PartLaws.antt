@@ -1,9 +1,9 @@
 -- A capture of which the text comes in parts.
-use Rattle.std.proofs.Common.{◌≡◌, ℕ, ◌+◌, ◌-◌, ◌<◌, ◌≤◌, List, [], ◌++◌, length, refl, ap, sym, ◌∙◌, subst, arith, append_assoc, append-nil, length-append, Option, Some, None, Result, Ok, Err, IfSome, OnOk}
+use Rattle.std.proofs.Common.{◌≡◌, ◌≢◌, ℕ, ◌+◌, ◌-◌, ◌<◌, ◌≤◌, List, [], ◌++◌, length, refl, ap, sym, ◌∙◌, subst, arith, append_assoc, append-nil, length-append, Option, Some, None, Result, Ok, Err, IfSome, OnOk}
 use Rattle.std.specs.Io.KnownBytes.{Consumes, IsAtEnd}
 use Rattle.std.specs.Result.{IsErrAnd}
 use Rattle.std.specs.Str.Lines.{lines}
-use Rattle.zb_base.specs.Outside.{Rose}
+use Rattle.zb_base.specs.Outside.{Rose, Unrisen}
 use Rattle.zb_base.specs.declared.fault.OrMemory.{OrMemory}
 use Rattle.zb_base.specs.declared.fault.OrMemory.TheVariants as error
 use Rattle.zb_capture.specs.Grammar.{captured}
@@ -213,15 +213,20 @@ part_not_read (Err x) e old next after part first rest whole is bad one cut =
 
 -- an input that gives no capture
 pub not_captured : (r : Result Capture CaptureFault) (f : CaptureFault) (old new : Option (List ℕ)) (faults later : ℕ) → IsErrAnd r (λ x. x ≡ f)
-    → TakesAtMost old new 16777217 → IsWhyNot f old faults later → IsReadAsCapture r old new faults later
-not_captured (Ok c) f old new faults later is few why = absurd is
-not_captured (Err x) f old new faults later is few why = record {
+    → TakesAtMost old new 16777217 → IsWhyNot f old faults later → (f ≢ fault.Input input.Read → Unrisen faults later) → IsReadAsCapture r old new faults later
+not_captured (Ok c) f old new faults later is few why unrisen = absurd is
+not_captured (Err x) f old new faults later is few why unrisen = record {
   exact = tt;
   valid = tt;
   end = tt;
   few = few;
   fault = subst (λ (e : CaptureFault). IsWhyNot e old faults later) (sym is) why;
+  unrisen = λ not_read. unrisen (λ read. not_read (ap (λ e. Err e) (is ∙ read)));
 }
+
+-- the source failed
+pub read_of : {T : Type 0} (e : InputFault) → ◌≡◌ {A = Result T InputFault} (Err e) (Err input.Read) → fault.Input e ≡ fault.Input input.Read
+read_of e is = let same : e ≡ input.Read = cc is in ap (λ x. fault.Input x) same
 
 grown_whole : (part first rest taken back left : List ℕ) → part ≡ first ++ rest → back ++ left ≡ rest ++ taken → first ++ (back ++ left) ≡ part ++ taken
 grown_whole part first rest taken back left whole came =

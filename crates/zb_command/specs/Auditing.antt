@@ -15,7 +15,6 @@ use Rattle.zb_trace_read.specs.Faults.{IsFirstBad}
 use Rattle.zb_command.specs.Answers.{longest}
 use Rattle.zb_command.specs.declared.audit.TextFault.{TextFault}
 use Rattle.zb_command.specs.declared.audit.TextFault.TheVariants as fault
-use Rattle.zb_command.specs.declared.status.Cause.{Cause}
 use Rattle.zb_command.specs.declared.status.Cause.TheVariants as cause
 use Rattle.zb_command.specs.declared.status.Status.{Status}
 use Rattle.zb_command.specs.declared.status.Status.TheVariants as status

@@ -1,8 +1,8 @@
 -- What is read of an input.
-use Rattle.std.specs.Prelude.{◌≡◌, ℕ, ◌+◌, ◌-◌, ◌<◌, ◌≤◌, ◌++◌, min, Bool, true, false, List, length, Option, Result, Ok, Err, IfOk, IfErr, OnOk, IfSome}
+use Rattle.std.specs.Prelude.{◌≡◌, ◌≢◌, ℕ, ◌+◌, ◌-◌, ◌<◌, ◌≤◌, ◌++◌, min, Bool, true, false, List, length, Option, Result, Ok, Err, IfOk, IfErr, OnOk, IfSome}
 use Rattle.std.specs.Io.KnownBytes.{Consumes, IsAtEnd}
 use Rattle.std.specs.Str.Lines.{lines}
-use Rattle.zb_base.specs.Outside.{Rose}
+use Rattle.zb_base.specs.Outside.{Rose, Unrisen}
 use Rattle.zb_base.specs.declared.fault.OrMemory.{OrMemory}
 use Rattle.zb_base.specs.declared.fault.OrMemory.TheVariants as error
 use Rattle.zb_capture.specs.Grammar.{IsCapture, captured}
@@ -31,6 +31,7 @@ pub record IsReadOn (result : Result (Unit {0}) InputFault) (old new : Option (L
   pub short : length after ≤ limit
   pub later : faults ≤ faults_after
   pub read : result ≡ Err input.Read → Rose faults faults_after
+  pub unrisen : result ≢ Err input.Read → Unrisen faults faults_after
   pub within : result ≡ Err input.TooLong → ⊥
 
 -- the source gave so much that it is longer than an input may be, where `count` bytes came before
@@ -46,6 +47,7 @@ pub record IsFilled (result : Result Bool InputFault) (old new : Option (List �
   pub end : result ≡ Ok false → IsAtEnd new
   pub later : faults ≤ faults_after
   pub read : result ≡ Err input.Read → Rose faults faults_after
+  pub unrisen : result ≢ Err input.Read → Unrisen faults faults_after
   pub too_long : result ≡ Err input.TooLong → IsPastAll old new before.count
 
 -- Bytes came behind others, what stands behind the whole lines of all these was split off, and these lines were read by themselves.
@@ -58,6 +60,7 @@ pub record IsTaken (result : Result Taken InputFault) (old new : Option (List �
   pub few : TakesAtMost old new (16777217 - before.count)
   pub later : faults ≤ faults_after
   pub read : result ≡ Err input.Read → Rose faults faults_after
+  pub unrisen : result ≢ Err input.Read → Unrisen faults faults_after
   pub too_long : result ≡ Err input.TooLong → IsPastAll old new before.count
 
 -- Lines of what came were read: whatever comes behind that gives the same behind what is left.
@@ -87,6 +90,7 @@ pub record IsRound (result : Result (Result (Unit {0}) (OrMemory CaptureError)) 
   pub few : TakesAtMost old new (16777217 - before.count)
   pub later : faults ≤ faults_after
   pub read : result ≡ Err input.Read → Rose faults faults_after
+  pub unrisen : result ≢ Err input.Read → Unrisen faults faults_after
   pub too_long : result ≡ Err input.TooLong → IsPastAll old new before.count
 
 -- all that the source had came, and is no longer than an input may be
@@ -113,6 +117,7 @@ pub record IsReadAsCapture (result : Result Capture CaptureFault) (old new : Opt
   pub valid : IfOk result (λ c. IsCapture c)
   pub end : OnOk result (IsAtEnd new)
   pub few : TakesAtMost old new 16777217
+  pub unrisen : result ≢ Err (fault.Input input.Read) → Unrisen faults later
   pub fault : IfErr result (λ e. IsWhyNot e old faults later)
 
 abbrev pub fault_of : OrMemory CaptureError → CaptureFault

@@ -1,8 +1,8 @@
 //! The command `admin`.
-ghost use Rattle.std.specs.Prelude.{◌≡◌};
+ghost use Rattle.std.specs.Prelude.{◌≡◌, ◌≢◌};
 ghost use Rattle.std.specs.Io.KnownBytes.{IsAtEnd};
 ghost use Rattle.zb_admin.specs.Serving.{outside};
-ghost use Rattle.zb_base.specs.Outside.{Rose};
+ghost use Rattle.zb_base.specs.Outside.{Rose, Unrisen};
 ghost use Rattle.zb_command.specs.Inputs.{TakesAtMost};
 ghost use Rattle.zb_command.specs.Serving.{Serviced, ServesOut};
 ghost use Rattle.zb_command.specs.Statuses.{served_status};
@@ -29,6 +29,8 @@ pub(crate) fn serve_input<R: Source, W: Sink, D: Disk>(
     ensures end { result ≡ Status.Ok → IsAtEnd (R.rest input.new) }
     ensures few { TakesAtMost (R.rest input.old) (R.rest input.new) 16777217 }
     ensures read_fault { result ≡ Status.ReadFault → Rose (R.faults input.old) (R.faults input.new) }
+    ensures no_read_fault { result ≢ Status.ReadFault → Unrisen (R.faults input.old) (R.faults input.new) }
+    ensures no_write_fault { result ≢ Status.WriteFault → Unrisen (W.faults output.old) (W.faults output.new) }
 {
     let bytes = match read_input(alloc, input) {
         Ok(bytes) => bytes,

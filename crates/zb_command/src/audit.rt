@@ -1,7 +1,7 @@
 //! The command `audit`.
-ghost use Rattle.std.specs.Prelude.{◌≡◌, ◌<◌, ◌^◌, length, IfOk, IfErr};
+ghost use Rattle.std.specs.Prelude.{◌≡◌, ◌≢◌, ◌<◌, ◌^◌, length, IfOk, IfErr};
 ghost use Rattle.std.specs.Io.KnownBytes.{IsAtEnd};
-ghost use Rattle.zb_base.specs.Outside.{Rose};
+ghost use Rattle.zb_base.specs.Outside.{Rose, Unrisen};
 ghost use Rattle.zb_command.specs.Auditing.{Audits, IsSoundText, IsTextFault, IsTold, sound_line};
 ghost use Rattle.zb_command.specs.Inputs.{TakesAtMost};
 ghost use Rattle.zb_command.specs.declared.audit.TextFault.TheVariants.{NoMemory as lacks};
@@ -60,6 +60,8 @@ pub(crate) fn audit_input<R: Source, W: Sink>(
     ensures end { result ≡ Status.Ok → IsAtEnd (R.rest input.new) }
     ensures few { TakesAtMost (R.rest input.old) (R.rest input.new) 16777217 }
     ensures read_fault { result ≡ Status.ReadFault → Rose (R.faults input.old) (R.faults input.new) }
+    ensures no_read_fault { result ≢ Status.ReadFault → Unrisen (R.faults input.old) (R.faults input.new) }
+    ensures no_write_fault { result ≢ Status.WriteFault → Unrisen (W.faults output.old) (W.faults output.new) }
 {
     let bytes = match read_input(alloc, input) {
         Ok(bytes) => bytes,
@@ -105,8 +107,9 @@ fn audit_text(alloc: Global, text: &[u8]) -> Result<Verdict, TextFault>
 
 /// Writes the line of a verdict.
 fn tell_verdict<W: Sink>(alloc: Global, verdict: &Verdict, output: &mut W) -> Status
-    ensures { IsTold result (sound_line verdict.now) (W.taken output.old) (W.taken output.new)
+    ensures told { IsTold result (sound_line verdict.now) (W.taken output.old) (W.taken output.new)
         (W.faults output.old) (W.faults output.new) }
+    ensures no_write_fault { result ≢ Status.WriteFault → Unrisen (W.faults output.old) (W.faults output.new) }
 {
     let Ok(mut page) = verdict_page(alloc, verdict) else {
         return Status::NoMemory;

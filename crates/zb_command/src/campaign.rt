@@ -1,5 +1,6 @@
 //! The command `campaign`.
-ghost use Rattle.std.specs.Prelude.{◌≡◌, ◌≤◌, Some};
+ghost use Rattle.std.specs.Prelude.{◌≡◌, ◌≢◌, ◌≤◌, Some};
+ghost use Rattle.zb_base.specs.Outside.{Unrisen};
 ghost use Rattle.zb_campaign.specs.Campaigns.{campaigned};
 ghost use Rattle.zb_command.specs.Answers.{campaign_answer};
 ghost use Rattle.zb_command.specs.Outcomes.{Ends};
@@ -26,6 +27,7 @@ pub(crate) fn write_campaign<T: Threads + Sync, W: Sink>(
     ensures ends { Ends result (Some (campaign_answer (campaigned count start))) (W.taken output.old)
         (W.taken output.new) (W.faults output.old) (W.faults output.new) }
     ensures read_fault { result ≡ Status.ReadFault → ⊥ }
+    ensures no_write_fault { result ≢ Status.WriteFault → Unrisen (W.faults output.old) (W.faults output.new) }
 {
     match campaign(rt, alloc, count, start, jobs, &OpenGate, output) {
         Ok(()) => Status::Ok,

@@ -26,8 +26,9 @@ pub(crate) struct Taken {
 }
 
 impl Incoming {
-    ghost use Rattle.std.specs.Prelude.{◌≡◌, ℕ, ◌+◌, ◌-◌, ◌≤◌, ◌++◌, List, [], length, IfOk, OnOk};
+    ghost use Rattle.std.specs.Prelude.{◌≡◌, ◌≢◌, ℕ, ◌+◌, ◌-◌, ◌≤◌, ◌++◌, List, [], length, IfOk, OnOk};
     ghost use Rattle.std.specs.Str.Lines.{lines};
+    ghost use Rattle.zb_base.specs.Outside.{Unrisen};
     ghost use Rattle.zb_command.specs.Inputs.{AreLinesRead, IsFilled, IsJudged, IsTaken, TakesAtMost};
 
     /// Starts where nothing came yet.
@@ -135,6 +136,8 @@ impl Incoming {
         requires { self.old.count ≤ 16777216 }
         ensures judged { IsJudged result fault (R.rest input.old) (R.rest input.new) self.old.count
             (R.faults input.old) (R.faults input.new) }
+        ensures unrisen { result ≢ CaptureFault.Input InputFault.Read
+            → Unrisen (R.faults input.old) (R.faults input.new) }
         ensures few { TakesAtMost (R.rest input.old) (R.rest input.new) (16777217 - self.old.count) }
     {
         let OrMemory::Fault(fault) = fault else {

@@ -1,7 +1,7 @@
 //! Reading the whole input.
-ghost use Rattle.std.specs.Prelude.{◌≡◌, ◌-◌, ◌<◌, ◌≤◌, IfOk, OnOk, OnErr, Err, IfSome, length, vec_len};
+ghost use Rattle.std.specs.Prelude.{◌≡◌, ◌≢◌, ◌-◌, ◌<◌, ◌≤◌, IfOk, OnOk, OnErr, Err, IfSome, length, vec_len};
 ghost use Rattle.std.specs.Io.KnownBytes.{IsAtEnd};
-ghost use Rattle.zb_base.specs.Outside.{Rose};
+ghost use Rattle.zb_base.specs.Outside.{Rose, Unrisen};
 ghost use Rattle.zb_command.specs.Inputs.{IsReadOn, TakesAtMost};
 ghost use Rattle.zb_command.specs.declared.input.InputFault.TheVariants.{NoMemory as lacks};
 
@@ -61,6 +61,7 @@ pub(crate) fn read_input<R: Source>(alloc: Global, input: &mut R) -> Result<Vec<
     ensures few { TakesAtMost (R.rest input.old) (R.rest input.new) 16777217 }
     ensures later { R.faults input.old ≤ R.faults input.new }
     ensures read { result ≡ Err InputFault.Read → Rose (R.faults input.old) (R.faults input.new) }
+    ensures unrisen { result ≢ Err InputFault.Read → Unrisen (R.faults input.old) (R.faults input.new) }
     ensures too_long { result ≡ Err InputFault.TooLong → IfSome (R.rest input.old) (λ rest. 16777216 < length rest) }
 {
     let mut bytes = Vec::new(alloc);

@@ -1,7 +1,7 @@
 //! The command `inspect`.
-ghost use Rattle.std.specs.Prelude.{◌≡◌, ◌≤◌, Some};
+ghost use Rattle.std.specs.Prelude.{◌≡◌, ◌≢◌, ◌≤◌, Some};
 ghost use Rattle.std.specs.Io.KnownBytes.{IsAtEnd};
-ghost use Rattle.zb_base.specs.Outside.{Rose};
+ghost use Rattle.zb_base.specs.Outside.{Rose, Unrisen};
 ghost use Rattle.zb_capture.specs.Grammar.{IsCapture};
 ghost use Rattle.zb_inspect.specs.Report.{report_of};
 ghost use Rattle.zb_command.specs.Answers.{wanted, Writes};
@@ -33,6 +33,8 @@ pub(crate) fn inspect_input<T: Threads + Sync, R: Source, W: Sink>(
     ensures end { result ≡ Status.Ok → IsAtEnd (R.rest input.new) }
     ensures few { TakesAtMost (R.rest input.old) (R.rest input.new) 16777217 }
     ensures read_fault { result ≡ Status.ReadFault → Rose (R.faults input.old) (R.faults input.new) }
+    ensures no_read_fault { result ≢ Status.ReadFault → Unrisen (R.faults input.old) (R.faults input.new) }
+    ensures no_write_fault { result ≢ Status.WriteFault → Unrisen (W.faults output.old) (W.faults output.new) }
 {
     match read_capture_on(rt, alloc, jobs, input) {
         Ok(capture) => report_on(rt, alloc, &capture, jobs, output),
@@ -59,6 +61,7 @@ pub(crate) fn report_on<T: Threads + Sync, W: Sink>(
     ensures ends { Ends result (Some (Writes (report_of capture.now))) (W.taken output.old) (W.taken output.new)
         (W.faults output.old) (W.faults output.new) }
     ensures read_fault { result ≡ Status.ReadFault → ⊥ }
+    ensures no_write_fault { result ≢ Status.WriteFault → Unrisen (W.faults output.old) (W.faults output.new) }
 {
     match report(rt, alloc, capture, jobs, &OpenGate, output) {
         Ok(()) => Status::Ok,

@@ -1,6 +1,7 @@
 //! The command `install`.
-ghost use Rattle.std.specs.Prelude.{◌≡◌, ◌<◌, ◌-◌, ◌^◌, ◌∷◌, ◌++◌, [], length, IfOk, Some};
+ghost use Rattle.std.specs.Prelude.{◌≡◌, ◌≢◌, ◌<◌, ◌-◌, ◌^◌, ◌∷◌, ◌++◌, [], length, IfOk, Some};
 ghost use Rattle.hex.specs.Hex.{encode_upper};
+ghost use Rattle.zb_base.specs.Outside.{Unrisen};
 ghost use Rattle.zb_install.specs.Code.{code_of_text};
 ghost use Rattle.zb_command.specs.Answers.{install_answer};
 ghost use Rattle.zb_command.specs.Outcomes.{Ends};
@@ -18,6 +19,7 @@ pub(crate) fn install_code<W: Sink>(alloc: Global, code: &str, output: &mut W) -
     ensures ends { Ends result (Some (install_answer (code_of_text code.now))) (W.taken output.old)
         (W.taken output.new) (W.faults output.old) (W.faults output.new) }
     ensures read_fault { result ≡ Status.ReadFault → ⊥ }
+    ensures no_write_fault { result ≢ Status.WriteFault → Unrisen (W.faults output.old) (W.faults output.new) }
 {
     let code = match InstallCode::from_hex(code) {
         Ok(code) => code,

@@ -1,5 +1,6 @@
 //! The command `make`.
-ghost use Rattle.std.specs.Prelude.{◌≡◌, ◌≤◌, Some};
+ghost use Rattle.std.specs.Prelude.{◌≡◌, ◌≢◌, ◌≤◌, Some};
+ghost use Rattle.zb_base.specs.Outside.{Unrisen};
 ghost use Rattle.zb_gen.specs.Made.{made_schedule};
 ghost use Rattle.zb_sched.specs.Schedules.{schedule_of};
 ghost use Rattle.zb_sched.specs.Printed.{printed};
@@ -19,6 +20,7 @@ pub(crate) fn make_schedule<W: Sink>(alloc: Global, count: u32, output: &mut W) 
         (W.faults output.old) (W.faults output.new) }
     ensures made { result ≡ Status.Ok → Made count (W.taken output.old) (W.taken output.new) }
     ensures read_fault { result ≡ Status.ReadFault → ⊥ }
+    ensures no_write_fault { result ≢ Status.WriteFault → Unrisen (W.faults output.old) (W.faults output.new) }
 {
     match make(alloc, 0, count) {
         Ok(schedule) => print_schedule(alloc, &schedule, output),
@@ -35,6 +37,7 @@ fn print_schedule<W: Sink>(alloc: Global, schedule: &Schedule, output: &mut W) -
     ensures ends { Ends result (Some (Writes (printed (schedule_of schedule.now)))) (W.taken output.old)
         (W.taken output.new) (W.faults output.old) (W.faults output.new) }
     ensures read_fault { result ≡ Status.ReadFault → ⊥ }
+    ensures no_write_fault { result ≢ Status.WriteFault → Unrisen (W.faults output.old) (W.faults output.new) }
 {
     match write(alloc, schedule, output) {
         Ok(()) => Status::Ok,

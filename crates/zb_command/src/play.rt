@@ -1,7 +1,7 @@
 //! The command `play`.
-ghost use Rattle.std.specs.Prelude.{◌≡◌, Some, IfSome};
+ghost use Rattle.std.specs.Prelude.{◌≡◌, ◌≢◌, Some, IfSome};
 ghost use Rattle.std.specs.Io.KnownBytes.{IsAtEnd};
-ghost use Rattle.zb_base.specs.Outside.{Rose};
+ghost use Rattle.zb_base.specs.Outside.{Rose, Unrisen};
 ghost use Rattle.zb_command.specs.Answers.{wanted, Writes};
 ghost use Rattle.zb_command.specs.Commands.{Playing};
 ghost use Rattle.zb_command.specs.Inputs.{TakesAtMost};
@@ -27,6 +27,8 @@ pub(crate) fn play_input<R: Source, W: Sink>(alloc: Global, input: &mut R, outpu
     ensures played { result ≡ Status.Ok → IfSome (R.rest input.old)
         (λ bytes. Played bytes (W.taken output.old) (W.taken output.new)) }
     ensures read_fault { result ≡ Status.ReadFault → Rose (R.faults input.old) (R.faults input.new) }
+    ensures no_read_fault { result ≢ Status.ReadFault → Unrisen (R.faults input.old) (R.faults input.new) }
+    ensures no_write_fault { result ≢ Status.WriteFault → Unrisen (W.faults output.old) (W.faults output.new) }
 {
     let bytes = match read_input(alloc, input) {
         Ok(bytes) => bytes,
@@ -51,6 +53,7 @@ fn play_schedule<W: Sink>(alloc: Global, schedule: &Schedule, output: &mut W) ->
     ensures ends { Ends result (Some (Writes (transcript_text (sched.schedule_of schedule.now)))) (W.taken output.old)
         (W.taken output.new) (W.faults output.old) (W.faults output.new) }
     ensures read_fault { result ≡ Status.ReadFault → ⊥ }
+    ensures no_write_fault { result ≢ Status.WriteFault → Unrisen (W.faults output.old) (W.faults output.new) }
 {
     let mut disks = Vec::new(alloc);
     match play(alloc, schedule, &mut disks, &mut Still, output) {

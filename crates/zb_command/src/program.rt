@@ -1,8 +1,8 @@
 //! The top call: one command over a source and a sink.
-ghost use Rattle.std.specs.Prelude.{◌≡◌, ◌⊎◌, ℕ, Some, None, IfSome, map, string_bytes};
+ghost use Rattle.std.specs.Prelude.{◌≡◌, ◌≢◌, ◌⊎◌, ℕ, Some, None, IfSome, map, string_bytes};
 ghost use Rattle.std.specs.Io.KnownBytes.{IsAtEnd};
 ghost use Rattle.zb_admin.specs.Serving.{outside};
-ghost use Rattle.zb_base.specs.Outside.{Rose};
+ghost use Rattle.zb_base.specs.Outside.{Rose, Unrisen};
 ghost use Rattle.zb_command.specs.Answers.{Answer, Refuses, Exceeds, longest, status_of, wanted};
 ghost use Rattle.zb_command.specs.Auditing.{Audits};
 ghost use Rattle.zb_command.specs.Commands.{Task, Auditing, Playing, Making, Serving, task_of};
@@ -66,6 +66,9 @@ pub fn run<T: Threads + Sync, R: Source, W: Sink, D: Disk>(
     // The cause of each other answer.
     ensures read_fault { result ≡ Status.ReadFault → Rose (R.faults input.old) (R.faults input.new) }
     ensures write_fault { result ≡ Status.WriteFault → Rose (W.faults output.old) (W.faults output.new) }
+    // A fault of the source or of the sink is told as nothing else.
+    ensures no_read_fault { result ≢ Status.ReadFault → Unrisen (R.faults input.old) (R.faults input.new) }
+    ensures no_write_fault { result ≢ Status.WriteFault → Unrisen (W.faults output.old) (W.faults output.new) }
     ensures refused { (job : Task) (line : ℕ) (cause : Cause) → task_of (map string_bytes words.now) ≡ Some job
         → result ≡ Status.Refused line cause
         → IfSome (wanted job (R.rest input.old)) (λ answer. answer ≡ Refuses line cause) }
@@ -112,6 +115,8 @@ fn carry_out<T: Threads + Sync, R: Source, W: Sink, D: Disk>(
     ensures made { (count : ℕ) → task command.entry ≡ Making count → result ≡ Status.Ok
         → Made count (W.taken output.old) (W.taken output.new) }
     ensures read_fault { result ≡ Status.ReadFault → Rose (R.faults input.old) (R.faults input.new) }
+    ensures no_read_fault { result ≢ Status.ReadFault → Unrisen (R.faults input.old) (R.faults input.new) }
+    ensures no_write_fault { result ≢ Status.WriteFault → Unrisen (W.faults output.old) (W.faults output.new) }
 {
     match command {
         Command::Play => play_input(alloc, input, output),

@@ -1,7 +1,7 @@
 //! The command `sniff`.
-ghost use Rattle.std.specs.Prelude.{◌≡◌, ◌≤◌, Some, length, map, string_bytes, IfOk};
+ghost use Rattle.std.specs.Prelude.{◌≡◌, ◌≢◌, ◌≤◌, Some, length, map, string_bytes, IfOk};
 ghost use Rattle.std.specs.Io.KnownBytes.{IsAtEnd};
-ghost use Rattle.zb_base.specs.Outside.{Rose};
+ghost use Rattle.zb_base.specs.Outside.{Rose, Unrisen};
 ghost use Rattle.zb_capture.specs.Grammar.{IsCapture};
 ghost use Rattle.zb_pcap.specs.Extracts.{extracted};
 ghost use Rattle.zb_command.specs.Answers.{wanted, sniff_output, Writes};
@@ -39,6 +39,8 @@ pub(crate) fn sniff_input<T: Threads + Sync, R: Source, W: Sink>(
     ensures end { result ≡ Status.Ok → IsAtEnd (R.rest input.new) }
     ensures few { TakesAtMost (R.rest input.old) (R.rest input.new) 16777217 }
     ensures read_fault { result ≡ Status.ReadFault → Rose (R.faults input.old) (R.faults input.new) }
+    ensures no_read_fault { result ≢ Status.ReadFault → Unrisen (R.faults input.old) (R.faults input.new) }
+    ensures no_write_fault { result ≢ Status.WriteFault → Unrisen (W.faults output.old) (W.faults output.new) }
 {
     let bytes = match read_input(alloc, input) {
         Ok(bytes) => bytes,
@@ -72,6 +74,7 @@ fn report_and_count<T: Threads + Sync, W: Sink>(
     ensures ends { Ends result (Some (Writes (sniff_output extraction.now))) (W.taken output.old)
         (W.taken output.new) (W.faults output.old) (W.faults output.new) }
     ensures read_fault { result ≡ Status.ReadFault → ⊥ }
+    ensures no_write_fault { result ≢ Status.WriteFault → Unrisen (W.faults output.old) (W.faults output.new) }
 {
     let Ok(mut page) = counts_page(alloc, &extraction.counts) else {
         return Status::NoMemory;

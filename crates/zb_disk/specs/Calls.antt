@@ -1,17 +1,7 @@
 -- What the calls of a disk do to it.
 use Rattle.std.specs.Prelude.{ℕ, ◌+◌, ◌≤◌, ◌≡◌, ◌⊎◌, List, length, false, IsTrue, Result, OnOk, OnErr, is_err}
-use Rattle.zb_base.specs.Outside.{risen, Rose}
+use Rattle.zb_base.specs.Outside.{HasCause, risen}
 use Rattle.zb_disk.specs.View.{Telling, View, overwrite, Torn, Follows, Opens, Only, IsSame, IsStill}
-
--- a count of faults stands as it was
-abbrev pub Unrisen : ℕ → ℕ → Type 0
-Unrisen before now = now ≡ before
-
--- a count of faults never falls: it stands where the call went through, and rose where the call failed
-pub record CountsFaults {T E : Type 0} (before now : ℕ) (result : Result T E) : Type 0 where
-  pub later : before ≤ now
-  pub unrisen : OnOk result (Unrisen before now)
-  pub failed : OnErr result (Rose before now)
 
 -- Time goes on: a crash since t might have left what it might have left before, or what it may leave now.
 pub record Elapses (tells : Telling) (old new : View) : Type 0 where
@@ -30,14 +20,14 @@ pub record IsForetold {T E : Type 0} (old new : View) (result : Result T E) : Ty
 -- what holds of each call that writes or syncs
 pub record IsCounted {T E : Type 0} (tells : Telling) (old new : View) (result : Result T E) : Type 0 where
   pub calls : new.calls ≡ risen old.calls 1
-  pub cause : CountsFaults old.faults new.faults result
+  pub cause : HasCause old.faults new.faults result
   pub time : Elapses tells old new
   pub foretold : IsTrue tells.refusals → IsForetold old new result
 
 -- what holds of each call that reads
 pub record IsRead {T E : Type 0} (tells : Telling) (old new : View) (result : Result T E) : Type 0 where
   pub still : IsStill old new
-  pub cause : CountsFaults old.faults new.faults result
+  pub cause : HasCause old.faults new.faults result
   pub refusal : IsTrue tells.refusals → is_err result ≡ old.off 0
 
 -- a write: at Ok the bytes are read, and exactly the images torn there may be left; where it failed, no others

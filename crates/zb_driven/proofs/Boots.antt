@@ -2,15 +2,13 @@
 use Rattle.std.proofs.Common.{◌≡◌, ◌==◌, ℕ, List, get_or, Bool, true, false, Option, Some, None, Ok, refl, sym, ◌∙◌, ap, subst}
 use Rattle.std.specs.List.{concat}
 use Rattle.std.proofs.lemmas.Bool.{false≢true, lt-ltb, le-leb}
-use Rattle.zb_base.specs.Outside.{risen}
+use Rattle.zb_base.specs.Outside.{risen, Unrisen}
 use Rattle.zb_base.specs.declared.fault.OrMemory.{OrMemory}
 use Rattle.zb_base.specs.declared.fault.OrMemory.TheVariants.{Fault, NoMemory as Lacking}
 use Rattle.zb_node_types.specs.declared.change.Change.{Change}
 use Rattle.zb_disk.specs.View.{Only, View}
-use Rattle.zb_disk.specs.Calls.{Unrisen}
 use Rattle.zb_disk.specs.Memory.{Medium, is_stopped, powered, memory_tells, memory_view}
-use Rattle.zb_store.specs.Layout.{Standing, IsWhole}
-use Rattle.zb_store.specs.Layout.{stands as stands_on}
+use Rattle.zb_store.specs.Layout.{Standing, IsWhole, stands as stands_on}
 use Rattle.zb_store.specs.Steps.{WentThrough}
 use Rattle.zb_store.specs.Store.{AllWhole, OpenStop, both_gates_open, open_calls}
 use Rattle.zb_store.specs.Power.{StopFell, FailureFell}

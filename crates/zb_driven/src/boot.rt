@@ -2,7 +2,7 @@
 ghost use Rattle.std.specs.Prelude.{◌≡◌, List, ℕ, IfOk, IfErr, IsTrue, is_some};
 ghost use Rattle.std.specs.List.{concat};
 ghost use Rattle.zb_base.specs.Config.{IsConfig};
-ghost use Rattle.zb_disk.specs.Calls.{Unrisen};
+ghost use Rattle.zb_base.specs.Outside.{Unrisen};
 ghost use Rattle.zb_store.specs.Layout.{Standing};
 ghost use Rattle.zb_driven.specs.Arms.{armed_of};
 ghost use Rattle.zb_driven.specs.Driven.{memory_words, IsDown, WasBooted, HasFallenAtBoot, boot_cause};

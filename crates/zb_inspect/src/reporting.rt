@@ -1,8 +1,8 @@
 //! Working out a report, and writing it.
-ghost use Rattle.std.specs.Prelude.{◌≡◌, ◌≤◌, ◌++◌, length, map, IfOk, Ok, OnOk, OnErr};
+ghost use Rattle.std.specs.Prelude.{◌≡◌, ◌≢◌, ◌≤◌, ◌++◌, length, map, IfOk, Ok, Err, OnOk, OnErr};
 ghost use Rattle.std.specs.Io.KnownBytes.{Appends};
 ghost use Rattle.std.specs.List.{AllByRecursion};
-ghost use Rattle.zb_base.specs.Outside.{AppendsFront, HasCause};
+ghost use Rattle.zb_base.specs.Outside.{AppendsFront, HasCause, Unrisen};
 ghost use Rattle.zb_capture.specs.Grammar.{IsCapture};
 ghost use Rattle.zb_inspect_ring.specs.Pieces.{all_blocks};
 ghost use Rattle.zb_inspect.specs.Report.{tail_text};
@@ -38,6 +38,8 @@ pub fn report<T: Threads + Sync, G: Gate, W: Sink>(
     ensures ends { Reports capture.now (W.taken out.old) (W.taken out.new) (W.faults out.old)
         (W.faults out.new) result }
     ensures later { W.faults out.old ≤ W.faults out.new }
+    // No fault of the sink is told as want of memory.
+    ensures unrisen { result ≢ Err InspectFault.Write → Unrisen (W.faults out.old) (W.faults out.new) }
 {
     let opened = open_all(rt, alloc, capture, jobs, gate)?;
     let frames = capture.frames.len() as u32;

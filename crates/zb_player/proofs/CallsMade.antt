@@ -1,6 +1,6 @@
 -- The device calls of a run, event by event.
-use Rattle.std.proofs.Common.{◌≡◌, ℕ, zero, suc, ◌+◌, ◌*◌, ◌<◌, ◌≤◌, min, ◌^◌, Bool, true, false, cond, List, [], ◌∷◌, ◌++◌, length, map, take, get_or, Option, Some, None, refl, sym, ap, ◌∙◌, subst, arith, add-one, add-zero, append_assoc, append-nil}
-use Rattle.std.proofs.Math.ListN.{set, get_or-map}
+use Rattle.std.proofs.Common.{◌≡◌, ℕ, zero, suc, ◌+◌, ◌<◌, ◌≤◌, true, false, cond, List, [], ◌∷◌, ◌++◌, length, map, take, get_or, Option, Some, refl, sym, ap, ◌∙◌, subst, arith, add-one, append_assoc, append-nil}
+use Rattle.std.proofs.Math.ListN.{set}
 use Rattle.std.proofs.Math.Seq.{take-length}
 use Rattle.std.proofs.lemmas.List.{length-map}
 use Rattle.std.specs.List.{AllByRecursion}
@@ -23,7 +23,7 @@ use Rattle.zb_model_real.specs.Real.{real}
 use Rattle.zb_model_schedules.specs.Schedules.{event_for, schedule_of, stations_for}
 use Rattle.zb_model_steps.specs.Conditions.{condition_of}
 use Rattle.zb_model_steps.specs.Steps.{is_of}
-use Rattle.zb_events.specs.Nodes.{AllStand, IsSeat, NodeValue, model_task}
+use Rattle.zb_events.specs.Nodes.{IsSeat, NodeValue, model_task}
 use Rattle.zb_player.specs.Playing.{AreCalled, AreCalledBy, FitsRun, IsEventAt, RunStands}
 use Rattle.zb_player.specs.Runs.{AreMade, Answers, HaveMade, IsPlayed, acts_of, disks_after, lines_of}
 use Rattle.zb_player.specs.declared.run.Run.{Run}

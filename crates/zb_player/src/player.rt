@@ -1,6 +1,6 @@
 //! A whole run.
-ghost use Rattle.std.specs.Prelude.{◌≡◌, ◌≤◌, ◌+◌, [], true, IfOk, OnOk, OnErr, Err, length, map};
-ghost use Rattle.zb_base.specs.Outside.{Rose};
+ghost use Rattle.std.specs.Prelude.{◌≡◌, ◌≢◌, ◌≤◌, ◌+◌, [], true, IfOk, OnOk, OnErr, Err, length, map};
+ghost use Rattle.zb_base.specs.Outside.{Rose, Unrisen};
 ghost use Rattle.zb_events.specs.Told.{lines_told};
 ghost use Rattle.zb_player.specs.Runs.{Answers, AreMade, IsFront, IsWhole, Played, PrintsAll, Sums};
 ghost use Rattle.zb_sched.specs.Schedules as sched;
@@ -43,9 +43,10 @@ pub fn play<B: Bench, W: Sink>(
     ensures summary { B.still bench.old ≡ true → IfOk result (Sums (sched.schedule_of schedule.now)) }
     ensures disks { B.still bench.old ≡ true → OnOk result (Played (sched.schedule_of schedule.now) disks.new.items) }
 
-    // Whatever the disks are, a fault has its cause.
+    // Whatever the disks are, a fault has its cause, and no fault of the sink is told as want of memory.
     ensures later { W.faults out.old ≤ W.faults out.new }
     ensures cause { result ≡ Err PlayFault.Write → Rose (W.faults out.old) (W.faults out.new) }
+    ensures unrisen { result ≢ Err PlayFault.Write → Unrisen (W.faults out.old) (W.faults out.new) }
 {
     let mut used = Vec::new(alloc);
     play_over(alloc, schedule, &mut used, disks, bench, out)
@@ -75,6 +76,7 @@ pub fn play_over<B: Bench, W: Sink>(
     ensures disks { B.still bench.old ≡ true → OnOk result (Played (sched.schedule_of schedule.now) disks.new.items) }
     ensures later { W.faults out.old ≤ W.faults out.new }
     ensures cause { result ≡ Err PlayFault.Write → Rose (W.faults out.old) (W.faults out.new) }
+    ensures unrisen { result ≢ Err PlayFault.Write → Unrisen (W.faults out.old) (W.faults out.new) }
 {
     let events = schedule.events.as_slice();
     let mut run = Run::start(alloc, schedule, used, disks)?;
@@ -106,6 +108,7 @@ fn answer_all<'a, B: Bench, W: Sink>(
         (W.taken out.old) (W.taken out.new)) }
     ensures later { W.faults out.old ≤ W.faults out.new }
     ensures cause { result ≡ Err PlayFault.Write → Rose (W.faults out.old) (W.faults out.new) }
+    ensures unrisen { result ≢ Err PlayFault.Write → Unrisen (W.faults out.old) (W.faults out.new) }
 {
     for (index, event) in events.iter().enumerate() {
         run.answer(disks, bench, index as u32 + 1, event)?;

@@ -2,7 +2,8 @@
 use Rattle.std.proofs.Common.{◌≡◌, inl, inr, ℕ, ◌+◌, ◌-◌, List, [], ◌∷◌, length, IsTrue, Result, Ok, Err, refl, sym, ◌∙◌, ap, subst, arith}
 use Rattle.std.proofs.lemmas.Bool.{cases_lt}
 use Rattle.zb_disk.specs.View.{Telling, View, Torn, Only, IsStill, LeavesOnly, overwrite}
-use Rattle.zb_disk.specs.Calls.{CountsFaults, IsCounted, IsWrite, IsSync}
+use Rattle.zb_base.specs.Outside.{HasCause}
+use Rattle.zb_disk.specs.Calls.{IsCounted, IsWrite, IsSync}
 use Rattle.zb_disk.proofs.Moments.{started, goes_on, goes_through, weakened}
 use Rattle.zb_store.specs.Layout.{open_gate}
 use Rattle.zb_store.specs.Steps.{WentThrough, StoppedAfter, TornFrom, PlaceStop, IsPlaced, staged, GateStop, IsStage, IsGated}
@@ -85,8 +86,8 @@ still_stopped n a b c still run = record {
   torn = λ told. run.torn told ∙ still.torn;
 }
 
-pub causes : {T E T' E' : Type 0} (a b c : ℕ) (x : T) (r : Result T' E') → CountsFaults {T = T} {E = E} a b (Ok x)
-    → CountsFaults {T = T'} {E = E'} b c r → CountsFaults {T = T'} {E = E'} a c r
+pub causes : {T E T' E' : Type 0} (a b c : ℕ) (x : T) (r : Result T' E') → HasCause {T = T} {E = E} a b (Ok x)
+    → HasCause {T = T'} {E = E'} b c r → HasCause {T = T'} {E = E'} a c r
 causes a b c x (Ok y) first second = record {
   later = omega (arith, first.later, second.later);
   unrisen = second.unrisen ∙ first.unrisen;

@@ -1,8 +1,7 @@
 -- When each fault of a store comes.
 use Rattle.std.specs.Prelude.{ℕ, ◌<◌, ◌≤◌, ◌≡◌, ◌≢◌, List, length, None, true, IsTrue, Result, OnOk, IfErr, IsErrOf}
-use Rattle.zb_base.specs.Outside.{Rose}
+use Rattle.zb_base.specs.Outside.{Rose, Unrisen}
 use Rattle.zb_disk.specs.View.{Telling, View, IsStill}
-use Rattle.zb_disk.specs.Calls.{Unrisen}
 use Rattle.zb_store.specs.declared.fault.StoreFault.{StoreFault}
 use Rattle.zb_store.specs.declared.fault.StoreFault.TheVariants.{Disk, NoRecord, TooLarge, NoMemory, Worn}
 use Rattle.zb_store.specs.Sizes.{record_room, payload_room}

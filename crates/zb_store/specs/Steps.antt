@@ -1,8 +1,7 @@
 -- How far a run of writes and syncs came.
 use Rattle.std.specs.Prelude.{ℕ, ◌+◌, ◌<◌, ◌≡◌, ◌⊎◌, List, [], ◌∷◌, length, true, false, IsTrue, Result, OnOk, OnErr}
-use Rattle.zb_base.specs.Outside.{risen}
+use Rattle.zb_base.specs.Outside.{risen, HasCause}
 use Rattle.zb_disk.specs.View.{Telling, View, Torn, Follows, Opens, Only, IsSame, LeavesOnly, overwrite}
-use Rattle.zb_disk.specs.Calls.{CountsFaults}
 use Rattle.zb_store.specs.Layout.{open_gate}
 
 -- so many writes and syncs went through, and those after them are refused as was told
@@ -48,7 +47,7 @@ pub record IsPlaced {T E : Type 0} (tells : Telling) (at : ℕ) (bytes : List �
   pub through : OnOk result (WentThrough tells 2 old new)
   pub past : LeavesOnly old new (TornFrom old.images at (length bytes))
   pub stopped : OnErr result (IsTrue tells.content → IsTrue tells.steady → PlaceStop tells at bytes old new)
-  pub cause : CountsFaults old.faults new.faults result
+  pub cause : HasCause old.faults new.faults result
 
 -- what is read once a range behind a gate is written, and once the gate is open too
 abbrev pub staged : ℕ → List ℕ → List ℕ → List ℕ
@@ -75,4 +74,4 @@ pub record IsGated {T E : Type 0} (tells : Telling) (gate : ℕ) (bytes : List �
   pub through : OnOk result (WentThrough tells 4 old new)
   pub past : IsTrue tells.content → LeavesOnly old new (IsStage gate bytes old)
   pub stopped : OnErr result (IsTrue tells.content → IsTrue tells.steady → GateStop tells gate bytes old new)
-  pub cause : CountsFaults old.faults new.faults result
+  pub cause : HasCause old.faults new.faults result

@@ -2,7 +2,7 @@
 use Rattle.std.specs.List.{concat}
 use Rattle.std.specs.Prelude.{◌&&◌, true, false, ◌^◌, ◌==◌, if◌then◌else◌, Result, OnOk, OnErr, ℕ, ◌+◌, ◌≤◌, ◌<◌, ◌≡◌, ◌≢◌, ◌⊎◌, ◌++◌, List, [], ◌∷◌, length, get_or, Bool, not, IsTrue, Some, None}
 use Rattle.zb_disk.specs.View.{Telling, View, Torn, Follows, IsSame, IsStill, IsUnsynced, Only, LeavesOnly}
-use Rattle.zb_disk.specs.Calls.{CountsFaults}
+use Rattle.zb_base.specs.Outside.{HasCause}
 use Rattle.zb_store.specs.Sizes.{record_room}
 use Rattle.zb_store.specs.Layout.{Standing, IsWhole, stands, slot, gate_of, open_gate, base_of, end_of, body}
 use Rattle.zb_store.specs.Steps.{WentThrough, StoppedAfter}
@@ -120,7 +120,7 @@ pub record IsReplaced {T E : Type 0} (tells : Telling) (second : Bool) (bytes : 
   pub held : OnOk result ((s : Standing) (content : List ℕ) → IsReplacement s content second bytes → IsHeld s old → IsTrue tells.content → IsHeld (replaced s content) new)
   pub through : OnOk result (WentThrough tells 6 old new)
   pub stopped : OnErr result ((s : Standing) (content : List ℕ) → IsReplacement s content second bytes → IsHeld s old → IsTrue tells.content → IsTrue tells.steady → PutStop tells s content old new)
-  pub cause : CountsFaults old.faults new.faults result
+  pub cause : HasCause old.faults new.faults result
 
 -- an image is whole and stands for what an image at the beginning stood for
 abbrev pub WasThere : View → List ℕ → Type 0
@@ -138,7 +138,7 @@ pub record IsSettled {T E : Type 0} (tells : Telling) (second other_open : Bool)
   pub held : OnOk result ((s : Standing) → IsFound s second other_open old → IsTrue tells.content → IsHeld s new)
   pub through : OnOk result (WentThrough tells (if other_open then 3 else 1) old new)
   pub stopped : OnErr result ((s : Standing) → IsFound s second other_open old → IsTrue tells.content → IsTrue tells.steady → OpenStop tells s old new)
-  pub cause : CountsFaults old.faults new.faults result
+  pub cause : HasCause old.faults new.faults result
 
 -- what stands on a disk that was formatted
 abbrev pub formatted : List ℕ → Standing
@@ -162,7 +162,7 @@ pub record IsLaidOut {T E : Type 0} (tells : Telling) (bytes : List ℕ) (old ne
   pub held : OnOk result ((content : List ℕ) → bytes ≡ body 1 content → length content ≤ record_room → IsTrue tells.content → IsHeld (formatted content) new)
   pub through : OnOk result (WentThrough tells 5 old new)
   pub stopped : OnErr result ((content : List ℕ) → bytes ≡ body 1 content → length content ≤ record_room → IsTrue tells.content → IsTrue tells.steady → FormatStop tells content old new)
-  pub cause : CountsFaults old.faults new.faults result
+  pub cause : HasCause old.faults new.faults result
 
 -- each image is whole
 abbrev pub AllWhole : View → Type 0

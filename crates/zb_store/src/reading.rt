@@ -3,7 +3,8 @@ ghost use Rattle.std.specs.Prelude.{◌≡◌, ◌==◌, ◌&&◌, nat_le, ◌+�
 ghost use Rattle.std.specs.List.{concat};
 ghost use Rattle.std.specs.Int.{from_le_bytes, w16, w32, w64};
 ghost use Rattle.zb_disk.specs.View.{IsStill, window};
-ghost use Rattle.zb_disk.specs.Calls.{CountsFaults, IsRead};
+ghost use Rattle.zb_base.specs.Outside.{HasCause};
+ghost use Rattle.zb_disk.specs.Calls.{IsRead};
 ghost use Rattle.zb_store.specs.Layout.{Standing, slot, stands, entry_of, payloads_of, extent};
 ghost use Rattle.zb_store.specs.Reading.{IsHeaderOf, opens, chosen, IsFoundIn, IsReadIn, IsBehind, size_at, AreCounted};
 ghost use Rattle.zb_store.specs.Sizes.{record_room, payload_room, entries_room, payloads_room, body_room};
@@ -107,7 +108,7 @@ fn choose(first: Header, first_room: u64, second: Header, second_room: u64) -> O
 /// Finds the slot that stands.
 pub(crate) fn find<D: Disk>(disk: &mut D) -> Result<Option<Found>, Failed>
     ensures still { IsStill (D.state disk.old) (D.state disk.new) }
-    ensures cause { CountsFaults (D.state disk.old).faults (D.state disk.new).faults result }
+    ensures cause { HasCause (D.state disk.old).faults (D.state disk.new).faults result }
     ensures refusal { OnErr result (IsTrue D.tells.refusals → (D.state disk.old).off 0 ≡ true) }
     ensures small { IfOk result (λ found. IfSome found (λ f. f.size ≤ record_room)) }
     ensures found { IfOk result (λ found. IsTrue D.tells.content
@@ -147,7 +148,7 @@ pub(crate) fn count_entries<D: Disk>(
 ) -> Result<(u32, u64), Failed>
     requires { start ≤ 131072 }
     ensures still { IsStill (D.state disk.old) (D.state disk.new) }
-    ensures cause { CountsFaults (D.state disk.old).faults (D.state disk.new).faults result }
+    ensures cause { HasCause (D.state disk.old).faults (D.state disk.new).faults result }
     ensures refusal { OnErr result (IsTrue D.tells.refusals → (D.state disk.old).off 0 ≡ true) }
     ensures few { IfOk result (λ r. r.0 ≤ entries_room) }
     ensures short { IfOk result (λ r. r.1 ≤ 484 * r.0) }

@@ -1,7 +1,7 @@
 //! The store: where it stands, and its calls.
 ghost use Rattle.std.specs.Prelude.{Some, ◌≡◌, ◌+◌, ◌<◌, ◌≤◌, ◌^◌, [], ◌∷◌, ℕ, length, true, IsTrue, IfOk, IfErr, OnOk, OnErr, IsErrOf};
 ghost use Rattle.zb_disk.specs.View.{IsStill, LeavesOnly};
-ghost use Rattle.zb_disk.specs.Calls.{Unrisen};
+ghost use Rattle.zb_base.specs.Outside.{Unrisen};
 ghost use Rattle.zb_store.specs.Layout.{Standing, stands};
 ghost use Rattle.zb_store.specs.Reading.{AreCounted, AreContents};
 ghost use Rattle.zb_store.specs.Sizes.{record_room, payload_room, entries_room, payloads_room};

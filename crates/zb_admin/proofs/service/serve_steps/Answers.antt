@@ -11,6 +11,7 @@ loop-step-init g c = record {
   count = omega arith;
   unrisen = refl;
   later = omega arith;
+  out_unrisen = refl;
   goes = λ told first stood. begins (outside g.D.Disk.tells g.D.Disk.state g.W.Sink.taken g.W.Sink.faults) (setting_for c.args.config.now) c.args.steps.now first c.args.disk.now c.args.out.now c.args.centre.now stood;
 }
 
@@ -21,6 +22,7 @@ loop-step-preserved g c = record {
   count = omega (arith, c.loop-step.invariant.count, c.serve_step.ensures.count);
   unrisen = c.in-Ok.ensures.unrisen ∙ c.loop-step.invariant.unrisen;
   later = omega (arith, c.loop-step.invariant.later, c.serve_step.ensures.later);
+  out_unrisen = c.in-Ok.ensures.out_unrisen (λ is. cc is) ∙ c.loop-step.invariant.out_unrisen;
   goes = λ told first stood.
       step_more (outside g.D.Disk.tells g.D.Disk.state g.W.Sink.taken g.W.Sink.faults) (setting_for c.args.config.now) c.args.steps.now first c.args.disk.now c.args.out.now c.loop-step.step-index c.step-item.result c.loop-step-test.true c.step-item.is
       c.loop-step.centre c.loop-step.disk c.loop-step.out (c.loop-step.invariant.goes told first stood) c.serve_step.new.centre c.serve_step.new.disk c.serve_step.new.out

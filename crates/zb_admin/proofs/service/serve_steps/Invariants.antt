@@ -3,7 +3,7 @@ use Rattle.std.proofs.Common.{◌≡◌, ◌≤◌, [], Option, IsTrue}
 use Rattle.zb_admin.specs.Commands.{HasStore}
 use Rattle.zb_admin.specs.Serving.{outside}
 use Rattle.zb_admin.specs.Standing.{Stands}
-use Rattle.zb_disk.specs.Calls.{Unrisen}
+use Rattle.zb_base.specs.Outside.{Unrisen}
 use Rattle.zb_model.specs.State.{NodeState}
 use Rattle.zb_network.specs.Settings.{setting_for}
 use Rattle.zb_admin.proofs.ServeLemmas.{GoesOn}
@@ -16,6 +16,7 @@ invariant-loop-step g l = record {
   count : (g.D.Disk.state l.initial.disk).faults ≤ (g.D.Disk.state l.disk).faults;
   unrisen : Unrisen (g.D.Disk.state l.initial.disk).faults (g.D.Disk.state l.disk).faults;
   later : g.W.Sink.faults l.initial.out ≤ g.W.Sink.faults l.out;
+  out_unrisen : Unrisen (g.W.Sink.faults l.initial.out) (g.W.Sink.faults l.out);
   goes : IsTrue g.D.Disk.tells.content → (first : Option NodeState) → Stands (setting_for l.config) first l.initial.centre (g.D.Disk.state l.initial.disk)
       → GoesOn (outside g.D.Disk.tells g.D.Disk.state g.W.Sink.taken g.W.Sink.faults) (setting_for l.config) l.steps first l.initial.disk l.initial.out l.step-index l.centre l.disk l.out;
 }

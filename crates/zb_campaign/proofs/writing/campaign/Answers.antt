@@ -1,4 +1,4 @@
-use Rattle.std.proofs.Common.{◌≡◌, ◌∙◌, List, Result, Ok, length, map, ap, sym, subst, arith}
+use Rattle.std.proofs.Common.{◌≡◌, ◌∙◌, List, Result, Ok, Err, length, map, ap, sym, subst, arith}
 use Rattle.std.proofs.lemmas.Result.{err_from_is_err_and}
 use Rattle.std.specs.Int.{div_ceil}
 use Rattle.zb_campaign.specs.Campaigns.{campaigned, endings}
@@ -46,6 +46,11 @@ returns-in_err-write-clause-ends g c =
     let p = err_from_is_err_and c.from_residual-in_err-write.result c.from_residual-in_err-write.ensures.1 in
     let P : Result Bytes SchedError → Type 0 = λ wanted. IsBegun wanted (g.W.Sink.taken c.args.out.now) (g.W.Sink.taken c.write.new.self) in
     rw (p.1, p.2) (c.in_err-write.ensures.cause.failed, subst P (sym (written g d)) c.in_err-write.ensures.front)
+
+pub returns-in_err-write-clause-unrisen : goal.returns-in_err-write-clause-unrisen
+returns-in_err-write-clause-unrisen g c = λ not_written.
+    let p = err_from_is_err_and c.from_residual-in_err-write.result c.from_residual-in_err-write.ensures.1 in
+    absurd (not_written (p.1 ∙ ap (λ e. Err e) p.2))
 
 pub returns-clause-ends : goal.returns-clause-ends
 returns-clause-ends g c =

@@ -1,10 +1,9 @@
 -- The lines that were taken are those of the text.
-use Rattle.std.proofs.Common.{rules, ◌≡◌, ◌+◌, ◌≤◌, ◌<◌, ◌++◌, List, ℕ, length, arith}
+use Rattle.std.proofs.Common.{rules, ◌≡◌, ◌+◌, ◌≤◌, ◌<◌, ◌++◌, length, arith}
 use Rattle.std.proofs.lemmas.Result.{err_from_is_err_and}
-use Rattle.std.specs.Option.{MatchOption}
 use Rattle.zb_model_real.specs.Real.{real}
 use Rattle.zb_trace.specs.Text.{IsProper, text}
-use Rattle.zb_command.proofs.AuditedTexts.{begun, broken_of, found_some, sound_of, taken}
+use Rattle.zb_command.proofs.AuditedTexts.{begun, broken_of, sound_of, taken}
 use Rattle.zb_command.proofs.audit.audit_text.Goals as goal
 
 pub loop-rest-init : goal.loop-rest-init

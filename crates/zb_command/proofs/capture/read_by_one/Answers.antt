@@ -1,7 +1,7 @@
-use Rattle.std.proofs.Common.{ℕ, Ok, Err, refl, ap, sym, subst, arith}
+use Rattle.std.proofs.Common.{ℕ, Ok, Err, refl, ap, sym, ◌∙◌, subst, arith}
 use Rattle.zb_command.specs.Inputs.{fault_of}
 use Rattle.zb_command.specs.declared.capture.CaptureFault.TheVariants as fault
-use Rattle.zb_command.proofs.PartLaws.{IsComing, nothing_came, more_came, lines_came, all_read, last_fault, takes_came, takes_on, why_input, judged, not_captured}
+use Rattle.zb_command.proofs.PartLaws.{IsComing, nothing_came, more_came, lines_came, all_read, last_fault, takes_came, takes_on, why_input, judged, not_captured, read_of}
 use Rattle.zb_command.proofs.capture.read_by_one.Goals as goal
 
 pub parts-init : goal.parts-init
@@ -10,6 +10,7 @@ parts-init g c = record {
       c.new-reader.ensures c.new-incoming.ensures.1 c.new-incoming.ensures.0;
   within = omega (arith, c.new-incoming.ensures.0);
   later = omega arith;
+  unrisen = refl;
 }
 
 pub parts-preserved : goal.parts-preserved
@@ -24,6 +25,7 @@ parts-preserved g c =
           c.read_whole_lines.new.self.part.items c.fill.new.self.count came c.in-Ok.ensures.lines c.in-Ok.ensures.room);
       within = omega (arith, c.in-Ok.ensures.count, c.in_ok-fill.ensures.filled.within);
       later = omega (arith, c.parts.invariant.later, c.in_ok-fill.ensures.filled.later);
+      unrisen = c.in_ok-fill.ensures.filled.unrisen (λ is. cc is) ∙ c.parts.invariant.unrisen;
     }
 
 pub returns-in_err-fill : goal.returns-in_err-fill
@@ -39,6 +41,7 @@ returns-in_err-fill g c =
     (why_input e old (g.R.Source.rest c.parts.input) mid c.parts.reader c.parts.incoming.part.items c.parts.incoming.count faults
     (g.R.Source.faults c.parts.input) later c.parts.invariant.coming c.parts.invariant.later
     (λ is. c.in_err-fill.ensures.filled.read (ap (λ x. Err x) is)) (λ is. c.in_err-fill.ensures.filled.too_long (ap (λ x. Err x) is)))
+    (λ not_read. c.in_err-fill.ensures.filled.unrisen (λ is. not_read (read_of e is)) ∙ c.parts.invariant.unrisen)
 
 pub returns-in-Err : goal.returns-in-Err
 returns-in-Err g c =
@@ -56,6 +59,7 @@ returns-in-Err g c =
     (judged c.refuse.result c.in-Err.fault old mid new c.parts.reader c.read_whole_lines.new.reader part c.read_whole_lines.new.self.part.items count
     (g.R.Source.faults c.args.input.now) (g.R.Source.faults c.fill.new.input) (g.R.Source.faults c.refuse.new.input) all
     (omega (arith, c.parts.invariant.later, c.in_ok-fill.ensures.filled.later)) c.in-Err.ensures.lines c.refuse.ensures.judged)
+    (λ not_read. c.refuse.ensures.unrisen not_read ∙ c.in_ok-fill.ensures.filled.unrisen (λ is. cc is) ∙ c.parts.invariant.unrisen)
 
 pub returns-in_err-read_lines : goal.returns-in_err-read_lines
 returns-in_err-read_lines g c =
@@ -72,6 +76,7 @@ returns-in_err-read_lines g c =
     (last_fault e old mid c.parts.reader c.read_lines.new.self part c.as_slice.result.now c.fill.new.self.count faults later came
     (c.in_ok-fill.ensures.filled.end (ap (λ b. Ok b) c.if-branch.false)) c.in_ok-fill.ensures.filled.within c.as_slice.ensures.value
     c.in_err-read_lines.ensures.exact)
+    (λ not_read. c.in_ok-fill.ensures.filled.unrisen (λ is. cc is) ∙ c.parts.invariant.unrisen)
 
 pub returns : goal.returns
 returns g c =
@@ -88,4 +93,5 @@ returns g c =
       end = end;
       few = takes_came old mid c.parts.reader part c.fill.new.self.count came c.in_ok-fill.ensures.filled.within;
       fault = tt;
+      unrisen = λ not_read. c.in_ok-fill.ensures.filled.unrisen (λ is. cc is) ∙ c.parts.invariant.unrisen;
     }

@@ -1,4 +1,5 @@
 use Rattle.std.proofs.Common.{◌-◌, ◌≤◌}
+use Rattle.zb_base.specs.Outside.{Unrisen}
 use Rattle.zb_command.proofs.PartLaws.{IsComing}
 use Rattle.zb_command.proofs.capture.read_by_one.Given as goal
 
@@ -7,6 +8,7 @@ invariant-parts g l = record {
   coming : IsComing (g.R.Source.rest l.fn.input) (g.R.Source.rest l.input) l.reader l.incoming.part.items l.incoming.count;
   within : l.incoming.count ≤ 16777216;
   later : g.R.Source.faults l.fn.input ≤ g.R.Source.faults l.input;
+  unrisen : Unrisen (g.R.Source.faults l.fn.input) (g.R.Source.faults l.input);
 }
 
 abbrev pub decreases-parts : goal.decreases-parts

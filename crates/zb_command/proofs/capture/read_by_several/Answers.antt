@@ -1,9 +1,9 @@
-use Rattle.std.proofs.Common.{Ok, Err, Result, refl, ap, subst, arith}
+use Rattle.std.proofs.Common.{Ok, Err, Result, refl, ap, ◌∙◌, subst, arith}
 use Rattle.zb_base.specs.declared.fault.OrMemory.{OrMemory}
 use Rattle.zb_capture.specs.declared.fault.CaptureError.{CaptureError}
 use Rattle.zb_command.specs.Inputs.{IsRead, fault_of}
 use Rattle.zb_command.specs.declared.capture.CaptureFault.TheVariants as fault
-use Rattle.zb_command.proofs.PartLaws.{nothing_came, more_came, lines_came, all_read, last_fault, takes_came, takes_on, why_input, judged, not_captured}
+use Rattle.zb_command.proofs.PartLaws.{nothing_came, more_came, lines_came, all_read, last_fault, takes_came, takes_on, why_input, judged, not_captured, read_of}
 use Rattle.zb_command.proofs.capture.read_by_several.Goals as goal
 
 pub rounds-init : goal.rounds-init
@@ -12,6 +12,7 @@ rounds-init g c = record {
       c.new-reader.ensures c.new-front.ensures.1 c.new-front.ensures.0;
   within = omega (arith, c.new-front.ensures.0);
   later = omega arith;
+  unrisen = refl;
 }
 
 pub rounds-preserved : goal.rounds-preserved
@@ -29,6 +30,7 @@ rounds-preserved g c =
       coming = lines_came old new c.rounds.reader c.read_round.new.reader read.all front.part.items front.count all read.lines read.room;
       within = read.within;
       later = omega (arith, c.rounds.invariant.later, c.in_ok-fill.ensures.filled.later, c.in_ok-read_round.ensures.later);
+      unrisen = c.in_ok-read_round.ensures.unrisen (λ is. cc is) ∙ c.in_ok-fill.ensures.filled.unrisen (λ is. cc is) ∙ c.rounds.invariant.unrisen;
     }
 
 pub returns-in_err-fill : goal.returns-in_err-fill
@@ -44,6 +46,7 @@ returns-in_err-fill g c =
     (why_input e old (g.R.Source.rest c.rounds.input) mid c.rounds.reader c.rounds.front.part.items c.rounds.front.count faults
     (g.R.Source.faults c.rounds.input) later c.rounds.invariant.coming c.rounds.invariant.later
     (λ is. c.in_err-fill.ensures.filled.read (ap (λ x. Err x) is)) (λ is. c.in_err-fill.ensures.filled.too_long (ap (λ x. Err x) is)))
+    (λ not_read. c.in_err-fill.ensures.filled.unrisen (λ is. not_read (read_of e is)) ∙ c.rounds.invariant.unrisen)
 
 pub returns-in_err-read_round : goal.returns-in_err-read_round
 returns-in_err-read_round g c =
@@ -62,6 +65,7 @@ returns-in_err-read_round g c =
     (why_input e old mid new c.rounds.reader part count faults (g.R.Source.faults c.fill.new.input) later came
     (omega (arith, c.rounds.invariant.later, c.in_ok-fill.ensures.filled.later))
     (λ is. c.in_err-read_round.ensures.read (ap (λ x. Err x) is)) (λ is. c.in_err-read_round.ensures.too_long (ap (λ x. Err x) is)))
+    (λ not_read. c.in_err-read_round.ensures.unrisen (λ is. not_read (read_of e is)) ∙ c.in_ok-fill.ensures.filled.unrisen (λ is. cc is) ∙ c.rounds.invariant.unrisen)
 
 pub returns-in-Err : goal.returns-in-Err
 returns-in-Err g c =
@@ -82,6 +86,7 @@ returns-in-Err g c =
     (judged c.refuse.result c.in-Err.fault old new left c.rounds.reader c.read_round.new.reader read.all front.part.items front.count faults
     (g.R.Source.faults c.read_round.new.input) later all
     (omega (arith, c.rounds.invariant.later, c.in_ok-fill.ensures.filled.later, c.in_ok-read_round.ensures.later)) read.lines c.refuse.ensures.judged)
+    (λ not_read. c.refuse.ensures.unrisen not_read ∙ c.in_ok-read_round.ensures.unrisen (λ is. cc is) ∙ c.in_ok-fill.ensures.filled.unrisen (λ is. cc is) ∙ c.rounds.invariant.unrisen)
 
 pub returns-in_err-read : goal.returns-in_err-read
 returns-in_err-read g c =
@@ -98,6 +103,7 @@ returns-in_err-read g c =
     (last_fault e old mid c.rounds.reader c.read.new.self part c.as_slice.result.now c.fill.new.self.count faults later came
     (c.in_ok-fill.ensures.filled.end (ap (λ b. Ok b) c.if-branch.false)) c.in_ok-fill.ensures.filled.within c.as_slice.ensures.value
     c.in_err-read.ensures.exact)
+    (λ not_read. c.in_ok-fill.ensures.filled.unrisen (λ is. cc is) ∙ c.rounds.invariant.unrisen)
 
 pub returns : goal.returns
 returns g c =
@@ -114,4 +120,5 @@ returns g c =
       end = end;
       few = takes_came old mid c.rounds.reader part c.fill.new.self.count came c.in_ok-fill.ensures.filled.within;
       fault = tt;
+      unrisen = λ not_read. c.in_ok-fill.ensures.filled.unrisen (λ is. cc is) ∙ c.rounds.invariant.unrisen;
     }

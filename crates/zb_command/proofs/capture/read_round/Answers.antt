@@ -38,5 +38,6 @@ returns g c =
       few = subst K (c.in_ok-go_on_from.ensures.count ∙ c.in_ok-split.ensures.count) taken.few;
       later = taken.later;
       read = λ is. absurd (cc is);
+      unrisen = λ not_read. taken.unrisen (λ is. cc is);
       too_long = λ is. absurd (cc is);
     }

@@ -1,4 +1,5 @@
 use Rattle.std.proofs.Common.{◌-◌, ◌≤◌, vec_len}
+use Rattle.zb_base.specs.Outside.{Unrisen}
 use Rattle.zb_command.specs.Inputs.{Grows}
 use Rattle.zb_command.proofs.input.read_on.Given as goal
 
@@ -10,4 +11,5 @@ invariant-loop-buffer g l = record {
   grown : Grows (g.R.Source.rest l.fn.input) (g.R.Source.rest l.input) l.fn.bytes.items l.bytes.items;
   room : vec_len l.bytes ≤ l.limit;
   later : g.R.Source.faults l.fn.input ≤ g.R.Source.faults l.input;
+  unrisen : Unrisen (g.R.Source.faults l.fn.input) (g.R.Source.faults l.input);
 }

@@ -1,4 +1,4 @@
-use Rattle.std.proofs.Common.{◌≡◌, ◌++◌, ◌∙◌, ℕ, List, ap, subst}
+use Rattle.std.proofs.Common.{◌≡◌, ◌++◌, ◌∙◌, ℕ, List, Err, ap, subst}
 use Rattle.std.specs.Io.KnownBytes.{Appends}
 use Rattle.zb_base.specs.Outside.{AppendsFront}
 use Rattle.std.proofs.lemmas.Result.{err_from_is_err_and}
@@ -28,6 +28,11 @@ returns-in_err-write_all-clause-ends g c =
     let p = err_from_is_err_and c.from_residual-in_err-write_all.result c.from_residual-in_err-write_all.ensures.1 in
     let P : List ℕ → Type 0 = λ text. AppendsFront (g.W.Sink.taken c.args.out.now) (g.W.Sink.taken c.write_all.new.out) text in
     rw (p.1, p.2) (c.in_err-write_all.ensures.cause.failed, subst P (reported g d) c.in_err-write_all.ensures.front)
+
+pub returns-in_err-write_all-clause-unrisen : goal.returns-in_err-write_all-clause-unrisen
+returns-in_err-write_all-clause-unrisen g c = λ not_written.
+    let p = err_from_is_err_and c.from_residual-in_err-write_all.result c.from_residual-in_err-write_all.ensures.1 in
+    absurd (not_written (p.1 ∙ ap (λ e. Err e) p.2))
 
 pub returns-clause-ends : goal.returns-clause-ends
 returns-clause-ends g c =

@@ -16,6 +16,7 @@ loop-page-preserved g c =
       so_far = whole_next text (g.W.Sink.taken c.args.out.now) so_far after c.args.pages.now c.loop-page.page-index c.page-item.result
           c.loop-page-test.true c.loop-page.invariant.so_far (subst P (c.as_slice.ensures.value ∙ ap text c.page-item.is) c.in_ok-write.ensures.whole);
       later = omega (arith, c.loop-page.invariant.later, c.in_ok-write.ensures.cause.later);
+      unrisen = c.in_ok-write.ensures.cause.unrisen ∙ c.loop-page.invariant.unrisen;
     }
 
 pub returns-in_err-write-clause-front : goal.returns-in_err-write-clause-front

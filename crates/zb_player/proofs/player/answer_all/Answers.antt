@@ -1,4 +1,4 @@
-use Rattle.std.proofs.Common.{◌≡◌, map, refl, true, arith}
+use Rattle.std.proofs.Common.{◌≡◌, ◌∙◌, map, refl, true, arith}
 use Rattle.zb_player.specs.Runs.{PrintsAll}
 use Rattle.zb_sched_line.specs.Views.{event_of}
 use Rattle.zb_player.proofs.CallsMade.{more_made, none_made}
@@ -14,6 +14,7 @@ loop-index-init g c = record {
   answers = λ s. no_answers c.args.events.now c.args.run.now c.args.disks.now (g.W.Sink.taken c.args.out.now);
   calls = λ s. none_made c.args.events.now c.args.run.now c.args.disks.now;
   later = omega arith;
+  unrisen = refl;
 }
 
 pub returns-in_err-answer-clause-front : goal.returns-in_err-answer-clause-front
@@ -48,4 +49,5 @@ loop-index-preserved g c = record {
       (omega arith) c.index-events-index.is (c.loop-index.invariant.answers s) (c.loop-index.invariant.calls s)
       (c.in_ok-answer.ensures.calls (c.loop-index.invariant.still s));
   later = omega (arith, c.loop-index.invariant.later, c.in_ok-hand_out.ensures.cause.later);
+  unrisen = c.in_ok-hand_out.ensures.cause.unrisen ∙ c.loop-index.invariant.unrisen;
 }

@@ -1,4 +1,5 @@
 use Rattle.std.proofs.Common.{◌≡◌, ◌+◌, ◌*◌, ◌≤◌, [], map, true}
+use Rattle.zb_base.specs.Outside.{Unrisen}
 use Rattle.zb_events.specs.Told.{lines_told}
 use Rattle.zb_player.specs.Runs.{Answers, AreMade}
 use Rattle.zb_sched_line.specs.Views.{event_of}
@@ -12,4 +13,5 @@ invariant-loop-index g l = record {
   answers : g.B.Bench.still l.initial.bench ≡ true → Answers l.initial.run l.initial.disks (map event_of l.events) l.index l.run l.disks (g.W.Sink.taken l.initial.out) (g.W.Sink.taken l.out);
   calls : g.B.Bench.still l.initial.bench ≡ true → AreMade l.initial.disks l.initial.run (map event_of l.events) l.index l.disks;
   later : g.W.Sink.faults l.initial.out ≤ g.W.Sink.faults l.out;
+  unrisen : Unrisen (g.W.Sink.faults l.initial.out) (g.W.Sink.faults l.out);
 }

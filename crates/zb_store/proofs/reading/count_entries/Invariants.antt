@@ -1,6 +1,6 @@
 use Rattle.std.proofs.Common.{◌≡◌, ◌≤◌, ◌*◌, List, ℕ, length, IsTrue}
 use Rattle.zb_disk.specs.View.{IsStill}
-use Rattle.zb_disk.specs.Calls.{Unrisen}
+use Rattle.zb_base.specs.Outside.{Unrisen}
 use Rattle.zb_store.specs.Layout.{payloads_of, extent}
 use Rattle.zb_store.specs.Reading.{IsBehind}
 use Rattle.zb_store.proofs.reading.count_entries.Given as goal
