@@ -90,7 +90,6 @@ impl Core for Tally {
         config: &Config,
         content: &[u8],
         payloads: &[u8],
-        _room: &mut [u8],
     ) -> Result<Tally, OrMemory<KeyError>> {
         let limit = match read_limit(content, payloads) {
             Ok(limit) => limit,

@@ -82,7 +82,6 @@ impl Core for Centre {
         config: &Config,
         content: &[u8],
         payloads: &[u8],
-        room: &mut [u8],
     ) -> Result<Centre, OrMemory<KeyError>> {
         let node = NodeCore::restore(alloc, Role::Centre, config, content, payloads)?;
         Ok(Centre { node })

@@ -8,6 +8,7 @@ ghost use Rattle.zb_model_seals.specs.Sealing.{SealsNext};
 ghost use Rattle.zb_node_types.specs.Changes.{edits};
 ghost use Rattle.zb_record.specs.Ranges.{InRange};
 
+use zb_base::Label;
 use zb_host::{Outcome, Plan};
 use zb_node_types::Refusal;
 use zb_seal::{KeyMemo, Term};
@@ -54,9 +55,13 @@ pub(crate) fn carry_out(tables: &mut StoredTables, plan: &Plan<Outcome<Term, Ref
     count(tables, &plan.out.sealed_nwk);
 }
 
-// Keeps the key that seals a term for the frames to come.
+// Keeps the key that seals a term for the frames to come, but none of those that carry keys: they rarely come again,
+// and to derive one anew takes as long as to open a frame.
 pub(crate) fn remember(memo: &mut KeyMemo, term: &Option<Term>) {
     if let Some(term) = term {
-        memo.keep(term.label, &term.base);
+        match term.label {
+            Label::Data | Label::Network => memo.keep(term.label, &term.base),
+            Label::Transport | Label::Load => {}
+        }
     }
 }

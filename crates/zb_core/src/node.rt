@@ -29,10 +29,9 @@ use zb_stored_tables::{StoredTables, hold_ranges};
 /// A contract sees it as its setting and its tables. The base keys change no answer.
 #[derive(Drop)]
 pub struct NodeCore {
-    // The two large parts have places of their own, since a boot hands the whole from call to call.
-    network: Box<Network>,
+    network: Network,
     tables: StoredTables,
-    memo: Box<KeyMemo>,
+    memo: KeyMemo,
 }
 
 impl Model for NodeCore {
@@ -41,9 +40,9 @@ impl Model for NodeCore {
 
     ghost Value = { CoreValue };
 
-    ghost view = { λ c. record { setting = c.network.value; tables = c.tables } };
+    ghost view = { λ c. record { setting = c.network; tables = c.tables } };
 
-    ghost invariant = { λ c. c.tables.role ≡ c.network.value.me.role };
+    ghost invariant = { λ c. c.tables.role ≡ c.network.me.role };
 }
 
 impl NodeCore {
@@ -71,12 +70,10 @@ impl NodeCore {
         ensures fault { IfErr result (IsRestoreFault (restored (model_role role) content.now payloads.now)) }
     {
         let tables = StoredTables::restore(alloc, role, content, payloads)?;
-        let network = Box::new(alloc, Network::new(config))?;
-        let memo = Box::new(alloc, KeyMemo::new())?;
         Ok(NodeCore {
-            network,
+            network: Network::new(alloc, config)?,
             tables,
-            memo,
+            memo: KeyMemo::new(alloc),
         })
     }
 
@@ -84,7 +81,7 @@ impl NodeCore {
     pub fn network(&self) -> &Network
         ensures { result.now ≡ self.now.setting }
     {
-        self.network.as_ref()
+        &self.network
     }
 
     /// Answers the node's tables.
@@ -96,7 +93,7 @@ impl NodeCore {
 
     /// Answers the base keys that were used last.
     pub fn memo(&self) -> &KeyMemo {
-        self.memo.as_ref()
+        &self.memo
     }
 
     /// Says that a plan which is the policy's answer to some task can be stored; does nothing.
@@ -106,7 +103,7 @@ impl NodeCore {
     {
         self.tables.keep_rules();
         hold_ranges(&plan.changes);
-        self.network.as_ref().in_block();
+        self.network.in_block();
     }
 
     /// Carries a plan out: makes its changes, keeps what it accepted, and counts what it sealed.
@@ -117,11 +114,10 @@ impl NodeCore {
         ensures { IsCoreAfter self.old plan.now self.new }
     {
         carry_out(&mut self.tables, plan);
-        let memo = self.memo.as_mut();
-        remember(memo, &plan.out.accepted_nwk);
-        remember(memo, &plan.out.accepted_aps);
-        remember(memo, &plan.out.sealed_aps);
-        remember(memo, &plan.out.sealed_nwk);
+        remember(&mut self.memo, &plan.out.accepted_nwk);
+        remember(&mut self.memo, &plan.out.accepted_aps);
+        remember(&mut self.memo, &plan.out.sealed_aps);
+        remember(&mut self.memo, &plan.out.sealed_nwk);
     }
 
     /// Writes the record of the node's tables, and answers its length.

@@ -82,7 +82,6 @@ impl Core for Device {
         config: &Config,
         content: &[u8],
         payloads: &[u8],
-        room: &mut [u8],
     ) -> Result<Device, OrMemory<KeyError>> {
         let node = NodeCore::restore(alloc, Role::Device, config, content, payloads)?;
         Ok(Device { node })

@@ -2,7 +2,7 @@
 ghost use Rattle.std.specs.Prelude.{◌≡◌, ◌≤◌, List, ℕ, length, IfOk, OnErr};
 ghost use Rattle.zb_base.specs.Config.{IsConfig};
 ghost use Rattle.zb_disk.specs.View.{IsStill};
-ghost use Rattle.zb_disk.specs.Calls.{Unrisen};
+ghost use Rattle.zb_base.specs.Outside.{Unrisen};
 ghost use Rattle.zb_disk.specs.Memory.{memory_view};
 ghost use Rattle.zb_store.specs.Layout.{Standing, IsWhole, stands};
 ghost use Rattle.zb_store.specs.Sizes.{record_room, payloads_room};
@@ -69,7 +69,7 @@ fn read_record<C: Core>(
     ensures shown { IfOk result (λ r. (w : List ℕ) → C.restored content.now payloads.now ≡ gives w
         → IsShown r room.new w) }
 {
-    match C::restore(alloc, config, content, payloads, room) {
+    match C::restore(alloc, config, content, payloads) {
         Ok(core) => Ok(Some(core.record(room))),
         Err(fault) => {
             if core_lacks_memory(&fault) {

@@ -1,9 +1,8 @@
 -- When each fault of a host comes.
 use Rattle.std.specs.Prelude.{◌≡◌, [], Bool, true, Option, Some, None, IsTrue}
 use Rattle.std.specs.List.{concat}
-use Rattle.zb_base.specs.Outside.{Rose}
+use Rattle.zb_base.specs.Outside.{Rose, Unrisen}
 use Rattle.zb_disk.specs.View.{Telling, View}
-use Rattle.zb_disk.specs.Calls.{Unrisen}
 use Rattle.zb_store.specs.Layout.{Standing, stands}
 use Rattle.zb_store.specs.Store.{Place}
 use Rattle.zb_host.specs.declared.fault.CommitFault.{CommitFault}

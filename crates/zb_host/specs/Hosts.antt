@@ -1,12 +1,12 @@
 -- What a host promises of its disk.
-use Rattle.std.specs.Prelude.{ℕ, ◌≡◌, ◌≢◌, ◌≤◌, ◌==◌, ◌||◌, ◌⊎◌, List, get_or, Option, Some, None, Bool, true, false, Result, Err, IfOk, IfErr, OnOk, IsErrOf, IsTrue}
+use Rattle.std.specs.Prelude.{ℕ, ◌≡◌, ◌≢◌, ◌≤◌, ◌==◌, ◌||◌, ◌⊎◌, List, length, get_or, Vec, vec_capacity, Option, Some, None, Bool, true, false, Result, Err, IfOk, IfErr, OnOk, IsErrOf, IsTrue}
+use Rattle.std.specs.Global.{Global}
 use Rattle.std.specs.List.{concat}
-use Rattle.zb_base.specs.Outside.{Rose}
+use Rattle.zb_base.specs.Outside.{Rose, Unrisen}
 use Rattle.zb_disk.specs.View.{Telling, View, IsStill, LeavesOnly}
-use Rattle.zb_disk.specs.Calls.{Unrisen}
 use Rattle.zb_store.specs.declared.fault.StoreFault.{StoreFault}
 use Rattle.zb_store.specs.declared.fault.StoreFault.TheVariants.{Disk, NoRecord, TooLarge, NoMemory, Worn}
-use Rattle.zb_store.specs.Sizes.{entries_room}
+use Rattle.zb_store.specs.Sizes.{entries_room, payload_room, record_room}
 use Rattle.zb_store.specs.Layout.{Standing, IsWhole, stands}
 use Rattle.zb_store.specs.Steps.{WentThrough}
 use Rattle.zb_store.specs.Store.{Place, place_of, IsHeld, IsReady, IsWholeEither, appended, replaced, AppendStop, PutStop}
@@ -31,6 +31,10 @@ AnswersOn restored bytes w = (s : Standing) × (stands bytes ≡ Some s) × Give
 -- an image stands for the core of the one record or of the other
 abbrev pub StandsForEither : Restoring → List ℕ → List ℕ → List ℕ → Type 0
 StandsForEither restored old new c = StandsFor restored old c ⊎ StandsFor restored new c
+
+-- the room for what commits write: it has the bytes of an entry, and the memory for a record
+abbrev pub IsRoom : Vec ℕ Global → Type 0
+IsRoom room = (payload_room ≤ length room.items) × (record_room ≤ vec_capacity room)
 
 -- a host: its core, whether its next commit writes the whole record, and its store, which is there while it is up
 pub record Hosted (C : Type 0) : Type 0 where

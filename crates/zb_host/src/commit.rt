@@ -1,12 +1,41 @@
 //! A commit: one entry, or the whole record.
-ghost use Rattle.std.specs.Prelude.{◌≡◌, ◌≤◌, ◌<◌, ◌==◌, ◌||◌, List, ℕ, length, true, false};
+ghost use Rattle.std.specs.Prelude.{◌≡◌, ◌≤◌, ◌<◌, ◌==◌, ◌||◌, List, ℕ, length, true, false, IfOk};
 ghost use Rattle.zb_store.specs.Sizes.{record_room, payload_room, entries_room};
-ghost use Rattle.zb_host.specs.Hosts.{IsCommit};
+ghost use Rattle.zb_host.specs.Hosts.{IsCommit, IsRoom};
 
 use crate::Core;
+use std::alloc::Global;
+use zb_base::NoMemory;
 use zb_disk::Disk;
 use zb_node_types::Changes;
-use zb_store::{ENTRIES_ROOM, Store, StoreFault};
+use zb_store::{ENTRIES_ROOM, RECORD_ROOM, Store, StoreFault};
+
+/// A piece of the room of a record. An entry fits into one.
+const BLANK: [u8; 1_024] = [0; 1_024];
+
+/// Makes room for what commits write: as much as an entry needs, with the memory for a record.
+pub(crate) fn make_room(alloc: Global) -> Result<Vec<u8>, NoMemory>
+    ensures { IfOk result (λ room. IsRoom room) }
+{
+    let mut room = Vec::with_capacity(alloc, RECORD_ROOM)?;
+    room.extend_from_slice(&BLANK)?;
+    Ok(room)
+}
+
+// Fills the room up to that of a record. It takes no memory.
+fn fill_up(room: &mut Vec<u8>)
+    requires { IsRoom room.old }
+    ensures room { IsRoom room.new }
+    ensures filled { record_room ≤ length room.new.items }
+{
+    if room.len() >= RECORD_ROOM {
+        return;
+    }
+    room.clear();
+    for _ in 0..RECORD_ROOM / BLANK.len() {
+        room.extend_from_slice(&BLANK).unwrap();
+    }
+}
 
 // Stores the whole record.
 fn put<C: Core, D: Disk>(
@@ -30,7 +59,7 @@ fn append<C: Core, D: Disk>(
     room: &mut [u8],
     changes: &Changes,
 ) -> Result<Store, StoreFault>
-    requires room { record_room ≤ length room.old }
+    requires room { payload_room ≤ length room.old }
     requires few { store.entries < entries_room }
     requires short { length (C.payload changes.now.items) ≤ payload_room }
     ensures { (content : List ℕ)
@@ -53,16 +82,18 @@ pub(crate) fn commit<C: Core, D: Disk>(
     store: Store,
     disk: &mut D,
     whole: bool,
-    room: &mut [u8],
+    room: &mut Vec<u8>,
     core: &C,
     changes: &Changes,
 ) -> Result<Store, StoreFault>
-    requires room { record_room ≤ length room.old }
+    requires room { IsRoom room.old }
     requires short { length (C.payload changes.now.items) ≤ payload_room }
-    ensures { IsCommit D.tells (whole || store.entries == entries_room)
+    ensures commits { IsCommit D.tells (whole || store.entries == entries_room)
         (C.recorded core.now) (C.payload changes.now.items) store (D.state disk.old) (D.state disk.new) result }
+    ensures room { IsRoom room.new }
 {
     if is_whole(whole, store.entries()) {
+        fill_up(room);
         put(store, disk, room, core)
     } else {
         append::<C, D>(store, disk, room, changes)

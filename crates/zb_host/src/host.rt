@@ -2,9 +2,8 @@
 ghost use Rattle.std.specs.Prelude.{if◌then◌else◌, Some, None, ◌≡◌, ◌≢◌, ◌==◌, ◌≤◌, ◌⊎◌, [], List, ℕ, length, get_or, Bool, true, false, is_some, IsTrue, IsErrOf, IfOk, IfErr, OnOk, OnErr};
 ghost use Rattle.zb_base.specs.Config.{IsConfig};
 ghost use Rattle.zb_disk.specs.View.{IsStill};
-ghost use Rattle.zb_disk.specs.Calls.{Unrisen};
+ghost use Rattle.zb_base.specs.Outside.{Unrisen};
 ghost use Rattle.zb_store.specs.Layout.{Standing, stands};
-ghost use Rattle.zb_store.specs.Sizes.{record_room};
 ghost use Rattle.zb_store.specs.Steps.{WentThrough};
 ghost use Rattle.std.specs.List.{concat};
 ghost use Rattle.zb_store.specs.Store.{IsHeld, AllWhole, open_calls, OpenStop};
@@ -13,17 +12,14 @@ ghost use Rattle.zb_host.specs.Hosts.{IsCurrent, writes_whole, commit_calls, Has
 ghost use Rattle.zb_host.specs.HostFaults.{IsHandleFault, IsUnstored, commit_fault, told_fault};
 ghost use Rattle.zb_host.specs.Calls.{words_of, handled, IsHandled, IsBooted};
 
-use crate::commit::commit;
+use crate::commit::{commit, make_room};
 use crate::{CommitFault, Core, HostFault, Plan};
 use std::alloc::Global;
 use std::marker::Model;
-use zb_base::{Config, NoMemory, OrMemory};
+use zb_base::{Config, OrMemory};
 use zb_disk::Disk;
 use zb_node_types::{Changes, KeyError};
-use zb_store::{RECORD_ROOM, Store, StoreFault};
-
-/// A piece of the room of a record.
-const BLANK: [u8; 1_024] = [0; 1_024];
+use zb_store::{Store, StoreFault};
 
 /// Runs a node's core over its store: what goes out is stored first.
 #[derive(Drop)]
@@ -33,20 +29,19 @@ pub struct Host<C: Core> {
     whole: bool,
     // It is there while the host is up.
     store: Option<Store>,
-    // Room for a record.
+    // Room for an entry. It has the memory for a record, and is filled up where the whole record is written.
     room: Vec<u8>,
 }
 
 impl<C: Core> Model for Host<C> {
     ghost use Rattle.zb_host.specs.Hosts.{Hosted};
-    ghost use Rattle.std.specs.Prelude.{◌≤◌, length};
-    ghost use Rattle.zb_store.specs.Sizes.{record_room};
+    ghost use Rattle.zb_host.specs.Hosts.{IsRoom};
 
     ghost Value = { Hosted C };
 
     ghost view = { λ h. record { core = h.core; whole = h.whole; store = h.store } };
 
-    ghost invariant = { λ h. record_room ≤ length h.room.items };
+    ghost invariant = { λ h. IsRoom h.room };
 }
 
 impl<C: Core> Host<C> {
@@ -111,7 +106,7 @@ impl<C: Core> Host<C> {
         }
     }
 
-    /// Handles an event as `handle` does, and writes its changes and what goes out into `plan`, which spares moving them.
+    /// Handles an event as `handle` does, and writes its changes and what goes out into `plan`.
     ///
     /// What stood in `plan` is gone. Requires a host that is up. After a fault the host is down, and `plan` has the
     /// changes that were to be stored.
@@ -225,7 +220,7 @@ impl<C: Core> Host<C> {
         ensures up { IfOk result (λ h. IsTrue (is_some h.store)) }
         ensures unrisen { OnOk result (Unrisen (D.state disk.old).faults (D.state disk.new).faults) }
     {
-        let mut room = match record_space(alloc) {
+        let room = match make_room(alloc) {
             Ok(room) => room,
             Err(_) => return Err(HostFault::NoMemory),
         };
@@ -240,7 +235,7 @@ impl<C: Core> Host<C> {
             // It has no other fault but want of memory.
             Err(_) => return Err(HostFault::NoMemory),
         };
-        match C::restore(alloc, config, &record, &payloads, &mut room) {
+        match C::restore(alloc, config, &record, &payloads) {
             Ok(core) => Ok(Host {
                 core,
                 whole: record.first() == Some(&1),
@@ -267,17 +262,6 @@ impl<C: Core> Host<C> {
     {
         &self.core
     }
-}
-
-// Makes room for a record. It is filled by pieces, since a boot would spend most of its time filling it by bytes.
-fn record_space(alloc: Global) -> Result<Vec<u8>, NoMemory>
-    ensures { IfOk result (λ room. length room.items ≡ record_room) }
-{
-    let mut room = Vec::with_capacity(alloc, RECORD_ROOM)?;
-    for _ in 0..RECORD_ROOM / BLANK.len() {
-        room.extend_from_slice(&BLANK)?;
-    }
-    Ok(room)
 }
 
 // Why the changes of an event weren't stored. A commit has no faults but these two.

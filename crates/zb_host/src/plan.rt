@@ -95,7 +95,7 @@ pub trait Core: Drop {
         ensures bytes { take result into.new ≡ payload changes.now.items };
 
     /// Makes the core of a node from a record and the payloads behind it, one after the other. Requires a configuration
-    /// of such a node, no more bytes than a store has of them, and room for a record.
+    /// of such a node, and no more bytes than a store has of them.
     ///
     /// Errors: `BadRecord`, with the place of the fault; want of memory.
     fn restore(
@@ -103,13 +103,11 @@ pub trait Core: Drop {
         config: &Config,
         content: &[u8],
         payloads: &[u8],
-        room: &mut [u8],
     ) -> Result<Self, OrMemory<KeyError>>
         requires config { IsConfig config.now }
         requires role { is_of_role config.now }
         requires record_size { length content.now ≤ record_room }
         requires payloads_size { length payloads.now ≤ payloads_room }
-        requires room { record_room ≤ length room.old }
         ensures core { IfOk result (λ c. restored content.now payloads.now ≡ gives (recorded c)) }
         ensures booted { IfOk result (λ c. is_booted config.now content.now payloads.now c) }
         ensures fault { IfErr result (IsRestoreFault (restored content.now payloads.now)) };

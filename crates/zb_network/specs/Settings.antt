@@ -1,6 +1,6 @@
 -- What a node's configuration tells it of the network, as the model's setting: of itself all that is declared, of the
 -- others their names, addresses and roles.
-use Rattle.std.specs.Prelude.{ℕ, List, map, slice_get, Option, Some, None}
+use Rattle.std.specs.Prelude.{ℕ, map, slice_get, Option, Some, None}
 use Rattle.zb_base.specs.declared.node.Config.{Config}
 use Rattle.zb_base.specs.declared.node.Peer.{Peer}
 use Rattle.zb_model.specs.Data.{Station}

@@ -1,5 +1,5 @@
 //! A network as one of its nodes knows it.
-ghost use Rattle.std.specs.Prelude.{◌≡◌, ◌≤◌, ◌<◌, ◌^◌, ◌||◌, nat_eq, option_map};
+ghost use Rattle.std.specs.Prelude.{◌≡◌, ◌≤◌, ◌<◌, ◌^◌, ◌||◌, nat_eq, option_map, IfOk};
 ghost use Rattle.zb_base.specs.Config.{IsConfig};
 ghost use Rattle.zb_model.specs.Commands.{eui_of};
 ghost use Rattle.zb_model.specs.Judging.{hears};
@@ -9,7 +9,7 @@ ghost use Rattle.zb_node_types.specs.Changes.{model_role};
 ghost use Rattle.zb_network.specs.Settings.{setting_for};
 
 use crate::peers;
-use arrayvec::ArrayVec;
+use std::alloc::{AllocError, Global};
 use std::marker::Model;
 use zb_base::{Config, Eui, Peer, Role, Short};
 
@@ -19,7 +19,7 @@ use zb_base::{Config, Eui, Peer, Role, Short};
 #[derive(Debug, Drop)]
 pub struct Network {
     me: Peer,
-    peers: ArrayVec<Peer, 64>,
+    peers: Vec<Peer>,
     centre: Eui,
     out_block: u32,
     in_block: u32,
@@ -44,18 +44,20 @@ impl Model for Network {
 
 impl Network {
     /// Makes what a node of this configuration knows.
+    ///
+    /// Errors: want of memory.
     #[tactic(auto, unfolding(crate::specs::Settings::setting_for))]
-    pub fn new(config: &Config) -> Network
+    pub fn new(alloc: Global, config: &Config) -> Result<Network, AllocError>
         requires { IsConfig config.now }
-        ensures { result ≡ setting_for config.now }
+        ensures { IfOk result (λ network. network ≡ setting_for config.now) }
     {
-        Network {
+        Ok(Network {
             me: config.peers[config.me as usize],
-            peers: peers::copied(config.peers.as_slice()),
+            peers: Vec::from_slice(alloc, config.peers.as_slice())?,
             centre: peers::centre_among(config.peers.as_slice()),
             out_block: config.out_block,
             in_block: config.in_block,
-        }
+        })
     }
 
     /// Answers the node's own IEEE address.

@@ -1,5 +1,5 @@
 //! Looking for a node among those that are declared.
-ghost use Rattle.std.specs.Prelude.{None, false, ◌≡◌, ◌&&◌, ◌≤◌, ◌<◌, ◌^◌, count_by, find, length, map, nat_eq, option_map};
+ghost use Rattle.std.specs.Prelude.{None, false, ◌≡◌, ◌&&◌, ◌<◌, ◌^◌, count_by, find, map, nat_eq, option_map};
 ghost use Rattle.std.specs.Option.{option_copied};
 ghost use Rattle.zb_base.specs.Config.{is_centre};
 ghost use Rattle.zb_model.specs.Data.{nobody};
@@ -8,7 +8,6 @@ ghost use Rattle.zb_model.specs.State.{is_centre as is_the_centre};
 ghost use Rattle.zb_node_types.specs.Changes.{model_role};
 ghost use Rattle.zb_network.specs.Settings.{known};
 
-use arrayvec::ArrayVec;
 use zb_base::{Eui, Peer, Role, Short};
 
 /// Tells whether a role is that of the trust centre.
@@ -133,14 +132,4 @@ pub(crate) fn nobody_among(peers: &[Peer])
     if let Some(peer) = first_nobody(peers) {
         let _never = is_nobody(peer);
     }
-}
-
-/// Copies the declared nodes. Requires at most 64 of them.
-pub(crate) fn copied(peers: &[Peer]) -> ArrayVec<Peer, 64>
-    requires { length peers.now ≤ 64 }
-    ensures { result.items ≡ peers.now }
-{
-    let mut out = ArrayVec::new();
-    let _ = out.try_extend_from_slice(peers);
-    out
 }

@@ -19,7 +19,6 @@ use Rattle.zb_driven.specs.declared.arms.Arms.{Arms}
 use Rattle.zb_driven.specs.declared.arms.Arms.TheVariants.{Unarmed}
 use Rattle.zb_driven.specs.declared.fall.Fall.{Fall}
 use Rattle.zb_host.specs.Hosts.{Gives, Hosted, IsCurrent, writes_whole}
-use Rattle.zb_host.specs.declared.outcome.Outcome.{Outcome}
 use Rattle.zb_model.specs.Answer.{Answer, answer, answered}
 use Rattle.zb_model.specs.Data.{Edit, Role}
 use Rattle.zb_model.specs.Data as model
@@ -38,9 +37,7 @@ use Rattle.zb_node.specs.Tasks.{suits}
 use Rattle.zb_node.specs.Values.{NodeValue, Running}
 use Rattle.zb_node_types.specs.Changes.{edits, model_role}
 use Rattle.zb_node_types.specs.declared.change.Change.{Change}
-use Rattle.zb_node_types.specs.declared.refusal.Refusal.{Refusal}
 use Rattle.zb_plan.specs.Answers.{IsAnswer}
-use Rattle.zb_seal.specs.declared.term.Term.{Term}
 use Rattle.zb_store.specs.Layout.{Standing, IsWhole}
 use Rattle.zb_store.specs.Store.{IsHeld, both_gates_open}
 use Rattle.zb_stored_tables.proofs.CoreValues.{stored_after}

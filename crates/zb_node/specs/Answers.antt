@@ -1,5 +1,5 @@
 -- What a node's calls leave, in the model's words.
-use Rattle.std.specs.Prelude.{ℕ, ◌≡◌, ◌≢◌, ◌+◌, ◌<◌, ◌^◌, Bool, true, false, if◌then◌else◌, List, [], Option, Some, None, Result, Ok, Err, is_some, ⊤}
+use Rattle.std.specs.Prelude.{ℕ, ◌≡◌, ◌+◌, ◌<◌, ◌^◌, Bool, true, false, if◌then◌else◌, List, [], Option, Some, None, Result, Ok, Err, is_some, ⊤}
 use Rattle.std.specs.List.{concat}
 use Rattle.arrayvec.specs.declared.array_vec.ArrayVec.{ArrayVec}
 use Rattle.zb_base.specs.Outside.{risen}
@@ -12,7 +12,6 @@ use Rattle.zb_driven.specs.Arms.{IsUnarmed, calls_after, fallen_calls}
 use Rattle.zb_driven.specs.Driven.{IsUp, WasHandled, HasFallen, IsDown, WasBooted, HasFallenAtBoot, fall_of}
 use Rattle.zb_driven.specs.declared.fall.Fall.{Fall}
 use Rattle.zb_host.specs.Hosts.{Hosted}
-use Rattle.zb_host.specs.declared.outcome.Outcome.{Outcome}
 use Rattle.zb_model.specs.Answer.{Answer, answer}
 use Rattle.zb_model.specs.Data.{Role}
 use Rattle.zb_model.specs.Data as model
@@ -30,9 +29,7 @@ use Rattle.zb_node.specs.declared.node.Handled.{Handled}
 use Rattle.zb_node.specs.declared.node.Handled.TheVariants.{Whole, Cut}
 use Rattle.zb_node_types.specs.Changes.{edits}
 use Rattle.zb_node_types.specs.declared.change.Change.{Change}
-use Rattle.zb_node_types.specs.declared.refusal.Refusal.{Refusal}
 use Rattle.zb_plan.specs.Answers.{IsAnswer}
-use Rattle.zb_seal.specs.declared.term.Term.{Term}
 use Rattle.zb_store.specs.Layout.{Standing}
 use Rattle.zb_store.specs.Power.{stop_commits, failure_commits}
 use Rattle.zb_store.specs.Store.{IsHeld}

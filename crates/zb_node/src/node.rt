@@ -44,7 +44,8 @@ pub enum Handled {
 #[derive(Drop)]
 pub struct Node {
     peer: Peer,
-    config: Config,
+    // It is large, and a node is handed from call to call when it is made.
+    config: Box<Config>,
     machine: Option<Machine>,
     arms: Arms,
 }
@@ -57,14 +58,14 @@ impl Model for Node {
 
     ghost view = { λ n. record {
       peer = n.peer;
-      config = n.config;
+      config = n.config.value;
       machine = option_map running n.machine;
       arms = n.arms;
     } };
 
     ghost invariant = { λ n. IsNode (record {
       peer = n.peer;
-      config = n.config;
+      config = n.config.value;
       machine = option_map running n.machine;
       arms = n.arms;
     }) };
@@ -141,7 +142,7 @@ impl Node {
         reset(disk);
         let mut node = Node {
             peer,
-            config,
+            config: Box::new(alloc, config)?,
             machine: None,
             arms: Arms::Unarmed,
         };
@@ -237,7 +238,13 @@ impl Node {
         ensures peer { self.new.peer ≡ self.old.peer }
         ensures config { self.new.config ≡ self.old.config }
     {
-        match Machine::boot(alloc, self.peer.role, &self.config, disk, &self.arms) {
+        match Machine::boot(
+            alloc,
+            self.peer.role,
+            self.config.as_ref(),
+            disk,
+            &self.arms,
+        ) {
             Ok(machine) => {
                 self.machine = Some(machine);
                 Ok(None)
@@ -260,7 +267,7 @@ impl Node {
     {
         let mut room = Vec::with_capacity(alloc, RECORD_ROOM)?;
         room.resize(RECORD_ROOM, 0)?;
-        let len = Machine::dump(alloc, self.peer.role, &self.config, disk, &mut room)?;
+        let len = Machine::dump(alloc, self.peer.role, self.config.as_ref(), disk, &mut room)?;
         keep_shown(&mut room, len);
         Ok(room)
     }

@@ -82,7 +82,6 @@ impl Core for Router {
         config: &Config,
         content: &[u8],
         payloads: &[u8],
-        room: &mut [u8],
     ) -> Result<Router, OrMemory<KeyError>> {
         let node = NodeCore::restore(alloc, Role::Router, config, content, payloads)?;
         Ok(Router { node })

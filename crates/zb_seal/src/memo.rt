@@ -8,6 +8,7 @@ use crate::envelope::{Envelope, OpenError};
 use crate::key::sealing_key;
 use crate::sealing::{wire, wire_with};
 use crate::term::Term;
+use std::alloc::Global;
 use zb_aes::Cipher;
 use zb_base::{Eui, Frame, Key, Label};
 use zb_cursor::TooLong;
@@ -21,20 +22,25 @@ struct Expanded {
     ghost is_its_key: { cipher ≡ key_of label base.0 },
 }
 
+/// How many sealing keys a memo has at most.
+const KEYS: usize = 8;
+
 /// The sealing keys that were used last, expanded: at most 8.
 ///
-/// What it has changes no answer: a key that it lacks is expanded for the one call.
+/// What it has changes no answer: a key that it lacks is expanded for the one call. It takes memory where a key is
+/// kept, and keeps none where that lacks.
 #[derive(Drop)]
 pub struct KeyMemo {
-    keys: [Option<Expanded>; 8],
+    keys: Vec<Expanded>,
+    // The place that the next one takes.
     next: usize,
 }
 
 impl KeyMemo {
-    /// Makes a memo without keys.
-    pub fn new() -> KeyMemo {
+    /// Makes a memo without keys. It takes no memory.
+    pub fn new(alloc: Global) -> KeyMemo {
         KeyMemo {
-            keys: [None, None, None, None, None, None, None, None],
+            keys: Vec::new(alloc),
             next: 0,
         }
     }
@@ -43,11 +49,9 @@ impl KeyMemo {
     pub fn find(&self, label: Label, base: &Key) -> Option<&Cipher>
         ensures { IfSome result (λ cipher. cipher.now ≡ key_of label base.now.0) }
     {
-        for kept in &self.keys {
-            if let Some(expanded) = kept {
-                if expanded.label == label && expanded.base == *base {
-                    return Some(&expanded.cipher);
-                }
+        for expanded in self.keys.as_slice() {
+            if expanded.label == label && expanded.base == *base {
+                return Some(&expanded.cipher);
             }
         }
         None
@@ -58,13 +62,18 @@ impl KeyMemo {
         if self.find(label, base).is_some() {
             return;
         }
-        let place = self.next % 8;
-        self.keys[place] = Some(Expanded {
+        let expanded = Expanded {
             base: *base,
             label,
             cipher: Cipher::new(&sealing_key(label, base).0),
-        });
-        self.next = (place + 1) % 8;
+        };
+        let place = self.next % KEYS;
+        if place < self.keys.len() {
+            self.keys[place] = expanded;
+        } else if self.keys.push(expanded).is_err() {
+            return;
+        }
+        self.next = (place + 1) % KEYS;
     }
 
     /// Opens an envelope under a base key. `given` is the source where the frame names none.

@@ -27,7 +27,7 @@ returns-in-Ok-clause-step g c =
     let inside = sym c.take.ensures.value ∙ c.unwrap-store.ensures in
     let is = sym (ap (λ (h : Hosted g.row.C.Denot). h.store) c.self.view_is) ∙ inside in
     let whole : writes_whole host ≡ (c.self.inside.whole || c.unwrap-store.result.entries == 32) = sym (ap (λ (h : Hosted g.row.C.Denot). writes_whole h) c.self.view_is) ∙ ap (λ (o : Option Place). c.self.inside.whole || is_full o) inside in
-    let commit = subst (λ (b : Bool). IsCommit g.D.Disk.tells b (g.C.Core.recorded after) payload c.unwrap-store.result old new (Ok c.in-Ok.store)) (sym whole) c.in-Ok.ensures in
+    let commit = subst (λ (b : Bool). IsCommit g.D.Disk.tells b (g.C.Core.recorded after) payload c.unwrap-store.result old new (Ok c.in-Ok.store)) (sym whole) c.in-Ok.ensures.commits in
     record {
       moments = λ s current told. host_moments g.C.Core.restored g.C.Core.recorded g.D.Disk.tells s host after c.unwrap-store.result payload old new (Ok c.in-Ok.store) is laws commit current told;
       kept = λ some s current told. host_kept g.C.Core.restored g.C.Core.recorded g.D.Disk.tells s host after c.unwrap-store.result c.in-Ok.store payload old new is laws commit current told;
@@ -45,7 +45,7 @@ returns-in-Ok-clause-not_worn g c = λ some worn.
     let inside = sym c.take.ensures.value ∙ c.unwrap-store.ensures in
     let is = sym (ap (λ (h : Hosted g.row.C.Denot). h.store) c.self.view_is) ∙ inside in
     let whole : writes_whole host ≡ (c.self.inside.whole || c.unwrap-store.result.entries == 32) = sym (ap (λ (h : Hosted g.row.C.Denot). writes_whole h) c.self.view_is) ∙ ap (λ (o : Option Place). c.self.inside.whole || is_full o) inside in
-    let commit = subst (λ (b : Bool). IsCommit g.D.Disk.tells b (g.C.Core.recorded after) payload c.unwrap-store.result old new (Ok c.in-Ok.store)) (sym whole) c.in-Ok.ensures in
+    let commit = subst (λ (b : Bool). IsCommit g.D.Disk.tells b (g.C.Core.recorded after) payload c.unwrap-store.result old new (Ok c.in-Ok.store)) (sym whole) c.in-Ok.ensures.commits in
     went_not_worn g.D.Disk.tells host c.unwrap-store.result c.in-Ok.store (g.C.Core.recorded after) payload old new is commit worn
 
 pub returns-in-Err : goal.returns-in-Err
@@ -69,7 +69,7 @@ returns-in-Err g c =
     let inside = sym c.take.ensures.value ∙ c.unwrap-store.ensures in
     let is = sym (ap (λ (h : Hosted g.row.C.Denot). h.store) c.self.view_is) ∙ inside in
     let whole : writes_whole host ≡ (c.self.inside.whole || c.unwrap-store.result.entries == 32) = sym (ap (λ (h : Hosted g.row.C.Denot). writes_whole h) c.self.view_is) ∙ ap (λ (o : Option Place). c.self.inside.whole || is_full o) inside in
-    let ended = subst (λ (r : Result Place StoreFault). IsCommit g.D.Disk.tells (c.self.inside.whole || c.unwrap-store.result.entries == 32) (g.C.Core.recorded after) payload c.unwrap-store.result old new r) c.in-Err.is c.commit.ensures in
+    let ended = subst (λ (r : Result Place StoreFault). IsCommit g.D.Disk.tells (c.self.inside.whole || c.unwrap-store.result.entries == 32) (g.C.Core.recorded after) payload c.unwrap-store.result old new r) c.in-Err.is c.commit.ensures.commits in
     let it = subst (λ (b : Bool). IsCommit g.D.Disk.tells b (g.C.Core.recorded after) payload c.unwrap-store.result old new (Err f)) (sym whole) ended in
     record {
       planned = plan;
