@@ -83,7 +83,8 @@ const BOOT_AND_SAY: &[u8] = b"boot c\nsay c 1A2B -\n";
 const BOOT_AND_DUMP: &[u8] = b"boot c\nsay c 1A2B -\ndump c\n";
 
 /// The first case is a worked example. In the others a boot that finds no record of a centre, or a call of the disk
-/// that fails, ends as the disk's fault; a stop ends as a stop; a dump shows no bytes where no record of a centre stands.
+/// that fails, ends as the disk's fault; a stop ends as a stop; a dump shows no bytes where no record of a centre
+/// stands.
 const CASES: [Case; 9] = [
     Case {
         event: 4,

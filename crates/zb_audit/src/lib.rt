@@ -1,4 +1,5 @@
-//! Whether a transcript keeps what is claimed of every run: at which line which claim first breaks, or that it is sound.
+//! Whether a transcript keeps what is claimed of every run: at which line which claim first breaks, or that it is
+//! sound.
 //!
 //! It goes by the lines alone, whoever wrote them, and never by what this program would have done. A line is bad by one
 //! of six clauses: a nonce comes again, a counter is taken twice, a key is confirmed that isn't stored, a counter isn't

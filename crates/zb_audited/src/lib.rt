@@ -1,5 +1,5 @@
-//! Which clauses of the audit the lines of each run keep. The laws stand as the contracts of functions with empty bodies;
-//! docs/THEOREMS.md says them in words.
+//! Which clauses of the audit the lines of each run keep. The laws stand as the contracts of functions with empty
+//! bodies; docs/THEOREMS.md says them in words.
 #![tactic(auto)]
 
 ghost use Rattle.zb_audited.specs.Keeping.{KeepsFirst, KeepsSecond};

@@ -1,5 +1,5 @@
-//! That no line of a run breaks the fourth clause of the audit. The law stands as the contract of a function with an empty
-//! body; docs/THEOREMS.md says it in words.
+//! That no line of a run breaks the fourth clause of the audit. The law stands as the contract of a function with an
+//! empty body; docs/THEOREMS.md says it in words.
 #![tactic(auto)]
 
 ghost use Rattle.std.specs.Prelude.{◌≡◌, true};

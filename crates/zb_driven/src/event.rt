@@ -13,7 +13,8 @@ use zb_host::{Core, Host, Plan};
 /// Handles an event of a node that is up, over its disk, with what is armed on that.
 ///
 /// It writes the changes and what goes out into `plan`. Where what was armed falls, or the disk fails otherwise, the
-/// host is down, the power of the disk is back, and nothing is armed; `plan` then has the changes that were to be stored.
+/// host is down, the power of the disk is back, and nothing is armed; `plan` then has the changes that were to be
+/// stored.
 ///
 /// Errors: how it fell.
 pub fn run<C: Core>(

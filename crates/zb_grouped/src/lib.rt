@@ -1,5 +1,5 @@
-//! The groups of a run's printed lines are the lines of its events. The law stands as the contract of a function with an
-//! empty body; docs/THEOREMS.md says it in words.
+//! The groups of a run's printed lines are the lines of its events. The law stands as the contract of a function with
+//! an empty body; docs/THEOREMS.md says it in words.
 #![tactic(auto)]
 
 ghost use Rattle.zb_grouped.specs.Grouping.{IsGrouped};

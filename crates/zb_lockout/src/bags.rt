@@ -68,7 +68,8 @@ impl<O: Ord + Drop, E: Drop> Bags<O, E> {
     /// Keeps the first items of an owner, so many.
     pub fn keep(&mut self, owner: &O, count: usize) -> Result<(), AllocError>
         ensures kept { OnOk result ((test : E → Bool) (o : O) → is_eq (O.cmp owner.now o) ≡ true
-            → list_any test (items_at O.cmp self.new o) ≡ list_any test (take count (items_at O.cmp self.old owner.now))) }
+            → list_any test (items_at O.cmp self.new o)
+            ≡ list_any test (take count (items_at O.cmp self.old owner.now))) }
         ensures others { OnOk result ((test : E → Bool) (o : O) → is_eq (O.cmp owner.now o) ≡ false
             → list_any test (items_at O.cmp self.new o) ≡ list_any test (items_at O.cmp self.old o)) }
     {

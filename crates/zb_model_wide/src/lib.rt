@@ -1,5 +1,6 @@
 //! The lines of each run with real frames are proper: all numbers in them are in the ranges of their fields. So their
-//! text is the text of no other lines. Each law stands as the contract of a function; docs/THEOREMS.md says it in words.
+//! text is the text of no other lines. Each law stands as the contract of a function; docs/THEOREMS.md says it in
+//! words.
 #![tactic(auto)]
 
 ghost use Rattle.std.specs.Prelude.{◌≡◌, Ok};

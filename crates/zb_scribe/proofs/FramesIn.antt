@@ -88,3 +88,5 @@ pub push_frames : (bytes more new ends after : List ℕ) (end : ℕ) → AreEnds
     → end ≡ length bytes + length more → after ≡ ends ++ end ∷ [] → frames_in new 0 after ≡ frames_in bytes 0 ends ++ more ∷ []
 push_frames bytes more new ends after end is one two three =
     ap (λ zs. frames_in zs 0 after) one ∙ ap (frames_in (bytes ++ more) 0) (three ∙ ap (λ n. ends ++ n ∷ []) two) ∙ frames_more bytes more 0 ends is
+
+pub ruleset frame_at_a_place = (is_at, frame_is, no_frame)

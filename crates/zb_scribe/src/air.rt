@@ -82,7 +82,7 @@ impl Air {
 }
 
 // Answers the frame at a place, where there is one, of frames that stand one behind the other.
-#[tactic(auto, using(crate::proofs::FramesIn::is_at, crate::proofs::FramesIn::frame_is, crate::proofs::FramesIn::no_frame))]
+#[tactic(auto, using(crate::proofs::FramesIn::frame_at_a_place))]
 fn frame_at(bytes: &[u8], ends: &[usize], place: usize) -> Option<Frame>
     requires { AreEnds (length bytes.now) 0 ends.now }
     ensures { items_of result ≡ slice_get (frames_in bytes.now 0 ends.now) place }

@@ -45,8 +45,8 @@ fn start_node(
 
 /// Makes the nodes of a schedule, in their order, each booted from its first record on a disk of its own.
 ///
-/// The disks are added to those given, which are none. They are made of used ones, as long as there are any. Requires the
-/// nodes of a schedule.
+/// The disks are added to those given, which are none. They are made of used ones, as long as there are any. Requires
+/// the nodes of a schedule.
 ///
 /// Errors: `NoMemory`.
 pub fn start_nodes(
