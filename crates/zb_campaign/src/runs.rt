@@ -8,11 +8,11 @@ ghost use Rattle.zb_sched.specs.Valid.{IsSchedule};
 
 use crate::fault::CampaignFault;
 use std::alloc::Global;
-use zb_base::{NoMemory, NullSink};
+use zb_base::NoMemory;
 use zb_disk::MemDisk;
 use zb_gen::make;
 use zb_jobs::Share;
-use zb_player::{PlayFault, Still, Summary, play_over};
+use zb_player::{Summary, play_unread};
 use zb_sched::Schedule;
 
 /// Plays the runs of a share one after the other, and answers what they come to.
@@ -49,7 +49,7 @@ fn play_run(
     Ok(end)
 }
 
-/// Plays a schedule, and writes nothing.
+/// Plays a schedule whose transcript nobody reads, and puts its disks to the used ones.
 fn play_unwritten(
     alloc: Global,
     schedule: &Schedule,
@@ -59,13 +59,7 @@ fn play_unwritten(
     ensures { IfOk result (Sums (schedule_of schedule.now)) }
 {
     let mut disks = Vec::new(alloc);
-    let mut out = NullSink::new();
-    match play_over(alloc, schedule, used, &mut disks, &mut Still, &mut out) {
-        Ok(end) => {
-            used.append(&mut disks)?;
-            Ok(end)
-        }
-        Err(PlayFault::Write) => Err(NoMemory),
-        Err(PlayFault::NoMemory) => Err(NoMemory),
-    }
+    let end = play_unread(alloc, schedule, used, &mut disks)?;
+    used.append(&mut disks)?;
+    Ok(end)
 }

@@ -3,6 +3,7 @@
 use Rattle.std.proofs.Common.{◌≡◌, ℕ, ◌+◌, List, [], ◌∷◌, ◌++◌, map, length, None, refl, ap, sym, subst, ◌∙◌, append_assoc}
 use Rattle.std.proofs.lemmas.List.Sums.{fold-append}
 use Rattle.std.proofs.lemmas.Option.{slice_get-map}
+use Rattle.std.specs.Io.KnownBytes.{append_known}
 use Rattle.std.specs.List.{slice_get}
 use Rattle.std.specs.Option.{option_map}
 use Rattle.zb_base.specs.declared.key.Key.{Key}
@@ -16,6 +17,7 @@ use Rattle.zb_model_steps.specs.Steps.{outside_step}
 use Rattle.zb_said.specs.Said.{text_of}
 use Rattle.zb_said.proofs.Texts.{text_append}
 use Rattle.zb_scribe.specs.Kept.{Tells}
+use Rattle.zb_scribe.proofs.Telling.{append_twice}
 use Rattle.zb_events.specs.Outside.{IsSent}
 use Rattle.zb_events.specs.Told.{Adds, IsTold}
 use Rattle.zb_events.specs.declared.ledger.Ledger.{Ledger}
@@ -25,7 +27,7 @@ pub drawn : (draws : List Key) (used : ℕ) → option_map (λ (k : Key). k.0) (
 drawn draws used = sym (slice_get-map (λ (k : Key). k.0) draws used)
 
 -- what the scribe told
-pub told_adds : (w : Schedule) (h lines : List Line) (old new : Ledger) → Tells (stations w) lines old.scribe old.page.items new.scribe new.page.items → IsTold w h old → Adds w h lines old new
+pub told_adds : (w : Schedule) (h lines : List Line) (old new : Ledger) → Tells (stations w) lines old.scribe old.page new.scribe new.page → IsTold w h old → Adds w h lines old new
 told_adds w h lines old new tells before = record {
   page = tells.page;
   told = record { known = tells.nodes h before.known; kept = tells.kept h before.known before.kept };
@@ -34,8 +36,8 @@ told_adds w h lines old new tells before = record {
 -- lines behind lines
 pub adds_then : (w : Schedule) (h some more : List Line) (old between new : Ledger) → Adds w h some old between → Adds w (h ++ some) more between new → Adds w h (some ++ more) old new
 adds_then w h some more old between new first second = record {
-  page = second.page ∙ ap (λ zs. zs ++ text_of (stations w) more) first.page ∙ append_assoc old.page.items (text_of (stations w) some) (text_of (stations w) more)
-      ∙ ap (λ zs. old.page.items ++ zs) (sym (text_append (stations w) some more));
+  page = second.page ∙ ap (λ p. append_known p (text_of (stations w) more)) first.page ∙ append_twice old.page (text_of (stations w) some) (text_of (stations w) more)
+      ∙ ap (append_known old.page) (sym (text_append (stations w) some more));
   told = subst (λ (lines : List Line). IsTold w lines new) (append_assoc h some more) second.told;
 }
 

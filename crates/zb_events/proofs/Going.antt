@@ -115,33 +115,33 @@ answers w h ds number n task up =
     is-answered w h ds number n (answer real (setting_of w n) (state_of h n) task) (task_step real counting_of w h ds number n task) (sym (own_is w h ds number n task) ∙ own-up real w h ds number n task up)
 
 -- the changes that a scribe was told of a node of this name
-abbrev pub TellsChanges : Schedule → ℕ → ArrayString → Changes → Ledger → Scribe → List ℕ → Type 0
+abbrev pub TellsChanges : Schedule → ℕ → ArrayString → Changes → Ledger → Scribe → Option (List ℕ) → Type 0
 TellsChanges w number name changes old scribe page =
     (n : ℕ) → IsCalled (stations w) n name.bytes → AreOfCentre (stations w) n changes.items
-    → Tells (stations w) (lines_of_edits number n (edits changes.items)) old.scribe old.page.items scribe page
+    → Tells (stations w) (lines_of_edits number n (edits changes.items)) old.scribe old.page scribe page
 
-abbrev pub TellsOut : Schedule → ℕ → ArrayString → Outcome Term Refusal → Scribe → List ℕ → Ledger → Type 0
+abbrev pub TellsOut : Schedule → ℕ → ArrayString → Outcome Term Refusal → Scribe → Option (List ℕ) → Ledger → Type 0
 TellsOut w number name out scribe page new =
     (n : ℕ) → IsCalled (stations w) n name.bytes → is_name name.bytes ≡ true
-    → Tells (stations w) (out_lines number n (length scribe.air + 1) out) scribe page new.scribe new.page.items
+    → Tells (stations w) (out_lines number n (length scribe.air + 1) out) scribe page new.scribe new.page
 
 -- and the line of its fall, whatever the lines before it
 abbrev pub TellsFall : Schedule → ℕ → ArrayString → Fall → Ledger → Ledger → Type 0
 TellsFall w number name fall between new = (h : List Line) (n : ℕ) → IsTold w h between → IsCalled (stations w) n name.bytes → Adds w h (fall_line fall number n ∷ []) between new
 
-whole_adds : (w : Schedule) (h : List Line) (number n : ℕ) (a : Answer) (changes : Changes) (out : Outcome Term Refusal) (old new : Ledger) (scribe : Scribe) (page : List ℕ) → IsTold w h old
-    → edits changes.items ≡ a.edits → ((frame : ℕ) → out_lines number n frame out ≡ told_lines number n frame a) → Tells (stations w) (lines_of_edits number n (edits changes.items)) old.scribe old.page.items scribe page
-    → Tells (stations w) (out_lines number n (length scribe.air + 1) out) scribe page new.scribe new.page.items → Adds w h (whole_lines h number n a) old new
+whole_adds : (w : Schedule) (h : List Line) (number n : ℕ) (a : Answer) (changes : Changes) (out : Outcome Term Refusal) (old new : Ledger) (scribe : Scribe) (page : Option (List ℕ)) → IsTold w h old
+    → edits changes.items ≡ a.edits → ((frame : ℕ) → out_lines number n frame out ≡ told_lines number n frame a) → Tells (stations w) (lines_of_edits number n (edits changes.items)) old.scribe old.page scribe page
+    → Tells (stations w) (out_lines number n (length scribe.air + 1) out) scribe page new.scribe new.page → Adds w h (whole_lines h number n a) old new
 whole_adds w h number n a changes out old new scribe page told stored told_is first last =
-    let one : Tells (stations w) (lines_of_edits number n a.edits) old.scribe old.page.items scribe page = subst (λ (es : List Edit). Tells (stations w) (lines_of_edits number n es) old.scribe old.page.items scribe page) stored first in
+    let one : Tells (stations w) (lines_of_edits number n a.edits) old.scribe old.page scribe page = subst (λ (es : List Edit). Tells (stations w) (lines_of_edits number n es) old.scribe old.page scribe page) stored first in
     let frames : scribe.air ≡ air h = (one.kept h told.known told.kept).air ∙ air_stays h number n a.edits in
     let number_is : length scribe.air + 1 ≡ length (air h) + 1 = ap (λ (fs : List Bytes). length fs + 1) frames in
     let lines_are : out_lines number n (length scribe.air + 1) out ≡ told_lines number n (length (air h) + 1) a = told_is (length scribe.air + 1) ∙ ap (λ (k : ℕ). told_lines number n k a) number_is in
     told_adds w h (whole_lines h number n a) old new
-    (told_in_turn (stations w) (lines_of_edits number n a.edits) (told_lines number n (length (air h) + 1) a) old.scribe scribe new.scribe old.page.items page new.page.items one
-    (subst (λ (ls : List Line). Tells (stations w) ls scribe page new.scribe new.page.items) lines_are last)) told
+    (told_in_turn (stations w) (lines_of_edits number n a.edits) (told_lines number n (length (air h) + 1) a) old.scribe scribe new.scribe old.page page new.page one
+    (subst (λ (ls : List Line). Tells (stations w) ls scribe page new.scribe new.page) lines_are last)) told
 
-pub whole_goes : (w : Schedule) (h : List Line) (ds : List Disk) (number n : ℕ) (task : model.Task) (name : ArrayString) (result : Option Handled) (p : CorePlan) (old new : Ledger) (scribe : Scribe) (page : List ℕ)
+pub whole_goes : (w : Schedule) (h : List Line) (ds : List Disk) (number n : ℕ) (task : model.Task) (name : ArrayString) (result : Option Handled) (p : CorePlan) (old new : Ledger) (scribe : Scribe) (page : Option (List ℕ))
     (node after : NodeValue) (m m' : Medium) → Before w h ds number n old node m → suits (setting_of w n).me.role task ≡ true → true ≡ is_some node.machine → name ≡ node.peer.name → result ≡ Some Whole
     → HasHandled task node m result p after m' → TellsChanges w number name p.changes old scribe page → TellsOut w number name p.out scribe page new → Goes w (task_step real counting_of w h ds number n task) h number n old new after m'
 whole_goes w h ds number n task name result p old new scribe page node after m m' before is on named made handled stored answered =
@@ -160,7 +160,7 @@ whole_goes w h ds number n task name result p old new scribe page node after m m
 
 pub cut_goes : (w : Schedule) (h : List Line) (ds : List Disk) (number n : ℕ) (task : model.Task) (name : ArrayString) (result : Option Handled) (p : CorePlan) (fall : Fall) (old between new : Ledger)
     (node after : NodeValue) (m m' : Medium) → Before w h ds number n old node m → suits (setting_of w n).me.role task ≡ true → true ≡ is_some node.machine → name ≡ node.peer.name → result ≡ Some (Cut fall)
-    → HasHandled task node m result p after m' → TellsChanges w number name p.changes old between.scribe between.page.items → TellsFall w number name fall between new
+    → HasHandled task node m result p after m' → TellsChanges w number name p.changes old between.scribe between.page → TellsFall w number name fall between new
     → Goes w (task_step real counting_of w h ds number n task) h number n old new after m'
 cut_goes w h ds number n task name result p fall old between new node after m m' before is on named made handled stored fallen =
     let x = condition_of w h ds n in
@@ -173,7 +173,7 @@ cut_goes w h ds number n task name result p fall old between new node after m m'
     let own : AreOfCentre (stations w) n p.changes.items = are_of_centre (stations w) n p.changes.items (is_centre (setting_of w n).me.role) before.seat.centre
     (λ other. none_kept b a.edits (edits p.changes.items) was.stored_are (none-of-others real (setting_of w n) (state_of h n) task other)) in
     let one : Adds w h some old between =
-    told_adds w h some old between (subst (λ (ls : List Line). Tells (stations w) ls old.scribe old.page.items between.scribe between.page.items) (kept_lines number n b a.edits (edits p.changes.items) was.stored_are) (stored n called own)) before.told in
+    told_adds w h some old between (subst (λ (ls : List Line). Tells (stations w) ls old.scribe old.page between.scribe between.page) (kept_lines number n b a.edits (edits p.changes.items) was.stored_are) (stored n called own)) before.told in
     let last : Adds w (h ++ some) (fallen_line x.disk.armed number n) between new =
     subst (λ (ls : List Line). Adds w (h ++ some) ls between new) (sym (fallen_is number n x.disk.armed (calls_by x.commits a.edits) fall was.fell was.fall_is)) (fallen (h ++ some) n one.told called) in
     goes_by w (task_step real counting_of w h ds number n task) h (cut_lines x number n a) number n old new after m' (after_cut a x)
@@ -248,13 +248,13 @@ pub stop_goes : (w : Schedule) (h : List Line) (ds : List Disk) (number n calls 
     → ((x : Condition) (i : ℕ) (m' : Medium) → IsIn x i node m' → IsIn (after_arming (StopAfter calls torn) x) (i + 1) after m') → Goes w (step real w h ds number (ArmStop n calls torn)) h number n k k after m
 stop_goes w h ds number n calls torn k node after m before leaves =
     goes_by w (step real w h ds number (ArmStop n calls torn)) h [] number n k k after m (after_arming (StopAfter calls torn) (condition_of w h ds n)) (stop-armed real w h ds number n calls torn)
-    (told_adds w h [] k k (none_told (stations w) k.scribe k.page.items) before.told) (leaves (condition_of w h ds n) number m before.is_in)
+    (told_adds w h [] k k (none_told (stations w) k.scribe k.page) before.told) (leaves (condition_of w h ds n) number m before.is_in)
 
 pub failure_goes : (w : Schedule) (h : List Line) (ds : List Disk) (number n call : ℕ) (k : Ledger) (node after : NodeValue) (m : Medium) → Before w h ds number n k node m
     → ((x : Condition) (i : ℕ) (m' : Medium) → IsIn x i node m' → IsIn (after_arming (FailAt call) x) (i + 1) after m') → Goes w (step real w h ds number (ArmFail n call)) h number n k k after m
 failure_goes w h ds number n call k node after m before leaves =
     goes_by w (step real w h ds number (ArmFail n call)) h [] number n k k after m (after_arming (FailAt call) (condition_of w h ds n)) (failure-armed real w h ds number n call)
-    (told_adds w h [] k k (none_told (stations w) k.scribe k.page.items) before.told) (leaves (condition_of w h ds n) number m before.is_in)
+    (told_adds w h [] k k (none_told (stations w) k.scribe k.page) before.told) (leaves (condition_of w h ds n) number m before.is_in)
 
 -- ---- which event it is
 

@@ -1,5 +1,6 @@
 -- What is told of a run so far, and what an event of a node adds.
 use Rattle.std.specs.Prelude.{◌≡◌, ℕ, zero, suc, ◌+◌, ◌≤◌, ◌<◌, List, ◌++◌, true}
+use Rattle.std.specs.Io.KnownBytes.{append_known}
 use Rattle.zb_base.specs.Outside.{risen}
 use Rattle.zb_disk.specs.Memory.{Medium}
 use Rattle.zb_driven.specs.declared.fall.Fall.{Fall}
@@ -34,9 +35,9 @@ pub record IsTold (w : Schedule) (h : List Line) (k : Ledger) : Type 0 where
   pub known : stations_of h ≡ stations w
   pub kept : Kept h k.scribe
 
--- Further lines were told.
+-- Further lines were told: their text is behind what stood on the page, where that is read.
 pub record Adds (w : Schedule) (h lines : List Line) (old new : Ledger) : Type 0 where
-  pub page : new.page.items ≡ old.page.items ++ text_of (stations w) lines
+  pub page : new.page ≡ append_known old.page (text_of (stations w) lines)
   pub told : IsTold w (h ++ lines) new
 
 -- a refusal of the event itself, for this reason

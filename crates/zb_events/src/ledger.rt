@@ -22,7 +22,7 @@ use zb_disk::MemDisk;
 use zb_node::{Node, NodePlan, Task};
 use zb_node_types::Refusal;
 use zb_said::refuse_line;
-use zb_scribe::Scribe;
+use zb_scribe::{Page, Scribe};
 use zb_trace::Line;
 
 /// Keeps what was told, and the lines that aren't handed out yet.
@@ -32,8 +32,8 @@ pub struct Ledger {
     pub alloc: Global,
     /// Tells lines, and keeps what the rest of the run needs of them.
     pub scribe: Scribe,
-    /// The text of the lines that aren't handed out yet.
-    pub page: Vec<u8>,
+    /// The text of the lines that aren't handed out yet, where it is read.
+    pub page: Page,
     /// The place of the plan of an event. What stood in it before is gone.
     pub plan: NodePlan,
 }

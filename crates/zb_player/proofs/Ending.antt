@@ -42,20 +42,15 @@ started schedule declared run disks nodes kept all seats draws =
       draws = ap (map (λ (k : Key). k.0)) draws;
     }
 
-pub first_page : (p : sched.Schedule) (blank page : Bytes) → blank ≡ [] → page ≡ blank ++ text_in p (start (schedule_of p)) → page ≡ text_in p (start (schedule_of p))
-first_page p blank page empty written = written ∙ ap (λ l. l ++ text_in p (start (schedule_of p))) empty
-
 -- the events that are played are the schedule's
 pub are_played : (schedule : CodeSchedule) (events : List CodeEvent) → IsSchedule (sched.schedule_of schedule) → events ≡ schedule.events
     → IsPlayed (sched.schedule_of schedule) (map event_of events)
 are_played schedule events is same = record { schedule = is; events_are = ap (map event_of) same }
 
--- the page of the last line
-pub last_page : (known : List Station) (line : Printed) (m last : Line) (blank page : Bytes) → IsLineOf known line m → m ≡ last → blank ≡ []
-    → page ≡ blank ++ text line → page ≡ text_of known (last ∷ [])
+-- the text of the last line
+pub last_text : (known : List Station) (line : Printed) (m last : Line) → IsLineOf known line m → m ≡ last → text line ≡ text_of known (last ∷ [])
 unfolding text_of
-last_page known line m last blank page is same empty written =
-    written ∙ ap (λ l. l ++ text line) empty ∙ is.text_is ∙ ap (line_text known) same ∙ sym (append-nil (line_text known last))
+last_text known line m last is same = is.text_is ∙ ap (line_text known) same ∙ sym (append-nil (line_text known last))
 
 -- the disks of a vector, once a slice of it was written
 pub disks_kept : (n : ℕ) (now items : List Medium) → length now ≡ n → take n (now ++ drop (length now) items) ≡ now

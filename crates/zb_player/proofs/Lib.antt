@@ -2,6 +2,7 @@ pub mod Stand
 pub mod Seating
 pub mod RunLines
 pub mod Named
+pub mod Paging
 pub mod RunSteps
 pub mod EventAt
 pub mod Goings

@@ -1,9 +1,7 @@
 -- The loop over the events, as the program has it.
 use Rattle.std.proofs.Common.{◌≡◌, ℕ, ◌+◌, ◌<◌, List, [], ◌++◌, length, map, take, get_or, Option, refl, sym, ap, ◌∙◌, subst, arith}
-use Rattle.std.specs.Io.KnownBytes.{Appends}
 use Rattle.std.proofs.Math.ListN.{get_or-map}
 use Rattle.std.proofs.lemmas.List.{length-map}
-use Rattle.zb_base.specs.Outside.{AppendsFront}
 use Rattle.zb_disk.specs.Memory.{Medium}
 use Rattle.zb_model.specs.Lines.{Line}
 use Rattle.zb_model.specs.Play.{Disk}
@@ -11,31 +9,14 @@ use Rattle.zb_model_schedules.specs.Schedules.{event_for, schedule_of, stations_
 use Rattle.zb_player.specs.Playing.{FitsRun, RunGoes, RunStands, step_of}
 use Rattle.zb_player.specs.Runs.{Answered, Answers, IsPlayed, PrintsAll, acts_of, disks_after, lines_of}
 use Rattle.zb_player.specs.declared.run.Run.{Run}
+use Rattle.zb_player.proofs.Paging.{IsSameRun}
 use Rattle.zb_player.proofs.RunSteps.{cut, fits_at, none_yet, one_more, stopped}
 use Rattle.zb_sched.specs.Schedules as sched
 use Rattle.zb_sched.specs.Valid.{IsSchedule}
 use Rattle.zb_sched_line.specs.Said as said
 use Rattle.zb_sched_line.specs.Views.{event_of}
 use Rattle.zb_sched_line.specs.declared.event.Event.{Event as CodeEvent}
-
--- The runs are the same but for what is on the page.
-pub record IsSameRun (one other : Run) : Type 0 where
-  pub nodes : other.nodes ≡ one.nodes
-  pub seats : other.seats ≡ one.seats
-  pub draws : other.draws.now ≡ one.draws.now
-  pub scribe : other.ledger.scribe ≡ one.ledger.scribe
-
-pub paged : (p : sched.Schedule) (h : List Line) (ds : List Disk) (number : ℕ) (one other : Run) (disks : List Medium) → IsSameRun one other
-    → RunStands p h ds number one disks → RunStands p h ds number other disks
-paged p h ds number one other disks same stands = record {
-  told = record {
-    known = stands.told.known;
-    kept = subst (λ k. Rattle.zb_scribe.specs.Kept.Kept h k) (sym same.scribe) stands.told.kept;
-  };
-  nodes = subst (λ v. Rattle.zb_events.specs.Nodes.AllStand (schedule_of p) h ds number (Rattle.zb_model.specs.Play.stations (schedule_of p)) v.items disks) (sym same.nodes) stands.nodes;
-  seats = subst (λ v. Rattle.zb_events.specs.Seats.AreSeats v (Rattle.zb_model.specs.Play.stations (schedule_of p))) (sym same.seats) stands.seats;
-  draws = ap (map (λ (k : Rattle.zb_base.specs.declared.key.Key.Key). k.0)) same.draws ∙ stands.draws;
-}
+use Rattle.zb_scribe.specs.Pages.{cleared, IsClear, IsFor, Takes, TakesFront}
 
 -- what the program's answer of an event promises
 abbrev pub EventGoes : ℕ → said.Event → Run → List Medium → Run → List Medium → Type 0
@@ -64,36 +45,31 @@ next p h ds events i e now new dnow dnew before middle bound is played so_far go
     (goes p (h ++ lines_of p h ds (take i all)) (disks_after (schedule_of p) h ds 1 (acts_of p (take i all))) played.schedule fits so_far.stands)
 
 pub more_answers : (events : List CodeEvent) (i : ℕ) (e : CodeEvent) (old now new other : Run) (disks dnow dnew : List Medium) (before middle after : Option (List ℕ))
-    → i < length events → e ≡ get_or events i e → now.ledger.page.items ≡ []
+    → i < length events → e ≡ get_or events i e → IsClear now.ledger.page
     → Answers old disks (map event_of events) i now dnow before middle
     → EventGoes (i + 1) (event_of e) now dnow new dnew
-    → Appends middle after new.ledger.page.items → IsSameRun new other
+    → Takes new.ledger.page middle after → IsSameRun new other → other.ledger.page ≡ cleared new.ledger.page
     → Answers old disks (map event_of events) (i + 1) other dnew before after
-more_answers events i e old now new other disks dnow dnew before middle after bound is blank so_far goes out same = λ p h ds played stands.
-    let all = map event_of events in
+more_answers events i e old now new other disks dnow dnew before middle after bound is clear so_far goes took same empty = λ p h ds played stands.
     let a = so_far p h ds played stands in
-    let m = one_more p h ds all i (event_of e) now new dnow dnew before middle after new.ledger.page.items (omega (arith, bound, length-map events event_of)) a
-    (next p h ds events i e now new dnow dnew before middle bound is played a goes) blank refl out in
-    record {
-      stands = paged p (h ++ lines_of p h ds (take (i + 1) all)) (disks_after (schedule_of p) h ds 1 (acts_of p (take (i + 1) all))) (i + 1 + 1) new other dnew same m.stands;
-      taken = m.taken;
-    }
+    one_more p h ds (map event_of events) i (event_of e) now new dnow dnew before middle after (omega (arith, bound, length-map events event_of)) a
+    (next p h ds events i e now new dnow dnew before middle bound is played a goes) clear took other same empty
 
 pub cut_answers : (events : List CodeEvent) (i : ℕ) (e : CodeEvent) (old now new : Run) (disks dnow dnew : List Medium) (before middle after : Option (List ℕ))
-    → i < length events → e ≡ get_or events i e → now.ledger.page.items ≡ []
+    → i < length events → e ≡ get_or events i e → IsClear now.ledger.page
     → Answers old disks (map event_of events) i now dnow before middle
     → EventGoes (i + 1) (event_of e) now dnow new dnew
-    → AppendsFront middle after new.ledger.page.items
+    → TakesFront new.ledger.page middle after
     → PrintsAll old disks (map event_of events) before after
-cut_answers events i e old now new disks dnow dnew before middle after bound is blank so_far goes out = λ p h ds played stands.
+cut_answers events i e old now new disks dnow dnew before middle after bound is clear so_far goes took = λ p h ds played stands.
     let a = so_far p h ds played stands in
-    cut p h ds (map event_of events) i (event_of e) now new dnow dnew before middle after new.ledger.page.items (omega (arith, bound, length-map events event_of)) a
-    (next p h ds events i e now new dnow dnew before middle bound is played a goes) blank refl out
+    cut p h ds (map event_of events) i (event_of e) now new dnow dnew before middle after (omega (arith, bound, length-map events event_of)) a
+    (next p h ds events i e now new dnow dnew before middle bound is played a goes) clear took
 
 pub stopped_answers : (events : List CodeEvent) (i : ℕ) (old now : Run) (disks dnow : List Medium) (before after : Option (List ℕ))
     → Answers old disks (map event_of events) i now dnow before after → PrintsAll old disks (map event_of events) before after
 stopped_answers events i old now disks dnow before after so_far = λ p h ds played stands.
     stopped p h ds (map event_of events) i now dnow before after (so_far p h ds played stands)
 
-pub no_answers : (events : List CodeEvent) (run : Run) (disks : List Medium) (before : Option (List ℕ)) → Answers run disks (map event_of events) 0 run disks before before
-no_answers events run disks before = λ p h ds played stands. none_yet p h ds (map event_of events) run disks before stands
+pub no_answers : (events : List CodeEvent) (run : Run) (disks : List Medium) (before : Option (List ℕ)) → IsFor run.ledger.page before → Answers run disks (map event_of events) 0 run disks before before
+no_answers events run disks before fit = λ p h ds played stands. none_yet p h ds (map event_of events) run disks before stands fit

@@ -15,9 +15,11 @@ use Rattle.zb_model_schedules.proofs.Meets.{is_schedule}
 use Rattle.zb_player.specs.Playing.{FitsRun, RunGoes, RunStands, step_of}
 use Rattle.zb_player.specs.Runs.{Answered, acts_of, disks_after, lines_of, text_in}
 use Rattle.zb_player.specs.declared.run.Run.{Run}
+use Rattle.zb_player.proofs.Paging.{handed, handed_front, IsSameRun, paged, still_for}
 use Rattle.zb_player.proofs.RunLines.{disks_take, groups_rest, groups_take, next_step}
 use Rattle.zb_player.proofs.Seating.{all_get}
 use Rattle.zb_said.specs.Said.{text_of}
+use Rattle.zb_scribe.specs.Pages.{cleared, IsClear, IsFor, Takes, TakesFront}
 use Rattle.zb_said.proofs.Texts.{text_append}
 use Rattle.zb_sched.specs.Schedules as sched
 use Rattle.zb_sched.specs.Valid.{FitsSchedule, IsSchedule}
@@ -70,11 +72,12 @@ fits_at p i d is bound =
 
 -- no event yet
 pub none_yet : (p : sched.Schedule) (h : List Line) (ds : List Disk) (events : List said.Event) (run : Run) (disks : List Medium) (before : Option Bytes)
-    → RunStands p h ds 1 run disks → Answered p h ds events 0 run disks before before
+    → RunStands p h ds 1 run disks → IsFor run.ledger.page before → Answered p h ds events 0 run disks before before
 unfolding groups disks_after text_of
-none_yet p h ds events run disks before stands = record {
+none_yet p h ds events run disks before stands fit = record {
   stands = subst (λ (l : List Line). RunStands p l ds 1 run disks) (sym (append-nil h)) stands;
   taken = Appends-nil before;
+  page = fit;
 }
 
 abbrev pub next_of : sched.Schedule → List Line → List Disk → List said.Event → ℕ → said.Event → Step
@@ -103,28 +106,29 @@ disks_more p h ds events i d bound =
 
 -- one event more
 pub one_more : (p : sched.Schedule) (h : List Line) (ds : List Disk) (events : List said.Event) (i : ℕ) (d : said.Event) (now new : Run) (dnow dnew : List Medium)
-    (before middle after : Option Bytes) (page : Bytes) → i < length events
+    (before middle after : Option Bytes) → i < length events
     → Answered p h ds events i now dnow before middle
     → RunGoes p (step_of p (h ++ lines_of p h ds (take i events)) (disks_after (schedule_of p) h ds 1 (acts_of p (take i events))) (i + 1)
     (event_for (stations_for p) (get_or events i d))) (h ++ lines_of p h ds (take i events)) (i + 1) now new dnew
-    → now.ledger.page.items ≡ [] → new.ledger.page.items ≡ page → Appends middle after page
-    → Answered p h ds events (i + 1) new dnew before after
-one_more p h ds events i d now new dnow dnew before middle after page bound so_far goes blank shown out =
+    → IsClear now.ledger.page → Takes new.ledger.page middle after → (other : Run) → IsSameRun new other → other.ledger.page ≡ cleared new.ledger.page
+    → Answered p h ds events (i + 1) other dnew before after
+one_more p h ds events i d now new dnow dnew before middle after bound so_far goes clear took other same empty =
     let w = schedule_of p in
     let done = lines_of p h ds (take i events) in
     let g = next_of p h ds events i d in
     let goes' : RunGoes p g (h ++ done) (i + 1) now new dnew =
     subst (λ (s : Step). RunGoes p s (h ++ done) (i + 1) now new dnew) (sym (next_is p h ds events i d)) goes in
-    let text : page ≡ text_in p g.lines = sym shown ∙ goes'.page ∙ ap (λ l. l ++ text_in p g.lines) blank in
+    let out : Appends middle after (text_in p g.lines) = handed now.ledger.page new.ledger.page (text_in p g.lines) middle after goes'.page clear so_far.page took in
     record {
-      stands =
-          subst (λ (l : List Line). RunStands p l (disks_after w h ds 1 (acts_of p (take (i + 1) events))) (i + 1 + 1) new dnew)
+      stands = paged p (h ++ lines_of p h ds (take (i + 1) events)) (disks_after w h ds 1 (acts_of p (take (i + 1) events))) (i + 1 + 1) new other dnew same
+          (subst (λ (l : List Line). RunStands p l (disks_after w h ds 1 (acts_of p (take (i + 1) events))) (i + 1 + 1) new dnew)
           (append_assoc h done g.lines ∙ ap (λ l. h ++ l) (sym (lines_more p h ds events i d bound)))
-          (subst (λ (es : List Disk). RunStands p ((h ++ done) ++ g.lines) es (i + 1 + 1) new dnew) (sym (disks_more p h ds events i d bound)) goes'.stands);
+          (subst (λ (es : List Disk). RunStands p ((h ++ done) ++ g.lines) es (i + 1 + 1) new dnew) (sym (disks_more p h ds events i d bound)) goes'.stands));
       taken =
           subst (Appends before after)
-          (ap (λ l. text_in p done ++ l) text ∙ sym (text_append (stations w) done g.lines) ∙ ap (text_in p) (sym (lines_more p h ds events i d bound)))
-          (Appends-trans before middle after (text_in p done) page so_far.taken out);
+          (sym (text_append (stations w) done g.lines) ∙ ap (text_in p) (sym (lines_more p h ds events i d bound)))
+          (Appends-trans before middle after (text_in p done) (text_in p g.lines) so_far.taken out);
+      page = still_for now.ledger.page new.ledger.page other.ledger.page (text_in p g.lines) middle after goes'.page empty so_far.page took;
     }
 
 -- Where it ends early, a front of the text is written.
@@ -144,23 +148,24 @@ stopped p h ds events i now dnow before after so_far =
 
 -- a front of the lines of the next event is
 pub cut : (p : sched.Schedule) (h : List Line) (ds : List Disk) (events : List said.Event) (i : ℕ) (d : said.Event) (now new : Run) (dnow dnew : List Medium)
-    (before middle after : Option Bytes) (page : Bytes) → i < length events
+    (before middle after : Option Bytes) → i < length events
     → Answered p h ds events i now dnow before middle
     → RunGoes p (step_of p (h ++ lines_of p h ds (take i events)) (disks_after (schedule_of p) h ds 1 (acts_of p (take i events))) (i + 1)
     (event_for (stations_for p) (get_or events i d))) (h ++ lines_of p h ds (take i events)) (i + 1) now new dnew
-    → now.ledger.page.items ≡ [] → new.ledger.page.items ≡ page → AppendsFront middle after page
+    → IsClear now.ledger.page → TakesFront new.ledger.page middle after
     → AppendsFront before after (text_in p (lines_of p h ds events))
-cut p h ds events i d now new dnow dnew before middle after page bound so_far goes blank shown out =
+cut p h ds events i d now new dnow dnew before middle after bound so_far goes clear took =
     let w = schedule_of p in
     let done = lines_of p h ds (take i events) in
     let g = next_of p h ds events i d in
     let goes' : RunGoes p g (h ++ done) (i + 1) now new dnew =
     subst (λ (s : Step). RunGoes p s (h ++ done) (i + 1) now new dnew) (sym (next_is p h ds events i d)) goes in
-    let text : page ≡ text_in p g.lines = sym shown ∙ goes'.page ∙ ap (λ l. l ++ text_in p g.lines) blank in
+    let page = text_in p g.lines in
+    let out : AppendsFront middle after page = handed_front now.ledger.page new.ledger.page page middle after goes'.page clear took in
     let r = rest_of p h ds events (i + 1) in
     let whole : text_in p (lines_of p h ds events) ≡ text_in p done ++ (page ++ text_in p r.0) =
     ap (text_in p) (r.1 ∙ ap (λ l. l ++ r.0) (lines_more p h ds events i d bound))
     ∙ text_append (stations w) (done ++ g.lines) r.0
-    ∙ ap (λ l. l ++ text_in p r.0) (text_append (stations w) done g.lines ∙ ap (λ l. text_in p done ++ l) (sym text))
+    ∙ ap (λ l. l ++ text_in p r.0) (text_append (stations w) done g.lines)
     ∙ append_assoc (text_in p done) page (text_in p r.0) in
     subst (AppendsFront before after) (sym whole) (front_of before middle after (text_in p done) page (text_in p r.0) so_far.taken out)

@@ -22,6 +22,7 @@ use Rattle.zb_said.specs.Said.{text_of}
 use Rattle.zb_said.proofs.Texts.{text_append}
 use Rattle.zb_sched.specs.Schedules as sched
 use Rattle.zb_sched_line.specs.Said as said
+use Rattle.zb_scribe.specs.Pages.{IsFor}
 
 abbrev pub begin : sched.Schedule → List Line
 begin p = start (schedule_of p)
@@ -55,41 +56,39 @@ pub nothing_written : (p : sched.Schedule) (before : Option Bytes) → IsFront p
 nothing_written p before = subst (AppendsFront before before) refl (0, Appends-nil before)
 
 -- the start isn't taken whole
-pub front_start : (p : sched.Schedule) (before after : Option Bytes) (page : Bytes) → page ≡ text_in p (begin p) → AppendsFront before after page → IsFront p before after
-front_start p before after page shown out =
-    subst (AppendsFront before after)
-    (ap (λ t. t ++ (text_in p (middle p) ++ text_in p (last p ∷ []))) shown ∙ sym (whole_text p))
-    (front_of before before after [] page (text_in p (middle p) ++ text_in p (last p ∷ [])) (Appends-nil before) out)
+pub front_start : (p : sched.Schedule) (before after : Option Bytes) → AppendsFront before after (text_in p (begin p)) → IsFront p before after
+front_start p before after out =
+    subst (AppendsFront before after) (sym (whole_text p))
+    (front_of before before after [] (text_in p (begin p)) (text_in p (middle p) ++ text_in p (last p ∷ [])) (Appends-nil before) out)
 
 -- not all events are answered
-pub front_middle : (p : sched.Schedule) (run : Run) (disks : List Medium) (events : List said.Event) (before mid after : Option Bytes) (page : Bytes)
-    → IsPlayed p events → RunStands p (begin p) [] 1 run disks → page ≡ text_in p (begin p) → Appends before mid page → PrintsAll run disks events mid after
+pub front_middle : (p : sched.Schedule) (run : Run) (disks : List Medium) (events : List said.Event) (before mid after : Option Bytes)
+    → IsPlayed p events → RunStands p (begin p) [] 1 run disks → Appends before mid (text_in p (begin p)) → PrintsAll run disks events mid after
     → IsFront p before after
-front_middle p run disks events before mid after page played stands shown out prints =
+front_middle p run disks events before mid after played stands out prints =
     let text : AppendsFront mid after (text_in p (middle p)) =
     subst (λ es. AppendsFront mid after (text_in p (lines_of p (begin p) [] es))) played.events_are (prints p (begin p) [] played stands) in
-    subst (AppendsFront before after)
-    (ap (λ t. t ++ (text_in p (middle p) ++ text_in p (last p ∷ []))) shown ∙ sym (whole_text p))
-    (front_of before mid after page (text_in p (middle p)) (text_in p (last p ∷ [])) out text)
+    subst (AppendsFront before after) (sym (whole_text p))
+    (front_of before mid after (text_in p (begin p)) (text_in p (middle p)) (text_in p (last p ∷ [])) out text)
 
 -- all events are answered
 pub record Ended (p : sched.Schedule) (run : Run) (disks : List Medium) (before after : Option Bytes) : Type 0 where
   pub taken : Appends before after (text_in p (begin p) ++ text_in p (middle p))
+  pub page : IsFor run.ledger.page after
   pub ds : List Disk
   pub stands : RunStands p (begin p ++ middle p) ds (length p.events + 1) run disks
 
-pub all_answered : (p : sched.Schedule) (old new : Run) (disks disks' : List Medium) (events : List said.Event) (n : ℕ) (before mid after : Option Bytes) (page : Bytes)
-    → IsPlayed p events → n ≡ length events → RunStands p (begin p) [] 1 old disks → page ≡ text_in p (begin p) → Appends before mid page
+pub all_answered : (p : sched.Schedule) (old new : Run) (disks disks' : List Medium) (events : List said.Event) (n : ℕ) (before mid after : Option Bytes)
+    → IsPlayed p events → n ≡ length events → RunStands p (begin p) [] 1 old disks → Appends before mid (text_in p (begin p))
     → Answers old disks events n new disks' mid after → Ended p new disks' before after
-all_answered p old new disks disks' events n before mid after page played many stands shown out answers =
+all_answered p old new disks disks' events n before mid after played many stands out answers =
     let a = answers p (begin p) [] played stands in
     let whole : take n events ≡ p.events = ap (λ k. take k events) many ∙ take-length events ∙ played.events_are in
     let count : n ≡ length p.events = many ∙ ap (λ (es : List said.Event). length es) played.events_are in
     record {
-      taken = subst (Appends before after)
-          (ap (λ t. t ++ text_in p (lines_of p (begin p) [] (take n events))) shown
-          ∙ ap (λ es. text_in p (begin p) ++ text_in p (lines_of p (begin p) [] es)) whole)
-          (Appends-trans before mid after page (text_in p (lines_of p (begin p) [] (take n events))) out a.taken);
+      taken = subst (Appends before after) (ap (λ es. text_in p (begin p) ++ text_in p (lines_of p (begin p) [] es)) whole)
+          (Appends-trans before mid after (text_in p (begin p)) (text_in p (lines_of p (begin p) [] (take n events))) out a.taken);
+      page = a.page;
       ds = disks_after (schedule_of p) (begin p) [] 1 (acts_of p (take n events));
       stands =
           subst (λ k. RunStands p (begin p ++ middle p) (disks_after (schedule_of p) (begin p) [] 1 (acts_of p (take n events))) (k + 1) new disks') count
@@ -104,22 +103,21 @@ front_last p run disks before after e =
     (front_at before after (text_in p (begin p) ++ text_in p (middle p)) (text_in p (last p ∷ [])) e.taken)
 
 -- it isn't taken whole
-pub front_end : (p : sched.Schedule) (run : Run) (disks : List Medium) (before mid after : Option Bytes) (page : Bytes) → Ended p run disks before mid
-    → page ≡ text_in p (last p ∷ []) → AppendsFront mid after page → IsFront p before after
-front_end p run disks before mid after page e shown out =
+pub front_end : (p : sched.Schedule) (run : Run) (disks : List Medium) (before mid after : Option Bytes) → Ended p run disks before mid
+    → AppendsFront mid after (text_in p (last p ∷ [])) → IsFront p before after
+front_end p run disks before mid after e out =
     subst (AppendsFront before after)
-    (ap (λ t. (text_in p (begin p) ++ text_in p (middle p)) ++ t) (append-nil page ∙ shown)
+    (ap (λ t. (text_in p (begin p) ++ text_in p (middle p)) ++ t) (append-nil (text_in p (last p ∷ [])))
     ∙ append_assoc (text_in p (begin p)) (text_in p (middle p)) (text_in p (last p ∷ [])) ∙ sym (whole_text p))
-    (front_of before mid after (text_in p (begin p) ++ text_in p (middle p)) page [] e.taken out)
+    (front_of before mid after (text_in p (begin p) ++ text_in p (middle p)) (text_in p (last p ∷ [])) [] e.taken out)
 
 -- all is written
-pub whole_run : (p : sched.Schedule) (run : Run) (disks : List Medium) (before mid after : Option Bytes) (page : Bytes) → Ended p run disks before mid
-    → page ≡ text_in p (last p ∷ []) → Appends mid after page → IsWhole p before after
-whole_run p run disks before mid after page e shown out =
+pub whole_run : (p : sched.Schedule) (run : Run) (disks : List Medium) (before mid after : Option Bytes) → Ended p run disks before mid
+    → Appends mid after (text_in p (last p ∷ [])) → IsWhole p before after
+whole_run p run disks before mid after e out =
     subst (Appends before after)
-    (ap (λ t. (text_in p (begin p) ++ text_in p (middle p)) ++ t) shown
-    ∙ append_assoc (text_in p (begin p)) (text_in p (middle p)) (text_in p (last p ∷ [])) ∙ sym (whole_text p))
-    (Appends-trans before mid after (text_in p (begin p) ++ text_in p (middle p)) page e.taken out)
+    (append_assoc (text_in p (begin p)) (text_in p (middle p)) (text_in p (last p ∷ [])) ∙ sym (whole_text p))
+    (Appends-trans before mid after (text_in p (begin p) ++ text_in p (middle p)) (text_in p (last p ∷ [])) e.taken out)
 
 -- the disks, and the words of the last line
 pub played_disks : (p : sched.Schedule) (run : Run) (disks : List Medium) (before after : Option Bytes) → Ended p run disks before after

@@ -1,5 +1,6 @@
 -- What a run is of the lines so far, and what an event makes of it.
 use Rattle.std.specs.Prelude.{◌≡◌, ℕ, ◌+◌, ◌<◌, List, [], ◌∷◌, ◌++◌, map, length, get_or, Some, ⊤}
+use Rattle.std.specs.Io.KnownBytes.{append_known}
 use Rattle.zb_base.specs.declared.key.Key.{Key}
 use Rattle.zb_disk.specs.Memory.{Medium}
 use Rattle.zb_events.specs.Acts.{IsFor, act_for}
@@ -29,7 +30,7 @@ pub record RunStands (p : sched.Schedule) (h : List Line) (ds : List Disk) (numb
 
 -- The run went on by a step.
 pub record RunGoes (p : sched.Schedule) (g : Step) (h : List Line) (number : ℕ) (old new : Run) (disks : List Medium) : Type 0 where
-  pub page : new.ledger.page.items ≡ old.ledger.page.items ++ text_of (stations (schedule_of p)) g.lines
+  pub page : new.ledger.page ≡ append_known old.ledger.page (text_of (stations (schedule_of p)) g.lines)
   pub stands : RunStands p (h ++ g.lines) g.disks (number + 1) new disks
 
 -- Each disk made so many device calls as is said for the EUI of its node.

@@ -15,6 +15,7 @@ use Rattle.zb_player.specs.Playing.{AreCalled, RunStands}
 use Rattle.zb_player.specs.declared.run.Run.{Run}
 use Rattle.zb_player.specs.declared.summary.Summary.{Summary}
 use Rattle.zb_said.specs.Said.{text_of}
+use Rattle.zb_scribe.specs.Pages.{IsFor}
 use Rattle.zb_sched.specs.Schedules as sched
 use Rattle.zb_sched.specs.Valid.{IsSchedule}
 use Rattle.zb_sched_line.specs.Said as said
@@ -41,10 +42,11 @@ pub record IsPlayed (p : sched.Schedule) (events : List said.Event) : Type 0 whe
   pub schedule : IsSchedule p
   pub events_are : events ≡ p.events
 
--- So many of these events were answered: their lines were written, and the run stands after them.
+-- So many of these events were answered: their lines were written where anyone reads them, and the run stands after them.
 pub record Answered (p : sched.Schedule) (h : List Line) (ds : List Disk) (events : List said.Event) (n : ℕ) (run : Run) (disks : List Medium) (before after : Option Bytes) : Type 0 where
   pub stands : RunStands p (h ++ lines_of p h ds (take n events)) (disks_after (schedule_of p) h ds 1 (acts_of p (take n events))) (n + 1) run disks
   pub taken : Appends before after (text_in p (lines_of p h ds (take n events)))
+  pub page : IsFor run.ledger.page after
 
 abbrev pub Answers : Run → List Medium → List said.Event → ℕ → Run → List Medium → Option Bytes → Option Bytes → Type 0
 Answers old disks events n new disks' before after =

@@ -10,5 +10,5 @@ mod summary;
 
 pub use bench::{Bench, Still};
 pub use fault::PlayFault;
-pub use player::{play, play_over};
+pub use player::{play, play_unread};
 pub use summary::Summary;

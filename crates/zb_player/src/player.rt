@@ -6,17 +6,17 @@ ghost use Rattle.zb_player.specs.Runs.{Answers, AreMade, IsFront, IsWhole, Playe
 ghost use Rattle.zb_sched.specs.Schedules as sched;
 ghost use Rattle.zb_sched.specs.Valid.{IsSchedule};
 ghost use Rattle.zb_sched_line.specs.Views.{event_of};
+ghost use Rattle.zb_scribe.specs.Pages.{IsClear, IsFor};
 
-use crate::bench::Bench;
+use crate::bench::{Bench, Still};
 use crate::fault::PlayFault;
 use crate::run::Run;
 use crate::summary::Summary;
 use std::alloc::Global;
-use zb_base::Sink;
+use zb_base::{NoMemory, NullSink, Sink};
 use zb_disk::MemDisk;
 use zb_sched::{Event, Schedule};
-use zb_text::page::hand_out;
-use zb_trace::put_line;
+use zb_scribe::Page;
 
 /// Plays a schedule and writes its transcript.
 ///
@@ -49,18 +49,44 @@ pub fn play<B: Bench, W: Sink>(
     ensures unrisen { result ≢ Err PlayFault.Write → Unrisen (W.faults out.old) (W.faults out.new) }
 {
     let mut used = Vec::new(alloc);
-    play_over(alloc, schedule, &mut used, disks, bench, out)
+    let page = Page::new(alloc);
+    play_onto(alloc, schedule, page, &mut used, disks, bench, out)
 }
 
-/// Plays a schedule as `play` does, on used disks.
+/// Plays a schedule whose transcript nobody reads, on used disks, and answers the words of its last line.
 ///
-/// Those that earlier runs left in `used` are taken from there and made new, as long as there are any. It is the same
-/// run, and takes less time, since no memory is asked for.
+/// Those that earlier runs left in `used` are taken from there and made new, as long as there are any. It is the run
+/// that `play` plays, and takes less time, since no line is printed and less memory is asked for.
 ///
-/// Errors: those of `play`.
-pub fn play_over<B: Bench, W: Sink>(
+/// Requires a schedule that a text gives, and no disks. The disks of the nodes are added to `disks`, in the order of
+/// the nodes. After a fault nothing is said of them.
+///
+/// Errors: `NoMemory`.
+pub fn play_unread(
     alloc: Global,
     schedule: &Schedule,
+    used: &mut Vec<MemDisk>,
+    disks: &mut Vec<MemDisk>,
+) -> Result<Summary, NoMemory>
+    requires schedule { IsSchedule (sched.schedule_of schedule.now) }
+    requires none { disks.old.items ≡ [] }
+    ensures summary { IfOk result (Sums (sched.schedule_of schedule.now)) }
+    ensures disks { OnOk result (Played (sched.schedule_of schedule.now) disks.new.items) }
+{
+    let page = Page::unread();
+    let mut out = NullSink::new();
+    match play_onto(alloc, schedule, page, used, disks, &mut Still, &mut out) {
+        Ok(summary) => Ok(summary),
+        Err(PlayFault::Write) => Err(NoMemory),
+        Err(PlayFault::NoMemory) => Err(NoMemory),
+    }
+}
+
+// Plays a schedule on used disks, and prints its lines onto a clear page, which is read where the sink is.
+fn play_onto<B: Bench, W: Sink>(
+    alloc: Global,
+    schedule: &Schedule,
+    page: Page,
     used: &mut Vec<MemDisk>,
     disks: &mut Vec<MemDisk>,
     bench: &mut B,
@@ -68,6 +94,8 @@ pub fn play_over<B: Bench, W: Sink>(
 ) -> Result<Summary, PlayFault>
     requires schedule { IsSchedule (sched.schedule_of schedule.now) }
     requires none { disks.old.items ≡ [] }
+    requires clear { IsClear page }
+    requires fit { IsFor page (W.taken out.old) }
     ensures whole { B.still bench.old ≡ true → OnOk result (IsWhole (sched.schedule_of schedule.now)
         (W.taken out.old) (W.taken out.new)) }
     ensures front { B.still bench.old ≡ true → OnErr result (IsFront (sched.schedule_of schedule.now)
@@ -79,16 +107,16 @@ pub fn play_over<B: Bench, W: Sink>(
     ensures unrisen { result ≢ Err PlayFault.Write → Unrisen (W.faults out.old) (W.faults out.new) }
 {
     let events = schedule.events.as_slice();
-    let mut run = Run::start(alloc, schedule, used, disks)?;
-    hand_out(&mut run.ledger.page, out)?;
+    let mut run = Run::start(alloc, schedule, page, used, disks)?;
+    run.ledger.page.hand_out(out)?;
     answer_all(&mut run, disks, bench, events, out)?;
     let summary = Summary::of(&run.ledger.scribe, events.len() as u32);
-    put_line(&mut run.ledger.page, &summary.line())?;
-    hand_out(&mut run.ledger.page, out)?;
+    run.ledger.page.print(&summary.line())?;
+    run.ledger.page.hand_out(out)?;
     Ok(summary)
 }
 
-// Answers all events, and writes the lines of each as soon as they are known.
+// Answers all events, and hands the lines of each out as soon as they are known.
 fn answer_all<'a, B: Bench, W: Sink>(
     run: &mut Run<'a>,
     disks: &mut [MemDisk],
@@ -96,10 +124,11 @@ fn answer_all<'a, B: Bench, W: Sink>(
     events: &[Event],
     out: &mut W,
 ) -> Result<(), PlayFault>
-    requires empty { run.old.ledger.page.items ≡ [] }
+    requires clear { IsClear run.old.ledger.page }
+    requires fit { IsFor run.old.ledger.page (W.taken out.old) }
     requires few { length events.now ≤ 100000 }
     requires room { lines_told run.old.ledger ≤ 400 }
-    ensures empty { OnOk result (run.new.ledger.page.items ≡ []) }
+    ensures clear { OnOk result (IsClear run.new.ledger.page) }
     ensures whole { OnOk result (B.still bench.old ≡ true → Answers run.old disks.old
         (map event_of events.now) (length events.now) run.new disks.new (W.taken out.old) (W.taken out.new)) }
     ensures calls { OnOk result (B.still bench.old ≡ true → AreMade disks.old run.old (map event_of events.now)
@@ -112,7 +141,7 @@ fn answer_all<'a, B: Bench, W: Sink>(
 {
     for (index, event) in events.iter().enumerate() {
         run.answer(disks, bench, index as u32 + 1, event)?;
-        hand_out(&mut run.ledger.page, out)?;
+        run.ledger.page.hand_out(out)?;
     }
     Ok(())
 }

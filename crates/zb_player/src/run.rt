@@ -1,6 +1,7 @@
 //! A run while it goes on.
 ghost use Rattle.std.specs.Prelude.{◌≡◌, ◌≤◌, ◌+◌, ◌<◌, [], ℕ, List, Some, true, IfOk, OnOk, map};
 ghost use Rattle.std.specs.List.{AllByRecursion};
+ghost use Rattle.std.specs.Io.KnownBytes.{append_known};
 ghost use Rattle.zb_base.specs.declared.key.Key.{Key as key};
 ghost use Rattle.zb_disk.specs.Memory.{Medium as medium};
 ghost use Rattle.zb_model.specs.Data.{Station as station};
@@ -22,7 +23,7 @@ use zb_base::{Key, NoMemory};
 use zb_disk::MemDisk;
 use zb_events::{Act, Ledger, Node, NodePlan, Seat, Seats};
 use zb_sched::{Event, Schedule};
-use zb_scribe::Scribe;
+use zb_scribe::{Page, Scribe};
 use zb_start::{start_nodes, tell_start};
 
 /// Holds the nodes of a run, the supply of keys, and what is told.
@@ -35,13 +36,14 @@ pub(crate) struct Run<'a> {
 }
 
 impl<'a> Run<'a> {
-    /// Starts the run of a schedule. The start lines are on its page, and the disks of its nodes are added to `disks`.
-    /// They are made of used ones, as long as there are any.
+    /// Starts the run of a schedule. The start lines are put on the page, and the disks of its nodes are added to
+    /// `disks`. They are made of used ones, as long as there are any.
     ///
     /// Errors: `NoMemory`.
     pub fn start(
         alloc: Global,
         schedule: &'a Schedule,
+        page: Page,
         used: &mut Vec<MemDisk>,
         disks: &mut Vec<MemDisk>,
     ) -> Result<Run<'a>, NoMemory>
@@ -49,8 +51,8 @@ impl<'a> Run<'a> {
         requires none { disks.old.items ≡ [] }
         ensures stands { IfOk result (λ run. RunStands (sched.schedule_of schedule.now)
             (model.start (schedule_of (sched.schedule_of schedule.now))) [] 1 run disks.new.items) }
-        ensures page { IfOk result (λ run. run.ledger.page.items ≡ text_in (sched.schedule_of schedule.now)
-            (model.start (schedule_of (sched.schedule_of schedule.now)))) }
+        ensures page { IfOk result (λ run. run.ledger.page ≡ append_known page (text_in
+            (sched.schedule_of schedule.now) (model.start (schedule_of (sched.schedule_of schedule.now))))) }
         ensures few { IfOk result (λ run. lines_told run.ledger ≤ 400) }
         ensures calls { OnOk result (AllByRecursion (λ (m : medium). m.calls ≡ 6) disks.new.items) }
     {
@@ -58,7 +60,7 @@ impl<'a> Run<'a> {
         let nodes = start_nodes(alloc, declared, used, disks)?;
         let seats = Seats::new(alloc, declared)?;
         let mut scribe = Scribe::new(alloc)?;
-        let mut page = Vec::new(alloc);
+        let mut page = page;
         tell_start(alloc, &mut scribe, &mut page, declared)?;
         Ok(Run {
             nodes,

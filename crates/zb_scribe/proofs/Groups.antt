@@ -34,12 +34,12 @@ change_more event n changes i d within =
     ∙ ap (map (Changed event n)) (map-append edit (take i changes) (get_or changes i d ∷ []))
     ∙ map-append (Changed event n) (map edit (take i changes)) (edit (get_or changes i d) ∷ [])
 
-commit_told : (known : List Station) (event n : ℕ) (changes : List Change) (old new : Scribe) (before after : List ℕ) → false ≡ (length changes == 0)
+commit_told : (known : List Station) (event n : ℕ) (changes : List Change) (old new : Scribe) (before after : Option (List ℕ)) → false ≡ (length changes == 0)
     → Tells known (Commit event n ∷ []) old before new after → Tells known (commit_lines event n (edits changes)) old before new after
 commit_told known event n [] old new before after some tells = absurd (false≢true some)
 commit_told known event n (c ∷ changes) old new before after some tells = tells
 
-pub stored_told : (known : List Station) (event n : ℕ) (slice changes : List Change) (old between new : Scribe) (before page after : List ℕ) → slice ≡ changes
+pub stored_told : (known : List Station) (event n : ℕ) (slice changes : List Change) (old between new : Scribe) (before page after : Option (List ℕ)) → slice ≡ changes
     → false ≡ (length changes == 0) → (AreOfCentre known n slice → Tells known (change_lines event n (edits slice)) old before between page)
     → Tells known (Commit event n ∷ []) between page new after → AreOfCentre known n changes
     → Tells known (lines_of_edits event n (edits changes)) old before new after
@@ -58,7 +58,7 @@ terms_apart f (Some a) None = refl
 terms_apart f None (Some b) = refl
 terms_apart f (Some a) (Some b) = refl
 
-pub answer_told : (known : List Station) (event n frame : ℕ) (out : Outcome Term Refusal) (s0 s1 s2 s3 s4 s5 s6 : Scribe) (p0 p1 p2 p3 p4 p5 p6 : List ℕ)
+pub answer_told : (known : List Station) (event n frame : ℕ) (out : Outcome Term Refusal) (s0 s1 s2 s3 s4 s5 s6 : Scribe) (p0 p1 p2 p3 p4 p5 p6 : Option (List ℕ))
     → Tells known (map (Accept event n) (listed out.accepted_nwk)) s0 p0 s1 p1
     → Tells known (map (Accept event n) (listed out.accepted_aps)) s1 p1 s2 p2
     → Tells known (refused_lines event n out.refused) s2 p2 s3 p3

@@ -1,5 +1,6 @@
 -- What the scribe of a run keeps of the lines so far, and what it is that it told lines.
-use Rattle.std.specs.Prelude.{◌≡◌, ℕ, ◌+◌, List, ◌++◌, fold, length, Bool, true, false}
+use Rattle.std.specs.Prelude.{◌≡◌, ℕ, ◌+◌, List, ◌++◌, fold, length, Bool, true, false, Option}
+use Rattle.std.specs.Io.KnownBytes.{append_known}
 use Rattle.zb_model.specs.Data.{Station}
 use Rattle.zb_model.specs.Lines as log
 use Rattle.zb_model.specs.Readings.{air, air_line, draw_line, draws_used, stations_of}
@@ -36,9 +37,9 @@ abbrev pub declares_node : log.Line → Bool
 declares_node (log.Declared p) = true
 declares_node _ = false
 
--- Lines of the model were told, none of which declares a node: their text is behind what stood on the page, and the
--- scribe keeps what they say behind the lines before them.
-pub record Tells (known : List Station) (lines : List log.Line) (old : Scribe) (before : List ℕ) (new : Scribe) (after : List ℕ) : Type 0 where
-  pub page : after ≡ before ++ text_of known lines
+-- Lines of the model were told, none of which declares a node: where the page is read their text is behind what stood
+-- on it, and the scribe keeps what they say behind the lines before them.
+pub record Tells (known : List Station) (lines : List log.Line) (old : Scribe) (before : Option (List ℕ)) (new : Scribe) (after : Option (List ℕ)) : Type 0 where
+  pub page : after ≡ append_known before (text_of known lines)
   pub kept : (h : List log.Line) → stations_of h ≡ known → Kept h old → Kept (h ++ lines) new
   pub nodes : (h : List log.Line) → stations_of h ≡ known → stations_of (h ++ lines) ≡ known

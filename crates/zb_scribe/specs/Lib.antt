@@ -1,3 +1,4 @@
 pub mod Frames
 pub mod Kept
 pub mod Outcomes
+pub mod Pages

@@ -10,6 +10,7 @@ ghost use Rattle.zb_scribe.specs.Kept.{Tells, told};
 ghost use Rattle.zb_scribe.specs.Outcomes.{AreOfCentre, items_of, lines_of_edits, out_lines, refused_lines};
 ghost use Rattle.zb_text.specs.Fields.{is_name};
 
+use crate::page::Page;
 use crate::scribe::Scribe;
 use std::alloc::Global;
 use zb_base::{Frame, Name, NoMemory};
@@ -27,7 +28,7 @@ impl Scribe {
     pub fn stored(
         &mut self,
         alloc: Global,
-        page: &mut Vec<u8>,
+        page: &mut Page,
         event: u32,
         node: Name,
         changes: &Changes,
@@ -36,7 +37,7 @@ impl Scribe {
         ensures tells { OnOk result ((known : List Station) (n : ℕ) → IsCalled known n node.bytes
             → AreOfCentre known n changes.now.items
             → Tells known (lines_of_edits event n (edits changes.now.items))
-            self.old page.old.items self.new page.new.items) }
+            self.old page.old self.new page.new) }
         ensures told { OnOk result (told self.new ≤ told self.old + 17) }
     {
         self.changed(alloc, page, event, node, changes.as_slice())?;
@@ -49,7 +50,7 @@ impl Scribe {
     fn changed(
         &mut self,
         alloc: Global,
-        page: &mut Vec<u8>,
+        page: &mut Page,
         event: u32,
         node: Name,
         changes: &[Change],
@@ -57,7 +58,7 @@ impl Scribe {
         requires { told self.old + length changes.now ≤ 4294967295 }
         ensures tells { OnOk result ((known : List Station) (n : ℕ) → IsCalled known n node.bytes
             → AreOfCentre known n changes.now
-            → Tells known (change_lines event n (edits changes.now)) self.old page.old.items self.new page.new.items) }
+            → Tells known (change_lines event n (edits changes.now)) self.old page.old self.new page.new) }
         ensures told { OnOk result (told self.new ≤ told self.old + length changes.now) }
     {
         for change in changes {
@@ -73,7 +74,7 @@ impl Scribe {
     pub fn answered(
         &mut self,
         alloc: Global,
-        page: &mut Vec<u8>,
+        page: &mut Page,
         event: u32,
         node: Name,
         out: &Outcome<Term, Refusal>,
@@ -82,7 +83,7 @@ impl Scribe {
         ensures tells { OnOk result ((known : List Station) (n : ℕ) → IsCalled known n node.bytes
             → is_name node.bytes ≡ true
             → Tells known (out_lines event n (length self.old.air + 1) out.now)
-            self.old page.old.items self.new page.new.items) }
+            self.old page.old self.new page.new) }
         ensures told { OnOk result (told self.new ≤ told self.old + 6) }
     {
         let number = self.next_frame();
@@ -98,7 +99,7 @@ impl Scribe {
     fn accepted(
         &mut self,
         alloc: Global,
-        page: &mut Vec<u8>,
+        page: &mut Page,
         event: u32,
         node: Name,
         term: &Option<Term>,
@@ -106,7 +107,7 @@ impl Scribe {
         requires { told self.old < 4294967295 }
         ensures tells { OnOk result ((known : List Station) (n : ℕ) → IsCalled known n node.bytes
             → Tells known (map (accept event n) (option_to_list (option_map model_term term.now)))
-            self.old page.old.items self.new page.new.items) }
+            self.old page.old self.new page.new) }
         ensures told { OnOk result (told self.new ≤ told self.old + 1) }
     {
         match term {
@@ -120,7 +121,7 @@ impl Scribe {
     fn accept(
         &mut self,
         alloc: Global,
-        page: &mut Vec<u8>,
+        page: &mut Page,
         event: u32,
         node: Name,
         term: &Term,
@@ -128,7 +129,7 @@ impl Scribe {
         requires { told self.old < 4294967295 }
         ensures tells { OnOk result ((known : List Station) (n : ℕ) → IsCalled known n node.bytes
             → Tells known (accept event n (model_term term.now) ∷ [])
-            self.old page.old.items self.new page.new.items) }
+            self.old page.old self.new page.new) }
         ensures told { OnOk result (told self.new ≤ told self.old + 1) }
     {
         self.tell(alloc, page, &accept_line(event, node, copied(term)))
@@ -137,14 +138,14 @@ impl Scribe {
     fn refused(
         &mut self,
         alloc: Global,
-        page: &mut Vec<u8>,
+        page: &mut Page,
         event: u32,
         node: Name,
         refusal: Option<Refusal>,
     ) -> Result<(), NoMemory>
         requires { told self.old < 4294967295 }
         ensures tells { OnOk result ((known : List Station) (n : ℕ) → IsCalled known n node.bytes
-            → Tells known (refused_lines event n refusal) self.old page.old.items self.new page.new.items) }
+            → Tells known (refused_lines event n refusal) self.old page.old self.new page.new) }
         ensures told { OnOk result (told self.new ≤ told self.old + 1) }
     {
         match refusal {
@@ -158,7 +159,7 @@ impl Scribe {
     fn refuse(
         &mut self,
         alloc: Global,
-        page: &mut Vec<u8>,
+        page: &mut Page,
         event: u32,
         node: Name,
         refusal: Refusal,
@@ -166,7 +167,7 @@ impl Scribe {
         requires { told self.old < 4294967295 }
         ensures tells { OnOk result ((known : List Station) (n : ℕ) → IsCalled known n node.bytes
             → Tells known (refused_lines event n (Some refusal))
-            self.old page.old.items self.new page.new.items) }
+            self.old page.old self.new page.new) }
         ensures told { OnOk result (told self.new ≤ told self.old + 1) }
     {
         self.tell(alloc, page, &refuse_line(event, node, refusal))
@@ -175,7 +176,7 @@ impl Scribe {
     fn sealed(
         &mut self,
         alloc: Global,
-        page: &mut Vec<u8>,
+        page: &mut Page,
         event: u32,
         node: Name,
         term: &Option<Term>,
@@ -183,7 +184,7 @@ impl Scribe {
         requires { told self.old < 4294967295 }
         ensures tells { OnOk result ((known : List Station) (n : ℕ) → IsCalled known n node.bytes
             → Tells known (map (seal event n) (option_to_list (option_map model_term term.now)))
-            self.old page.old.items self.new page.new.items) }
+            self.old page.old self.new page.new) }
         ensures told { OnOk result (told self.new ≤ told self.old + 1) }
     {
         match term {
@@ -197,7 +198,7 @@ impl Scribe {
     fn seal(
         &mut self,
         alloc: Global,
-        page: &mut Vec<u8>,
+        page: &mut Page,
         event: u32,
         node: Name,
         term: &Term,
@@ -205,7 +206,7 @@ impl Scribe {
         requires { told self.old < 4294967295 }
         ensures tells { OnOk result ((known : List Station) (n : ℕ) → IsCalled known n node.bytes
             → Tells known (seal event n (model_term term.now) ∷ [])
-            self.old page.old.items self.new page.new.items) }
+            self.old page.old self.new page.new) }
         ensures told { OnOk result (told self.new ≤ told self.old + 1) }
     {
         self.tell(alloc, page, &seal_line(event, node, copied(term)))
@@ -214,7 +215,7 @@ impl Scribe {
     fn sent(
         &mut self,
         alloc: Global,
-        page: &mut Vec<u8>,
+        page: &mut Page,
         event: u32,
         node: Name,
         number: u32,
@@ -224,7 +225,7 @@ impl Scribe {
         ensures tells { OnOk result ((known : List Station) (n : ℕ) → IsCalled known n node.bytes
             → is_name node.bytes ≡ true
             → Tells known (send_lines event (Some n) number (items_of frame.now))
-            self.old page.old.items self.new page.new.items) }
+            self.old page.old self.new page.new) }
         ensures told { OnOk result (told self.new ≤ told self.old + 1) }
     {
         match frame {
@@ -238,7 +239,7 @@ impl Scribe {
     fn send(
         &mut self,
         alloc: Global,
-        page: &mut Vec<u8>,
+        page: &mut Page,
         event: u32,
         node: Name,
         number: u32,
@@ -248,7 +249,7 @@ impl Scribe {
         ensures tells { OnOk result ((known : List Station) (n : ℕ) → IsCalled known n node.bytes
             → is_name node.bytes ≡ true
             → Tells known (send_lines event (Some n) number (Some frame.now.items))
-            self.old page.old.items self.new page.new.items) }
+            self.old page.old self.new page.new) }
         ensures told { OnOk result (told self.new ≤ told self.old + 1) }
     {
         let bytes = frame_from(frame.as_slice());

@@ -1,13 +1,15 @@
 //! The scribe of a run: it prints each line of a transcript as soon as it is known, and keeps of the lines what the
 //! rest of the run needs: the frames on the air, how many draws are used, the counts and the words of the end. It keeps
-//! no line.
+//! no line, and where nobody reads the transcript it prints none.
 #![tactic(auto)]
 
 mod air;
 mod group;
 mod laws;
+mod page;
 mod scribe;
 
 pub use air::Air;
 pub use laws::{lines_are_told_in_turn, no_lines_are_told};
+pub use page::Page;
 pub use scribe::Scribe;

@@ -1,8 +1,9 @@
 //! The scribe.
 use crate::air::Air;
+use crate::page::Page;
 use std::alloc::Global;
 use zb_base::{Frame, NoMemory};
-use zb_trace::{Line, put_line};
+use zb_trace::Line;
 use zb_trace_watch::Watch;
 
 /// Prints the lines of a run, and keeps what is known of them.
@@ -19,6 +20,7 @@ pub struct Scribe {
 
 impl Scribe {
     ghost use Rattle.std.specs.Prelude.{◌≡◌, ◌+◌, ◌-◌, ◌≤◌, ◌<◌, ◌++◌, ◌∷◌, [], ℕ, List, None, false, length, nat_eq, slice_get, if◌then◌else◌, IfOk, OnOk};
+    ghost use Rattle.std.specs.Io.KnownBytes.{append_known};
     ghost use Rattle.zb_model.specs.Data.{Station};
     ghost use Rattle.zb_model.specs.Lines as log;
     ghost use Rattle.zb_model.specs.Readings.{stations_of};
@@ -47,21 +49,21 @@ impl Scribe {
         })
     }
 
-    /// Prints a line behind what stands on the page, and keeps what it says.
+    /// Prints a line behind what stands on a page that is read, and keeps what it says.
     ///
     /// Requires that the count of lines has room for one more. Errors: `NoMemory`, after which the scribe isn't used
     /// further.
-    pub fn tell(&mut self, alloc: Global, page: &mut Vec<u8>, line: &Line) -> Result<(), NoMemory>
+    pub fn tell(&mut self, alloc: Global, page: &mut Page, line: &Line) -> Result<(), NoMemory>
         requires { told self.old < 4294967295 }
-        ensures page { OnOk result (page.new.items ≡ page.old.items ++ text line.now) }
+        ensures page { OnOk result (page.new ≡ append_known page.old (text line.now)) }
         ensures kept { OnOk result ((h : List log.Line) → Kept h self.old
             → Kept (h ++ logged (stations_of h) line.now ∷ []) self.new) }
         ensures tells { OnOk result ((known : List Station) (m : log.Line) → IsLineOf known line.now m
             → declares_node m ≡ false
-            → Tells known (m ∷ []) self.old page.old.items self.new page.new.items) }
+            → Tells known (m ∷ []) self.old page.old self.new page.new) }
         ensures told { OnOk result (told self.new ≤ told self.old + 1) }
     {
-        put_line(page, line)?;
+        page.print(line)?;
         self.watch.line(alloc, line)?;
         self.count(line)?;
         Ok(())

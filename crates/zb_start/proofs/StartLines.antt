@@ -1,5 +1,6 @@
 -- The start lines of a schedule, told kind by kind.
-use Rattle.std.proofs.Common.{◌≡◌, ℕ, List, [], ◌∷◌, ◌++◌, map, refl, sym, ap, ◌∙◌, subst, append_assoc, Bool, false, find, Some, nat_eq, bytes_eq, eq-eqb, eqb-true}
+use Rattle.std.proofs.Common.{◌≡◌, ℕ, List, [], ◌∷◌, ◌++◌, map, refl, sym, ap, ◌∙◌, subst, append_assoc, Bool, false, find, Some, nat_eq, bytes_eq, eq-eqb, eqb-true, Option}
+use Rattle.std.specs.Io.KnownBytes.{append_known}
 use Rattle.std.specs.Prelude.{flat_map, fold}
 use Rattle.std.specs.List.{AllByRecursion}
 use Rattle.std.proofs.lemmas.List.{append-nil}
@@ -25,7 +26,7 @@ use Rattle.zb_sched.proofs.Lists.{all_map2}
 use Rattle.zb_sched.proofs.Splits.{false_if}
 use Rattle.zb_scribe.specs.Kept.{Kept, Tells}
 use Rattle.zb_scribe.specs.declared.scribe.Scribe.{Scribe}
-use Rattle.zb_scribe.proofs.Telling.{told_in_turn}
+use Rattle.zb_scribe.proofs.Telling.{append_twice, told_in_turn}
 use Rattle.zb_trace.specs.Views.{eui_or_nobody, named}
 use Rattle.zb_start.specs.Starts.{AreKnown, code_lines, counter_lines, declared_lines, network_lines, station_of}
 
@@ -118,7 +119,7 @@ declared_stations : (ds : List CodeNode) → stations_of (declared_lines ds) ≡
 unfolding stations_of
 declared_stations ds = stations_from [] ds
 
-rest_told : (known : List Station) (centre : ℕ) (ds : List CodeNode) (s1 s2 s3 s4 : Scribe) (p1 p2 p3 p4 : List ℕ) → Tells known (flat_map network_lines ds) s1 p1 s2 p2
+rest_told : (known : List Station) (centre : ℕ) (ds : List CodeNode) (s1 s2 s3 s4 : Scribe) (p1 p2 p3 p4 : Option (List ℕ)) → Tells known (flat_map network_lines ds) s1 p1 s2 p2
     → Tells known (flat_map (code_lines centre) ds) s2 p2 s3 p3 → Tells known (flat_map counter_lines ds) s3 p3 s4 p4 → Tells known (rest_of centre ds) s1 p1 s4 p4
 rest_told known centre ds s1 s2 s3 s4 p1 p2 p3 p4 networks codes counters =
     told_in_turn known (flat_map network_lines ds) (flat_map (code_lines centre) ds ++ flat_map counter_lines ds) s1 s2 s4 p1 p2 p4 networks
@@ -129,20 +130,20 @@ rest_told known centre ds s1 s2 s3 s4 p1 p2 p3 p4 networks codes counters =
 abbrev centre_in : Schedule → ℕ
 centre_in p = centre_of (model.stations (schedule_of p))
 
-pub start_page : (p : Schedule) (ds : List CodeNode) → AreNodesOf p ds → (s1 s4 : Scribe) (p0 p1 p4 : List ℕ)
-    → p1 ≡ p0 ++ text_of (model.stations (schedule_of p)) (declared_lines ds) → Tells (model.stations (schedule_of p)) (rest_of (centre_in p) ds) s1 p1 s4 p4
-    → p4 ≡ p0 ++ text_of (model.stations (schedule_of p)) (start (schedule_of p))
+pub start_page : (p : Schedule) (ds : List CodeNode) → AreNodesOf p ds → (s1 s4 : Scribe) (p0 p1 p4 : Option (List ℕ))
+    → p1 ≡ append_known p0 (text_of (model.stations (schedule_of p)) (declared_lines ds)) → Tells (model.stations (schedule_of p)) (rest_of (centre_in p) ds) s1 p1 s4 p4
+    → p4 ≡ append_known p0 (text_of (model.stations (schedule_of p)) (start (schedule_of p)))
 start_page p ds is s1 s4 p0 p1 p4 first rest =
     let known = model.stations (schedule_of p) in
-    rest.page ∙ ap (λ zs. zs ++ text_of known (rest_of (centre_in p) ds)) first ∙ append_assoc p0 (text_of known (declared_lines ds)) (text_of known (rest_of (centre_in p) ds))
-    ∙ ap (λ zs. p0 ++ zs) (sym (text_append known (declared_lines ds) (rest_of (centre_in p) ds)) ∙ ap (text_of known) (sym (start_is p ds is)))
+    rest.page ∙ ap (λ shown. append_known shown (text_of known (rest_of (centre_in p) ds))) first ∙ append_twice p0 (text_of known (declared_lines ds)) (text_of known (rest_of (centre_in p) ds))
+    ∙ ap (append_known p0) (sym (text_append known (declared_lines ds) (rest_of (centre_in p) ds)) ∙ ap (text_of known) (sym (start_is p ds is)))
 
-pub start_kept : (p : Schedule) (ds : List CodeNode) → AreNodesOf p ds → (s1 s4 : Scribe) (p1 p4 : List ℕ) → Kept (declared_lines ds) s1
+pub start_kept : (p : Schedule) (ds : List CodeNode) → AreNodesOf p ds → (s1 s4 : Scribe) (p1 p4 : Option (List ℕ)) → Kept (declared_lines ds) s1
     → Tells (model.stations (schedule_of p)) (rest_of (centre_in p) ds) s1 p1 s4 p4 → Kept (start (schedule_of p)) s4
 start_kept p ds is s1 s4 p1 p4 first rest =
     subst (λ lines. Kept lines s4) (sym (start_is p ds is)) (rest.kept (declared_lines ds) (declared_stations ds ∙ sym (stations_are p ds is)) first)
 
-pub start_rest : (p : Schedule) (ds : List CodeNode) → AreNodesOf p ds → (centre : ℕ) → centre ≡ centre_in p → (s1 s2 s3 s4 : Scribe) (p1 p2 p3 p4 : List ℕ)
+pub start_rest : (p : Schedule) (ds : List CodeNode) → AreNodesOf p ds → (centre : ℕ) → centre ≡ centre_in p → (s1 s2 s3 s4 : Scribe) (p1 p2 p3 p4 : Option (List ℕ))
     → ((known : List Station) → AreKnown known ds → Tells known (flat_map network_lines ds) s1 p1 s2 p2)
     → ((known : List Station) → AreKnown known ds → Tells known (flat_map (code_lines centre) ds) s2 p2 s3 p3)
     → ((known : List Station) → AreKnown known ds → Tells known (flat_map counter_lines ds) s3 p3 s4 p4)

@@ -1,5 +1,6 @@
 //! The start lines of one node.
 ghost use Rattle.std.specs.Prelude.{◌≡◌, ◌+◌, ◌≤◌, ◌<◌, ◌++◌, ◌∷◌, [], ℕ, List, OnOk};
+ghost use Rattle.std.specs.Io.KnownBytes.{append_known};
 ghost use Rattle.zb_model.specs.Data.{Station};
 ghost use Rattle.zb_model.specs.Lines as model;
 ghost use Rattle.zb_model.specs.Play.{limit_line};
@@ -13,7 +14,7 @@ use std::alloc::Global;
 use zb_base::{Eui, Layer, Name, NoMemory};
 use zb_said::{counter_line, given_link_line, given_net_line, node_line};
 use zb_sched::Node;
-use zb_scribe::{Scribe, lines_are_told_in_turn, no_lines_are_told};
+use zb_scribe::{Page, Scribe, lines_are_told_in_turn, no_lines_are_told};
 
 /// Tells the line of a node. Requires room for one more line.
 ///
@@ -21,12 +22,12 @@ use zb_scribe::{Scribe, lines_are_told_in_turn, no_lines_are_told};
 pub(crate) fn tell_node(
     alloc: Global,
     scribe: &mut Scribe,
-    page: &mut Vec<u8>,
+    page: &mut Page,
     node: &Node,
 ) -> Result<(), NoMemory>
     requires { told scribe.old < 4294967295 }
     ensures page { OnOk result ((known : List Station)
-        → page.new.items ≡ page.old.items ++ line_text known (model.Declared (station_of node.now))) }
+        → page.new ≡ append_known page.old (line_text known (model.Declared (station_of node.now)))) }
     ensures kept { OnOk result ((h : List model.Line) → Kept h scribe.old
         → Kept (h ++ model.Declared (station_of node.now) ∷ []) scribe.new) }
     ensures told { OnOk result (told scribe.new ≤ told scribe.old + 1) }
@@ -49,12 +50,12 @@ pub(crate) fn tell_node(
 pub(crate) fn tell_network(
     alloc: Global,
     scribe: &mut Scribe,
-    page: &mut Vec<u8>,
+    page: &mut Page,
     node: &Node,
 ) -> Result<(), NoMemory>
     requires { told scribe.old < 4294967295 }
     ensures tells { OnOk result ((known : List Station) → IsKnown known node.now
-        → Tells known (network_lines node.now) scribe.old page.old.items scribe.new page.new.items) }
+        → Tells known (network_lines node.now) scribe.old page.old scribe.new page.new) }
     ensures told { OnOk result (told scribe.new ≤ told scribe.old + 1) }
 {
     match &node.network {
@@ -75,13 +76,13 @@ pub(crate) fn tell_network(
 pub(crate) fn tell_code(
     alloc: Global,
     scribe: &mut Scribe,
-    page: &mut Vec<u8>,
+    page: &mut Page,
     centre: Eui,
     node: &Node,
 ) -> Result<(), NoMemory>
     requires { told scribe.old < 4294967295 }
     ensures tells { OnOk result ((known : List Station) → IsKnown known node.now
-        → Tells known (code_lines centre.0 node.now) scribe.old page.old.items scribe.new page.new.items) }
+        → Tells known (code_lines centre.0 node.now) scribe.old page.old scribe.new page.new) }
     ensures told { OnOk result (told scribe.new ≤ told scribe.old + 1) }
 {
     match &node.code {
@@ -100,14 +101,14 @@ pub(crate) fn tell_code(
 fn tell_limit(
     alloc: Global,
     scribe: &mut Scribe,
-    page: &mut Vec<u8>,
+    page: &mut Page,
     node: Name,
     layer: Layer,
     limit: u32,
 ) -> Result<(), NoMemory>
     requires { told scribe.old < 4294967295 }
     ensures tells { OnOk result ((known : List Station) (n : ℕ) → IsCalled known n node.bytes
-        → Tells known (limit_line n (model_layer layer) limit) scribe.old page.old.items scribe.new page.new.items) }
+        → Tells known (limit_line n (model_layer layer) limit) scribe.old page.old scribe.new page.new) }
     ensures told { OnOk result (told scribe.new ≤ told scribe.old + 1) }
 {
     if limit == 0 {
@@ -123,12 +124,12 @@ fn tell_limit(
 pub(crate) fn tell_limits(
     alloc: Global,
     scribe: &mut Scribe,
-    page: &mut Vec<u8>,
+    page: &mut Page,
     node: &Node,
 ) -> Result<(), NoMemory>
     requires { told scribe.old < 4294967294 }
     ensures tells { OnOk result ((known : List Station) → IsKnown known node.now
-        → Tells known (counter_lines node.now) scribe.old page.old.items scribe.new page.new.items) }
+        → Tells known (counter_lines node.now) scribe.old page.old scribe.new page.new) }
     ensures told { OnOk result (told scribe.new ≤ told scribe.old + 2) }
 {
     let name = node.peer.name;

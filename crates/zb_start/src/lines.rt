@@ -2,6 +2,7 @@
 //! nodes.
 ghost use Rattle.std.specs.Prelude.{◌≡◌, ◌+◌, ◌*◌, ◌≤◌, ◌++◌, [], List, flat_map, length, OnOk};
 ghost use Rattle.zb_first.specs.Firsts.{AreNodesOf, AreOfSchedule};
+ghost use Rattle.std.specs.Io.KnownBytes.{append_known};
 ghost use Rattle.zb_model.specs.Data.{Station};
 ghost use Rattle.zb_model.specs.Play.{start, stations};
 ghost use Rattle.zb_model_schedules.specs.Schedules.{schedule_of};
@@ -15,7 +16,7 @@ use std::alloc::Global;
 use zb_base::{Eui, NoMemory};
 use zb_first::centre_of;
 use zb_sched::Node;
-use zb_scribe::Scribe;
+use zb_scribe::{Page, Scribe};
 
 /// Tells the start lines of a schedule. Requires its nodes, and room for 400 more lines.
 ///
@@ -23,13 +24,13 @@ use zb_scribe::Scribe;
 pub fn tell_start(
     alloc: Global,
     scribe: &mut Scribe,
-    page: &mut Vec<u8>,
+    page: &mut Page,
     declared: &[Node],
 ) -> Result<(), NoMemory>
     requires schedule { AreOfSchedule declared.now }
     requires room { told scribe.old + 400 ≤ 4294967295 }
     ensures page { OnOk result ((p : Schedule) → AreNodesOf p declared.now
-        → page.new.items ≡ page.old.items ++ text_of (stations (schedule_of p)) (start (schedule_of p))) }
+        → page.new ≡ append_known page.old (text_of (stations (schedule_of p)) (start (schedule_of p)))) }
     ensures kept { OnOk result ((p : Schedule) → AreNodesOf p declared.now → Kept [] scribe.old
         → Kept (start (schedule_of p)) scribe.new) }
     ensures told { OnOk result (told scribe.new ≤ told scribe.old + 400) }
@@ -44,12 +45,12 @@ pub fn tell_start(
 fn tell_nodes(
     alloc: Global,
     scribe: &mut Scribe,
-    page: &mut Vec<u8>,
+    page: &mut Page,
     declared: &[Node],
 ) -> Result<(), NoMemory>
     requires { told scribe.old + length declared.now ≤ 4294967295 }
     ensures page { OnOk result ((known : List Station)
-        → page.new.items ≡ page.old.items ++ text_of known (declared_lines declared.now)) }
+        → page.new ≡ append_known page.old (text_of known (declared_lines declared.now))) }
     ensures kept { OnOk result (Kept [] scribe.old → Kept (declared_lines declared.now) scribe.new) }
     ensures told { OnOk result (told scribe.new ≤ told scribe.old + length declared.now) }
 {
@@ -62,12 +63,12 @@ fn tell_nodes(
 fn tell_networks(
     alloc: Global,
     scribe: &mut Scribe,
-    page: &mut Vec<u8>,
+    page: &mut Page,
     declared: &[Node],
 ) -> Result<(), NoMemory>
     requires { told scribe.old + length declared.now ≤ 4294967295 }
     ensures tells { OnOk result ((known : List Station) → AreKnown known declared.now
-        → Tells known (flat_map network_lines declared.now) scribe.old page.old.items scribe.new page.new.items) }
+        → Tells known (flat_map network_lines declared.now) scribe.old page.old scribe.new page.new) }
     ensures told { OnOk result (told scribe.new ≤ told scribe.old + length declared.now) }
 {
     for node in declared {
@@ -79,14 +80,14 @@ fn tell_networks(
 fn tell_codes(
     alloc: Global,
     scribe: &mut Scribe,
-    page: &mut Vec<u8>,
+    page: &mut Page,
     centre: Eui,
     declared: &[Node],
 ) -> Result<(), NoMemory>
     requires { told scribe.old + length declared.now ≤ 4294967295 }
     ensures tells { OnOk result ((known : List Station) → AreKnown known declared.now
-        → Tells known (flat_map (code_lines centre.0) declared.now) scribe.old page.old.items
-        scribe.new page.new.items) }
+        → Tells known (flat_map (code_lines centre.0) declared.now) scribe.old page.old
+        scribe.new page.new) }
     ensures told { OnOk result (told scribe.new ≤ told scribe.old + length declared.now) }
 {
     for node in declared {
@@ -98,12 +99,12 @@ fn tell_codes(
 fn tell_counters(
     alloc: Global,
     scribe: &mut Scribe,
-    page: &mut Vec<u8>,
+    page: &mut Page,
     declared: &[Node],
 ) -> Result<(), NoMemory>
     requires { told scribe.old + 2 * length declared.now ≤ 4294967295 }
     ensures tells { OnOk result ((known : List Station) → AreKnown known declared.now
-        → Tells known (flat_map counter_lines declared.now) scribe.old page.old.items scribe.new page.new.items) }
+        → Tells known (flat_map counter_lines declared.now) scribe.old page.old scribe.new page.new) }
     ensures told { OnOk result (told scribe.new ≤ told scribe.old + 2 * length declared.now) }
 {
     for node in declared {

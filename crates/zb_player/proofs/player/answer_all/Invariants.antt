@@ -1,13 +1,14 @@
-use Rattle.std.proofs.Common.{◌≡◌, ◌+◌, ◌*◌, ◌≤◌, [], map, true}
+use Rattle.std.proofs.Common.{◌≡◌, ◌+◌, ◌*◌, ◌≤◌, map, true}
 use Rattle.zb_base.specs.Outside.{Unrisen}
 use Rattle.zb_events.specs.Told.{lines_told}
 use Rattle.zb_player.specs.Runs.{Answers, AreMade}
 use Rattle.zb_sched_line.specs.Views.{event_of}
+use Rattle.zb_scribe.specs.Pages.{IsClear}
 use Rattle.zb_player.proofs.player.answer_all.Given as goal
 
 abbrev pub invariant-loop-index : goal.invariant-loop-index
 invariant-loop-index g l = record {
-  empty : l.run.ledger.page.items ≡ [];
+  clear : IsClear l.run.ledger.page;
   room : lines_told l.run.ledger ≤ 400 + 24 * l.index;
   still : g.B.Bench.still l.initial.bench ≡ true → g.B.Bench.still l.bench ≡ true;
   answers : g.B.Bench.still l.initial.bench ≡ true → Answers l.initial.run l.initial.disks (map event_of l.events) l.index l.run l.disks (g.W.Sink.taken l.initial.out) (g.W.Sink.taken l.out);

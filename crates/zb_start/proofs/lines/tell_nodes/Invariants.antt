@@ -1,5 +1,6 @@
 -- The lines of the nodes so far are told.
 use Rattle.std.proofs.Common.{◌≡◌, ◌+◌, ◌≤◌, List, [], ◌++◌, take}
+use Rattle.std.specs.Io.KnownBytes.{append_known}
 use Rattle.zb_model.specs.Data.{Station}
 use Rattle.zb_said.specs.Said.{text_of}
 use Rattle.zb_scribe.specs.Kept.{Kept, told}
@@ -8,7 +9,7 @@ use Rattle.zb_start.proofs.lines.tell_nodes.Given as goal
 
 abbrev pub invariant-loop-node : goal.invariant-loop-node
 invariant-loop-node l = record {
-  page : (known : List Station) → l.page.items ≡ l.initial.page.items ++ text_of known (declared_lines (take l.node-index l.declared));
+  page : (known : List Station) → l.page ≡ append_known l.initial.page (text_of known (declared_lines (take l.node-index l.declared)));
   kept : Kept [] l.initial.scribe → Kept (declared_lines (take l.node-index l.declared)) l.scribe;
   few : told l.scribe ≤ told l.initial.scribe + l.node-index;
 }

@@ -34,3 +34,11 @@ returns-in-Some-clause-calls c =
     subst (λ (found : Option Bytes). Calls (frame_calls real (condition_of w h ds n) (supply w h) found) c.args.disk.now c.receive.new.disk)
     (sym (frame_is w h c.args.self.now c.args.frame (items_of c.frame.result) before.told c.frame.ensures ∙ ap items_of c.in-Some.is)) (calls w h ds n before draws))
     c.receive.ensures.calls
+
+pub returns-in-Some-clause-goes : goal.returns-in-Some-clause-goes
+returns-in-Some-clause-goes c =
+    on_ok c.receive.result _ _
+    (λ goes w h ds n before draws.
+    subst (λ (found : Option Bytes). Goes w (deliver_step real counting_of w h ds c.args.event n found) h c.args.event n c.args.self.now c.receive.new.self c.receive.new.node c.receive.new.disk)
+    (sym (frame_is w h c.args.self.now c.args.frame (items_of c.frame.result) before.told c.frame.ensures ∙ ap items_of c.in-Some.is)) (goes w h ds n before draws))
+    c.receive.ensures.goes

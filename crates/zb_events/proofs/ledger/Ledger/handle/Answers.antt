@@ -23,7 +23,7 @@ returns-in_ok-stored-in-Some-Whole-clause-goes c =
     on_ok c.answered.result _ _
     (λ tells w h ds n before suits.
     whole_goes w h ds c.args.event n (model_task c.args.task) c.name-name.result c.handle.result c.handle.new.plan c.args.self.now
-    (record { alloc = c.args.self.now.alloc; scribe = c.answered.new.self; page = c.answered.new.page; plan = c.handle.new.plan }) c.stored.new.self c.stored.new.page.items c.args.node.now c.handle.new.self c.args.disk.now c.handle.new.disk
+    (record { alloc = c.args.self.now.alloc; scribe = c.answered.new.self; page = c.answered.new.page; plan = c.handle.new.plan }) c.stored.new.self c.stored.new.page c.args.node.now c.handle.new.self c.args.disk.now c.handle.new.disk
     before suits c.if-not-is_up.ensures c.name-name.ensures (c.in-Some-Whole.is ∙ ap (λ (x : Handled). Some x) c.in-Some-Whole.field-0-is) c.handle.ensures.event
     (λ k called own. c.in_ok-stored-in-Some-Whole.ensures.tells (stations w) k called own) (λ k called spelled. tells (stations w) k called spelled))
     c.answered.ensures.tells

@@ -11,7 +11,7 @@ use Rattle.zb_scribe.proofs.Telling.{none_told, told_in_turn}
 use Rattle.zb_scribe.proofs.scribe.Scribe.changed.Goals as goal
 
 pub loop-change-init : goal.loop-change-init
-loop-change-init c = (λ known n called all. none_told known c.args.self.now c.args.page.now.items, omega arith)
+loop-change-init c = (λ known n called all. none_told known c.args.self.now c.args.page.now, omega arith)
 
 pub loop-change-preserved : goal.loop-change-preserved
 loop-change-preserved c =
@@ -19,7 +19,7 @@ loop-change-preserved c =
     let i = c.loop-change.change-index in
     let change : Change = get_or changes i (Reserve Nwk 0) in (
       λ known n called all.
-          subst (λ (lines : List Line). Tells known lines c.args.self.now c.args.page.now.items c.tell.new.self c.tell.new.page.items)
+          subst (λ (lines : List Line). Tells known lines c.args.self.now c.args.page.now c.tell.new.self c.tell.new.page)
           (sym (change_more c.args.event n changes i (Reserve Nwk 0) c.loop-change-test.true))
           (told_in_turn known _ (Changed c.args.event n (edit change) ∷ []) _ _ _ _ _ _ (c.loop-change.invariant.0 known n called all)
           (c.in_ok-tell.ensures.tells known (Changed c.args.event n (edit change))

@@ -12,4 +12,4 @@ returns-clause-kept c = λ h kept.
 
 pub returns-clause-tells : goal.returns-clause-tells
 returns-clause-tells c = λ known m says none.
-    one_told known c.args.line.now m c.args.self.now c.count.new.self c.args.page.now.items c.put_line.new.out.items c.in_ok-put_line.ensures (returns-clause-kept c) says none
+    one_told known c.args.line.now m c.args.self.now c.count.new.self c.args.page.now c.print.new.self c.in_ok-print.ensures (returns-clause-kept c) says none
