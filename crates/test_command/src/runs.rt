@@ -51,6 +51,71 @@ const WITHOUT_A_KEY_PLAYED: &[u8] = b"0 node c centre 00124B0000000001 0000 4 2
 end 3 2 0 1 yes yes
 ";
 
+/// Frames that aren't of this network, brought on the air as they are.
+const INJECTED: &[u8] = b"node c centre 00124B0000000001 0000 4 2
+node d device 00124B0000000002 1A2B 4 2
+netkey c 000102030405060708090A0B0C0D0E0F 0
+netkey d 000102030405060708090A0B0C0D0E0F 0
+say c 1A2B 0102
+say c 1A2B 0102
+inject 00
+inject 0B022B1A00001E00
+inject 08002B1A00001E00
+inject 08022B1A00001E00
+deliver 3 d
+deliver 4 d
+deliver 5 d
+deliver 5 c
+deliver 6 d
+deliver 7 d
+";
+
+/// Frames forged under the network's key.
+const FORGED: &[u8] = b"node c centre 00124B0000000001 0000 4 2
+node d device 00124B0000000002 1A2B 4 2
+netkey c 000102030405060708090A0B0C0D0E0F 0
+netkey d 000102030405060708090A0B0C0D0E0F 0
+forge 1A2B 0000 00124B0000000001 net 000102030405060708090A0B0C0D0E0F 0 7 01007F
+forge 1A2B 0000 00124B0000000001 net 000102030405060708090A0B0C0D0E0F 0 8 010008
+deliver 1 d
+deliver 2 d
+";
+
+/// A join, and behind it a frame forged at both layers.
+const FORGED_AT_BOTH: &[u8] = b"node c centre 00124B0000000001 0000 16 4
+node d device 00124B0000000002 1A2B 16 4
+node r router 00124B0000000003 3C4D 16 4
+code d 83FED3407A939723A5C639B26916D505C3B5
+netkey c 000102030405060708090A0B0C0D0E0F 0
+netkey r 000102030405060708090A0B0C0D0E0F 0
+draw A0A1A2A3A4A5A6A7A8A9AAABACADAEAF
+provision d 83FED3407A939723A5C639B26916D505C3B5
+knock d
+child r d join
+deliver 1 c
+deliver 2 r
+deliver 3 d
+timer d
+timer d
+deliver 5 c
+timer d
+deliver 7 c
+deliver 8 d
+timer d
+deliver 9 c
+timer d
+deliver 11 c
+deliver 12 d
+forge 0000 1A2B 00124B0000000002 net 000102030405060708090A0B0C0D0E0F 0 50 aps data A0A1A2A3A4A5A6A7A8A9AAABACADAEAF 50 0804
+deliver 13 c
+";
+
+/// A command under the well-known key, in a frame that isn't sealed.
+const FORGED_UNSEALED: &[u8] = b"node c centre 00124B0000000001 0000 4 2
+forge 1A2B 0000 00124B0000000001 open aps transport 5A6967426565416C6C69616E63653039 100 \
+              0501F0F1F2F3F4F5F6F7F8F9FAFBFCFDFEFF0102000000004B120001000000004B1200
+";
+
 const MADE_FOR_ONE: &[u8] = b"node c centre 00124B0000000001 0000 8 4
 node d1 router 00124B0000000101 1001 8 4
 code d1 3E00EF2F895F40D67F5BB8E81F09A5A10FD8
@@ -202,6 +267,21 @@ fn worked_runs_have_their_outputs(rt: HostRuntime) -> Result<(), Fail> {
     for (words, input, output) in runs {
         let ran = over(&rt, words, input, &[], &[])?;
         assert!(rt; ran.status == Status::Ok && ran.sink.taken() == output);
+    }
+    Ok(())
+}
+
+#[test]
+fn what_outsiders_send_is_played(rt: HostRuntime) -> Result<(), Fail> {
+    let runs: [(&[u8], &[u8]); 4] = [
+        (INJECTED, b"\nend 12 2 0 6 yes yes\n"),
+        (FORGED, b"\nend 4 0 2 2 yes no\n"),
+        (FORGED_AT_BOTH, b"\nend 19 19 15 1 yes no\n"),
+        (FORGED_UNSEALED, b"\nend 1 0 0 0 yes yes\n"),
+    ];
+    for (schedule, end) in runs {
+        let ran = over(&rt, &["play"], schedule, &[], &[])?;
+        assert!(rt; ran.status == Status::Ok && ran.sink.taken().ends_with(end));
     }
     Ok(())
 }
