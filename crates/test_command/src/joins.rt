@@ -31,6 +31,13 @@ deliver 11 c
 deliver 12 d
 ";
 
+/// A frame forged at both layers, behind the join.
+const FORGED: &[u8] = b"\
+forge 0000 1A2B 00124B0000000002 net 000102030405060708090A0B0C0D0E0F 0 50 \
+      aps data A0A1A2A3A4A5A6A7A8A9AAABACADAEAF 50 0804
+deliver 13 c
+";
+
 const JOIN_PLAYED: &[u8] = b"\
 0 node c centre 00124B0000000001 0000 16 4
 0 node d device 00124B0000000002 1A2B 16 4
@@ -196,5 +203,16 @@ fn a_join_ends_at_each_call_of_the_source_that_fails(rt: HostRuntime) -> Result<
     }
     let ran = over(&rt, &["play"], JOIN, &[3], &[])?;
     assert!(rt; ran.status == Status::Ok && ran.sink.taken() == JOIN_PLAYED);
+    Ok(())
+}
+
+#[test]
+fn a_frame_forged_behind_a_join_is_played(rt: HostRuntime) -> Result<(), Fail> {
+    let mut schedule = Vec::from_slice(rt.alloc(), JOIN)?;
+    schedule.extend_from_slice(FORGED)?;
+    let ran = over(&rt, &["play"], schedule.as_slice(), &[], &[])?;
+    assert!(rt;
+        ran.status == Status::Ok && ran.sink.taken().ends_with(b"\nend 19 19 15 1 yes no\n")
+    );
     Ok(())
 }

@@ -81,35 +81,6 @@ deliver 1 d
 deliver 2 d
 ";
 
-/// A join, and behind it a frame forged at both layers.
-const FORGED_AT_BOTH: &[u8] = b"node c centre 00124B0000000001 0000 16 4
-node d device 00124B0000000002 1A2B 16 4
-node r router 00124B0000000003 3C4D 16 4
-code d 83FED3407A939723A5C639B26916D505C3B5
-netkey c 000102030405060708090A0B0C0D0E0F 0
-netkey r 000102030405060708090A0B0C0D0E0F 0
-draw A0A1A2A3A4A5A6A7A8A9AAABACADAEAF
-provision d 83FED3407A939723A5C639B26916D505C3B5
-knock d
-child r d join
-deliver 1 c
-deliver 2 r
-deliver 3 d
-timer d
-timer d
-deliver 5 c
-timer d
-deliver 7 c
-deliver 8 d
-timer d
-deliver 9 c
-timer d
-deliver 11 c
-deliver 12 d
-forge 0000 1A2B 00124B0000000002 net 000102030405060708090A0B0C0D0E0F 0 50 aps data A0A1A2A3A4A5A6A7A8A9AAABACADAEAF 50 0804
-deliver 13 c
-";
-
 /// A command under the well-known key, in a frame that isn't sealed.
 const FORGED_UNSEALED: &[u8] = b"node c centre 00124B0000000001 0000 4 2
 forge 1A2B 0000 00124B0000000001 open aps transport 5A6967426565416C6C69616E63653039 100 \
@@ -273,10 +244,9 @@ fn worked_runs_have_their_outputs(rt: HostRuntime) -> Result<(), Fail> {
 
 #[test]
 fn what_outsiders_send_is_played(rt: HostRuntime) -> Result<(), Fail> {
-    let runs: [(&[u8], &[u8]); 4] = [
+    let runs: [(&[u8], &[u8]); 3] = [
         (INJECTED, b"\nend 12 2 0 6 yes yes\n"),
         (FORGED, b"\nend 4 0 2 2 yes no\n"),
-        (FORGED_AT_BOTH, b"\nend 19 19 15 1 yes no\n"),
         (FORGED_UNSEALED, b"\nend 1 0 0 0 yes yes\n"),
     ];
     for (schedule, end) in runs {
