@@ -14,24 +14,25 @@ use std::marker::Model;
 use zb_base::Key;
 use zb_mmo::hash;
 
-/// A code of 6, 8, 12 or 16 bytes and its CRC.
+/// A code of 6, 8, 12 or 16 bytes and its CRC, with the link key that they give.
 ///
-/// A contract sees it as both together.
+/// A contract sees it as code and CRC together.
 #[derive(Drop)]
 pub struct InstallCode {
     bytes: ArrayVec<u8, 18>,
+    link: Key,
 }
 
 impl Model for InstallCode {
     ghost use Rattle.std.specs.Prelude.{◌≡◌, ℕ, ◌≤◌, List, Ok, length};
-    ghost use Rattle.zb_install.specs.Code.{code_of};
+    ghost use Rattle.zb_install.specs.Code.{code_key, code_of};
 
     ghost Value = { List ℕ };
 
     ghost view = { λ code. code.bytes.items };
 
     ghost invariant = { λ code. (code_of code.bytes.items ≡ Ok code.bytes.items)
-        × (length code.bytes.items ≤ 18) };
+        × (length code.bytes.items ≤ 18) × (code.link.0 ≡ code_key code.bytes.items) };
 }
 
 // Answers whether a code and its CRC have this length together.
@@ -126,6 +127,7 @@ impl InstallCode {
         }
         Ok(InstallCode {
             bytes: array_of(bytes),
+            link: Key(hash(bytes)),
         })
     }
 
@@ -136,10 +138,10 @@ impl InstallCode {
         self.bytes.as_slice()
     }
 
-    /// Derives the link key that the code gives: the hash of code and CRC together.
+    /// Answers the link key that the code gives: the hash of code and CRC together.
     pub fn link_key(&self) -> Key
         ensures { result.0 ≡ code_key self.now }
     {
-        Key(hash(self.bytes.as_slice()))
+        self.link
     }
 }

@@ -21,7 +21,7 @@ invariant_of-result c =
     right_code c.args.bytes.now _ _ _ c.is_code_length.ensures.value c.if-not-is_code_length.false
     (c.from_le_bytes-kept.ensures ∙ ap (from_le_bytes w16) c.split_at.ensures.back)
     (c.crc-found.ensures ∙ ap crc c.split_at.ensures.front) c.if-kept-found.false in
-    rw c.array_of.ensures (good, (c.is_code_length.ensures.bounds c.if-not-is_code_length.false).1)
+    rw c.array_of.ensures (good, (c.is_code_length.ensures.bounds c.if-not-is_code_length.false).1, c.hash.ensures)
 
 pub returns : goal.returns
 returns c =
