@@ -1,13 +1,14 @@
 -- The round keys one after the other, and the rounds that add them.
-use Rattle.std.proofs.Common.{◌≡◌, ◌≢◌, ℕ, zero, suc, ◌+◌, ◌-◌, ◌<◌, ◌≤◌, List, ◌∙◌, refl, sym, ap, get_or, length, map, add-one, below_more, arith}
+use Rattle.std.proofs.Common.{◌≡◌, ◌≢◌, ℕ, zero, suc, ◌+◌, ◌-◌, ◌<◌, ◌≤◌, List, [], ◌∙◌, refl, sym, ap, get_or, length, map, replicate, add-one, below_more, arith}
 use Rattle.std.proofs.Math.ListN.{set}
-use Rattle.std.proofs.lemmas.List.{get_or-set_other, get_or-set_same}
+use Rattle.std.proofs.lemmas.List.{get_or-map, get_or-set_other, get_or-set_same}
 use Rattle.std.proofs.lemmas.List.FromFn.{get_or-map-range_with_len}
 use Rattle.std.specs.List.{range_with_len}
 use Rattle.zb_aes.specs.Block.{round, last_round, next_key, round_constant, round_key, state_after, enciphered}
-use Rattle.zb_aes.specs.Bytes.{xored}
+use Rattle.zb_aes.specs.Bytes.{word_bytes, xored}
+use Rattle.zb_aes.specs.Field.{substitute, times}
 use Rattle.zb_aes.specs.Columns.{state_bytes, key_at, AreRoundKeys}
-use Rattle.zb_aes.specs.declared.schedule.TheConstants.{CONSTANTS}
+use Rattle.zb_aes.specs.declared.schedule.TheConstants.{CONSTANTS, ZERO_KEYS}
 use Rattle.zb_aes.specs.declared.state.State.{State}
 
 constants : CONSTANTS ≡ map (λ i. round_constant (i + 1)) (range_with_len 0 10)
@@ -77,3 +78,21 @@ pub rounds-end : (key block first now state last result : List ℕ) (i : ℕ) �
 unfolding enciphered
 rounds-end key block first now state last result i h p q r s t =
     let k : i - 1 ≡ 9 = omega arith in let r' = rw k at r in cc
+
+-- The round keys of 16 zeros, by computation.
+zero_keys : map state_bytes ZERO_KEYS ≡ map (λ i. round_key (replicate 16 0) i) (range_with_len 0 11)
+unfolding round_key next_key substitute times xored word_bytes
+zero_keys = refl
+
+zero_key_at : (i : ℕ) → i < 11 → key_at ZERO_KEYS i ≡ round_key (replicate 16 0) i
+zero_key_at i h =
+    sym (get_or-map state_bytes ZERO_KEYS i (record { 0 = 0; 1 = 0; 2 = 0; 3 = 0 }) [] h)
+    ∙ ap (λ l. get_or l i []) zero_keys
+    ∙ get_or-map-range_with_len (λ i. round_key (replicate 16 0) i) 0 11 i i [] h (omega arith)
+
+pub first_zero_key : key_at ZERO_KEYS 0 ≡ replicate 16 0
+unfolding word_bytes
+first_zero_key = refl
+
+pub zero_keys_are : AreRoundKeys 11 ZERO_KEYS
+zero_keys_are = record { each = λ i h. zero_key_at i h ∙ ap (λ k. round_key k i) (sym first_zero_key) }

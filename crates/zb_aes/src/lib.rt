@@ -8,7 +8,7 @@ ghost use Rattle.std.specs.Prelude.{◌≡◌};
 ghost use Rattle.zb_aes.specs.Block.{enciphered};
 ghost use Rattle.zb_aes.specs.Bytes.{xored};
 
-pub use schedule::Cipher;
+pub use schedule::{Cipher, encrypt_under_zeros};
 pub use state::State;
 
 mod schedule;

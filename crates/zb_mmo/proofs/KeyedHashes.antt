@@ -1,5 +1,5 @@
 -- A hash that begins with a whole block, and the keyed hash that is made of two of them.
-use Rattle.std.proofs.Common.{◌≡◌, ℕ, ◌+◌, List, ◌++◌, ◌∙◌, sym, ap, length, replicate, bit_xor, append_assoc, length-append}
+use Rattle.std.proofs.Common.{◌≡◌, ℕ, ◌+◌, List, ◌++◌, ◌∙◌, sym, ap, length, take, drop, replicate, bit_xor, arith, append_assoc, take-append-drop, length-append, length-take}
 use Rattle.std.proofs.lemmas.List.{length-map}
 use Rattle.zb_mmo.proofs.Cuts.{mixed_all-block}
 use Rattle.zb_mmo.specs.Hash.{blocks_of, hash, mixed, mixed_all, padding}
@@ -13,6 +13,16 @@ hash-block pad bytes h =
     ap (λ n. mixed_all (replicate 16 0) (blocks_of ((pad ++ bytes) ++ padding n))) size
     ∙ ap (λ l. mixed_all (replicate 16 0) (blocks_of l)) (append_assoc pad bytes (padding (16 + length bytes)))
     ∙ mixed_all-block (replicate 16 0) pad (bytes ++ padding (16 + length bytes)) h
+
+-- A hash whose first block is mixed in before the others.
+pub hash_begun : (bytes block rest first result : List ℕ) → length rest + 16 ≡ length bytes → block ≡ take 16 bytes
+    → rest ≡ drop 16 bytes → first ≡ mixed (replicate 16 0) block
+    → result ≡ mixed_all first (blocks_of (rest ++ padding (16 + length rest))) → result ≡ hash bytes
+hash_begun bytes block rest first result size p q r s =
+    let long : length block ≡ 16 = ap length p ∙ omega (arith, length-take 16 bytes) in
+    let whole : block ++ rest ≡ bytes = ap (λ l. l ++ rest) p ∙ ap (λ l. take 16 bytes ++ l) q ∙ take-append-drop 16 bytes in
+    s ∙ ap (λ v. mixed_all v (blocks_of (rest ++ padding (16 + length rest)))) r ∙ sym (hash-block block rest long)
+    ∙ ap hash whole
 
 pub keyed_built : (key given bytes inner outer middle result : List ℕ) → length key ≡ 16 → key ≡ given
     → inner ≡ mixed (replicate 16 0) (inner_pad key) → outer ≡ mixed (replicate 16 0) (outer_pad key)

@@ -4,13 +4,22 @@ ghost use Rattle.std.specs.Prelude.{◌≡◌, ◌+◌, ◌-◌, ◌*◌, ◌%�
 ghost use Rattle.std.specs.Int.{w16, to_be_bytes};
 ghost use Rattle.zb_mmo.specs.Hash.{blocks_of, mixed, mixed_all, padding, zeros};
 
-use zb_aes::{encrypt, sum};
+use zb_aes::{Cipher, State, encrypt_under_zeros};
+
+/// Answers the value after the first block of a message, before which it is 16 zeros.
+pub fn begin(block: &[u8; 16]) -> [u8; 16]
+    ensures { result ≡ mixed (replicate 16 0) block.now }
+{
+    let block = State::read(block);
+    encrypt_under_zeros(block).plus(block).bytes()
+}
 
 /// Answers the value after a block.
 pub fn mix(value: &[u8; 16], block: &[u8; 16]) -> [u8; 16]
     ensures { result ≡ mixed value.now block.now }
 {
-    sum(&encrypt(value, block), block)
+    let block = State::read(block);
+    Cipher::new(value).encrypt_state(block).plus(block).bytes()
 }
 
 // Fills fewer than 16 bytes up, with the bit that begins the padding and zeros.

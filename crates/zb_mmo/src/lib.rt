@@ -10,7 +10,7 @@ pub use pads::KeyPads;
 mod blocks;
 mod pads;
 
-use blocks::finished;
+use blocks::{begin, finished};
 use zb_base::Key;
 
 /// Hashes a message.
@@ -20,7 +20,10 @@ pub fn hash(bytes: &[u8]) -> [u8; 16]
     requires { length bytes.now ≤ 8191 }
     ensures { result ≡ hash bytes.now }
 {
-    finished([0; 16], 0, bytes)
+    match bytes.split_first_chunk::<16>() {
+        Some((block, rest)) => finished(begin(block), 16, rest),
+        None => finished([0; 16], 0, bytes),
+    }
 }
 
 /// Hashes a message with a key.

@@ -3,7 +3,7 @@
 ghost use Rattle.std.specs.Prelude.{◌≡◌, ◌≤◌, length, map, bit_xor};
 ghost use Rattle.zb_mmo.specs.Keyed.{keyed, load_key, transport_key, verify_hash};
 
-use crate::blocks::{finished, mix};
+use crate::blocks::{begin, finished};
 use std::marker::Model;
 use zb_base::Key;
 
@@ -48,8 +48,8 @@ impl KeyPads {
     {
         KeyPads {
             key: *key,
-            inner: mix(&[0; 16], &padded_with(&key.0, 0x36)),
-            outer: mix(&[0; 16], &padded_with(&key.0, 0x5c)),
+            inner: begin(&padded_with(&key.0, 0x36)),
+            outer: begin(&padded_with(&key.0, 0x5c)),
         }
     }
 
