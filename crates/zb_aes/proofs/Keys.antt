@@ -34,6 +34,7 @@ keys_one keys = record { each = first_only }
 pub keys_more : (n : ℕ) (keys : List State) (next : State) → n < 10 → length keys ≡ 11 → AreRoundKeys (n + 1) keys
     → state_bytes next ≡ next_key (get_or CONSTANTS n 0) (key_at keys n)
     → AreRoundKeys (n + 1 + 1) (set keys (n + 1) next) × (key_at (set keys (n + 1) next) 0 ≡ key_at keys 0)
+    × (state_bytes next ≡ key_at (set keys (n + 1) next) (n + 1))
 keys_more n keys next few long before e =
     let other : 0 ≢ n + 1 = omega arith in
     let first : key_at (set keys (n + 1) next) 0 ≡ key_at keys 0 =
@@ -51,6 +52,7 @@ keys_more n keys next few long before e =
             (n + 1) below here;
       },
       first,
+      sym (ap state_bytes (get_or-set_same keys (n + 1) next _ (omega arith))),
     )
 
 state_after-zero : (key block : List ℕ) → state_after key block 0 ≡ xored block key

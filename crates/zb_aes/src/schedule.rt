@@ -34,10 +34,11 @@ impl Cipher {
     pub fn new(key: &[u8; 16]) -> Cipher
         ensures { result ≡ key.now }
     {
-        let first = State::read(key);
-        let mut keys = [first; 11];
+        let mut last = State::read(key);
+        let mut keys = [last; 11];
         for i in 0..10 {
-            keys[i + 1] = keys[i].next_key(CONSTANTS[i]);
+            last = last.next_key(CONSTANTS[i]);
+            keys[i + 1] = last;
         }
         Cipher { keys }
     }
