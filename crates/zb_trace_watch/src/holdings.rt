@@ -41,12 +41,16 @@ impl<O: Ord + Drop> Holdings<O> {
         ensures { OnOk result ((o : O) (k : List ℕ)
             → held O.cmp self.new o k ≡ (held O.cmp self.old o k || (is_eq (O.cmp owner o) && bytes_eq k key.0))) }
     {
-        let mut keys = match self.sets.remove(&owner) {
-            Some(keys) => keys,
-            None => Keys::new(alloc),
-        };
-        keys.add(key)?;
-        self.sets.insert(owner, keys)?;
+        match self.sets.get_mut(&owner) {
+            Some(keys) => {
+                keys.add(key)?;
+            }
+            None => {
+                let mut keys = Keys::new(alloc);
+                keys.add(key)?;
+                self.sets.insert(owner, keys)?;
+            }
+        }
         Ok(())
     }
 
