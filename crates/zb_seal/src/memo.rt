@@ -1,7 +1,8 @@
 //! Sealing keys that were derived and expanded before, so that no frame expands a key again.
-ghost use Rattle.std.specs.Prelude.{◌≡◌, ◌<◌, IfOk, IfSome, OnErr, length};
+ghost use Rattle.std.specs.Prelude.{◌≡◌, ◌<◌, Err, IfOk, IfSome, None, OnErr, OnOk, Some, length};
 ghost use Rattle.zb_seal.specs.Keys.{sealing_key as key_of};
-ghost use Rattle.zb_seal.specs.Opening.{opened};
+ghost use Rattle.zb_seal.specs.Opening.{content_of, opened};
+ghost use Rattle.zb_seal.specs.declared.envelope.OpenError.TheVariants.{BadMic};
 ghost use Rattle.zb_seal.specs.Wire.{wire, wire_length};
 
 use crate::envelope::{Envelope, OpenError};
@@ -76,19 +77,39 @@ impl KeyMemo {
         self.next = (place + 1) % KEYS;
     }
 
+    // Opens an envelope in place under a base key, for a source, as `Envelope::unseal` does.
+    fn unseal(&self, envelope: &mut Envelope, key: &Key, source: Eui) -> Result<(), OpenError>
+        ensures opened { OnOk result (content_of envelope.old (key_of envelope.old.label key.now.0) source
+            ≡ Some envelope.new.text.items) }
+        ensures refused { OnErr result
+            (content_of envelope.old (key_of envelope.old.label key.now.0) source ≡ None) }
+        ensures bad_mic { OnErr result (result ≡ Err BadMic) }
+        ensures same { envelope.new ≡ record envelope.old { text = envelope.new.text } }
+    {
+        match self.find(envelope.label, key) {
+            Some(cipher) => envelope.unseal(cipher, source),
+            None => {
+                let sealing = sealing_key(envelope.label, key);
+                envelope.unseal(&Cipher::new(&sealing.0), source)
+            }
+        }
+    }
+
     /// Opens an envelope under a base key. `given` is the source where the frame names none.
     ///
     /// # Errors
     ///
     /// `NoSource` where the source is not known, then `BadMic` where the code is not that of a content.
+    #[tactic(auto, unfolding(crate::specs::Opening::opened))]
     pub fn open(&self, envelope: Envelope, key: &Key, given: Option<Eui>) -> Result<Term, OpenError>
         ensures { result ≡ opened envelope key.now given }
     {
-        match self.find(envelope.label, key) {
-            Some(cipher) => envelope.open_with(key, cipher, given),
-            None => {
-                let sealing = sealing_key(envelope.label, key);
-                envelope.open_with(key, &Cipher::new(&sealing.0), given)
+        let mut envelope = envelope;
+        match envelope.source_or(given) {
+            None => Err(OpenError::NoSource),
+            Some(source) => {
+                self.unseal(&mut envelope, key, source)?;
+                Ok(envelope.into_term(key, source))
             }
         }
     }

@@ -48,17 +48,16 @@ fn on_air(size: usize, header: &Frame) -> Frame
     out
 }
 
-/// Encrypts the content: answers the cipher text and its code.
-fn seal_content(cipher: &Cipher, term: &Term) -> (Frame, [u8; 4])
-    ensures text { result.0.items ≡ (sealed_term cipher.now term.now).text }
-    ensures mic { result.1 ≡ (sealed_term cipher.now term.now).mic }
-    ensures text_len { length result.0.items ≡ length term.now.content.items }
-    ensures mic_len { length result.1 ≡ 4 }
+/// Encrypts the content of a term, which `text` is, in place, and answers its code.
+fn seal_content(cipher: &Cipher, term: &Term, text: &mut Frame) -> [u8; 4]
+    requires { text.old.items ≡ term.now.content.items }
+    ensures text { text.new.items ≡ (sealed_term cipher.now term.now).text }
+    ensures mic { result ≡ (sealed_term cipher.now term.now).mic }
+    ensures text_len { length text.new.items ≡ length term.now.content.items }
+    ensures mic_len { length result ≡ 4 }
 {
-    let mut text = frame_from(term.content.as_slice());
     let nonce = nonce(term.source, term.counter, term.control);
-    let mic = seal_with(cipher, &nonce, term.header.as_slice(), text.as_mut_slice());
-    (text, mic)
+    seal_with(cipher, &nonce, term.header.as_slice(), text.as_mut_slice())
 }
 
 /// Seals a term: answers its bytes on the air. Requires its sealing key, which was expanded before.
@@ -74,7 +73,8 @@ pub fn wire_with(term: &Term, cipher: &Cipher) -> Result<Frame, TooLong>
     ensures len { length (wire_of term.now) ≡ wire_length term.now }
 {
     let mut out = on_air(aux_size(term.layer, term.control), &term.header);
-    let (text, mic) = seal_content(cipher, term);
+    let mut text = frame_from(term.content.as_slice());
+    let mic = seal_content(cipher, term, &mut text);
     put(&mut out, &text)?;
     put(&mut out, &mic)?;
     Ok(out)
