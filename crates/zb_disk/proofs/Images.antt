@@ -1,19 +1,17 @@
 -- What a write and a sync do to the images of a disk in memory.
-use Rattle.std.proofs.Common.{◌≡◌, ◌⊎◌, inl, inr, ⊎_elim, ℕ, ◌+◌, ◌-◌, ◌≤◌, ◌<◌, ◌&&◌, List, length, get_or, take, drop, replicate, map, max, min, Bool, true, false, cond, nat_le, nat_lt, refl, sym, ◌∙◌, ap, arith, length-take, length-drop, get_or-take, get_or-drop}
+use Rattle.std.proofs.Common.{◌≡◌, inl, inr, ⊎_elim, ℕ, ◌+◌, ◌-◌, ◌≤◌, ◌<◌, ◌&&◌, List, length, get_or, take, drop, replicate, map, max, min, Bool, true, false, cond, nat_le, nat_lt, refl, sym, ◌∙◌, ap, arith, length-take, length-drop, get_or-take, get_or-drop}
 use Rattle.std.specs.List.{range_with_len}
 use Rattle.std.proofs.lemmas.List.{ext_get_or, length-replicate, get_or-replicate, get_or_past}
 use Rattle.std.proofs.lemmas.List.FromFn.{get_or-map-range_with_len, length-map-range_with_len}
 use Rattle.std.proofs.lemmas.Bool.{false≢true, cases_lt, and_from, and_left, and_right, le-leb, lt-leb, lt-ltb, le-ltb}
 use Rattle.zb_disk.specs.View.{Torn, Follows, Opens, Only}
 use Rattle.zb_disk.specs.Memory.{Medium, IsImage, spread, patch, stored}
+use Rattle.zb_disk.specs.MemoryInside.{IsOutside}
 use Rattle.zb_disk.proofs.Lists.{length-patch, length-spread, get_or-patch_before, get_or-patch_in, get_or-patch_after, get_or-spread}
 
 -- the images of a disk in memory
 abbrev pub ImageOf : Medium → List ℕ → Type 0
 ImageOf m = IsImage m.bytes m.written m.grown
-
-abbrev IsOutside : ℕ → ℕ → ℕ → Type 0
-IsOutside at end k = (k < at) ⊎ (end ≤ k)
 
 -- new is old with something written from a place to before another
 pub record IsPatched (at end : ℕ) (old new : Medium) : Type 0 where
@@ -24,7 +22,7 @@ pub record IsPatched (at end : ℕ) (old new : Medium) : Type 0 where
   pub raised : (k : ℕ) → at ≤ k → k < end → get_or new.written k false ≡ true
 
 -- outside the piece a patched list is as it was
-outside_patch : {A : Type 0} (xs piece : List A) (at k : ℕ) (filling : A) → IsOutside at (at + length piece) k → get_or (patch (spread xs (at + length piece) filling) at piece) k filling ≡ get_or xs k filling
+pub outside_patch : {A : Type 0} (xs piece : List A) (at k : ℕ) (filling : A) → IsOutside at (at + length piece) k → get_or (patch (spread xs (at + length piece) filling) at piece) k filling ≡ get_or xs k filling
 outside_patch xs piece at k filling where_it_is =
     let all = spread xs (at + length piece) filling in
     let fits : at + length piece ≤ length all = omega (arith, length-spread xs (at + length piece) filling) in

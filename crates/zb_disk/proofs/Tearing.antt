@@ -219,7 +219,7 @@ torn_from_here p (b ∷ bytes) (true ∷ written) (suc n) none = absurd (false�
 torn_from_here p (b ∷ bytes) (false ∷ written) (suc n) none = ap (λ (l : List ℕ). b ∷ l) (torn_from_here p bytes written n (λ k low. none (suc k) (omega arith)))
 
 -- what is torn behind the window's end stands
-tear_part : (p : List ℕ) (phase : ℕ) (bytes : List ℕ) (w rest : List Bool) → length w ≤ length bytes → ((k : ℕ) → get_or rest k false ≡ false)
+pub tear_part : (p : List ℕ) (phase : ℕ) (bytes : List ℕ) (w rest : List Bool) → length w ≤ length bytes → ((k : ℕ) → get_or rest k false ≡ false)
     → tear p phase bytes (w ++ rest) ≡ tear p phase (take (length w) bytes) w ++ drop (length w) bytes
 tear_part p phase bytes [] rest within none = none_torn p phase bytes rest none
 tear_part p phase [] (x ∷ w) rest within none = absurd (omega arith)

@@ -129,9 +129,9 @@ around_written base w base' w' piece start end n new within is fits same =
 
 -- a disk that has just been made
 pub fresh_is : (bytes items torn : List ℕ) (w : List Bool) → items ≡ bytes → w ≡ [] → torn ≡ []
-    → ◌≡◌ {A = Medium} (record { bytes = items; written = flags_around 0 w (length items); grown = 0; arming = Unarmed; torn = torn; calls = 0; faults = 0 }) (fresh bytes)
+    → ◌≡◌ {A = Medium} (record { bytes = items; written = flags_around 0 w (length bytes); grown = 0; arming = Unarmed; torn = torn; calls = 0; faults = 0 }) (fresh bytes)
 fresh_is bytes items torn w same none no_pattern =
-    ap (λ (x : List ℕ). let n : Medium = record { bytes = x; written = flags_around 0 w (length x); grown = 0; arming = Unarmed; torn = torn; calls = 0; faults = 0 } in n) same
+    ap (λ (x : List ℕ). let n : Medium = record { bytes = x; written = flags_around 0 w (length bytes); grown = 0; arming = Unarmed; torn = torn; calls = 0; faults = 0 } in n) same
     ∙ ap (λ (x : List Bool). let n : Medium = record { bytes = bytes; written = flags_around 0 x (length bytes); grown = 0; arming = Unarmed; torn = torn; calls = 0; faults = 0 } in n) none
     ∙ ap (λ (x : List Bool). let n : Medium = record { bytes = bytes; written = x; grown = 0; arming = Unarmed; torn = torn; calls = 0; faults = 0 } in n) (around_none 0 (length bytes) (omega arith))
     ∙ ap (λ (x : List ℕ). let n : Medium = record { bytes = bytes; written = replicate (length bytes) false; grown = 0; arming = Unarmed; torn = x; calls = 0; faults = 0 } in n) no_pattern

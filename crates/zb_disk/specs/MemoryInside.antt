@@ -1,5 +1,6 @@
 -- What the fields of a memory disk keep.
-use Rattle.std.specs.Prelude.{ℕ, ◌+◌, ◌-◌, ◌≤◌, List, ◌++◌, Bool, true, false, length, replicate, vec_len, vec_capacity}
+use Rattle.std.specs.Prelude.{ℕ, ◌+◌, ◌-◌, ◌≤◌, ◌<◌, ◌≡◌, ◌⊎◌, List, ◌++◌, Bool, true, false, length, get_or, take, replicate, vec_len, vec_capacity}
+use Rattle.zb_disk.specs.declared.memory.Extent.{Extent}
 use Rattle.zb_disk.specs.declared.memory.MemDisk.TheInside.{Inside}
 use Rattle.zb_disk.specs.Memory.{Medium, patch}
 
@@ -7,10 +8,18 @@ use Rattle.zb_disk.specs.Memory.{Medium, patch}
 unfoldable pub flags_around : ℕ → List Bool → ℕ → List Bool
 flags_around base written size = replicate base false ++ written ++ replicate (size - base - length written) false
 
+-- a place that isn't from one to before another
+abbrev pub IsOutside : ℕ → ℕ → ℕ → Type 0
+IsOutside at end k = (k < at) ⊎ (end ≤ k)
+
+-- a place beyond what was written since the disk was made new
+abbrev pub IsBeyond : Extent → ℕ → Type 0
+IsBeyond e k = (e.low ≤ k) × IsOutside 65536 e.high k
+
 abbrev pub medium_of : Inside → Medium
 medium_of d = record {
-  bytes = d.bytes.items;
-  written = patch (flags_around d.base d.written.items (length d.bytes.items)) d.from (replicate (d.to - d.from) true);
+  bytes = take d.len d.bytes.items;
+  written = patch (flags_around d.base d.written.items d.len) d.from (replicate (d.to - d.from) true);
   grown = d.grown;
   arming = d.arming;
   torn = d.torn.items;
@@ -19,10 +28,14 @@ medium_of d = record {
 }
 
 pub record IsMemDisk (d : Inside) : Type 0 where
-  pub flags : d.base + vec_len d.written ≤ vec_len d.bytes
+  pub flags : d.base + vec_len d.written ≤ d.len
   pub order : d.from ≤ d.to
-  pub last : d.to ≤ vec_len d.bytes
+  pub last : d.to ≤ d.len
+  pub within : d.len ≤ vec_len d.bytes
   pub size : vec_len d.bytes ≤ 131072
-  pub grown : d.grown ≤ vec_len d.bytes
+  pub grown : d.grown ≤ d.len
+  -- behind what is read, and beyond what was written, all is 00
+  pub behind : (k : ℕ) → d.len ≤ k → get_or d.bytes.items k 0 ≡ 0
+  pub beyond : (k : ℕ) → IsBeyond d.extent k → get_or d.bytes.items k 0 ≡ 0
   pub room : 131072 ≤ vec_capacity d.bytes
   pub room_flags : 131072 ≤ vec_capacity d.written

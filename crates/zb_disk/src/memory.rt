@@ -1,10 +1,10 @@
 //! A disk in memory, whose calls can be made to fail and whose writes can be torn.
-ghost use Rattle.std.specs.Prelude.{OnOk, if◌then◌else◌, ◌-◌, replicate, ◌≡◌, ◌+◌, ◌≤◌, ◌<◌, ◌++◌, [], ◌∷◌, ℕ, length, take, IfOk, IsTrue, slice_index, vec_len, vec_capacity};
+ghost use Rattle.std.specs.Prelude.{OnOk, get_or, if◌then◌else◌, ◌-◌, replicate, ◌≡◌, ◌+◌, ◌≤◌, ◌<◌, ◌++◌, [], ◌∷◌, ℕ, length, take, IfOk, IsTrue, slice_index, vec_len, vec_capacity};
 ghost use Rattle.zb_disk.specs.View.{overwrite, window, Only, IsUnsynced};
 ghost use Rattle.zb_base.specs.Outside.{risen};
 ghost use Rattle.zb_disk.specs.Calls.{IsRead, IsWrite, IsSync};
-ghost use Rattle.zb_disk.specs.Memory.{Medium, refuses, after_call, is_stopped, armed, tear, torn_by, counted, stored, synced, after_read, after_write, after_sync, powered, fresh, memory_tells, memory_view};
-ghost use Rattle.zb_disk.specs.MemoryInside.{flags_around};
+ghost use Rattle.zb_disk.specs.Memory.{Medium, patch, refuses, after_call, is_stopped, armed, tear, torn_by, counted, stored, synced, after_read, after_write, after_sync, powered, fresh, memory_tells, memory_view};
+ghost use Rattle.zb_disk.specs.MemoryInside.{flags_around, IsBeyond, IsOutside};
 ghost use Rattle.zb_disk.specs.MemoryLaws.{image_seen};
 
 use crate::Disk;
@@ -16,6 +16,9 @@ use zb_base::{Failed, NoMemory};
 
 /// The bytes of a disk.
 const SIZE: usize = 131_072;
+
+/// Where the second half of a disk begins. A store writes at the front of each half.
+const MIDDLE: usize = 65_536;
 
 /// Says which calls a disk in memory is going to refuse.
 #[derive(Clone, Copy, Debug, PartialEq, Eq)]
@@ -70,14 +73,38 @@ fn arm(arming: &mut Arming, next: Arming)
     }
 }
 
+// How far a disk was written since it was made new: each byte before `low`, and from the middle to before `high`, may
+// be any. All others are 00.
+#[derive(Clone, Copy)]
+struct Extent {
+    low: usize,
+    high: usize,
+}
+
+impl Extent {
+    // Takes in what was written from a place to before another.
+    fn include(&mut self, start: usize, end: usize)
+        ensures { (k : ℕ) → IsBeyond self.new k → IsBeyond self.old k × IsOutside start end k }
+    {
+        if start < MIDDLE {
+            self.low = self.low.max(end);
+        } else {
+            self.high = self.high.max(end);
+        }
+    }
+}
+
 /// Stores its bytes in memory, refuses the calls that it is armed for, and tears what a stop catches.
 ///
 /// Its room is taken when it is made, and its other calls take no memory. It tells what it reads and its images, that
 /// a refused call leaves all as it was, and which calls it will refuse. It tells nothing of past moments.
 #[derive(Drop)]
 pub struct MemDisk {
-    // What is read.
+    // What is read, as many bytes as `len` says, and 00 behind it.
     bytes: Vec<u8>,
+    len: usize,
+    // How far the bytes were written. Where the disk is made new, no more of them than that is cleared.
+    extent: Extent,
     // Where the newest write that isn't synced begins and ends.
     from: usize,
     to: usize,
@@ -116,6 +143,11 @@ impl MemDisk {
         content.extend_from_slice(bytes)?;
         Ok(MemDisk {
             bytes: content,
+            len: bytes.len(),
+            extent: Extent {
+                low: bytes.len(),
+                high: 0,
+            },
             from: 0,
             to: 0,
             base: 0,
@@ -128,11 +160,14 @@ impl MemDisk {
         })
     }
 
-    /// Makes a used disk a new one of no bytes, in the room that it has. It takes no memory.
+    /// Makes a used disk a new one of no bytes, in the room that it has. It takes no memory, and clears only what was
+    /// written.
     pub fn renew(&mut self)
         ensures { self.new ≡ fresh [] }
     {
-        self.bytes.clear();
+        wipe(&mut self.bytes, self.extent);
+        self.len = 0;
+        self.extent = Extent { low: 0, high: 0 };
         self.from = 0;
         self.to = 0;
         self.base = 0;
@@ -148,7 +183,7 @@ impl MemDisk {
     pub fn bytes(&self) -> &[u8]
         ensures { result.now ≡ self.now.bytes }
     {
-        self.bytes.as_slice()
+        &self.bytes[..self.len]
     }
 
     /// Answers whether a stop has fired and the power isn't back.
@@ -209,6 +244,8 @@ impl MemDisk {
             return;
         }
         self.base = add(&mut self.written, self.base, self.from, self.to);
+        self.extent
+            .include(self.base, self.base + self.written.len());
         tear_all(
             &mut self.bytes,
             self.base,
@@ -254,8 +291,10 @@ impl MemDisk {
         ensures { self.new ≡ stored self.old start piece.now }
     {
         let end = start + piece.len();
-        self.grown += end.saturating_sub(self.bytes.len());
+        self.grown += end.saturating_sub(self.len);
         put(&mut self.bytes, start, piece);
+        self.len = self.len.max(end);
+        self.extent.include(start, end);
         self.base = add(&mut self.written, self.base, self.from, self.to);
         self.from = start;
         self.to = end;
@@ -292,7 +331,7 @@ impl Disk for MemDisk {
         if self.refuses_read() {
             return Err(Failed);
         }
-        Ok(self.bytes.len() as u64)
+        Ok(self.len as u64)
     }
 
     fn read(&mut self, at: u64, buf: &mut [u8]) -> Result<(), Failed>
@@ -303,7 +342,7 @@ impl Disk for MemDisk {
         if self.refuses_read() {
             return Err(Failed);
         }
-        copy_window(&self.bytes, at, buf);
+        copy_window(&self.bytes[..self.len], at, buf);
         Ok(())
     }
 
@@ -347,6 +386,35 @@ fn blank(buf: &mut [u8], from: usize)
     ensures { buf.new ≡ take from buf.old ++ replicate (length buf.old - from) 0 }
 {
     buf[from..].fill(0);
+}
+
+// Puts 00 into the bytes from a place to before another.
+fn blank_range(bytes: &mut [u8], start: usize, end: usize)
+    requires order { start ≤ end }
+    requires within { end ≤ length bytes.old }
+    ensures { bytes.new ≡ patch bytes.old start (replicate (end - start) 0) }
+{
+    bytes[start..end].fill(0);
+}
+
+// Puts 00 into the bytes from a place to before another, as far as there are bytes.
+fn clear(bytes: &mut [u8], from: usize, to: usize)
+    ensures inside { (k : ℕ) → from ≤ k → k < to → get_or bytes.new k 0 ≡ 0 }
+    ensures others { (k : ℕ) → get_or bytes.old k 0 ≡ 0 → get_or bytes.new k 0 ≡ 0 }
+{
+    let end = to.min(bytes.len());
+    blank_range(bytes, from.min(end), end);
+}
+
+// Puts 00 into all bytes that were written.
+fn wipe(bytes: &mut Vec<u8>, extent: Extent)
+    requires { (k : ℕ) → IsBeyond extent k → get_or bytes.old.items k 0 ≡ 0 }
+    ensures after { (k : ℕ) → get_or bytes.new.items k 0 ≡ 0 }
+    ensures size { vec_len bytes.new ≡ vec_len bytes.old }
+    ensures room { vec_capacity bytes.new ≡ vec_capacity bytes.old }
+{
+    clear(bytes, 0, extent.low);
+    clear(bytes, MIDDLE, extent.high);
 }
 
 // Each longest run of written bytes becomes the pattern, repeated, if there is one. The flags begin at `base`.

@@ -12,8 +12,11 @@ invariant_of-self c =
       flags = omega (arith, kept.flags, cleared.len);
       order = omega arith;
       last = omega arith;
+      within = kept.within;
       size = kept.size;
       grown = omega arith;
+      behind = kept.behind;
+      beyond = kept.beyond;
       room = kept.room;
       room_flags = omega (arith, kept.room_flags, cleared.capacity);
     }
@@ -26,9 +29,9 @@ pub returns : goal.returns
 returns c =
     let kept = c.self.invariant in
     let old = c.self.inside in
-    let n = length old.bytes.items in
-    let within : old.base + length old.written.items ≤ n = omega (arith, kept.flags, old.bytes.ok.0, old.written.ok.0) in
-    let all = length-flags old.base old.written.items n old.from old.to within kept.order (omega (arith, kept.last, old.bytes.ok.0)) in
+    let n = old.len in
+    let within : old.base + length old.written.items ≤ n = omega (arith, kept.flags, old.written.ok.0) in
+    let all = length-flags old.base old.written.items n old.from old.to within kept.order kept.last in
     let flags = around_emptied old.base old.written.items c.clear.new.self.items n within c.clear.ensures.items in
     lowered_is (medium_of old) (flags_around old.base c.clear.new.self.items n)
     (flags ∙ ap (λ (i : ℕ). replicate i false) (length-around old.base old.written.items n within ∙ sym all))
