@@ -83,8 +83,7 @@ fn read_frame(reader: &mut Reader<NwkError>) -> Result<NwkFrame, NwkError>
     ensures found { IfOk result (λ f. IsFrame reader.old.rest.now f) }
 {
     let header = read_header(reader)?;
-    let frame = read_content(reader, header)?;
-    Ok(frame)
+    read_content(reader, header)
 }
 
 #[tactic(auto, unfolding(crate::specs::Reading::frame_of))]
@@ -101,8 +100,7 @@ fn read_whole(bytes: &[u8]) -> Result<NwkFrame, NwkError>
             at: bytes.len() as u32,
         },
     };
-    let frame = read_frame(&mut reader)?;
-    Ok(frame)
+    read_frame(&mut reader)
 }
 
 /// Reads the NWK frame that all of the bytes are.

@@ -1,5 +1,5 @@
 //! Sets of terms.
-ghost use Rattle.std.specs.Prelude.{◌≡◌, ◌||◌, ◌++◌, ◌+◌, ◌≤◌, length, OnOk, false};
+ghost use Rattle.std.specs.Prelude.{◌≡◌, [], ◌||◌, ◌++◌, ◌+◌, ◌≤◌, length, OnOk, false};
 ghost use Rattle.zb_model.specs.Secrets.{same_term};
 ghost use Rattle.zb_model_real.specs.Terms.{model_term};
 ghost use Rattle.zb_seal.specs.declared.term.Term.{Term};
@@ -38,7 +38,9 @@ impl Terms {
     pub fn has(&self, term: &Term) -> bool
         ensures { result ≡ has_term self.now term.now }
     {
-        self.terms.contains(bytes_of(term).as_slice())
+        let mut bytes = ArrayVec::new();
+        put_bytes(&mut bytes, term);
+        self.terms.contains(bytes.as_slice())
     }
 
     /// Adds a term.
@@ -46,26 +48,27 @@ impl Terms {
         ensures { OnOk result ((t : Term)
             → has_term self.new t ≡ (has_term self.old t || same_term (model_term t) (model_term term.now))) }
     {
-        let bytes = Vec::from_slice(self.alloc, bytes_of(term).as_slice())?;
+        let mut room = ArrayVec::new();
+        put_bytes(&mut room, term);
+        let bytes = Vec::from_slice(self.alloc, room.as_slice())?;
         self.terms.insert(bytes)?;
         Ok(())
     }
 }
 
-// Makes the bytes of a term.
-fn bytes_of(term: &Term) -> TermBytes
-    ensures { result.items ≡ term_bytes term.now }
+// Puts the bytes of a term into room that is empty.
+fn put_bytes(bytes: &mut TermBytes, term: &Term)
+    requires { bytes.old.items ≡ [] }
+    ensures { bytes.new.items ≡ term_bytes term.now }
 {
-    let mut bytes = ArrayVec::new();
-    put(&mut bytes, &low_bytes_4(term.counter));
-    put(&mut bytes, &[layer_number(term.layer), 16]);
-    put(&mut bytes, &term.base.0);
-    put(&mut bytes, &[label_number(term.label)]);
-    put(&mut bytes, &low_bytes_8(term.source.0));
-    put(&mut bytes, &[term.control, term.header.len() as u8]);
-    put(&mut bytes, term.header.as_slice());
-    put(&mut bytes, term.content.as_slice());
-    bytes
+    put(bytes, &low_bytes_4(term.counter));
+    put(bytes, &[layer_number(term.layer), 16]);
+    put(bytes, &term.base.0);
+    put(bytes, &[label_number(term.label)]);
+    put(bytes, &low_bytes_8(term.source.0));
+    put(bytes, &[term.control, term.header.len() as u8]);
+    put(bytes, term.header.as_slice());
+    put(bytes, term.content.as_slice());
 }
 
 // Puts the bytes at the end, where they have room.
