@@ -1,5 +1,6 @@
 -- A plan whose fields are these is the answer of what was decided.
-use Rattle.std.proofs.Common.{◌≡◌, List, [], map, refl, sym, ap, ◌∙◌, subst, Option, Some, None, option_map, Result, Ok, Err}
+use Rattle.std.proofs.Common.{◌≡◌, ℕ, List, [], map, refl, sym, ap, ◌∙◌, subst, Option, Some, None, option_map, Result, Ok, Err}
+use Rattle.arrayvec.specs.ArrayVec.{ArrayVec}
 use Rattle.zb_host.specs.declared.outcome.Outcome.{Outcome}
 use Rattle.zb_host.specs.declared.plan.Plan.{Plan}
 use Rattle.zb_model.specs.Answer.{Outgoing, answer_by, counting_of, out_of, may_seal, comes_to, Counting}
@@ -20,7 +21,6 @@ use Rattle.zb_rules.specs.declared.effect.Effect.{Effect}
 use Rattle.zb_seal.specs.declared.term.Term.{Term}
 use Rattle.zb_send.specs.Sendings.{sending_of}
 use Rattle.zb_send.specs.Sent.{IsCounting, seals_of, sent_seen}
-use Rattle.zb_send.specs.declared.sent.Sent.{Sent}
 
 apart_terms : (nwk aps : Option Term) → IsNwk nwk → IsAps aps → Apart (terms nwk aps)
 apart_terms None None n a = tt
@@ -77,18 +77,18 @@ both_same a b x y e = (ap first e, ap second e)
     second (Ok p) = p.1
     second (Err why) = None
 
-done_by : (c : Setting) (s : NodeState) (r : Plan (Outcome Term Refusal)) (nwk aps : Option Term) (effect : Effect) (sent : Sent) (accepts : List model.Term) (place : Place) (outcome : rules.Outcome)
+done_by : (c : Setting) (s : NodeState) (r : Plan (Outcome Term Refusal)) (nwk aps : Option Term) (effect : Effect) (sealed_aps sealed_nwk : Option Term) (frame : Option (ArrayVec ℕ)) (accepts : List model.Term) (place : Place) (outcome : rules.Outcome)
     → IsNwk nwk → IsAps aps → terms nwk aps ≡ accepts → decided (Ok effect) ≡ told outcome
     → edits r.changes.items ≡ stored_edits c s (terms nwk aps) (edits effect.changes.items) (option_map sending_of effect.sending)
-    → ((k : Counting) → IsCounting s k → sent_seen sent ≡ out_of real c s k (option_map sending_of effect.sending))
-    → r.out ≡ record { accepted_nwk = nwk; accepted_aps = aps; refused = None; sealed_aps = sent.aps; sealed_nwk = sent.nwk; frame = sent.frame }
+    → ((k : Counting) → IsCounting s k → sent_seen sealed_aps sealed_nwk frame ≡ out_of real c s k (option_map sending_of effect.sending))
+    → r.out ≡ record { accepted_nwk = nwk; accepted_aps = aps; refused = None; sealed_aps = sealed_aps; sealed_nwk = sealed_nwk; frame = frame }
     → IsAnswer r (answer_to real c s (comes_to accepts place outcome))
 unfolding answer_by counting_of
-done_by c s r nwk aps effect sent accepts place (Stop why) n a es d ch go out = absurd cc
-done_by c s r nwk aps effect sent accepts place (Does moves send) n a es d ch go out =
+done_by c s r nwk aps effect sealed_aps sealed_nwk frame accepts place (Stop why) n a es d ch go out = absurd cc
+done_by c s r nwk aps effect sealed_aps sealed_nwk frame accepts place (Does moves send) n a es d ch go out =
     let p = comes_to accepts place (Does moves send) in
     let same = both_same (edits effect.changes.items) (map Moved moves) (option_map sending_of effect.sending) send d in
-    let gone : sent_seen sent ≡ out_of real c s (counting_of c s p) send = go (counting_of c s p) (record { nwk = refl; aps = refl }) ∙ ap (λ o. out_of real c s (counting_of c s p) o) same.1 in
+    let gone : sent_seen sealed_aps sealed_nwk frame ≡ out_of real c s (counting_of c s p) send = go (counting_of c s p) (record { nwk = refl; aps = refl }) ∙ ap (λ o. out_of real c s (counting_of c s p) o) same.1 in
     record {
       changes = ch ∙ ap (λ l. stored_edits c s l (edits effect.changes.items) (option_map sending_of effect.sending)) es
           ∙ ap (λ l. stored_edits c s accepts l (option_map sending_of effect.sending)) same.0
@@ -97,14 +97,14 @@ done_by c s r nwk aps effect sent accepts place (Does moves send) n a es d ch go
       accepts = rw out es;
       refusal = rw out refl;
       place = rw out tt;
-      seals = rw out (terms_seals sent.aps sent.nwk ∙ ap (λ (o : Outgoing). o.seals) gone);
+      seals = rw out (terms_seals sealed_aps sealed_nwk ∙ ap (λ (o : Outgoing). o.seals) gone);
       frame = rw out (ap (λ (o : Outgoing). o.frame) gone);
     }
 
-pub done_answer : (c : Setting) (s : NodeState) (r : Plan (Outcome Term Refusal)) (nwk aps : Option Term) (effect : Effect) (sent : Sent) (p : rules.Plan)
+pub done_answer : (c : Setting) (s : NodeState) (r : Plan (Outcome Term Refusal)) (nwk aps : Option Term) (effect : Effect) (sealed_aps sealed_nwk : Option Term) (frame : Option (ArrayVec ℕ)) (p : rules.Plan)
     → IsNwk nwk → IsAps aps → IsDecision (record { nwk = nwk; aps = aps; effect = Ok effect }) p
     → edits r.changes.items ≡ stored_edits c s (terms nwk aps) (edits effect.changes.items) (option_map sending_of effect.sending)
-    → ((k : Counting) → IsCounting s k → sent_seen sent ≡ out_of real c s k (option_map sending_of effect.sending))
-    → r.out ≡ record { accepted_nwk = nwk; accepted_aps = aps; refused = None; sealed_aps = sent.aps; sealed_nwk = sent.nwk; frame = sent.frame }
+    → ((k : Counting) → IsCounting s k → sent_seen sealed_aps sealed_nwk frame ≡ out_of real c s k (option_map sending_of effect.sending))
+    → r.out ≡ record { accepted_nwk = nwk; accepted_aps = aps; refused = None; sealed_aps = sealed_aps; sealed_nwk = sealed_nwk; frame = frame }
     → IsAnswer r (answer_to real c s p)
-done_answer c s r nwk aps effect sent p n a d ch go out = done_by c s r nwk aps effect sent p.accepts p.place p.outcome n a d.accepts d.outcome ch go out
+done_answer c s r nwk aps effect sealed_aps sealed_nwk frame p n a d ch go out = done_by c s r nwk aps effect sealed_aps sealed_nwk frame p.accepts p.place p.outcome n a d.accepts d.outcome ch go out

@@ -22,7 +22,7 @@ use zb_network::Network;
 use zb_node_types::{Changes, Refusal};
 use zb_rules::Effect;
 use zb_seal::{KeyMemo, Term};
-use zb_send::{Sent, send_out};
+use zb_send::send_out;
 
 /// Lists all that an effect stores: reserves, floors, and the changes that change something.
 fn store(
@@ -87,15 +87,6 @@ fn plan_refusal(
     out.frame = None;
 }
 
-/// Makes what goes out by an effect.
-fn sent_by(network: &Network, tables: &Tables, memo: &KeyMemo, effect: &Effect) -> Sent
-    requires { CanBeSent effect.now.sending }
-    ensures { (k : Counting) → IsCounting tables.now k
-        → sent_seen result ≡ out_of real network.now tables.now k (option_map sending_of effect.now.sending) }
-{
-    send_out(network, tables, memo, &effect.sending)
-}
-
 /// Plans an effect, behind the terms that were accepted.
 fn plan_effect(
     network: &Network,
@@ -119,11 +110,16 @@ fn plan_effect(
         &out.accepted_aps,
         effect,
     );
-    let sent = sent_by(network, tables, memo, effect);
     out.refused = None;
-    out.sealed_aps = sent.aps;
-    out.sealed_nwk = sent.nwk;
-    out.frame = sent.frame;
+    send_out(
+        network,
+        tables,
+        memo,
+        &effect.sending,
+        &mut out.sealed_aps,
+        &mut out.sealed_nwk,
+        &mut out.frame,
+    );
 }
 
 /// Plans an event, behind the terms that were accepted of its frame and stand in `plan`.

@@ -6,15 +6,15 @@ use Rattle.zb_model.specs.Data as words
 use Rattle.zb_model.specs.State.{NodeState, next_counter}
 use Rattle.zb_model_real.specs.Terms.{model_term}
 use Rattle.zb_seal.specs.declared.term.Term.{Term}
-use Rattle.zb_send.specs.declared.sent.Sent.{Sent}
 
 -- the terms of a frame, APS before NWK
 abbrev pub seals_of : Option Term → Option Term → List words.Term
 seals_of aps None = option_to_list (option_map model_term aps)
 seals_of aps (Some nwk) = option_to_list (option_map model_term aps) ++ model_term nwk ∷ []
 
-abbrev pub sent_seen : Sent → model.Outgoing
-sent_seen s = record { seals = seals_of s.aps s.nwk; frame = option_map (λ (f : ArrayVec ℕ). f.items) s.frame }
+-- what goes out: the sealed terms and the frame
+abbrev pub sent_seen : Option Term → Option Term → Option (ArrayVec ℕ) → model.Outgoing
+sent_seen aps nwk frame = record { seals = seals_of aps nwk; frame = option_map (λ (f : ArrayVec ℕ). f.items) frame }
 
 -- the counters of a frame are the next ones of the state
 pub record IsCounting (s : NodeState) (k : model.Counting) : Type 0 where

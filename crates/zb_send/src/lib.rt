@@ -11,4 +11,4 @@ pub use headers::{
 };
 pub use part::{Part, part_of};
 pub use sending::{Body, Payload, Sending};
-pub use sent::{Sent, may_seal, reserve, send_out};
+pub use sent::{may_seal, reserve, send_out};

@@ -23,17 +23,6 @@ use zb_network::Network;
 use zb_rows::{is_spent, next_counter, stored_limit};
 use zb_seal::{KeyMemo, Term};
 
-/// What goes out.
-#[derive(Debug, Drop)]
-pub struct Sent {
-    /// What is sealed at the APS layer.
-    pub aps: Option<Term>,
-    /// What is sealed at the NWK layer.
-    pub nwk: Option<Term>,
-    /// The frame.
-    pub frame: Option<Frame>,
-}
-
 /// Makes the term of a NWK frame under a network key.
 fn nwk_term(
     network: &Network,
@@ -61,84 +50,108 @@ fn nwk_term(
     }
 }
 
-/// Makes nothing of what can't be sealed.
-fn nothing() -> Sent
-    ensures { sent_seen result ≡ nothing_out }
+/// Puts out nothing of what can't be sealed.
+fn put_nothing(
+    sealed_aps: &mut Option<Term>,
+    sealed_nwk: &mut Option<Term>,
+    frame: &mut Option<Frame>,
+)
+    ensures { sent_seen sealed_aps.new sealed_nwk.new frame.new ≡ nothing_out }
 {
-    Sent {
-        aps: None,
-        nwk: None,
-        frame: None,
-    }
+    *sealed_aps = None;
+    *sealed_nwk = None;
+    *frame = None;
 }
 
-/// Makes the frame of a part, not sealed at the NWK layer.
-fn plain(network: &Network, to: Short, part: Part) -> Sent
+/// Puts out the frame of a part, not sealed at the NWK layer.
+fn put_plain(
+    network: &Network,
+    to: Short,
+    part: Part,
+    sealed_aps: &mut Option<Term>,
+    sealed_nwk: &mut Option<Term>,
+    frame: &mut Option<Frame>,
+)
     requires { length part.bytes.items ≤ 119 }
-    ensures { sent_seen result ≡ plain_out network.now to.0 (part_seen part) }
+    ensures { sent_seen sealed_aps.new sealed_nwk.new frame.new ≡ plain_out network.now to.0 (part_seen part) }
 {
     let header = nwk_header(0x0008, to, network.short(), 0);
-    let frame = joined(header.as_slice(), part.bytes.as_slice());
-    Sent {
-        aps: part.seal,
-        nwk: None,
-        frame: Some(frame),
-    }
+    *frame = Some(joined(header.as_slice(), part.bytes.as_slice()));
+    *sealed_aps = part.seal;
+    *sealed_nwk = None;
 }
 
-/// Makes the frame of a part, sealed under a network key.
-fn secured(
+/// Puts out the frame of a part, sealed under a network key.
+fn put_secured(
     network: &Network,
     memo: &KeyMemo,
     to: Short,
     counter: u32,
     row: &NetRow,
     part: Part,
-) -> Sent
+    sealed_aps: &mut Option<Term>,
+    sealed_nwk: &mut Option<Term>,
+    frame: &mut Option<Frame>,
+)
     requires { length part.bytes.items ≤ 101 }
-    ensures { sent_seen result ≡ secured_out real network.now to.0 counter (net_key row.now) (part_seen part) }
+    ensures { sent_seen sealed_aps.new sealed_nwk.new frame.new
+        ≡ secured_out real network.now to.0 counter (net_key row.now) (part_seen part) }
 {
     let term = nwk_term(network, part.control, to, counter, row, part.bytes);
-    let frame = sealed(memo, &term);
-    Sent {
-        aps: part.seal,
-        nwk: Some(term),
-        frame: Some(frame),
-    }
+    *frame = Some(sealed(memo, &term));
+    *sealed_aps = part.seal;
+    *sealed_nwk = Some(term);
 }
 
-/// Makes the frame of a part, under the active network key where it is to be sealed.
-fn framed(
+/// Puts out the frame of a part, under the active network key where it is to be sealed.
+fn put_framed(
     network: &Network,
     tables: &Tables,
     memo: &KeyMemo,
     sending: &Sending,
     counter: u32,
     part: Part,
-) -> Sent
+    sealed_aps: &mut Option<Term>,
+    sealed_nwk: &mut Option<Term>,
+    frame: &mut Option<Frame>,
+)
     requires { length part.bytes.items ≤ room sending.now.secured }
-    ensures { sent_seen result ≡ framed real network.now sending.now.to.0 counter sending.now.secured
-        (active_row tables.now) (part_seen part) }
+    ensures { sent_seen sealed_aps.new sealed_nwk.new frame.new ≡ framed real network.now sending.now.to.0 counter
+        sending.now.secured (active_row tables.now) (part_seen part) }
 {
+    let to = sending.to;
     if !sending.secured {
-        return plain(network, sending.to, part);
+        put_plain(network, to, part, sealed_aps, sealed_nwk, frame);
+        return;
     }
     match tables.active_row() {
-        None => nothing(),
-        Some(row) => secured(network, memo, sending.to, counter, row, part),
+        None => put_nothing(sealed_aps, sealed_nwk, frame),
+        Some(row) => put_secured(
+            network, memo, to, counter, row, part, sealed_aps, sealed_nwk, frame,
+        ),
     }
 }
 
-/// Makes what goes out of what is to be sent, with the next counters.
-fn send_one(network: &Network, tables: &Tables, memo: &KeyMemo, sending: &Sending) -> Sent
+/// Puts out what is to be sent, with the next counters.
+fn send_one(
+    network: &Network,
+    tables: &Tables,
+    memo: &KeyMemo,
+    sending: &Sending,
+    sealed_aps: &mut Option<Term>,
+    sealed_nwk: &mut Option<Term>,
+    frame: &mut Option<Frame>,
+)
     requires { IsSendable sending.now }
-    ensures { (k : Counting) → IsCounting tables.now k
-        → sent_seen result ≡ sent real network.now tables.now k (Some (sending_of sending.now)) }
+    ensures { (k : Counting) → IsCounting tables.now k → sent_seen sealed_aps.new sealed_nwk.new frame.new
+        ≡ sent real network.now tables.now k (Some (sending_of sending.now)) }
 {
     let nwk = next_counter(tables, Layer::Nwk);
     let aps = next_counter(tables, Layer::Aps);
     let part = part_of(memo, network.eui(), nwk, aps, sending);
-    framed(network, tables, memo, sending, nwk, part)
+    put_framed(
+        network, tables, memo, sending, nwk, part, sealed_aps, sealed_nwk, frame,
+    );
 }
 
 /// Tells whether something is sealed at the APS layer.
@@ -218,27 +231,33 @@ pub fn reserve(
     }
 }
 
-/// Makes what goes out of what is to be sent, if anything is, with the node's next counters.
+/// Puts out what is to be sent, if anything is, with the node's next counters: the terms that are sealed and the frame.
 ///
-/// Nothing goes out where the node lacks a key or a counter for it. A key that the memo lacks is expanded.
+/// Nothing goes out where the node lacks a key or a counter for it. A key that the memo lacks is expanded. What stood in
+/// the three places is gone.
 #[tactic(auto, unfolding(zb_model::specs::Answer::out_of))]
 pub fn send_out(
     network: &Network,
     tables: &Tables,
     memo: &KeyMemo,
     sending: &Option<Sending>,
-) -> Sent
+    sealed_aps: &mut Option<Term>,
+    sealed_nwk: &mut Option<Term>,
+    frame: &mut Option<Frame>,
+)
     requires { CanBeSent sending.now }
-    ensures { (k : Counting) → IsCounting tables.now k
-        → sent_seen result ≡ out_of real network.now tables.now k (option_map sending_of sending.now) }
+    ensures { (k : Counting) → IsCounting tables.now k → sent_seen sealed_aps.new sealed_nwk.new frame.new
+        ≡ out_of real network.now tables.now k (option_map sending_of sending.now) }
 {
     match sending {
-        None => nothing(),
+        None => put_nothing(sealed_aps, sealed_nwk, frame),
         Some(sending) => {
             if may_seal(tables, sending) {
-                send_one(network, tables, memo, sending)
+                send_one(
+                    network, tables, memo, sending, sealed_aps, sealed_nwk, frame,
+                );
             } else {
-                nothing()
+                put_nothing(sealed_aps, sealed_nwk, frame);
             }
         }
     }
