@@ -1,4 +1,8 @@
-pub mod Lengths
+pub mod Bits
+pub mod CodeTexts
+pub mod Folds
 pub mod Ranges
+pub mod Said
 pub mod Seeds
-pub mod Texts
+pub mod Wholes
+pub mod WordTexts

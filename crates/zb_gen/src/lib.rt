@@ -2,9 +2,12 @@
 //! made, and the network key is rolled over, all from the words of a generator.
 #![tactic(auto)]
 
+mod codes;
 mod lines;
+mod made;
 mod maker;
 mod steps;
 mod words;
 
-pub use maker::{GenFault, make};
+pub use made::make;
+pub use maker::GenFault;

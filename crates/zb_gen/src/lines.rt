@@ -2,262 +2,298 @@
 
 ghost use Rattle.std.specs.Prelude.{◌≡◌, ◌+◌, ◌*◌, ◌-◌, ◌<◌, ◌≤◌, ◌++◌, [], ◌∷◌, map, codes, decimal, OnOk};
 ghost use Rattle.std.specs.List.{range_with_len, flat_map};
-ghost use Rattle.hex.specs.Hex.{encode_upper};
-ghost use Rattle.zb_text.specs.Fields.{eui_text, short_text};
-ghost use Rattle.zb_text.specs.Pages.{ended, line_of_words, page};
-ghost use Rattle.zb_text.specs.Words.{then};
-ghost use Rattle.zb_gen.specs.Made.{code_line, code_word, deliver_line, draw_line, join_lines, netkey_line, node_line, node_name, own_line, role_word};
-ghost use Rattle.zb_gen.specs.Words.{key_at};
+ghost use Rattle.arrayvec.specs.ArrayString.{array_string_len};
+ghost use Rattle.zb_text.specs.Choices.{role_text};
+ghost use Rattle.zb_text.specs.Pages.{line_of_words};
+ghost use Rattle.zb_sched_line.specs.Said.{Happens, Introduces};
+ghost use Rattle.zb_sched_line.specs.Views.{event_of};
+ghost use Rattle.zb_gen.specs.Made.{centre_line, code_line, code_word, deliver_line, draw_line, join_lines, netkey_line, node_line, node_name, own_line, role_word};
+ghost use Rattle.zb_gen.specs.Progress.{after_sentence, after_texts, Comes};
 
-use crate::words::key_from;
-use std::alloc::AllocError;
-use zb_base::{Eui, Short};
-use zb_install::crc;
-use zb_text::hexadecimal::put_digits;
-use zb_text::numbers::put_number;
-use zb_text::page::{add_eui, add_number, add_short, add_word, end_line, put};
+use crate::codes::Codes;
+use crate::maker::{GenFault, Maker};
+use crate::words::Words;
+use zb_base::{Eui, Name, Peer, Role, Short};
+use zb_sched_line::{Event, Line};
 
-/// Prints the name of a node behind a space.
-#[tactic(auto, using(std::proofs::Common::append_assoc))]
-pub fn add_node(out: &mut Vec<u8>, i: u32) -> Result<(), AllocError>
-    ensures { OnOk result (out.new.items ≡ out.old.items ++ then (node_name i)) }
+/// Makes the name of a node.
+pub fn name_of(i: u32) -> Name
+    requires { i ≤ 60 }
+    ensures { result.bytes ≡ node_name i }
 {
+    let mut name = Name::new();
     if i == 0 {
-        add_word(out, b"c")?;
+        name.push('c');
     } else {
-        add_word(out, b"d")?;
-        put_number(out, i)?;
+        name.push('d');
+        push_number(&mut name, i);
     }
-    Ok(())
+    name
 }
 
-#[tactic(auto, using(std::proofs::Common::append_assoc))]
-fn add_digits(out: &mut Vec<u8>, bytes: &[u8]) -> Result<(), AllocError>
-    ensures { OnOk result (out.new.items ≡ out.old.items ++ then (encode_upper bytes.now)) }
+fn push_number(name: &mut Name, i: u32)
+    requires { (i ≤ 60) × (array_string_len name.old ≤ 1) }
+    ensures { name.new.bytes ≡ name.old.bytes ++ decimal i }
 {
-    put(out, b" ")?;
-    put_digits(out, bytes)?;
-    Ok(())
+    if i < 10 {
+        name.push(digit(i));
+    } else {
+        name.push(digit(i / 10));
+        name.push(digit(i % 10));
+    }
 }
 
-fn role(i: u32) -> &'static [u8]
-    ensures { result.now ≡ role_word i }
+fn digit(number: u32) -> char
+    requires { number < 10 }
+    ensures { result ≡ 48 + number }
 {
-    if i % 5 == 1 { b"router" } else { b"device" }
+    (b'0' + number as u8) as char
 }
 
-#[tactic(auto, using(std::proofs::Common::append_assoc))]
-fn put_node_head(out: &mut Vec<u8>, i: u32) -> Result<(), AllocError>
-    ensures { OnOk result
-        (out.new.items ≡ out.old.items ++ (codes "node" ++ (then (node_name i) ++ then (role_word i)))) }
+fn role_of(i: u32) -> Role
+    ensures { role_text result ≡ role_word i }
 {
-    put(out, b"node")?;
-    add_node(out, i)?;
-    add_word(out, role(i))?;
-    Ok(())
+    if i % 5 == 1 {
+        Role::Router
+    } else {
+        Role::Device
+    }
 }
 
-#[tactic(auto, using(std::proofs::Common::append_assoc))]
-fn add_addresses(out: &mut Vec<u8>, i: u32) -> Result<(), AllocError>
-    requires { i ≤ 60 }
-    ensures { OnOk result (out.new.items ≡ out.old.items
-        ++ (then (eui_text (0x00124B0000000100 + i)) ++ (then (short_text (0x1000 + i)) ++ codes " 8 4\n"))) }
+fn take_node(maker: &mut Maker, peer: Peer) -> Result<(), GenFault>
+    requires { maker.old.line ≤ 30000 }
+    ensures line { Comes result maker.new (after_sentence maker.old
+        (Introduces peer.name.bytes peer.role peer.eui.0 peer.short.0 8 4)) }
+    ensures count { OnOk result (maker.new.line ≡ maker.old.line + 1) }
 {
-    add_eui(out, Eui(0x0012_4B00_0000_0100 + i as u64))?;
-    add_short(out, Short(0x1000 + i as u16))?;
-    put(out, b" 8 4\n")?;
-    Ok(())
+    maker.take(Line::Node {
+        peer,
+        out_block: 8,
+        in_block: 4,
+    })
 }
 
-fn put_node_line(out: &mut Vec<u8>, i: u32) -> Result<(), AllocError>
-    requires { i ≤ 60 }
-    ensures { OnOk result (out.new.items ≡ out.old.items ++ ended (node_line i)) }
+/// Takes the line of the centre.
+pub fn take_centre_line(maker: &mut Maker) -> Result<(), GenFault>
+    requires { maker.old.line ≤ 30000 }
+    ensures lines { Comes result maker.new (after_texts maker.old (centre_line ∷ [])) }
+    ensures count { OnOk result (maker.new.line ≡ maker.old.line + 1) }
 {
-    put_node_head(out, i)?;
-    add_addresses(out, i)?;
-    Ok(())
+    let peer = Peer {
+        name: name_of(0),
+        eui: Eui(0x0012_4B00_0000_0001),
+        short: Short(0),
+        role: Role::Centre,
+    };
+    take_node(maker, peer)
 }
 
-#[tactic(auto, using(std::proofs::Common::append_assoc))]
-fn add_code(out: &mut Vec<u8>, start: u32, i: u32) -> Result<(), AllocError>
-    requires { (1 ≤ i) × (i ≤ 60) }
-    ensures { OnOk result (out.new.items ≡ out.old.items ++ then (code_word start i)) }
+fn take_node_line(maker: &mut Maker, i: u32) -> Result<(), GenFault>
+    requires { (1 ≤ i) × (i ≤ 60) × (maker.old.line ≤ 30000) }
+    ensures lines { Comes result maker.new (after_texts maker.old (node_line i ∷ [])) }
+    ensures count { OnOk result (maker.new.line ≡ maker.old.line + 1) }
 {
-    let key = key_from(start, 4 * (i - 1));
-    let sum = crc(key.as_slice());
-    add_digits(out, key.as_slice())?;
-    put_digits(out, &sum.to_le_bytes())?;
-    Ok(())
+    let peer = Peer {
+        name: name_of(i),
+        eui: Eui(0x0012_4B00_0000_0100 + i as u64),
+        short: Short(0x1000 + i as u16),
+        role: role_of(i),
+    };
+    take_node(maker, peer)
 }
 
-#[tactic(auto, using(std::proofs::Common::append_assoc))]
-fn put_code_line(out: &mut Vec<u8>, start: u32, i: u32) -> Result<(), AllocError>
-    requires { (1 ≤ i) × (i ≤ 60) }
-    ensures { OnOk result (out.new.items ≡ out.old.items ++ ended (code_line start i)) }
+fn take_code_line(maker: &mut Maker, install_codes: &Codes, i: u32) -> Result<(), GenFault>
+    requires { (1 ≤ i) × (i ≤ install_codes.now.count) × (i ≤ 60) × (maker.old.line ≤ 30000) }
+    ensures lines { Comes result maker.new (after_texts maker.old (code_line install_codes.now.start i ∷ [])) }
+    ensures count { OnOk result (maker.new.line ≡ maker.old.line + 1) }
 {
-    put(out, b"code")?;
-    add_node(out, i)?;
-    add_code(out, start, i)?;
-    end_line(out)?;
-    Ok(())
+    maker.take(Line::Code {
+        name: name_of(i),
+        code: Some(install_codes.code(i)),
+    })
 }
 
-#[tactic(auto, using(std::proofs::Common::append_assoc))]
-fn put_netkey_line(out: &mut Vec<u8>, start: u32, n: u32) -> Result<(), AllocError>
-    requires { n ≤ 60 }
-    ensures { OnOk result (out.new.items ≡ out.old.items ++ ended (netkey_line start n)) }
+fn take_netkey_line(maker: &mut Maker, words: &mut Words, n: u32) -> Result<(), GenFault>
+    requires { (n ≤ 60) × (words.old.place ≡ 4 * n) × (maker.old.line ≤ 30000) }
+    ensures lines { Comes result maker.new (after_texts maker.old (netkey_line words.old.start n ∷ [])) }
+    ensures count { OnOk result (maker.new.line ≡ maker.old.line + 1) }
+    ensures words { words.new ≡ record { start = words.old.start; place = 4 * n + 4 } }
 {
-    put(out, b"netkey c")?;
-    add_digits(out, key_from(start, 4 * n).as_slice())?;
-    put(out, b" 0\n")?;
-    Ok(())
+    maker.take(Line::NetKey {
+        name: name_of(0),
+        key: words.key(),
+        sequence: 0,
+    })
 }
 
-#[tactic(auto, using(std::proofs::Common::append_assoc))]
-fn put_draw_line(out: &mut Vec<u8>, start: u32, n: u32, j: u32) -> Result<(), AllocError>
-    requires { (n ≤ 60) × (j ≤ 60) }
-    ensures { OnOk result (out.new.items ≡ out.old.items ++ ended (draw_line start n j)) }
+fn take_draw_line(maker: &mut Maker, words: &mut Words, n: u32, j: u32) -> Result<(), GenFault>
+    requires { (n ≤ 60) × (j ≤ 60) × (words.old.place ≡ 4 * n + 4 + 4 * j) × (maker.old.line ≤ 30000) }
+    ensures lines { Comes result maker.new (after_texts maker.old (draw_line words.old.start n j ∷ [])) }
+    ensures count { OnOk result (maker.new.line ≡ maker.old.line + 1) }
+    ensures words { words.new ≡ record { start = words.old.start; place = 4 * n + 8 + 4 * j } }
 {
-    put(out, b"draw")?;
-    add_digits(out, key_from(start, 4 * n + 4 + 4 * j).as_slice())?;
-    end_line(out)?;
-    Ok(())
+    maker.take(Line::Draw { key: words.key() })
 }
 
-/// Prints a line of a word and a node.
-#[tactic(auto, using(std::proofs::Common::append_assoc))]
-pub fn put_own_line(out: &mut Vec<u8>, word: &[u8], i: u32) -> Result<(), AllocError>
-    ensures { OnOk result (out.new.items ≡ out.old.items ++ ended (own_line word.now i)) }
+/// Takes the line of an event.
+pub fn take_event(maker: &mut Maker, event: Event) -> Result<(), GenFault>
+    requires { maker.old.line ≤ 30000 }
+    ensures line { Comes result maker.new (after_sentence maker.old (Happens (event_of event))) }
+    ensures count { OnOk result (maker.new.line ≡ maker.old.line + 1) }
 {
-    put(out, word)?;
-    add_node(out, i)?;
-    end_line(out)?;
-    Ok(())
+    maker.take(Line::Event(event))
 }
 
-/// Prints the line of a delivery.
-#[tactic(auto, using(std::proofs::Common::append_assoc))]
-pub fn put_deliver_line(out: &mut Vec<u8>, frame: u32, i: u32) -> Result<(), AllocError>
-    ensures { OnOk result (out.new.items ≡ out.old.items ++ ended (deliver_line frame i)) }
+/// Takes the line of a node's timer.
+pub fn take_timer_line(maker: &mut Maker, i: u32) -> Result<(), GenFault>
+    requires { (i ≤ 60) × (maker.old.line ≤ 30000) }
+    ensures lines { Comes result maker.new (after_texts maker.old (own_line (codes "timer") i ∷ [])) }
+    ensures count { OnOk result (maker.new.line ≡ maker.old.line + 1) }
 {
-    put(out, b"deliver")?;
-    add_number(out, frame)?;
-    add_node(out, i)?;
-    end_line(out)?;
-    Ok(())
+    take_event(maker, Event::Timer { name: name_of(i) })
 }
 
-#[tactic(auto, using(std::proofs::Common::append_assoc))]
-fn put_provision_line(out: &mut Vec<u8>, start: u32, i: u32) -> Result<(), AllocError>
-    requires { (1 ≤ i) × (i ≤ 60) }
-    ensures { OnOk result
-        (out.new.items ≡ out.old.items
-        ++ ended (line_of_words (codes "provision" ∷ node_name i ∷ code_word start i ∷ []))) }
+/// Takes the line of a delivery.
+pub fn take_deliver_line(maker: &mut Maker, frame: u32, i: u32) -> Result<(), GenFault>
+    requires { (1 ≤ frame) × (i ≤ 60) × (maker.old.line ≤ 30000) }
+    ensures lines { Comes result maker.new (after_texts maker.old (deliver_line frame i ∷ [])) }
+    ensures count { OnOk result (maker.new.line ≡ maker.old.line + 1) }
 {
-    put(out, b"provision")?;
-    add_node(out, i)?;
-    add_code(out, start, i)?;
-    end_line(out)?;
-    Ok(())
+    take_event(
+        maker,
+        Event::Deliver {
+            frame,
+            name: name_of(i),
+        },
+    )
 }
 
-#[tactic(auto, using(std::proofs::Common::append_assoc))]
-fn put_child_line(out: &mut Vec<u8>, i: u32) -> Result<(), AllocError>
-    ensures { OnOk result
-        (out.new.items ≡ out.old.items
-        ++ ended (line_of_words (codes "child" ∷ codes "c" ∷ node_name i ∷ codes "join" ∷ []))) }
+fn take_provision_line(maker: &mut Maker, install_codes: &Codes, i: u32) -> Result<(), GenFault>
+    requires { (1 ≤ i) × (i ≤ install_codes.now.count) × (i ≤ 60) × (maker.old.line ≤ 30000) }
+    ensures lines { Comes result maker.new (after_texts maker.old
+        (line_of_words (codes "provision" ∷ node_name i ∷ code_word install_codes.now.start i ∷ []) ∷ [])) }
+    ensures count { OnOk result (maker.new.line ≡ maker.old.line + 1) }
 {
-    put(out, b"child c")?;
-    add_node(out, i)?;
-    put(out, b" join\n")?;
-    Ok(())
+    take_event(
+        maker,
+        Event::Provision {
+            name: name_of(i),
+            code: install_codes.code(i),
+        },
+    )
 }
 
-#[tactic(auto, using(std::proofs::Common::append_assoc))]
-fn put_join(out: &mut Vec<u8>, start: u32, i: u32) -> Result<(), AllocError>
-    requires { (1 ≤ i) × (i ≤ 60) }
-    ensures { OnOk result (out.new.items ≡ out.old.items ++ page (join_lines start i)) }
+fn take_knock_line(maker: &mut Maker, i: u32) -> Result<(), GenFault>
+    requires { (i ≤ 60) × (maker.old.line ≤ 30000) }
+    ensures lines { Comes result maker.new (after_texts maker.old (own_line (codes "knock") i ∷ [])) }
+    ensures count { OnOk result (maker.new.line ≡ maker.old.line + 1) }
+{
+    take_event(maker, Event::Knock { name: name_of(i) })
+}
+
+fn take_child_line(maker: &mut Maker, i: u32) -> Result<(), GenFault>
+    requires { (i ≤ 60) × (maker.old.line ≤ 30000) }
+    ensures lines { Comes result maker.new (after_texts maker.old
+        (line_of_words (codes "child" ∷ codes "c" ∷ node_name i ∷ codes "join" ∷ []) ∷ [])) }
+    ensures count { OnOk result (maker.new.line ≡ maker.old.line + 1) }
+{
+    take_event(
+        maker,
+        Event::Child {
+            parent: name_of(0),
+            name: name_of(i),
+            rejoin: false,
+        },
+    )
+}
+
+fn take_join(maker: &mut Maker, install_codes: &Codes, i: u32) -> Result<(), GenFault>
+    requires { (1 ≤ i) × (i ≤ install_codes.now.count) × (i ≤ 60) × (maker.old.line ≤ 20000) }
+    ensures lines { Comes result maker.new (after_texts maker.old (join_lines install_codes.now.start i)) }
+    ensures count { OnOk result (maker.new.line ≡ maker.old.line + 10) }
 {
     let sent = 5 * (i - 1);
-    put_provision_line(out, start, i)?;
-    put_own_line(out, b"knock", i)?;
-    put_child_line(out, i)?;
-    put_deliver_line(out, sent + 1, i)?;
-    put_own_line(out, b"timer", i)?;
-    put_rest_of_join(out, sent, i)?;
-    Ok(())
+    take_provision_line(maker, install_codes, i)?;
+    take_knock_line(maker, i)?;
+    take_child_line(maker, i)?;
+    take_deliver_line(maker, sent + 1, i)?;
+    take_timer_line(maker, i)?;
+    take_rest_of_join(maker, sent, i)
 }
 
-#[tactic(auto, using(std::proofs::Common::append_assoc))]
-fn put_rest_of_join(out: &mut Vec<u8>, sent: u32, i: u32) -> Result<(), AllocError>
-    requires { sent ≤ 300 }
-    ensures { OnOk result
-        (out.new.items ≡ out.old.items
-        ++ page (deliver_line (sent + 2) 0 ∷ deliver_line (sent + 3) i ∷ own_line (codes "timer") i
+fn take_rest_of_join(maker: &mut Maker, sent: u32, i: u32) -> Result<(), GenFault>
+    requires { (i ≤ 60) × (sent ≤ 300) × (maker.old.line ≤ 25000) }
+    ensures lines { Comes result maker.new (after_texts maker.old
+        (deliver_line (sent + 2) 0 ∷ deliver_line (sent + 3) i ∷ own_line (codes "timer") i
         ∷ deliver_line (sent + 4) 0 ∷ deliver_line (sent + 5) i ∷ [])) }
+    ensures count { OnOk result (maker.new.line ≡ maker.old.line + 5) }
 {
-    put_deliver_line(out, sent + 2, 0)?;
-    put_deliver_line(out, sent + 3, i)?;
-    put_own_line(out, b"timer", i)?;
-    put_deliver_line(out, sent + 4, 0)?;
-    put_deliver_line(out, sent + 5, i)?;
-    Ok(())
+    take_deliver_line(maker, sent + 2, 0)?;
+    take_deliver_line(maker, sent + 3, i)?;
+    take_timer_line(maker, i)?;
+    take_deliver_line(maker, sent + 4, 0)?;
+    take_deliver_line(maker, sent + 5, i)
 }
 
-/// Prints the lines of all nodes but the centre.
-pub fn put_nodes(out: &mut Vec<u8>, n: u32) -> Result<(), AllocError>
-    requires { n ≤ 60 }
-    ensures { OnOk result (out.new.items ≡ out.old.items ++ page (map node_line (range_with_len 1 n))) }
+/// Takes the lines of all nodes but the centre.
+pub fn take_nodes(maker: &mut Maker, n: u32) -> Result<(), GenFault>
+    requires { (n ≤ 60) × (maker.old.line ≤ 10000) }
+    ensures lines { Comes result maker.new (after_texts maker.old (map node_line (range_with_len 1 n))) }
+    ensures count { OnOk result (maker.new.line ≤ maker.old.line + n) }
 {
     for i in 0..n {
-        put_node_line(out, i + 1)?;
+        take_node_line(maker, i + 1)?;
     }
     Ok(())
 }
 
-/// Prints the lines of all install codes, of the network key and of the supply.
-pub fn put_codes(out: &mut Vec<u8>, start: u32, n: u32) -> Result<(), AllocError>
-    requires { n ≤ 60 }
-    ensures { OnOk result (out.new.items ≡ out.old.items ++ page (map (λ i. code_line start i) (range_with_len 1 n))) }
+/// Takes the lines of all install codes.
+pub fn take_codes(maker: &mut Maker, install_codes: &Codes, n: u32) -> Result<(), GenFault>
+    requires { (n ≤ install_codes.now.count) × (n ≤ 60) × (maker.old.line ≤ 10000) }
+    ensures lines { Comes result maker.new
+        (after_texts maker.old (map (λ i. code_line install_codes.now.start i) (range_with_len 1 n))) }
+    ensures count { OnOk result (maker.new.line ≤ maker.old.line + n) }
 {
     for i in 0..n {
-        put_code_line(out, start, i + 1)?;
+        take_code_line(maker, install_codes, i + 1)?;
     }
     Ok(())
 }
 
-/// Prints the line of the network key and those of the supply.
-#[tactic(auto, using(std::proofs::Common::append_assoc))]
-pub fn put_supply(out: &mut Vec<u8>, start: u32, n: u32) -> Result<(), AllocError>
-    requires { n ≤ 60 }
-    ensures { OnOk result
-        (out.new.items ≡ out.old.items
-        ++ page (netkey_line start n ∷ map (λ j. draw_line start n j) (range_with_len 0 (n + 1)))) }
+/// Takes the line of the network key and those of the supply.
+pub fn take_supply(maker: &mut Maker, words: &mut Words, n: u32) -> Result<(), GenFault>
+    requires { (n ≤ 60) × (words.old.place ≡ 4 * n) × (maker.old.line ≤ 10000) }
+    ensures lines { Comes result maker.new (after_texts maker.old
+        (netkey_line words.old.start n ∷ map (λ j. draw_line words.old.start n j) (range_with_len 0 (n + 1)))) }
+    ensures count { OnOk result (maker.new.line ≤ maker.old.line + n + 2) }
+    ensures words { OnOk result (words.new ≡ record { start = words.old.start; place = 8 * n + 8 }) }
 {
-    put_netkey_line(out, start, n)?;
-    put_draws(out, start, n)?;
-    Ok(())
+    take_netkey_line(maker, words, n)?;
+    take_draws(maker, words, n)
 }
 
-fn put_draws(out: &mut Vec<u8>, start: u32, n: u32) -> Result<(), AllocError>
-    requires { n ≤ 60 }
-    ensures { OnOk result
-        (out.new.items ≡ out.old.items ++ page (map (λ j. draw_line start n j) (range_with_len 0 (n + 1)))) }
+fn take_draws(maker: &mut Maker, words: &mut Words, n: u32) -> Result<(), GenFault>
+    requires { (n ≤ 60) × (words.old.place ≡ 4 * n + 4) × (maker.old.line ≤ 20000) }
+    ensures lines { Comes result maker.new
+        (after_texts maker.old (map (λ j. draw_line words.old.start n j) (range_with_len 0 (n + 1)))) }
+    ensures count { OnOk result (maker.new.line ≤ maker.old.line + n + 1) }
+    ensures words { OnOk result (words.new ≡ record { start = words.old.start; place = 8 * n + 8 }) }
 {
     for j in 0..n + 1 {
-        put_draw_line(out, start, n, j)?;
+        take_draw_line(maker, words, n, j)?;
     }
     Ok(())
 }
 
-/// Prints the joins of all nodes.
-pub fn put_joins(out: &mut Vec<u8>, start: u32, n: u32) -> Result<(), AllocError>
-    requires { n ≤ 60 }
-    ensures { OnOk result
-        (out.new.items ≡ out.old.items ++ page (flat_map (λ i. join_lines start i) (range_with_len 1 n))) }
+/// Takes the joins of all nodes.
+pub fn take_joins(maker: &mut Maker, install_codes: &Codes, n: u32) -> Result<(), GenFault>
+    requires { (n ≤ install_codes.now.count) × (n ≤ 60) × (maker.old.line ≤ 10000) }
+    ensures lines { Comes result maker.new
+        (after_texts maker.old (flat_map (λ i. join_lines install_codes.now.start i) (range_with_len 1 n))) }
+    ensures count { OnOk result (maker.new.line ≤ maker.old.line + 10 * n) }
 {
     for i in 0..n {
-        put_join(out, start, i + 1)?;
+        take_join(maker, install_codes, i + 1)?;
     }
     Ok(())
 }

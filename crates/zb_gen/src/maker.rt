@@ -1,21 +1,17 @@
-//! A made schedule.
+//! A made schedule while its lines are taken, one after the other.
 
-ghost use Rattle.std.specs.Prelude.{◌≡◌, ◌≤◌, ◌++◌, IfOk, OnOk, Ok};
-ghost use Rattle.zb_sched.specs.Schedules.{schedule_of};
-ghost use Rattle.zb_sched.specs.Printed.{printed};
-ghost use Rattle.zb_sched.specs.Reading.{schedule_in};
-ghost use Rattle.zb_sched.specs.Valid.{IsSchedule};
-ghost use Rattle.zb_text.specs.Pages.{page};
-ghost use Rattle.zb_gen.specs.Made.{made_schedule, made_lines};
+ghost use Rattle.std.specs.Prelude.{◌≡◌, ◌+◌, ◌≤◌, [], OnOk};
+ghost use Rattle.zb_sched_line.specs.Views.{sentence_of};
+ghost use Rattle.zb_sched.specs.Reading.{reads};
 ghost use Rattle.zb_gen.specs.Faults.{Makes};
+ghost use Rattle.zb_gen.specs.Progress.{after_sentence, begun, Comes};
 ghost use Rattle.zb_gen.specs.declared.maker.GenFault.TheVariants.{NoMemory as lacks};
 
-use crate::lines::{put_codes, put_joins, put_nodes, put_supply};
-use crate::steps::{put_late, put_rollover, put_steps};
 use std::alloc::{AllocError, Global};
+use std::marker::Model;
 use zb_base::OrMemory;
-use zb_sched::{SchedCause, SchedError, Schedule, read};
-use zb_text::page::put;
+use zb_sched::{Draft, SchedCause, Schedule};
+use zb_sched_line::Line;
 
 /// Says why there is no made schedule.
 #[derive(Clone, Copy, Debug, PartialEq, Eq)]
@@ -34,35 +30,74 @@ impl From<AllocError> for GenFault {
     }
 }
 
-/// Makes the schedule of a start value for `n` routers and devices. Printed, it reads as itself. Requires 1 to 60 of
-/// them.
-#[tactic(auto, using(crate::proofs::Lengths::made_length))]
-pub fn make(alloc: Global, start: u32, n: u32) -> Result<Schedule, GenFault>
-    requires { (1 ≤ n) × (n ≤ 60) }
-    ensures exact { Makes result (made_schedule start n) }
-    ensures valid { IfOk result (λ schedule. IsSchedule (schedule_of schedule)) }
-    ensures again { IfOk result (λ schedule. schedule_in (printed (schedule_of schedule)) ≡ Ok (schedule_of schedule)) }
-{
-    let mut text = Vec::new(alloc);
-    put_made(&mut text, start, n)?;
-    match read(alloc, text.as_slice()) {
-        Ok(schedule) => Ok(schedule),
-        Err(OrMemory::Fault(SchedError { line, cause })) => Err(GenFault::Clash { line, cause }),
-        Err(OrMemory::NoMemory) => Err(GenFault::NoMemory),
-    }
+/// Takes the lines of a made schedule, and knows the number of the next one.
+#[derive(Drop)]
+pub struct Maker {
+    draft: Draft,
+    line: u32,
 }
 
-fn put_made(out: &mut Vec<u8>, start: u32, n: u32) -> Result<(), AllocError>
-    requires { (1 ≤ n) × (n ≤ 60) }
-    ensures { OnOk result (out.new.items ≡ out.old.items ++ page (made_lines start n)) }
-{
-    put(out, b"node c centre 00124B0000000001 0000 8 4\n")?;
-    put_nodes(out, n)?;
-    put_codes(out, start, n)?;
-    put_supply(out, start, n)?;
-    put_joins(out, start, n)?;
-    put_steps(out, start, n)?;
-    put_rollover(out, n)?;
-    put_late(out, start, n)?;
-    Ok(())
+impl Model for Maker {
+    ghost use Rattle.zb_gen.specs.Progress.{Progress};
+
+    ghost Value = { Progress };
+
+    ghost view = { λ m. record { line = m.line; seen = m.draft } };
+}
+
+impl Maker {
+    /// Makes a maker that stands before the first line.
+    pub fn new(alloc: Global) -> Maker
+        ensures { result ≡ begun }
+    {
+        Maker {
+            draft: Draft::new(alloc),
+            line: 1,
+        }
+    }
+
+    /// Makes room for so many events.
+    pub fn reserve(&mut self, events: u32) -> Result<(), AllocError>
+        ensures { self.new ≡ self.old }
+    {
+        self.draft.reserve(events as usize)
+    }
+
+    /// Takes a line. Requires that fewer than 30,000 were taken before it.
+    ///
+    /// # Errors
+    /// The number of the line and why it may not stand there; or want of memory.
+    pub fn take(&mut self, line: Line) -> Result<(), GenFault>
+        requires { self.old.line ≤ 30000 }
+        ensures line { Comes result self.new (after_sentence self.old (sentence_of line)) }
+        ensures count { OnOk result (self.new.line ≡ self.old.line + 1) }
+    {
+        match self.draft.take_line(line) {
+            Ok(()) => {}
+            Err(OrMemory::Fault(cause)) => return Err(GenFault::Clash {
+                line: self.line,
+                cause,
+            }),
+            Err(OrMemory::NoMemory) => return Err(GenFault::NoMemory),
+        }
+        self.line += 1;
+        Ok(())
+    }
+
+    /// Makes the schedule of the lines that were taken.
+    ///
+    /// # Errors
+    /// That no node is the centre, a fault behind the last line; or want of memory.
+    pub fn finish(self, alloc: Global) -> Result<Schedule, GenFault>
+        ensures { Makes result (reads self.line self.seen []) }
+    {
+        if !self.draft.has_centre() {
+            return Err(GenFault::Clash {
+                line: self.line,
+                cause: SchedCause::NoCentre,
+            });
+        }
+        let schedule = self.draft.finish(alloc)?;
+        Ok(schedule)
+    }
 }

@@ -1,42 +1,66 @@
 //! The lines of random steps, of the rollover, and of late deliveries.
 
-ghost use Rattle.std.specs.Prelude.{◌≡◌, ◌+◌, ◌*◌, ◌-◌, ◌%◌, ◌<◌, ◌≤◌, ◌^◌, ◌++◌, [], ◌∷◌, map, codes, decimal, OnOk};
+ghost use Rattle.std.specs.Prelude.{◌≡◌, ◌+◌, ◌*◌, ◌-◌, ◌%◌, ◌<◌, ◌≤◌, ◌^◌, ◌++◌, [], ◌∷◌, map, codes, OnOk};
 ghost use Rattle.std.specs.List.{range_with_len, flat_map};
-ghost use Rattle.hex.specs.Hex.{encode_upper};
-ghost use Rattle.zb_text.specs.Pages.{ended, page};
-ghost use Rattle.zb_text.specs.Words.{then};
 ghost use Rattle.zb_gen.specs.Steps.{step_at};
-ghost use Rattle.zb_gen.specs.Made.{late_line, rollover_lines, say_line, step_lines, step_of, stop_line};
+ghost use Rattle.zb_gen.specs.Made.{late_line, own_line, rollover_lines, say_line, step_lines, step_of, stop_line};
+ghost use Rattle.zb_gen.specs.Progress.{after_texts, Comes};
 
-use crate::lines::{add_node, put_deliver_line, put_own_line};
+use crate::lines::{name_of, take_deliver_line, take_event, take_timer_line};
+use crate::maker::{GenFault, Maker};
 use crate::words::Words;
-use std::alloc::AllocError;
-use zb_text::hexadecimal::put_digits;
-use zb_text::page::{add_number, end_line, put};
+use arrayvec::ArrayVec;
+use zb_base::Short;
+use zb_sched_line::Event;
 
-#[tactic(auto, using(std::proofs::Common::append_assoc))]
-fn put_say_line(out: &mut Vec<u8>, i: u32, byte: u8) -> Result<(), AllocError>
-    ensures { OnOk result (out.new.items ≡ out.old.items ++ ended (say_line i byte)) }
+fn take_say_line(maker: &mut Maker, i: u32, byte: u8) -> Result<(), GenFault>
+    requires { (i ≤ 60) × (maker.old.line ≤ 30000) }
+    ensures lines { Comes result maker.new (after_texts maker.old (say_line i byte ∷ [])) }
+    ensures count { OnOk result (maker.new.line ≡ maker.old.line + 1) }
 {
-    put(out, b"say")?;
-    add_node(out, i)?;
-    put(out, b" FFFF ")?;
-    put_digits(out, &[byte])?;
-    end_line(out)?;
-    Ok(())
+    let mut bytes = ArrayVec::new();
+    bytes.push(byte);
+    take_event(
+        maker,
+        Event::Say {
+            name: name_of(i),
+            to: Short(0xFFFF),
+            bytes,
+        },
+    )
 }
 
-#[tactic(auto, using(std::proofs::Common::append_assoc))]
-fn put_stop_line(out: &mut Vec<u8>, i: u32, calls: u32, byte: u8) -> Result<(), AllocError>
-    ensures { OnOk result (out.new.items ≡ out.old.items ++ ended (stop_line i calls byte)) }
+fn take_stop_line(maker: &mut Maker, i: u32, calls: u8, byte: u8) -> Result<(), GenFault>
+    requires { (i ≤ 60) × (calls ≤ 5) × (maker.old.line ≤ 30000) }
+    ensures lines { Comes result maker.new (after_texts maker.old (stop_line i calls byte ∷ [])) }
+    ensures count { OnOk result (maker.new.line ≡ maker.old.line + 1) }
 {
-    put(out, b"stop")?;
-    add_node(out, i)?;
-    add_number(out, calls)?;
-    put(out, b" ")?;
-    put_digits(out, &[byte])?;
-    end_line(out)?;
-    Ok(())
+    let mut torn = ArrayVec::new();
+    torn.push(byte);
+    take_event(
+        maker,
+        Event::Stop {
+            name: name_of(i),
+            calls,
+            torn,
+        },
+    )
+}
+
+fn take_reset_line(maker: &mut Maker, i: u32) -> Result<(), GenFault>
+    requires { (i ≤ 60) × (maker.old.line ≤ 30000) }
+    ensures lines { Comes result maker.new (after_texts maker.old (own_line (codes "reset") i ∷ [])) }
+    ensures count { OnOk result (maker.new.line ≡ maker.old.line + 1) }
+{
+    take_event(maker, Event::Reset { name: name_of(i) })
+}
+
+fn take_boot_line(maker: &mut Maker, i: u32) -> Result<(), GenFault>
+    requires { (i ≤ 60) × (maker.old.line ≤ 30000) }
+    ensures lines { Comes result maker.new (after_texts maker.old (own_line (codes "boot") i ∷ [])) }
+    ensures count { OnOk result (maker.new.line ≡ maker.old.line + 1) }
+{
+    take_event(maker, Event::Boot { name: name_of(i) })
 }
 
 /// What a step does: its kind, its node and two words.
@@ -48,32 +72,51 @@ struct Step {
     q: u32,
 }
 
-#[tactic(auto, using(std::proofs::Common::append_assoc))]
-fn put_step(out: &mut Vec<u8>, n: u32, step: Step) -> Result<(), AllocError>
-    requires { (1 ≤ n) × (n ≤ 60) }
-    ensures { OnOk result (out.new.items ≡ out.old.items ++ page (step_of n step.kind step.node step.p step.q)) }
+fn take_restart(maker: &mut Maker, i: u32) -> Result<(), GenFault>
+    requires { (i ≤ 60) × (maker.old.line ≤ 20000) }
+    ensures lines { Comes result maker.new
+        (after_texts maker.old (own_line (codes "reset") i ∷ own_line (codes "boot") i ∷ [])) }
+    ensures count { OnOk result (maker.new.line ≡ maker.old.line + 2) }
+{
+    take_reset_line(maker, i)?;
+    take_boot_line(maker, i)
+}
+
+fn take_power_cut(maker: &mut Maker, i: u32, calls: u8, byte: u8) -> Result<(), GenFault>
+    requires { (i ≤ 60) × (calls ≤ 5) × (maker.old.line ≤ 20000) }
+    ensures lines { Comes result maker.new
+        (after_texts maker.old (stop_line i calls byte ∷ say_line i 0 ∷ own_line (codes "boot") i ∷ [])) }
+    ensures count { OnOk result (maker.new.line ≡ maker.old.line + 3) }
+{
+    take_stop_line(maker, i, calls, byte)?;
+    take_say_line(maker, i, 0)?;
+    take_boot_line(maker, i)
+}
+
+fn take_step(maker: &mut Maker, n: u32, step: Step) -> Result<(), GenFault>
+    requires { (1 ≤ n) × (n ≤ 60) × (step.node ≤ 60) × (maker.old.line ≤ 20000) }
+    ensures lines { Comes result maker.new
+        (after_texts maker.old (step_of n step.kind step.node step.p step.q)) }
+    ensures count { OnOk result (maker.new.line ≤ maker.old.line + 3) }
 {
     let i = step.node;
     if step.kind < 2 {
-        put_say_line(out, i, (step.p % 256) as u8)?;
+        take_say_line(maker, i, (step.p % 256) as u8)
     } else if step.kind < 5 {
-        put_deliver_line(out, 1 + step.p % (10 * n), i)?;
+        take_deliver_line(maker, 1 + step.p % (10 * n), i)
     } else if step.kind == 5 {
-        put_own_line(out, b"timer", i)?;
+        take_timer_line(maker, i)
     } else if step.kind == 6 {
-        put_own_line(out, b"reset", i)?;
-        put_own_line(out, b"boot", i)?;
+        take_restart(maker, i)
     } else {
-        put_stop_line(out, i, step.p % 6, (step.q % 256) as u8)?;
-        put_say_line(out, i, 0)?;
-        put_own_line(out, b"boot", i)?;
+        take_power_cut(maker, i, (step.p % 6) as u8, (step.q % 256) as u8)
     }
-    Ok(())
 }
 
 fn next_step(words: &mut Words, n: u32) -> Step
     requires { (n ≤ 60) × (words.old.place + 4 < 2 ^ 32) }
     ensures step { result ≡ step_at words.old.start n words.old.place }
+    ensures node { result.node ≤ n }
     ensures next { words.new ≡ record { start = words.old.start; place = words.old.place + 4 } }
 {
     let kind = words.word() % 8;
@@ -83,62 +126,96 @@ fn next_step(words: &mut Words, n: u32) -> Step
     Step { kind, node, p, q }
 }
 
-/// Prints the lines of all random steps.
-pub fn put_steps(out: &mut Vec<u8>, start: u32, n: u32) -> Result<(), AllocError>
-    requires { (1 ≤ n) × (n ≤ 60) }
-    ensures { OnOk result (out.new.items ≡ out.old.items
-        ++ page (flat_map (λ k. step_lines start n (8 * n + 8 + 4 * k)) (range_with_len 0 (20 * n)))) }
+/// Takes the lines of all random steps.
+pub fn take_steps(maker: &mut Maker, words: &mut Words, n: u32) -> Result<(), GenFault>
+    requires { (1 ≤ n) × (n ≤ 60) × (words.old.place ≡ 8 * n + 8) × (maker.old.line ≤ 10000) }
+    ensures lines { Comes result maker.new (after_texts maker.old
+        (flat_map (λ k. step_lines words.old.start n (8 * n + 8 + 4 * k)) (range_with_len 0 (20 * n)))) }
+    ensures count { OnOk result (maker.new.line ≤ maker.old.line + 60 * n) }
+    ensures words { OnOk result (words.new ≡ record { start = words.old.start; place = 88 * n + 8 }) }
 {
-    let mut words = Words::from(start, 8 * n + 8);
     for k in 0..20 * n {
-        let step = next_step(&mut words, n);
-        put_step(out, n, step)?;
+        let step = next_step(words, n);
+        take_step(maker, n, step)?;
     }
     Ok(())
 }
 
-/// Prints the removal of the first node and the rollover.
-#[tactic(auto, using(std::proofs::Common::append_assoc))]
-pub fn put_rollover(out: &mut Vec<u8>, n: u32) -> Result<(), AllocError>
-    requires { (1 ≤ n) × (n ≤ 60) }
-    ensures { OnOk result (out.new.items ≡ out.old.items ++ page (rollover_lines n)) }
+/// Takes the removal of the first node and the rollover.
+pub fn take_rollover(maker: &mut Maker, n: u32) -> Result<(), GenFault>
+    requires { (1 ≤ n) × (n ≤ 60) × (maker.old.line ≤ 10000) }
+    ensures lines { Comes result maker.new (after_texts maker.old (rollover_lines n)) }
+    ensures count { OnOk result (maker.new.line ≤ maker.old.line + n + 2) }
 {
-    put(out, b"remove d1 via c\nroll\n")?;
-    put_timers(out, n - 1)?;
-    put(out, b"switch\n")?;
-    Ok(())
+    take_removal(maker)?;
+    take_roll_line(maker)?;
+    take_timers(maker, n - 1)?;
+    take_switch_line(maker)
 }
 
-fn put_timers(out: &mut Vec<u8>, count: u32) -> Result<(), AllocError>
-    ensures { OnOk result
-        (out.new.items ≡ out.old.items ++ page (map (λ k. codes "timer c") (range_with_len 0 count))) }
+fn take_removal(maker: &mut Maker) -> Result<(), GenFault>
+    requires { maker.old.line ≤ 30000 }
+    ensures lines { Comes result maker.new (after_texts maker.old (codes "remove d1 via c" ∷ [])) }
+    ensures count { OnOk result (maker.new.line ≡ maker.old.line + 1) }
+{
+    take_event(
+        maker,
+        Event::Remove {
+            name: name_of(1),
+            parent: name_of(0),
+        },
+    )
+}
+
+fn take_roll_line(maker: &mut Maker) -> Result<(), GenFault>
+    requires { maker.old.line ≤ 30000 }
+    ensures lines { Comes result maker.new (after_texts maker.old (codes "roll" ∷ [])) }
+    ensures count { OnOk result (maker.new.line ≡ maker.old.line + 1) }
+{
+    take_event(maker, Event::Roll)
+}
+
+fn take_switch_line(maker: &mut Maker) -> Result<(), GenFault>
+    requires { maker.old.line ≤ 30000 }
+    ensures lines { Comes result maker.new (after_texts maker.old (codes "switch" ∷ [])) }
+    ensures count { OnOk result (maker.new.line ≡ maker.old.line + 1) }
+{
+    take_event(maker, Event::Switch)
+}
+
+fn take_timers(maker: &mut Maker, count: u32) -> Result<(), GenFault>
+    requires { (count ≤ 60) × (maker.old.line ≤ 20000) }
+    ensures lines { Comes result maker.new
+        (after_texts maker.old (map (λ k. codes "timer c") (range_with_len 0 count))) }
+    ensures count { OnOk result (maker.new.line ≤ maker.old.line + count) }
 {
     for k in 0..count {
-        put(out, b"timer c\n")?;
+        take_timer_line(maker, 0)?;
     }
     Ok(())
 }
 
-fn put_late_line(out: &mut Vec<u8>, words: &mut Words, n: u32) -> Result<(), AllocError>
-    requires { (1 ≤ n) × (n ≤ 60) × (words.old.place + 2 < 2 ^ 32) }
-    ensures line { OnOk result (out.new.items ≡ out.old.items ++ ended (late_line words.old.start n words.old.place)) }
+fn take_late_line(maker: &mut Maker, words: &mut Words, n: u32) -> Result<(), GenFault>
+    requires { (1 ≤ n) × (n ≤ 60) × (words.old.place + 2 < 2 ^ 32) × (maker.old.line ≤ 30000) }
+    ensures lines { Comes result maker.new
+        (after_texts maker.old (late_line words.old.start n words.old.place ∷ [])) }
+    ensures count { OnOk result (maker.new.line ≡ maker.old.line + 1) }
     ensures next { words.new ≡ record { start = words.old.start; place = words.old.place + 2 } }
 {
     let node = words.word() % (n + 1);
     let p = words.word();
-    put_deliver_line(out, 1 + p % (20 * n), node)?;
-    Ok(())
+    take_deliver_line(maker, 1 + p % (20 * n), node)
 }
 
-/// Prints the late deliveries.
-pub fn put_late(out: &mut Vec<u8>, start: u32, n: u32) -> Result<(), AllocError>
-    requires { (1 ≤ n) × (n ≤ 60) }
-    ensures { OnOk result (out.new.items ≡ out.old.items
-        ++ page (map (λ k. late_line start n (88 * n + 8 + 2 * k)) (range_with_len 0 (10 * n)))) }
+/// Takes the late deliveries.
+pub fn take_late(maker: &mut Maker, words: &mut Words, n: u32) -> Result<(), GenFault>
+    requires { (1 ≤ n) × (n ≤ 60) × (words.old.place ≡ 88 * n + 8) × (maker.old.line ≤ 10000) }
+    ensures lines { Comes result maker.new (after_texts maker.old
+        (map (λ k. late_line words.old.start n (88 * n + 8 + 2 * k)) (range_with_len 0 (10 * n)))) }
+    ensures count { OnOk result (maker.new.line ≤ maker.old.line + 10 * n) }
 {
-    let mut words = Words::from(start, 88 * n + 8);
     for k in 0..10 * n {
-        put_late_line(out, &mut words, n)?;
+        take_late_line(maker, words, n)?;
     }
     Ok(())
 }

@@ -2,14 +2,13 @@
 
 ghost use Rattle.std.specs.Prelude.{◌≡◌, ◌+◌, ◌<◌, ◌≤◌, ◌^◌, ◌++◌, replicate};
 ghost use Rattle.std.specs.Int.{w32, to_le_bytes};
-ghost use Rattle.arrayvec.specs.ArrayVec.{array_vec_len};
 ghost use Rattle.zb_gen.specs.Words.{key_at, word};
 
-use arrayvec::ArrayVec;
 use rand_chacha::ChaCha8Rng;
 use rand_core::SeedableRng;
 use rand_core::utils::NextWord;
 use std::marker::Model;
+use zb_base::Key;
 
 /// Generates the words of a start value.
 #[derive(Drop)]
@@ -31,14 +30,23 @@ impl Model for Words {
 }
 
 impl Words {
-    /// Makes a generator that stands at the word of that number.
+    /// Makes a generator that stands at the first word.
     #[tactic(auto, using(crate::proofs::Seeds::seed_words))]
-    pub fn from(start: u32, place: u32) -> Words
-        ensures { result ≡ record { start = start; place = place } }
+    pub fn new(start: u32) -> Words
+        ensures { result ≡ record { start = start; place = 0 } }
     {
-        let mut rng = ChaCha8Rng::from_seed(seed(start));
-        rng.set_word_pos(place as u128);
-        Words { rng, start, place }
+        Words {
+            rng: ChaCha8Rng::from_seed(seed(start)),
+            start,
+            place: 0,
+        }
+    }
+
+    /// Answers the start value.
+    pub fn start(&self) -> u32
+        ensures { result ≡ self.now.start }
+    {
+        self.start
     }
 
     /// Takes the next word.
@@ -53,30 +61,29 @@ impl Words {
     }
 
     /// Takes four words as the bytes of a key.
-    #[tactic(auto, using(std::proofs::Common::append_assoc))]
-    pub fn key(&mut self) -> ArrayVec<u8, 16>
+    pub fn key(&mut self) -> Key
         requires { self.old.place + 4 < 2 ^ 32 }
-        ensures value { result.items ≡ key_at self.old.start self.old.place }
+        ensures value { result.0 ≡ key_at self.old.start self.old.place }
         ensures next { self.new ≡ record { start = self.old.start; place = self.old.place + 4 } }
     {
-        let mut bytes = ArrayVec::new();
-        add(&mut bytes, self.word());
-        add(&mut bytes, self.word());
-        add(&mut bytes, self.word());
-        add(&mut bytes, self.word());
-        bytes
+        let first = self.word();
+        let second = self.word();
+        let third = self.word();
+        let fourth = self.word();
+        Key(bytes_of(first, second, third, fourth))
     }
 }
 
-fn add(bytes: &mut ArrayVec<u8, 16>, word: u32)
-    requires { array_vec_len bytes.old ≤ 12 }
-    ensures items { bytes.new.items ≡ bytes.old.items ++ to_le_bytes w32 word }
-    ensures len { array_vec_len bytes.new ≡ array_vec_len bytes.old + 4 }
+/// Puts four words into bytes, the low byte of each first.
+fn bytes_of(first: u32, second: u32, third: u32, fourth: u32) -> [u8; 16]
+    ensures { result ≡ to_le_bytes w32 first
+        ++ (to_le_bytes w32 second ++ (to_le_bytes w32 third ++ to_le_bytes w32 fourth)) }
 {
-    match bytes.try_extend_from_slice(&word.to_le_bytes()) {
-        Ok(()) => {}
-        Err(_) => unreachable!(),
-    }
+    let [a, b, c, d] = first.to_le_bytes();
+    let [e, f, g, h] = second.to_le_bytes();
+    let [i, j, k, l] = third.to_le_bytes();
+    let [m, n, o, p] = fourth.to_le_bytes();
+    [a, b, c, d, e, f, g, h, i, j, k, l, m, n, o, p]
 }
 
 fn seed(start: u32) -> [u8; 32]
@@ -87,13 +94,4 @@ fn seed(start: u32) -> [u8; 32]
         a, b, c, d, 0, 0, 0, 0, 0, 0, 0, 0, 0, 0, 0, 0, 0, 0, 0, 0, 0, 0, 0, 0, 0, 0, 0, 0, 0, 0,
         0, 0,
     ]
-}
-
-/// Answers the key of the four words from one on.
-pub fn key_from(start: u32, place: u32) -> ArrayVec<u8, 16>
-    requires { place + 4 < 2 ^ 32 }
-    ensures { result.items ≡ key_at start place }
-{
-    let mut words = Words::from(start, place);
-    words.key()
 }

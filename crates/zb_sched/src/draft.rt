@@ -11,7 +11,7 @@ ghost use Rattle.zb_sched.specs.Reading.{has_centre, start, Steps};
 
 use crate::entry::{
     Entry, has_centre, has_code, has_counter, has_network, is_link, is_link_of_other, is_network,
-    is_taken, nodes_of, role_near, set_code, set_counter, set_network,
+    is_taken, link_near, nodes_of, role_near, set_code, set_counter, set_network,
 };
 use crate::error::SchedCause;
 use crate::hints::Hints;
@@ -256,6 +256,7 @@ impl Draft {
 impl Draft {
     ghost use Rattle.std.specs.Prelude.{◌≡◌, is_some, IfOk, IsTrue, OnOk};
     ghost use Rattle.zb_sched.specs.Schedules.{schedule_of};
+    ghost use Rattle.zb_sched_line.specs.Fits.{FitsSentence};
     ghost use Rattle.zb_sched_line.specs.Views.{event_of, sentence_of};
     ghost use Rattle.zb_sched.specs.Judge.{after_event, after_sentence, are_child_and_parent, are_partners, has_its_nodes, provision_clashes, role_named};
     ghost use Rattle.zb_sched.specs.Reading.{after_line, finished, has_centre, Steps};
@@ -322,7 +323,10 @@ impl Draft {
         ensures { result ≡ provision_clashes (event_of event.now) self.now }
     {
         match event {
-            Event::Provision { name, code } => self.clashes(&code.link_key(), name),
+            Event::Provision { name, code } => {
+                let link = link_near(self.entries.as_slice(), self.hints.place(name), code);
+                self.clashes(&link, name)
+            }
             _ => false,
         }
     }
@@ -365,9 +369,18 @@ impl Draft {
         })
     }
 
-    /// Takes what a line says.
-    fn take_line(&mut self, line: Line) -> Result<(), OrMemory<SchedCause>>
-        ensures { Steps result self.new (after_sentence self.old (sentence_of line)) }
+    /// Makes room for so many more events.
+    pub fn reserve(&mut self, events: usize) -> Result<(), AllocError>
+        ensures { self.new ≡ self.old }
+    {
+        self.events.reserve(events)
+    }
+
+    /// Takes what a line says. After an error the schedule so far is not to be used any more.
+    pub fn take_line(&mut self, line: Line) -> Result<(), OrMemory<SchedCause>>
+        ensures exact { Steps result self.new (after_sentence self.old (sentence_of line)) }
+        ensures kept { FitsSentence (sentence_of line) → IsSoFar (finished self.old)
+            → OnOk result (IsSoFar (finished self.new)) }
     {
         match line {
             Line::Blank => Ok(()),

@@ -12,6 +12,7 @@ mod schedule;
 mod supply;
 mod writer;
 
+pub use draft::Draft;
 pub use error::{SchedCause, SchedError};
 pub use laws::{lines_keep_schedules, printed_schedule_reads, schedules_have_one_centre};
 pub use reader::read;
