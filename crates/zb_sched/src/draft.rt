@@ -11,7 +11,7 @@ ghost use Rattle.zb_sched.specs.Reading.{has_centre, start, Steps};
 
 use crate::entry::{
     Entry, has_centre, has_code, has_counter, has_network, is_link, is_link_of_other, is_network,
-    is_taken, link_near, nodes_of, role_near, set_code, set_counter, set_network,
+    is_taken, nodes_of, role_near, set_code, set_counter, set_network,
 };
 use crate::error::SchedCause;
 use crate::hints::Hints;
@@ -323,10 +323,7 @@ impl Draft {
         ensures { result ≡ provision_clashes (event_of event.now) self.now }
     {
         match event {
-            Event::Provision { name, code } => {
-                let link = link_near(self.entries.as_slice(), self.hints.place(name), code);
-                self.clashes(&link, name)
-            }
+            Event::Provision { name, code } => self.clashes(&code.link_key(), name),
             _ => false,
         }
     }

@@ -71,17 +71,6 @@ pub fn role_near(entries: &[Entry], name: &Name, guess: usize) -> Option<Role>
     }
 }
 
-/// Answers the link key of an install code, which the node at a guessed place may have already.
-pub fn link_near(entries: &[Entry], guess: usize, code: &InstallCode) -> Key
-    requires { AllByRecursion IsLinked entries.now }
-    ensures { result.0 ≡ code_key code.now }
-{
-    match entries.get(guess) {
-        Some(entry) => entry.link_of(code),
-        None => code.link_key(),
-    }
-}
-
 /// Answers whether the node of a name has an install code.
 pub fn has_code(entries: &[Entry], name: &Name) -> bool
     ensures { result ≡ list_any
@@ -266,16 +255,6 @@ impl Entry {
         match &self.link {
             Some(link) => link.0 == key.0,
             None => false,
-        }
-    }
-
-    fn link_of(&self, code: &InstallCode) -> Key
-        requires { IsLinked self.now }
-        ensures { result.0 ≡ code_key code.now }
-    {
-        match (&self.node.code, &self.link) {
-            (Some(own), Some(link)) if own.bytes() == code.bytes() => *link,
-            _ => code.link_key(),
         }
     }
 
