@@ -13,7 +13,7 @@ use Rattle.zb_delivery.specs.Taking.{Decides, IsDrawOf, command_taken}
 use Rattle.zb_host.specs.declared.outcome.Outcome.{Outcome}
 use Rattle.zb_host.specs.declared.plan.Plan.{Plan as Program}
 use Rattle.zb_judge.specs.Verdicts.{carrier_seen, judged, unsealed_seen}
-use Rattle.zb_judge.specs.declared.nwk.Carrier.{Carrier}
+use Rattle.zb_nwk.specs.declared.frame.NwkFrame.{NwkFrame}
 use Rattle.zb_judge.specs.declared.aps.Unsealed.{Unsealed}
 use Rattle.zb_model.specs.Answer.{aps_command, aps_part, by_security, clear_part, heard_clear, heard_sealed, net_part, nwk_command, plan_of, received_as, sealed_part}
 use Rattle.zb_model.specs.Commands.{Heard}
@@ -187,14 +187,16 @@ net_clear c s key f term r n g = rw n g
 
 -- the whole frame
 
-pub frame_refused : (c : Setting) (s : NodeState) (key : Option Key) (bytes : Bytes) (refusal : Refusal) → judged carrier_seen (Err refusal) ≡ judge_nwk real c s bytes
+pub frame_refused : (c : Setting) (s : NodeState) (key : Option Key) (bytes : Bytes) (accepted : Option Term) (refusal : Refusal)
+    → judged (λ (f : NwkFrame). carrier_seen f accepted) (Err refusal) ≡ judge_nwk real c s bytes
     → Decides c key (λ d. plan_of real c s (Received bytes d)) (record { nwk = None; aps = None; effect = Err refusal })
 unfolding plan_of
-frame_refused c s key bytes refusal e = subst (λ (v : Verdict judging.Carrier). Decides c key (λ d. received_as real c s d v) (record { nwk = None; aps = None; effect = Err refusal })) e
+frame_refused c s key bytes accepted refusal e = subst (λ (v : Verdict judging.Carrier). Decides c key (λ d. received_as real c s d v) (record { nwk = None; aps = None; effect = Err refusal })) e
     (record { decision = λ d of. record { accepts = refl; outcome = refl; place = refl }; sound = record { small = tt; nwk = tt; aps = tt } })
 
-pub frame_planned : (c : Setting) (s : NodeState) (d : Option Bytes) (bytes : Bytes) (k : Carrier) (r : Program (Outcome Term Refusal)) → judged carrier_seen (Ok k) ≡ judge_nwk real c s bytes
-    → IsAnswer r (answer_to real c s (net_part real c s d (nwk_frame_shown k.frame) (option_map model_term k.term)))
+pub frame_planned : (c : Setting) (s : NodeState) (d : Option Bytes) (bytes : Bytes) (f : NwkFrame) (accepted : Option Term) (r : Program (Outcome Term Refusal))
+    → judged (λ (g : NwkFrame). carrier_seen g accepted) (Ok f) ≡ judge_nwk real c s bytes
+    → IsAnswer r (answer_to real c s (net_part real c s d (nwk_frame_shown f) (option_map model_term accepted)))
     → IsAnswer r (answer_to real c s (plan_of real c s (Received bytes d)))
 unfolding plan_of
-frame_planned c s d bytes k r e g = subst (λ (v : Verdict judging.Carrier). IsAnswer r (answer_to real c s (received_as real c s d v))) e g
+frame_planned c s d bytes f accepted r e g = subst (λ (v : Verdict judging.Carrier). IsAnswer r (answer_to real c s (received_as real c s d v))) e g

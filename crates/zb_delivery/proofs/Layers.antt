@@ -10,7 +10,7 @@ use Rattle.zb_base.specs.declared.label.Layer.{Layer}
 use Rattle.zb_delivery.specs.Taking.{PassesInClear}
 use Rattle.zb_judge.specs.Verdicts.{carrier_seen, unsealed_seen}
 use Rattle.zb_judge.specs.declared.aps.Unsealed.{Unsealed}
-use Rattle.zb_judge.specs.declared.nwk.Carrier.{Carrier}
+use Rattle.zb_nwk.specs.declared.frame.NwkFrame.{NwkFrame}
 use Rattle.zb_model.specs.Data.{Bytes, Nwk, Aps, Term, Place, Reason}
 use Rattle.zb_model.specs.Judging.{Verdict, Not, Good, reject, need, judge_net, carrier, judge_security, judge_nwk, judge_aps, sealed_for_transport}
 use Rattle.zb_model.specs.Judging as judging
@@ -104,14 +104,14 @@ in_clear : (o : Option program.Term) (shown : Option ApsShown) → InClear (opti
 in_clear None shown e = e
 in_clear (Some t) shown e = tt
 
-passed : (c : Setting) (s : NodeState) (bytes : Bytes) (k : Carrier) → Good (carrier_seen k) ≡ judge_nwk real c s bytes → Passed (carrier_seen k)
-passed c s bytes k e = subst (λ v. OnGood Passed v) (sym e) (nwk_layer c s bytes)
+passed : (c : Setting) (s : NodeState) (bytes : Bytes) (f : NwkFrame) (t : Option program.Term) → Good (carrier_seen f t) ≡ judge_nwk real c s bytes → Passed (carrier_seen f t)
+passed c s bytes f t e = subst (λ v. OnGood Passed v) (sym e) (nwk_layer c s bytes)
 
-pub accepted_nwk : (c : Setting) (s : NodeState) (bytes : Bytes) (k : Carrier) → Good (carrier_seen k) ≡ judge_nwk real c s bytes → IsNwk k.term
-accepted_nwk c s bytes k e = of_term k.term (passed c s bytes k e).0
+pub accepted_nwk : (c : Setting) (s : NodeState) (bytes : Bytes) (f : NwkFrame) (t : Option program.Term) → Good (carrier_seen f t) ≡ judge_nwk real c s bytes → IsNwk t
+accepted_nwk c s bytes f t e = of_term t (passed c s bytes f t e).0
 
-pub passes_in_clear : (c : Setting) (s : NodeState) (bytes : Bytes) (k : Carrier) → Good (carrier_seen k) ≡ judge_nwk real c s bytes → PassesInClear k.term (real.read_aps k.frame.body.items)
-passes_in_clear c s bytes k e = in_clear k.term (real.read_aps k.frame.body.items) (passed c s bytes k e).1
+pub passes_in_clear : (c : Setting) (s : NodeState) (bytes : Bytes) (f : NwkFrame) (t : Option program.Term) → Good (carrier_seen f t) ≡ judge_nwk real c s bytes → PassesInClear t (real.read_aps f.body.items)
+passes_in_clear c s bytes f t e = in_clear t (real.read_aps f.body.items) (passed c s bytes f t e).1
 
 -- what is sealed for transport is secured
 pub no_clear_part : (part : ApsFrame) → part.aux ≡ None → PassesInClear None (Some (aps_frame_shown part)) → ⊥

@@ -14,7 +14,7 @@ use crate::command::take_nwk_command;
 use crate::payload::decide_payload;
 use zb_base::Key;
 use zb_host::{Outcome, Plan};
-use zb_judge::{Carrier, judge_nwk};
+use zb_judge::judge_nwk;
 use zb_keys::Tables;
 use zb_network::Network;
 use zb_node_types::Refusal;
@@ -55,29 +55,27 @@ fn decide_carried(
     }
 }
 
-/// Plans what a frame leads to whose NWK layer passed.
+/// Plans what a frame leads to whose NWK layer passed, and behind which what was accepted there stands in `plan`.
 fn plan_carried(
     network: &Network,
     tables: &Tables,
     memo: &KeyMemo,
-    carrier: Carrier,
+    frame: &NwkFrame,
     draw: Option<Key>,
     plan: &mut Plan<Outcome<Term, Refusal>>,
 )
-    requires nwk { IsNwk carrier.term }
-    requires in_clear { PassesInClear carrier.term (real.read_aps carrier.frame.body.items) }
+    requires nwk { IsNwk plan.old.out.accepted_nwk }
+    requires in_clear { PassesInClear plan.old.out.accepted_nwk (real.read_aps frame.now.body.items) }
     ensures { (d : Option Bytes) → IsDrawOf network.now draw d → IsAnswer plan.new (answer_to real network.now
-        tables.now (net_part real network.now tables.now d (nwk_frame_shown carrier.frame)
-        (option_map model_term carrier.term))) }
+        tables.now (net_part real network.now tables.now d (nwk_frame_shown frame.now)
+        (option_map model_term plan.old.out.accepted_nwk))) }
 {
-    let Carrier { frame, term } = carrier;
     let out = &mut plan.out;
-    out.accepted_nwk = term;
     let effect = decide_carried(
         network,
         tables,
         memo,
-        &frame,
+        frame,
         &out.accepted_nwk,
         draw,
         &mut out.accepted_aps,
@@ -103,8 +101,8 @@ pub fn plan_received(
     ensures any_draw { is_centre network.now.me.role ≡ false → (d : Option Bytes)
         → IsAnswer plan.new (answer real network.now tables.now (Received bytes.now d)) }
 {
-    match judge_nwk(network, tables, memo, bytes) {
+    match judge_nwk(network, tables, memo, bytes, &mut plan.out.accepted_nwk) {
         Err(refusal) => plan_refused(network, tables, refusal, plan),
-        Ok(carrier) => plan_carried(network, tables, memo, carrier, draw, plan),
+        Ok(frame) => plan_carried(network, tables, memo, &frame, draw, plan),
     }
 }

@@ -6,8 +6,9 @@ use Rattle.zb_model_real.specs.Readers.{nwk_frame_shown}
 use Rattle.zb_model_real.specs.Terms.{model_term}
 use Rattle.zb_node_types.specs.Changes.{model_place, place_of, reason}
 use Rattle.zb_node_types.specs.declared.refusal.Refusal.{Refusal}
+use Rattle.zb_nwk.specs.declared.frame.NwkFrame.{NwkFrame}
 use Rattle.zb_record.specs.RowViews.{link_key}
-use Rattle.zb_judge.specs.declared.nwk.Carrier.{Carrier}
+use Rattle.zb_seal.specs.declared.term.Term.{Term}
 use Rattle.zb_judge.specs.declared.aps.Unsealed.{Unsealed}
 
 -- a refusal is a reason at a place; what passes is seen as the model's
@@ -15,8 +16,9 @@ abbrev pub judged : {T A : Type 0} → (T → A) → Result T Refusal → Verdic
 judged view (Ok it) = Good (view it)
 judged view (Err refusal) = Not (model_place (place_of refusal)) (reason refusal)
 
-abbrev pub carrier_seen : Carrier → model.Carrier
-carrier_seen k = record { frame = nwk_frame_shown k.frame; term = option_map model_term k.term }
+-- a frame whose NWK layer passed, with what is accepted there
+abbrev pub carrier_seen : NwkFrame → Option Term → model.Carrier
+carrier_seen frame term = record { frame = nwk_frame_shown frame; term = option_map model_term term }
 
 abbrev pub unsealed_seen : Unsealed → model.Unsealed
 unsealed_seen u = record { term = model_term u.term; row = link_key u.row }

@@ -7,4 +7,4 @@ mod nwk;
 mod opening;
 
 pub use aps::{Unsealed, judge_aps};
-pub use nwk::{Carrier, judge_nwk};
+pub use nwk::judge_nwk;

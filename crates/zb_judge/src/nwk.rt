@@ -1,6 +1,6 @@
 //! The NWK layer of a delivered frame.
 ghost use Rattle.std.specs.Prelude.{◌≡◌, ◌&&◌, IfSome, Ok, Some, not, option_map};
-ghost use Rattle.zb_model.specs.Judging.{is_transport, judge_net, judge_nwk, judge_security, may_pass_unsecured, sealed_for_transport};
+ghost use Rattle.zb_model.specs.Judging.{carrier, is_transport, judge_net, judge_nwk, judge_security, may_pass_unsecured, sealed_for_transport};
 ghost use Rattle.zb_model.specs.Rules.{waits_for_key};
 ghost use Rattle.zb_model.specs.State.{is_centre, is_known, is_live};
 ghost use Rattle.zb_model_real.specs.Readers.{aps_frame_shown, nwk_auxiliary, nwk_frame_shown};
@@ -21,15 +21,6 @@ use zb_nwk::{NwkAux, NwkFrame};
 use zb_rows::{floor_of, is_full_for, is_known, is_live, usable_of};
 use zb_seal::{KeyMemo, Term, label_of};
 use zb_transported::is_command;
-
-/// A frame whose NWK layer passed.
-#[derive(Debug, Drop)]
-pub struct Carrier {
-    /// The frame.
-    pub frame: NwkFrame,
-    /// What is accepted, where the NWK layer is secured.
-    pub term: Option<Term>,
-}
 
 /// Tells whether a label is that of a key-transport key.
 fn is_transport(label: Label) -> bool
@@ -99,7 +90,9 @@ fn was_removed(network: &Network, tables: &Tables, source: Eui) -> bool
     network.is_centre() && is_known(tables, source) && !is_live(tables, source)
 }
 
-/// Judges a frame under the network key of its key sequence. Requires the bytes that the frame was read from.
+/// Judges a frame under the network key of its key sequence, and writes what it opens to into `accepted`.
+///
+/// Requires the bytes that the frame was read from.
 ///
 /// # Errors
 ///
@@ -113,10 +106,12 @@ fn judge_net(
     bytes: &[u8],
     frame: &NwkFrame,
     aux: &NwkAux,
-) -> Result<Term, Refusal>
+    accepted: &mut Option<Term>,
+) -> Result<(), Refusal>
     requires read { frame_of bytes.now ≡ Ok frame.now }
     requires spells { Spells bytes.now frame.now }
-    ensures { judged model_term result ≡ judge_net real network.now tables.now bytes.now (nwk_auxiliary aux.now) }
+    ensures { judged (λ done. carrier_seen frame.now accepted.new) result ≡ carrier (nwk_frame_shown frame.now)
+        (judge_net real network.now tables.now bytes.now (nwk_auxiliary aux.now)) }
 {
     let place = Place::Nwk;
     let Some(row) = usable_of(tables, aux.key_sequence) else {
@@ -129,9 +124,10 @@ fn judge_net(
     if aux.counter < floor {
         return Err(Refusal::Stale { place, floor });
     }
-    let Some(term) = open_nwk(memo, bytes, frame, &row.key) else {
+    *accepted = open_nwk(memo, bytes, frame, &row.key);
+    if accepted.is_none() {
         return Err(Refusal::BadMic { place });
-    };
+    }
     if !network.is_declared(aux.source) {
         return Err(Refusal::NotMember { place });
     }
@@ -141,37 +137,36 @@ fn judge_net(
     if is_full_for(row, aux.source, aux.counter) {
         return Err(Refusal::RowsFull { place });
     }
-    Ok(term)
+    Ok(())
 }
 
-/// Judges the security of a frame for this node. Requires the bytes that the frame was read from.
+/// Judges the security of a frame for this node, and writes what is accepted, if anything is, into `accepted`.
+///
+/// Requires the bytes that the frame was read from.
 #[tactic(auto, unfolding(crate::specs::Steps::reject))]
 fn judge_security(
     network: &Network,
     tables: &Tables,
     memo: &KeyMemo,
     bytes: &[u8],
-    frame: NwkFrame,
-) -> Result<Carrier, Refusal>
-    requires read { frame_of bytes.now ≡ Ok frame }
-    requires spells { Spells bytes.now frame }
-    ensures { judged carrier_seen result ≡ judge_security real network.now tables.now bytes.now (nwk_frame_shown frame)
-        (option_map nwk_auxiliary frame.aux) }
+    frame: &NwkFrame,
+    accepted: &mut Option<Term>,
+) -> Result<(), Refusal>
+    requires read { frame_of bytes.now ≡ Ok frame.now }
+    requires spells { Spells bytes.now frame.now }
+    ensures { judged (λ done. carrier_seen frame.now accepted.new) result ≡ judge_security real network.now tables.now
+        bytes.now (nwk_frame_shown frame.now) (option_map nwk_auxiliary frame.now.aux) }
 {
     match &frame.aux {
         None => {
-            if !may_pass_unsecured(network, tables, &frame) {
-                return Err(Refusal::Unsecured { place: Place::Nwk });
+            *accepted = None;
+            if may_pass_unsecured(network, tables, frame) {
+                Ok(())
+            } else {
+                Err(Refusal::Unsecured { place: Place::Nwk })
             }
-            Ok(Carrier { frame, term: None })
         }
-        Some(aux) => {
-            let term = judge_net(network, tables, memo, bytes, &frame, aux)?;
-            Ok(Carrier {
-                frame,
-                term: Some(term),
-            })
-        }
+        Some(aux) => judge_net(network, tables, memo, bytes, frame, aux, accepted),
     }
 }
 
@@ -188,7 +183,10 @@ fn read_frame(bytes: &[u8]) -> Option<NwkFrame>
     }
 }
 
-/// Judges the NWK layer of delivered bytes. A key that the memo lacks is expanded.
+/// Judges the NWK layer of delivered bytes, and answers the frame that they are.
+///
+/// What is accepted, where the layer is secured, is written into `accepted`; after an error that means nothing. A key
+/// that the memo lacks is expanded.
 ///
 /// # Errors
 ///
@@ -200,8 +198,10 @@ pub fn judge_nwk(
     tables: &Tables,
     memo: &KeyMemo,
     bytes: &[u8],
-) -> Result<Carrier, Refusal>
-    ensures { judged carrier_seen result ≡ judge_nwk real network.now tables.now bytes.now }
+    accepted: &mut Option<Term>,
+) -> Result<NwkFrame, Refusal>
+    ensures { judged (λ frame. carrier_seen frame accepted.new) result
+        ≡ judge_nwk real network.now tables.now bytes.now }
 {
     let Some(frame) = read_frame(bytes) else {
         return Err(Refusal::Malformed { place: Place::Nwk });
@@ -209,5 +209,6 @@ pub fn judge_nwk(
     if frame.header.source.0 == network.short().0 || !network.hears(frame.header.destination) {
         return Err(Refusal::NotForMe { place: Place::Nwk });
     }
-    judge_security(network, tables, memo, bytes, frame)
+    judge_security(network, tables, memo, bytes, &frame, accepted)?;
+    Ok(frame)
 }
