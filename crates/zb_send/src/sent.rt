@@ -231,10 +231,10 @@ pub fn reserve(
     }
 }
 
-/// Puts out what is to be sent, if anything is, with the node's next counters: the terms that are sealed and the frame.
+/// Puts out what is to be sent, if anything is: the sealed terms and the frame.
 ///
-/// Nothing goes out where the node lacks a key or a counter for it. A key that the memo lacks is expanded. What stood in
-/// the three places is gone.
+/// The node's next counters count them. Nothing goes out where the node lacks a key or a counter for it. A key that the
+/// memo lacks is expanded. What stood in the three places is gone.
 #[tactic(auto, unfolding(zb_model::specs::Answer::out_of))]
 pub fn send_out(
     network: &Network,
