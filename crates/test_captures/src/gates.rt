@@ -4,7 +4,7 @@ use crate::reports::reported;
 use crate::worked::{CAPTURE, JOIN, JOIN_REPORT, REPORT};
 use std::sync::atomic::{AtomicU32, Ordering};
 use std::test::Fail;
-use zb_jobs::Gate;
+use zb_parallel::Gate;
 
 /// A gate for two pieces, which holds the first pass of each phase until there was a second one.
 ///

@@ -7,7 +7,7 @@ use std::thread::Threads;
 use zb_base::MemSink;
 use zb_capture::read_capture;
 use zb_inspect::{InspectFault, report};
-use zb_jobs::{Gate, OpenGate};
+use zb_parallel::{Gate, OpenGate};
 
 /// Writes the report on a capture of at most 4,096 bytes by so many jobs, to a sink whose calls of some numbers fail.
 pub(crate) fn reported<H: AllocGlobal + Threads + Sync, G: Gate>(

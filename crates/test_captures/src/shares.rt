@@ -1,7 +1,7 @@
 //! Work that is cut into the shares of several jobs.
 
 use std::test::Fail;
-use zb_jobs::shares;
+use zb_parallel::shares;
 
 #[test]
 fn work_is_cut_into_shares(rt: HostRuntime) -> Result<(), Fail> {

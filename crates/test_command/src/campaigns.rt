@@ -5,7 +5,7 @@ use std::test::Fail;
 use zb_base::MemSink;
 use zb_campaign::campaign;
 use zb_command::Status;
-use zb_jobs::Gate;
+use zb_parallel::Gate;
 
 const FOUR_RUNS: &[u8] = b"0 end 52 19 11 15 yes yes
 1 end 97 33 18 41 yes yes

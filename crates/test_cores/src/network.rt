@@ -61,7 +61,7 @@ fn peer(name: &str, eui: Eui, short: u16, role: Role) -> Peer
 }
 
 /// How the node of that role is configured, in a network of the centre, the device and the router.
-#[tactic(auto, unfolding(zb_network::specs::Settings::setting_for))]
+#[tactic(auto, unfolding(zb_setting::specs::Settings::setting_for))]
 pub(crate) fn config(role: Role) -> Config
     ensures config { IsConfig result }
     ensures role { IsOfRole (model_role role) result }
@@ -95,7 +95,7 @@ fn configured(me: u8, peers: ArrayVec<Peer, 64>) -> Config
 }
 
 /// How the centre of a network without other nodes is configured, which reserves so many counters at once.
-#[tactic(auto, unfolding(zb_network::specs::Settings::setting_for))]
+#[tactic(auto, unfolding(zb_setting::specs::Settings::setting_for))]
 pub(crate) fn alone(block: u32) -> Config
     requires least { 1 ≤ block }
     requires most { block ≤ 65536 }

@@ -4,13 +4,13 @@ use std::process::Abort;
 use zb_aes::Cipher;
 use zb_aps::ApsError;
 use zb_base::{Eui, Frame, Key, Label, Layer, Short};
+use zb_carried_keys::carried;
 use zb_cursor::frame_from;
 use zb_nwk::NwkError;
 use zb_seal::{
     OpenError, SealingKeys, Term, TooLong, envelope_aps, envelope_nwk, look_aps, look_nwk,
     open_aps, open_aps_with, open_nwk, open_nwk_with, wire,
 };
-use zb_transported::carried;
 
 const NETWORK_KEY: Key = Key([
     0x00, 0x01, 0x02, 0x03, 0x04, 0x05, 0x06, 0x07, 0x08, 0x09, 0x0A, 0x0B, 0x0C, 0x0D, 0x0E, 0x0F,

@@ -5,7 +5,7 @@ use Rattle.zb_admin.specs.Texts.{link_line, listed, net_line, numbered}
 use Rattle.zb_model.specs.Data.{Bytes, Role}
 use Rattle.zb_model.specs.Fits.{keeps_rules, most_links}
 use Rattle.zb_model.specs.State.{LinkKey, NetKey, NodeState, is_centre}
-use Rattle.zb_model_fits.proofs.Parts.{rules_of}
+use Rattle.law_change_fits.proofs.Parts.{rules_of}
 use Rattle.zb_text.specs.Pages.{ended, page}
 
 numbered_more : {Y : Type 0} (line : ℕ → Y → Bytes) (n : ℕ) (xs : List Y) (y : Y) → page (numbered line n (xs ++ y ∷ [])) ≡ page (numbered line n xs) ++ ended (line (n + length xs) y)

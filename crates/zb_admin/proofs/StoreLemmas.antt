@@ -31,7 +31,7 @@ use Rattle.zb_model.specs.Record.{record_of}
 use Rattle.zb_model.specs.Rules.{Setting}
 use Rattle.zb_model.specs.State.{LinkKey, NetKey, NodeState, PairKey, after_boot, applied_all, shown, with_declared, with_given_net}
 use Rattle.zb_model_real.specs.Real.{real}
-use Rattle.zb_network.specs.Settings.{setting_for}
+use Rattle.zb_setting.specs.Settings.{setting_for}
 use Rattle.zb_node_types.specs.Changes.{reason}
 use Rattle.zb_node_types.specs.declared.change.Change.{Change}
 use Rattle.zb_node_types.specs.declared.refusal.Refusal.{Refusal}
@@ -40,7 +40,7 @@ use Rattle.zb_node_types.specs.declared.fault.KeyError.TheVariants.{KeyOld, Keys
 use Rattle.zb_plan.specs.Answers.{IsAnswer}
 use Rattle.zb_seal.specs.declared.term.Term.{Term}
 use Rattle.zb_keys.specs.Declarations.{first_state}
-use Rattle.zb_model_fits.proofs.Tests.{all_from, both}
+use Rattle.law_change_fits.proofs.Tests.{all_from, both}
 use Rattle.zb_record.proofs.Tested.{fits_from, fits_true}
 use Rattle.zb_record.proofs.WholeAgain.{record_again}
 use Rattle.zb_record.specs.Ranges as ranges

@@ -13,7 +13,7 @@ use Rattle.zb_disk.specs.View.{View, IsStill, LeavesOnly}
 use Rattle.zb_host.specs.Hosts.{Hosted}
 use Rattle.zb_model.specs.Rules.{Setting}
 use Rattle.zb_model.specs.State.{NodeState}
-use Rattle.zb_network.specs.Settings.{setting_for}
+use Rattle.zb_setting.specs.Settings.{setting_for}
 use Rattle.zb_script.specs.declared.script.Script.{Script}
 use Rattle.zb_script.specs.declared.script.Step.{Step}
 use Rattle.zb_store.specs.Layout.{Standing, stands}

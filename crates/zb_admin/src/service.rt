@@ -15,7 +15,7 @@ ghost use Rattle.zb_host.specs.Hosts.{Hosted};
 ghost use Rattle.zb_model.specs.Data as model;
 ghost use Rattle.zb_model.specs.Rules.{Setting};
 ghost use Rattle.zb_model.specs.State.{NodeState};
-ghost use Rattle.zb_network.specs.Settings.{setting_for};
+ghost use Rattle.zb_setting.specs.Settings.{setting_for};
 ghost use Rattle.zb_node_types.specs.Changes.{reason};
 ghost use Rattle.zb_script.specs.Scripts.{IsScript, IsStep};
 ghost use Rattle.zb_stored_tables.specs.Cores.{CoreValue, IsOfRole};

@@ -11,7 +11,7 @@ ghost use Rattle.zb_model.specs.Data as model;
 ghost use Rattle.zb_model.specs.Record.{record_of};
 ghost use Rattle.zb_model.specs.Rules.{Setting};
 ghost use Rattle.zb_model.specs.State.{NodeState, after_boot, shown};
-ghost use Rattle.zb_network.specs.Settings.{setting_for};
+ghost use Rattle.zb_setting.specs.Settings.{setting_for};
 ghost use Rattle.zb_record.specs.Ranges.{FitsBytes};
 ghost use Rattle.zb_record.specs.Records.{record_read};
 ghost use Rattle.zb_skip.specs.Skipping.{skipped};

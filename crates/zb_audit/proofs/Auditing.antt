@@ -10,7 +10,7 @@ use Rattle.zb_audit.specs.Confirming.{is_confirmable}
 use Rattle.zb_audit.specs.Failing.{failing, head}
 use Rattle.zb_audit.specs.Nonces.{is_fresh}
 use Rattle.zb_audit.specs.Taking.{is_later}
-use Rattle.zb_recount.specs.Counting.{first_uncounted}
+use Rattle.zb_audit_counters.specs.Counting.{first_uncounted}
 use Rattle.zb_audit.specs.Standing.{AreConfirmed, AreNonces, AreTaken, Ends}
 use Rattle.zb_audit.specs.declared.auditor.Auditor.{Auditor}
 use Rattle.zb_audit.specs.declared.confirming.Confirming.{Confirming}
@@ -18,22 +18,22 @@ use Rattle.zb_audit.specs.declared.ending.Ending.{Ending}
 use Rattle.zb_audit.specs.declared.fault.BadLine.{BadLine}
 use Rattle.zb_audit.specs.declared.nonces.Nonces.{Nonces}
 use Rattle.zb_audit.specs.declared.taking.Taking.{Taking}
-use Rattle.zb_declared.proofs.Places.{place_stays}
-use Rattle.zb_declared.specs.Naming.{declared_in, named_by, names_in, place_in, speaker, with_speaker}
-use Rattle.zb_declared.specs.Secrets.{ideal, private}
-use Rattle.zb_declared.specs.Standing as directory
-use Rattle.zb_declared.specs.Standing.{IsSpeaker, Tells, TellsOf}
-use Rattle.zb_declared.specs.declared.directory.Directory.{Directory}
-use Rattle.zb_declared.specs.declared.node.Who.{Who}
-use Rattle.zb_end_words.proofs.Growth.{ideal_before, private_before}
-use Rattle.zb_end_words.specs.Standing as words
-use Rattle.zb_end_words.specs.declared.reading.EndWords.{EndWords}
-use Rattle.zb_lockout.specs.Standing as lockout
-use Rattle.zb_lockout.specs.declared.lockout.Lockout.{Lockout}
+use Rattle.zb_audit_names.proofs.Places.{place_stays}
+use Rattle.zb_audit_names.specs.Naming.{declared_in, named_by, names_in, place_in, speaker, with_speaker}
+use Rattle.zb_audit_names.specs.Secrets.{ideal, private}
+use Rattle.zb_audit_names.specs.Standing as directory
+use Rattle.zb_audit_names.specs.Standing.{IsSpeaker, Tells, TellsOf}
+use Rattle.zb_audit_names.specs.declared.directory.Directory.{Directory}
+use Rattle.zb_audit_names.specs.declared.node.Who.{Who}
+use Rattle.zb_audit_words.proofs.Growth.{ideal_before, private_before}
+use Rattle.zb_audit_words.specs.Standing as words
+use Rattle.zb_audit_words.specs.declared.reading.EndWords.{EndWords}
+use Rattle.zb_audit_lockout.specs.Standing as lockout
+use Rattle.zb_audit_lockout.specs.declared.lockout.Lockout.{Lockout}
 use Rattle.zb_model.specs.Data.{Bytes, Station}
 use Rattle.zb_model.specs.Tools.{Tools}
-use Rattle.zb_recount.specs.Recounting.{Recounts}
-use Rattle.zb_recount.specs.declared.recount.Recount.{Recount}
+use Rattle.zb_audit_counters.specs.Recounting.{Recounts}
+use Rattle.zb_audit_counters.specs.declared.recount.Recount.{Recount}
 use Rattle.zb_trace.specs.declared.line.Line.{Line}
 use Rattle.zb_trace_watch.proofs.Truth.{and_left, and_right, both}
 use Rattle.zb_trace_watch.specs.Standing.{FindKeys}
@@ -135,12 +135,12 @@ line_stands tools old h l who number i p d w n t c r k e find next is_directory 
 -- What it comes to
 
 pub unlocked_is : (tools : Tools) (a : Auditor) (h : List Line) (b : Bool) (first : Option ℕ) → b ≡ (ideal tools h && private tools h) → Stands tools a h
-    → (b ≡ true → (names : List Bytes) → lockout.Stands tools names a.lockout h → first ≡ Rattle.zb_lockout.specs.Lockout.first_unlocked tools h)
+    → (b ≡ true → (names : List Bytes) → lockout.Stands tools names a.lockout h → first ≡ Rattle.zb_audit_lockout.specs.Lockout.first_unlocked tools h)
     → (if b then first else None) ≡ unlocked tools h
 unfolding unlocked
 unlocked_is tools a h true first is stands told =
-    told refl (names_in (h ++ [])) ((stands.at []).lockout (sym is)) ∙ ap (λ (b : Bool). if b then Rattle.zb_lockout.specs.Lockout.first_unlocked tools h else None) is
-unlocked_is tools a h false first is stands told = ap (λ (b : Bool). if b then Rattle.zb_lockout.specs.Lockout.first_unlocked tools h else None) is
+    told refl (names_in (h ++ [])) ((stands.at []).lockout (sym is)) ∙ ap (λ (b : Bool). if b then Rattle.zb_audit_lockout.specs.Lockout.first_unlocked tools h else None) is
+unlocked_is tools a h false first is stands told = ap (λ (b : Bool). if b then Rattle.zb_audit_lockout.specs.Lockout.first_unlocked tools h else None) is
 
 pub and_then : (i x p y : Bool) → i ≡ true → i ≡ x → p ≡ y → p ≡ (x && y)
 and_then i x p y it is same = same ∙ ap (λ (b : Bool). b && y) (sym it ∙ is)

@@ -18,13 +18,13 @@ use Rattle.zb_audit.proofs.Failing.{any_more}
 use Rattle.zb_base.specs.declared.address.Eui.{Eui}
 use Rattle.zb_base.specs.declared.label.Layer.{Layer}
 use Rattle.zb_base.specs.declared.label.Layer.TheVariants.{Nwk, Aps}
-use Rattle.zb_declared.proofs.Places.{itself}
-use Rattle.zb_declared.specs.Naming.{declared_in, is_centres}
-use Rattle.zb_declared.specs.Secrets.{ideal, private}
-use Rattle.zb_lockout.specs.Lockout.{first_unlocked, locked, locked_from, unlocked_from}
+use Rattle.zb_audit_names.proofs.Places.{itself}
+use Rattle.zb_audit_names.specs.Naming.{declared_in, is_centres}
+use Rattle.zb_audit_names.specs.Secrets.{ideal, private}
+use Rattle.zb_audit_lockout.specs.Lockout.{first_unlocked, locked, locked_from, unlocked_from}
 use Rattle.zb_model.specs.Data.{Bytes}
 use Rattle.zb_model.specs.Tools.{Tools}
-use Rattle.zb_recount.specs.Counting.{first_uncounted}
+use Rattle.zb_audit_counters.specs.Counting.{first_uncounted}
 use Rattle.zb_seal.specs.Keys.{sealing_key}
 use Rattle.zb_seal.specs.declared.term.Term.{Term}
 use Rattle.zb_trace.specs.declared.line.Line.{Line}

@@ -20,7 +20,7 @@ use Rattle.zb_audit.specs.declared.confirming.Confirming.{Confirming}
 use Rattle.zb_audit.specs.declared.confirming.LinkRow.{LinkRow}
 use Rattle.zb_audit.proofs.Failing.{first_more, first_stays}
 use Rattle.zb_audit.proofs.FreshNonces.{part}
-use Rattle.zb_declared.specs.Naming.{declared_in, declares, is_centres}
+use Rattle.zb_audit_names.specs.Naming.{declared_in, declares, is_centres}
 use Rattle.zb_model.specs.Data.{Bytes, Station}
 use Rattle.zb_trace_watch.proofs.Alike.{bytes_alike}
 use Rattle.zb_trace_watch.proofs.Truth.{and_left, and_right, number_so, same_bytes, same_number}

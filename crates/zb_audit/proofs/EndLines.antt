@@ -9,8 +9,8 @@ use Rattle.zb_audit.specs.Failing.{failing, failing_from, head}
 use Rattle.zb_audit.specs.Standing.{Ends, counts_are, fits}
 use Rattle.zb_audit.specs.declared.ending.Ending.{Ending}
 use Rattle.zb_audit.proofs.Failing.{failing_more, head_then}
-use Rattle.zb_declared.specs.Groups.{event_of}
-use Rattle.zb_declared.specs.Secrets.{ideal, private}
+use Rattle.zb_audit_names.specs.Groups.{event_of}
+use Rattle.zb_audit_names.specs.Secrets.{ideal, private}
 use Rattle.zb_model.specs.Tools.{Tools}
 use Rattle.zb_trace.specs.declared.line.Line.{Line}
 use Rattle.zb_trace.specs.declared.line.Line.TheVariants as line

@@ -23,9 +23,9 @@ use Rattle.zb_audit.specs.declared.taking.Taking.{Taking}
 use Rattle.zb_audit.proofs.Failing.{any_more, any_stays, first_more, first_stays, or_false}
 use Rattle.zb_audit.proofs.FreshNonces.{part}
 use Rattle.zb_base.specs.contracts.label.LayerOrd.TheImpl as layer_ord
-use Rattle.zb_declared.proofs.Places.{itself, one_place, same_bytes, apart}
-use Rattle.zb_declared.specs.Naming.{declared_in, place_in}
-use Rattle.zb_declared.specs.Standing.{IsSpeaker, Tells}
+use Rattle.zb_audit_names.proofs.Places.{itself, one_place, same_bytes, apart}
+use Rattle.zb_audit_names.specs.Naming.{declared_in, place_in}
+use Rattle.zb_audit_names.specs.Standing.{IsSpeaker, Tells}
 use Rattle.zb_model.specs.Data.{Bytes}
 use Rattle.zb_trace_watch.proofs.Alike.{bytes_alike, bytes_eq_sym}
 use Rattle.zb_trace_watch.proofs.Truth.{itself_number, number_so, same_number, same_truth, turned_number, either, or_left, or_right, and_left, and_right, not_false, not_true}

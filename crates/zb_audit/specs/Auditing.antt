@@ -2,18 +2,18 @@
 use Rattle.std.specs.Prelude.{◌≡◌, ℕ, ◌+◌, Bool, true, ◌&&◌, List, [], ◌∷◌, ◌++◌, length}
 use Rattle.zb_audit.specs.Standing.{AreConfirmed, AreNonces, AreTaken, Ends}
 use Rattle.zb_audit.specs.declared.auditor.Auditor.{Auditor}
-use Rattle.zb_declared.specs.Naming.{declared_in, names_in}
-use Rattle.zb_declared.specs.Secrets.{ideal, private}
-use Rattle.zb_declared.specs.Standing as directory
-use Rattle.zb_declared.specs.Standing.{IsSpeaker}
-use Rattle.zb_declared.specs.declared.node.Who.{Who}
-use Rattle.zb_end_words.specs.Standing as words
-use Rattle.zb_lockout.specs.Standing as lockout
-use Rattle.zb_lockout.specs.declared.lockout.Lockout.{Lockout}
+use Rattle.zb_audit_names.specs.Naming.{declared_in, names_in}
+use Rattle.zb_audit_names.specs.Secrets.{ideal, private}
+use Rattle.zb_audit_names.specs.Standing as directory
+use Rattle.zb_audit_names.specs.Standing.{IsSpeaker}
+use Rattle.zb_audit_names.specs.declared.node.Who.{Who}
+use Rattle.zb_audit_words.specs.Standing as words
+use Rattle.zb_audit_lockout.specs.Standing as lockout
+use Rattle.zb_audit_lockout.specs.declared.lockout.Lockout.{Lockout}
 use Rattle.zb_trace_watch.specs.Standing.{FindKeys}
 use Rattle.zb_model.specs.Data.{Bytes}
 use Rattle.zb_model.specs.Tools.{Tools}
-use Rattle.zb_recount.specs.Recounting.{Recounts}
+use Rattle.zb_audit_counters.specs.Recounting.{Recounts}
 use Rattle.zb_trace.specs.declared.line.Line.{Line}
 
 -- the parts that go by the places of names among these

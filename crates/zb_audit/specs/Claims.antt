@@ -4,8 +4,8 @@ use Rattle.std.specs.List.{AllByRecursion}
 use Rattle.zb_audit.specs.Confirming.{Kept, confirmed, row_in}
 use Rattle.zb_audit.specs.declared.fault.Verdict.{Verdict}
 use Rattle.zb_base.specs.declared.address.Eui.{Eui}
-use Rattle.zb_declared.specs.Naming.{declared_in, is_centres}
-use Rattle.zb_lockout.specs.Lockout.{locked}
+use Rattle.zb_audit_names.specs.Naming.{declared_in, is_centres}
+use Rattle.zb_audit_lockout.specs.Lockout.{locked}
 use Rattle.zb_model.specs.Data.{Bytes}
 use Rattle.zb_model.specs.Tools.{Tools}
 use Rattle.zb_seal.specs.Keys.{sealing_key}

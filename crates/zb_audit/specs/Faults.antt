@@ -9,10 +9,10 @@ use Rattle.zb_audit.specs.declared.fault.AuditFault.{AuditFault}
 use Rattle.zb_audit.specs.declared.fault.AuditFault.TheVariants.{Broken, NoMemory}
 use Rattle.zb_audit.specs.declared.fault.BadLine.{BadLine}
 use Rattle.zb_audit.specs.declared.fault.Verdict.{Verdict}
-use Rattle.zb_declared.specs.Secrets.{ideal, private}
-use Rattle.zb_lockout.specs.Lockout.{first_unlocked}
+use Rattle.zb_audit_names.specs.Secrets.{ideal, private}
+use Rattle.zb_audit_lockout.specs.Lockout.{first_unlocked}
 use Rattle.zb_model.specs.Tools.{Tools}
-use Rattle.zb_recount.specs.Counting.{first_uncounted}
+use Rattle.zb_audit_counters.specs.Counting.{first_uncounted}
 use Rattle.zb_trace.specs.declared.line.Line.{Line}
 
 -- Where what was accepted came from earlier terms and outsiders forged with no more than they may know, removed devices are

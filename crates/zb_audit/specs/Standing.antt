@@ -21,7 +21,7 @@ use Rattle.zb_audit.specs.contracts.confirming.LinkRowOrd.TheImpl as row_ord
 use Rattle.zb_base.specs.declared.address.Eui.{Eui}
 use Rattle.zb_base.specs.declared.state.Attribute.{Attribute}
 use Rattle.zb_base.specs.declared.state.Attribute.TheVariants as attribute
-use Rattle.zb_declared.specs.Naming.{place_in}
+use Rattle.zb_audit_names.specs.Naming.{place_in}
 use Rattle.zb_model.specs.Data.{Bytes}
 use Rattle.zb_model.specs.Tools.{Tools}
 use Rattle.zb_seal.specs.Keys.{sealing_key}

@@ -3,7 +3,7 @@ ghost use Rattle.std.specs.Prelude.{◌≡◌, ◌++◌, ◌∷◌, [], ◌&&◌
 ghost use Rattle.zb_audit.specs.Auditing.{LocksOn, Stands};
 ghost use Rattle.zb_audit.specs.Claims.{Keeps};
 ghost use Rattle.zb_audit.specs.Faults.{by, first_fault, IsAnswer, sooner as sooner_of, unlocked as unlocked_in};
-ghost use Rattle.zb_declared.specs.Secrets.{ideal as ideal_of, private as private_of};
+ghost use Rattle.zb_audit_names.specs.Secrets.{ideal as ideal_of, private as private_of};
 ghost use Rattle.zb_model.specs.Tools.{Tools};
 ghost use Rattle.zb_model_real.specs.Real.{real};
 ghost use Rattle.zb_trace.specs.declared.line.Line.{Line as AnyLine};
@@ -16,11 +16,11 @@ use crate::nonces::Nonces;
 use crate::numbers::next;
 use crate::taking::Taking;
 use std::alloc::Global;
+use zb_audit_counters::Recount;
+use zb_audit_lockout::Lockout;
+use zb_audit_names::{Directory, Who};
+use zb_audit_words::EndWords;
 use zb_base::NoMemory;
-use zb_declared::{Directory, Who};
-use zb_end_words::EndWords;
-use zb_lockout::Lockout;
-use zb_recount::Recount;
 use zb_trace::Line;
 
 /// Holds what is known of a transcript after the lines so far, and no line.

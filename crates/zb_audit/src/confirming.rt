@@ -4,21 +4,21 @@ ghost use Rattle.std.specs.Option.{option_or};
 ghost use Rattle.zb_audit.specs.Confirming.{confirmed as confirmed_by, confirmed_in as confirmed_bytes, is_kept, is_row};
 ghost use Rattle.zb_audit.specs.Standing.{AreConfirmed, row_state, stands_in, verified as verified_in, verified_at};
 ghost use Rattle.zb_cmd.specs.Reading.{command_of};
-ghost use Rattle.zb_declared.specs.Naming.{declared_in};
-ghost use Rattle.zb_declared.specs.Standing.{IsSpeaker};
+ghost use Rattle.zb_audit_names.specs.Naming.{declared_in};
+ghost use Rattle.zb_audit_names.specs.Standing.{IsSpeaker};
 ghost use Rattle.zb_model.specs.Data.{Bytes};
 ghost use Rattle.zb_trace.specs.declared.line.Line.{Line as AnyLine};
-ghost use Rattle.zb_transported.specs.Carrying.{is_command_header};
+ghost use Rattle.zb_carried_keys.specs.Carrying.{is_command_header};
 
 use crate::numbers::first_bad;
 use std::alloc::Global;
 use std::collections::BTreeMap;
+use zb_audit_names::Who;
 use zb_base::{Attribute, Eui, Key, Layer, NoMemory};
+use zb_carried_keys::is_command;
 use zb_cmd::{Command, read_command};
-use zb_declared::Who;
 use zb_seal::Term;
 use zb_trace::Line;
-use zb_transported::is_command;
 
 /// A link row of the centre.
 #[derive(Clone, Copy, Drop, PartialEq, Eq, PartialOrd, Ord)]

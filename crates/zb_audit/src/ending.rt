@@ -3,14 +3,14 @@ ghost use Rattle.std.specs.Prelude.{◌≡◌, ◌+◌, ◌++◌, ◌∷◌, [],
 ghost use Rattle.zb_audit.specs.Ending.{accept_count, agree, greater_event, ill_ended, is_no_end, refuse_count, seal_count};
 ghost use Rattle.zb_audit.specs.Failing.{head};
 ghost use Rattle.zb_audit.specs.Standing.{counts_are, Ends, fits};
-ghost use Rattle.zb_declared.specs.Groups.{event_of};
-ghost use Rattle.zb_declared.specs.Secrets.{ideal as ideal_of, private as private_of};
+ghost use Rattle.zb_audit_names.specs.Groups.{event_of};
+ghost use Rattle.zb_audit_names.specs.Secrets.{ideal as ideal_of, private as private_of};
 ghost use Rattle.zb_model.specs.Tools.{Tools};
 ghost use Rattle.zb_trace.specs.declared.line.Line.{Line as AnyLine};
 
 use crate::numbers::{first_bad, next};
+use zb_audit_names::event;
 use zb_base::NoMemory;
-use zb_declared::event;
 use zb_trace::Line;
 
 /// What an end line sums up, and how the lines so far end.

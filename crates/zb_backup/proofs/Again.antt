@@ -14,7 +14,7 @@ use Rattle.zb_model.specs.Data.{Bytes, Centre, State, Fresh, Knocked, Joined, Of
 use Rattle.zb_model.specs.Fits.{active_is_live, is_fresh, most_links, most_nets, most_pairs, most_senders, role_is_kept, row_is_live}
 use Rattle.zb_model.specs.Record.{attribute_byte}
 use Rattle.zb_model.specs.State.{SenderFloor, NetKey, LinkKey, PairKey, NodeState, after_boot, booted_floor, booted_link, booted_net, greatest_counter, same_key}
-use Rattle.zb_model_fits.proofs.Parts.{rules_of, floors_rule, same_key_is}
+use Rattle.law_change_fits.proofs.Parts.{rules_of, floors_rule, same_key_is}
 use Rattle.zb_backup.specs.Format.{floor_object, net_object, link_object, pair_object, active_value, roll_text, backup_of}
 use Rattle.zb_backup.specs.Told.{◌>>=◌, text_at, flag_at, number_at, key_at, eui_at, attribute_at, list_at, rows_at, told_rows, floor_told, net_told, link_told, pair_told, place_in, active_at, roll_of, roll_at, state_told}
 use Rattle.zb_backup.specs.Reading.{IsOfCentre, floor_fits, net_fits, link_fits, pair_fits}

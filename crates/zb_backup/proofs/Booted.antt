@@ -5,7 +5,7 @@ use Rattle.zb_model.specs.Data.{Bytes, Centre}
 use Rattle.zb_model.specs.Fits.{keeps_rules}
 use Rattle.zb_model.specs.State.{SenderFloor, NetKey, LinkKey, NodeState, after_boot, booted_floor, booted_link, booted_net, same_key, shown, shown_net}
 use Rattle.zb_keys.proofs.BootLemmas.{booted_shown}
-use Rattle.zb_model_laws.proofs.StoredFits.{rules_same}
+use Rattle.law_run.proofs.StoredFits.{rules_same}
 use Rattle.zb_backup.specs.Format.{floor_object, net_object, link_object, active_value, backup_of}
 use Rattle.zb_backup.specs.Reading.{IsOfCentre, floor_fits, net_fits, link_fits, has_widths}
 use Rattle.zb_backup.proofs.Both.{boot_twice}

@@ -16,8 +16,8 @@ use Rattle.zb_model.specs.Fits.{keeps_rules, most_links}
 use Rattle.zb_node_types.specs.Changes.{model_role}
 use Rattle.zb_model.specs.Record.{record_of}
 use Rattle.zb_model.specs.State.{NetKey, NodeState, after_boot, shown}
-use Rattle.zb_model_fits.proofs.Parts.{rules_of}
-use Rattle.zb_model_laws.proofs.StoredFits.{rules_same}
+use Rattle.law_change_fits.proofs.Parts.{rules_of}
+use Rattle.law_run.proofs.StoredFits.{rules_same}
 use Rattle.zb_record.specs.Ranges.{FitsBytes}
 use Rattle.zb_record.specs.Records.{record_read}
 use Rattle.zb_record.specs.RowViews.{net_key, link_key, pair_key}

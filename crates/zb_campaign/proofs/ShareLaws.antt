@@ -7,8 +7,8 @@ use Rattle.zb_campaign.specs.Campaigns.{all_of, behind, ending_of_run, endings, 
 use Rattle.zb_campaign.specs.declared.fault.CampaignFault.{CampaignFault}
 use Rattle.zb_campaign.specs.declared.fault.CampaignFault.TheVariants as fault
 use Rattle.zb_campaign.proofs.RunLaws.{behind_both, behind_none, no_runs}
-use Rattle.zb_jobs.specs.Shares.{AreShares}
-use Rattle.zb_jobs.specs.declared.share.Share.{Share}
+use Rattle.zb_parallel.specs.Shares.{AreShares}
+use Rattle.zb_parallel.specs.declared.share.Share.{Share}
 use Rattle.zb_model.specs.Lines.{Line}
 use Rattle.zb_player.specs.Runs.{last_line}
 use Rattle.zb_player.specs.declared.summary.Summary.{Summary}

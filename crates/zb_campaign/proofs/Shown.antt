@@ -8,7 +8,7 @@ use Rattle.zb_model.specs.Data.{Bytes}
 use Rattle.zb_model.specs.Lines as log
 use Rattle.zb_player.specs.Runs.{last_line}
 use Rattle.zb_player.specs.declared.summary.Summary.{Summary}
-use Rattle.zb_said.specs.Said.{IsLineOf, line_text}
+use Rattle.zb_trace_model.specs.Said.{IsLineOf, line_text}
 use Rattle.zb_trace.specs.Text.{text}
 use Rattle.zb_trace.specs.declared.line.Line.{Line}
 

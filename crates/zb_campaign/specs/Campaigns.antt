@@ -6,8 +6,8 @@ use Rattle.zb_model.specs.Data.{Bytes}
 use Rattle.zb_model.specs.Lines.{Line, End}
 use Rattle.zb_model.specs.Transcript.{end_line, run_lines}
 use Rattle.zb_model_real.specs.Real.{real}
-use Rattle.zb_model_schedules.specs.Schedules.{schedule_of}
-use Rattle.zb_said.specs.Said.{line_text}
+use Rattle.law_schedules.specs.Schedules.{schedule_of}
+use Rattle.zb_trace_model.specs.Said.{line_text}
 use Rattle.zb_sched.specs.Schedules.{Schedule}
 use Rattle.zb_sched.specs.declared.error.SchedError.{SchedError}
 use Rattle.zb_text.specs.Words.{then}

@@ -11,7 +11,7 @@ use std::alloc::Global;
 use zb_base::NoMemory;
 use zb_disk::MemDisk;
 use zb_gen::make;
-use zb_jobs::Share;
+use zb_parallel::Share;
 use zb_player::{Summary, play_unread};
 use zb_sched::Schedule;
 

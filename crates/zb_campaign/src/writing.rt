@@ -5,7 +5,7 @@ ghost use Rattle.zb_base.specs.Outside.{Unrisen};
 ghost use Rattle.zb_campaign.specs.Answers.{Answers, last_lines};
 ghost use Rattle.zb_campaign.specs.Campaigns.{campaigned, endings, joined};
 ghost use Rattle.zb_campaign.specs.Outcomes.{Campaigns};
-ghost use Rattle.zb_jobs.specs.Shares.{AreShares};
+ghost use Rattle.zb_parallel.specs.Shares.{AreShares};
 ghost use Rattle.zb_model.specs.Lines.{Line};
 ghost use Rattle.zb_sched.specs.declared.error.SchedError.{SchedError};
 
@@ -15,7 +15,7 @@ use crate::runs::play_share;
 use std::alloc::Global;
 use std::thread::{Threads, map_vec};
 use zb_base::Sink;
-use zb_jobs::{Gate, IdleThread, Share, shares};
+use zb_parallel::{Gate, IdleThread, Share, shares};
 use zb_player::Summary;
 
 /// Plays `count` made schedules by so many jobs, and writes a line for each run and the total.

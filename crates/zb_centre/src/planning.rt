@@ -18,12 +18,12 @@ use zb_core::NodeCore;
 use zb_delivery::plan_received;
 use zb_host::{Outcome, Plan};
 use zb_keys::Tables;
-use zb_network::Network;
 use zb_node_types::Refusal;
 use zb_plan::plan_own;
 use zb_rules::{Effect, say};
 use zb_seal::{KeyMemo, Term};
 use zb_send::Payload;
+use zb_setting::Network;
 
 // Copies application data.
 fn copied(bytes: &Payload) -> Payload

@@ -7,11 +7,11 @@ ghost use Rattle.zb_rules.specs.Outcomes.{decided, told, Keeps};
 use zb_base::{Eui, Label, Layer, Place};
 use zb_cmd::Command;
 use zb_keys::Tables;
-use zb_network::Network;
 use zb_node_types::Refusal;
 use zb_rows::is_spent;
 use zb_rules::Effect;
 use zb_send::Body;
+use zb_setting::Network;
 
 /// Hands the active network key to a device that joins or rejoins under the centre: sealed for transport under its
 /// current row, in an unsecured NWK frame.

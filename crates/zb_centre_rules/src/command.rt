@@ -12,9 +12,9 @@ use crate::{take_app_request, take_request, take_update, take_verify};
 use zb_base::{Key, Place};
 use zb_cmd::Command;
 use zb_keys::Tables;
-use zb_network::Network;
 use zb_node_types::Refusal;
 use zb_rules::{Effect, Heard};
+use zb_setting::Network;
 
 /// Refuses a command that routers and devices alone take.
 fn not_taken() -> Result<Effect, Refusal>

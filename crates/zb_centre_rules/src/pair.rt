@@ -18,12 +18,12 @@ use arrayvec::ArrayVec;
 use zb_base::{Eui, Key, Label, Place};
 use zb_cmd::Command;
 use zb_keys::{Pair, Tables};
-use zb_network::Network;
 use zb_node_types::{Change, Changes, Refusal};
 use zb_record::LinkRow;
 use zb_rows::{is_any_spent, is_live, pairs_full, unless_held};
 use zb_rules::{Effect, Heard, add, sending};
 use zb_send::{Body, Sending};
+use zb_setting::Network;
 
 /// Answers what sends the key of a pair to a device, sealed for load under its current row.
 ///

@@ -14,12 +14,12 @@ use arrayvec::ArrayVec;
 use zb_base::{Eui, Label, Layer, Place};
 use zb_cmd::Command;
 use zb_keys::Tables;
-use zb_network::Network;
 use zb_node_types::{Change, Changes, Refusal};
 use zb_record::LinkRow;
 use zb_rows::{add_drop_partner, is_any_spent, is_live, is_spent};
 use zb_rules::{Effect, add, sending};
 use zb_send::{Body, Sending};
+use zb_setting::Network;
 
 /// Lists what a removal changes: the device's live rows are dropped, and its pairs end.
 fn removed(tables: &Tables, device: Eui) -> Changes

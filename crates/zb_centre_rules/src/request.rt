@@ -16,12 +16,12 @@ use arrayvec::ArrayVec;
 use zb_base::{Attribute, Eui, Key, Label, Place};
 use zb_cmd::Command;
 use zb_keys::Tables;
-use zb_network::Network;
 use zb_node_types::{Change, Changes, Refusal};
 use zb_record::LinkRow;
 use zb_rows::{is_any_spent, links_full, unless_held};
 use zb_rules::{Effect, Heard, add, sending};
 use zb_send::{Body, Sending};
+use zb_setting::Network;
 
 /// Answers whether the row that opened a request is the sender's current one, sealed for data.
 pub(crate) fn is_under_current(tables: &Tables, heard: &Heard) -> bool

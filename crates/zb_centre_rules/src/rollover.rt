@@ -16,13 +16,13 @@ use arrayvec::ArrayVec;
 use zb_base::{Eui, Key, Label, Layer, Place, Rollover, Short};
 use zb_cmd::Command;
 use zb_keys::Tables;
-use zb_network::Network;
 use zb_node_types::{Change, Changes, Refusal};
 use zb_record::NetRow;
 use zb_roll::{may_switch, next_member};
 use zb_rows::{add_drop_old, is_any_spent, is_live, is_spent, is_told, nets_full, unless_held};
 use zb_rules::{Effect, add, sending};
 use zb_send::Body;
+use zb_setting::Network;
 
 /// Answers whether the centre gives a new network key to its devices.
 fn is_sending(tables: &Tables) -> bool

@@ -9,11 +9,11 @@ ghost use Rattle.zb_rules.specs.Outcomes.{decided, told, Keeps};
 use zb_base::{Eui, Place};
 use zb_cmd::Command;
 use zb_keys::Tables;
-use zb_network::Network;
 use zb_node_types::Refusal;
 use zb_rows::is_any_spent;
 use zb_rules::{Effect, Heard};
 use zb_send::Body;
+use zb_setting::Network;
 
 /// Answers whether the command is an Update-Device in the form in which it is taken.
 fn is_update(network: &Network, heard: &Heard, status: u8) -> bool

@@ -20,12 +20,12 @@ use zb_base::{Attribute, Eui, Key, Label, Place};
 use zb_cmd::Command;
 use zb_keys::Tables;
 use zb_mmo::verify_hash;
-use zb_network::Network;
 use zb_node_types::{Change, Changes, Refusal};
 use zb_record::LinkRow;
 use zb_rows::{is_any_spent, is_live};
 use zb_rules::{Effect, Heard, add, add_drop, sending};
 use zb_send::{Body, Sending};
+use zb_setting::Network;
 
 /// Answers whether that node is the source of the NWK layer.
 fn names(heard: &Heard, device: Eui) -> bool

@@ -2,8 +2,8 @@
 use Rattle.std.proofs.Common.{◌≡◌, Ok, Option, None, Some, IfSome, ◌∙◌, subst}
 use Rattle.std.specs.Io.KnownBytes.{Appends}
 use Rattle.zb_model.specs.Data.{Bytes}
-use Rattle.zb_model_headline.specs.Headline.{Holds}
-use Rattle.zb_model_schedules.specs.Schedules.{schedule_of}
+use Rattle.law_real_runs.specs.Headline.{Holds}
+use Rattle.law_schedules.specs.Schedules.{schedule_of}
 use Rattle.zb_player.specs.Runs.{transcript_text}
 use Rattle.zb_sched.specs.Reading.{schedule_in}
 use Rattle.zb_sched.specs.Schedules.{Schedule}

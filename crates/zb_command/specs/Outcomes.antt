@@ -4,8 +4,8 @@ use Rattle.std.specs.Io.KnownBytes.{Appends, IsAtEnd, Keeps}
 use Rattle.zb_base.specs.Outside.{AppendsFront, Rose}
 use Rattle.zb_gen.specs.Made.{made_schedule}
 use Rattle.zb_model.specs.Data.{Bytes}
-use Rattle.zb_model_headline.specs.Headline.{Holds}
-use Rattle.zb_model_schedules.specs.Schedules.{schedule_of}
+use Rattle.law_real_runs.specs.Headline.{Holds}
+use Rattle.law_schedules.specs.Schedules.{schedule_of}
 use Rattle.zb_player.specs.Runs.{transcript_text}
 use Rattle.zb_sched.specs.Schedules as sched
 use Rattle.zb_sched.specs.Printed.{printed}

@@ -10,7 +10,7 @@ use std::alloc::Global;
 use std::thread::Threads;
 use zb_base::Sink;
 use zb_campaign::{CampaignFault, campaign};
-use zb_jobs::OpenGate;
+use zb_parallel::OpenGate;
 
 /// Plays `count` made schedules from the start value `start` on, by so many jobs, and writes what they come to.
 pub(crate) fn write_campaign<T: Threads + Sync, W: Sink>(

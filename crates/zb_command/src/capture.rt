@@ -12,7 +12,7 @@ use std::alloc::{AllocError, Global};
 use std::thread::{Threads, join_mut};
 use zb_base::{NoMemory, OrMemory, Source};
 use zb_capture::{Capture, CaptureError, CaptureReader};
-use zb_jobs::IdleThread;
+use zb_parallel::IdleThread;
 
 /// How many bytes one job takes in before it reads their lines.
 const PART: usize = 1_048_576;

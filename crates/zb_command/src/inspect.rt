@@ -17,7 +17,7 @@ use std::thread::Threads;
 use zb_base::{Sink, Source};
 use zb_capture::Capture;
 use zb_inspect::{InspectFault, report};
-use zb_jobs::OpenGate;
+use zb_parallel::OpenGate;
 
 /// Writes the report on the capture on the input, read and worked out by so many jobs.
 pub(crate) fn inspect_input<T: Threads + Sync, R: Source, W: Sink>(

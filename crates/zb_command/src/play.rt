@@ -12,9 +12,9 @@ ghost use Rattle.zb_sched.specs.Valid.{IsSchedule};
 
 use crate::input::{InputFault, LONGEST, read_input};
 use crate::status::{Cause, Status};
+use law_schedules::each_schedule_holds;
 use std::alloc::Global;
 use zb_base::{OrMemory, Sink, Source};
-use zb_model_schedules::each_schedule_holds;
 use zb_player::{PlayFault, Still, play};
 use zb_sched::{Schedule, read};
 

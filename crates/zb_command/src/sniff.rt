@@ -18,7 +18,7 @@ use std::alloc::{AllocError, Global};
 use std::thread::Threads;
 use zb_base::{OrMemory, Sink, Source};
 use zb_inspect::{InspectFault, report};
-use zb_jobs::OpenGate;
+use zb_parallel::OpenGate;
 use zb_pcap::{Counts, Extraction, extract};
 use zb_text::page::{add_number, end_line, hand_out, put};
 

@@ -3,7 +3,7 @@ use Rattle.std.proofs.Common.{◌≡◌, ℕ, Option, Some, None, refl, ◌∙�
 use Rattle.std.specs.Prelude.{unwrap_or}
 use Rattle.zb_model_real.proofs.Showing.{aps-opens, nwk-opens}
 use Rattle.zb_model_real.specs.Real.{real}
-use Rattle.zb_model_storable.specs.Storing.{OpensAsJudged, source_or}
+use Rattle.law_answer_storable.specs.Storing.{OpensAsJudged, source_or}
 
 given_or : (given : ℕ) (o : Option ℕ) → unwrap_or o given ≡ source_or given o
 given_or given None = refl

@@ -12,10 +12,10 @@ use Rattle.zb_model.specs.Data.{Bytes, Edit, Layer, Nwk, Aps}
 use Rattle.zb_model.specs.State.{NodeState, applied_all, greatest_counter, shown}
 use Rattle.zb_model_real.specs.Real.{real}
 use Rattle.zb_model_real.specs.Terms.{model_term}
-use Rattle.zb_model_seals.specs.Sealing.{SealsNext, next_under}
-use Rattle.zb_model_seals.proofs.Heard.{answer_below_last}
-use Rattle.zb_model_seals.proofs.InParts.{accepted_parts, next_parts, sealed_parts}
-use Rattle.zb_model_seals.proofs.Next.{answer_next}
+use Rattle.law_answer_seals.specs.Sealing.{SealsNext, next_under}
+use Rattle.law_answer_seals.proofs.Heard.{answer_below_last}
+use Rattle.law_answer_seals.proofs.InParts.{accepted_parts, next_parts, sealed_parts}
+use Rattle.law_answer_seals.proofs.Next.{answer_next}
 use Rattle.zb_node_types.specs.Changes.{edits, model_layer}
 use Rattle.zb_plan.specs.Answers.{terms}
 use Rattle.zb_seal.specs.declared.term.Term.{Term}

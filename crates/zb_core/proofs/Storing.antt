@@ -8,7 +8,7 @@ use Rattle.zb_model.specs.Answer.{answer}
 use Rattle.zb_model.specs.Data.{Edit, Task}
 use Rattle.zb_model.specs.Fits.{AllFit}
 use Rattle.zb_model_real.specs.Real.{real}
-use Rattle.zb_model_storable.proofs.Answers.{all_stored, few_stored}
+use Rattle.law_answer_storable.proofs.Answers.{all_stored, few_stored}
 use Rattle.zb_node_types.specs.Changes.{edit}
 use Rattle.zb_plan.specs.Answers.{IsAnswer}
 use Rattle.zb_record.specs.Ranges.{InRange}

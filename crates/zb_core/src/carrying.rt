@@ -4,7 +4,7 @@ ghost use Rattle.std.specs.List.{AllByRecursion};
 ghost use Rattle.zb_core.specs.Carrying.{IsBelowLast, after_aps, after_heard, after_plan, one};
 ghost use Rattle.zb_model.specs.Answer.{accepted_all, sealed_all};
 ghost use Rattle.zb_model.specs.Fits.{AllFit};
-ghost use Rattle.zb_model_seals.specs.Sealing.{SealsNext};
+ghost use Rattle.law_answer_seals.specs.Sealing.{SealsNext};
 ghost use Rattle.zb_node_types.specs.Changes.{edits};
 ghost use Rattle.zb_record.specs.Ranges.{InRange};
 

@@ -19,9 +19,9 @@ use std::marker::Model;
 use zb_base::{Config, OrMemory, Role};
 use zb_host::{Outcome, Plan};
 use zb_keys::Tables;
-use zb_network::Network;
 use zb_node_types::{KeyError, Refusal};
 use zb_seal::{KeyMemo, Term};
+use zb_setting::Network;
 use zb_stored_tables::{StoredTables, hold_ranges};
 
 /// What a node of any role has: what it knows of its network, its tables, and the base keys that it used last.

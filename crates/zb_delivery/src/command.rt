@@ -18,10 +18,10 @@ use zb_centre_rules::take_command as take_at_centre;
 use zb_cmd::{CmdError, Command, read_command, read_leave};
 use zb_keys::Tables;
 use zb_member_rules::{take_command as take_at_member, take_leave};
-use zb_network::Network;
 use zb_node_types::Refusal;
 use zb_rules::{Effect, Heard};
 use zb_seal::Term;
+use zb_setting::Network;
 
 /// Answers why content that is no Leave isn't taken: it is another command, or none.
 fn no_leave(fault: CmdError) -> Refusal

@@ -16,7 +16,7 @@ use std::thread::{Threads, map_vec};
 use zb_base::{Failed, NoMemory, Sink};
 use zb_capture::Capture;
 use zb_inspect_ring::{Piece, Ring, open_all};
-use zb_jobs::Gate;
+use zb_parallel::Gate;
 
 /// Writes the report on a capture, worked out by so many jobs. Nothing is written before the report is known.
 ///

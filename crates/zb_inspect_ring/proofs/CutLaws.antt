@@ -3,8 +3,8 @@ use Rattle.std.proofs.Common.{◌≡◌, ℕ, zero, suc, ◌+◌, ◌-◌, ◌*�
 use Rattle.std.specs.Int.{div_ceil}
 use Rattle.std.specs.List.{AllByRecursion, AllZip}
 use Rattle.std.proofs.lemmas.Grind.{div_ceil_times}
-use Rattle.zb_jobs.specs.Shares.{AreShares}
-use Rattle.zb_jobs.specs.declared.share.Share.{Share}
+use Rattle.zb_parallel.specs.Shares.{AreShares}
+use Rattle.zb_parallel.specs.declared.share.Share.{Share}
 use Rattle.zb_inspect_ring.specs.Pieces.{AreSized, all_blocks, count_of, HasShare, IsShareWithin, IsUnseen, Numbered}
 use Rattle.zb_inspect_ring.specs.declared.piece.Piece.{Piece}
 use Rattle.zb_inspect_ring.proofs.Lists.{all_append}

@@ -6,7 +6,7 @@ use Rattle.zb_aps.specs.Reading as aps_reading
 use Rattle.zb_base.specs.declared.address.Eui.{Eui}
 use Rattle.zb_base.specs.declared.address.Short.{Short}
 use Rattle.zb_base.specs.declared.key.Key.{Key}
-use Rattle.zb_transported.specs.Carrying.{carried}
+use Rattle.zb_carried_keys.specs.Carrying.{carried}
 use Rattle.zb_nwk.specs.Reading as nwk_reading
 use Rattle.zb_inspect_frame.specs.Carrying.{carries, key_below, keys_of_layers, keys_carried}
 use Rattle.zb_inspect_frame.specs.Layers.{tried, found_nwk, found_aps}

@@ -15,7 +15,7 @@ use Rattle.zb_inspect_ring.specs.declared.block.Seen.{Seen}
 use Rattle.zb_inspect_ring.specs.declared.block.Seen.TheVariants.{Nothing, Unopened, Lines, Whole}
 use Rattle.zb_inspect_ring.specs.declared.piece.Piece.{Piece}
 use Rattle.zb_inspect_ring.specs.declared.ring.Lead.{Lead}
-use Rattle.zb_jobs.specs.declared.share.Share.{Share}
+use Rattle.zb_parallel.specs.declared.share.Share.{Share}
 
 -- what pieces have, one after the other
 abbrev pub all_blocks : List Piece → List Block

@@ -8,7 +8,7 @@ use crate::block::{Block, Seen};
 use crate::piece::Piece;
 use std::alloc::Global;
 use zb_base::NoMemory;
-use zb_jobs::{Share, shares};
+use zb_parallel::{Share, shares};
 
 /// Cuts so many frames into consecutive pieces, at most one for each job, in which no frame was looked at yet.
 ///

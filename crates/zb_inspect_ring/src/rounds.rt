@@ -14,7 +14,7 @@ use std::thread::{Threads, map_vec};
 use zb_base::NoMemory;
 use zb_capture::{Capture, Frames};
 use zb_inspect_frame::Addresses;
-use zb_jobs::{Gate, IdleThread};
+use zb_parallel::{Gate, IdleThread};
 use zb_seal::SealingKeys;
 
 /// Holds the ring of a capture, and what the frames of the capture show under it.

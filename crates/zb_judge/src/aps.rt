@@ -15,10 +15,10 @@ use crate::opening::open_aps;
 use zb_aps::{ApsAux, ApsFrame};
 use zb_base::{Eui, Place};
 use zb_keys::{LinkRow, Tables};
-use zb_network::Network;
 use zb_node_types::Refusal;
 use zb_nwk::NwkFrame;
 use zb_seal::{KeyMemo, Term};
+use zb_setting::Network;
 
 /// An APS part that is accepted.
 #[derive(Debug, Drop)]

@@ -10,7 +10,7 @@ use Rattle.zb_model.specs.Fits.{keeps_rules, rows_have_room, keys_differ, at_mos
 use Rattle.zb_keys.specs.declared.contents.Contents.{Contents}
 use Rattle.zb_keys.specs.Tables.{state_of, IsSound, Forgets}
 use Rattle.zb_keys.proofs.StateLemmas.{both}
-use Rattle.zb_model_fits.proofs.ShownApplied.{shown_applied}
+use Rattle.law_change_fits.proofs.ShownApplied.{shown_applied}
 use Rattle.zb_keys.proofs.RuleLemmas.{fits_kept}
 
 pub shown_is : (s : NodeState) → Forgets s → shown s ≡ s

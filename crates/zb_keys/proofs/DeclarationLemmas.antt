@@ -15,8 +15,8 @@ use Rattle.zb_model.specs.Rules.{centre_of}
 use Rattle.std.specs.List.{list_any}
 use Rattle.std.proofs.lemmas.List.Concat.{flat_map-cons}
 use Rattle.std.proofs.lemmas.Bool.{not-true}
-use Rattle.zb_model_fits.proofs.Tests.{both, neither}
-use Rattle.zb_model_fits.proofs.Parts.{same_key_of}
+use Rattle.law_change_fits.proofs.Tests.{both, neither}
+use Rattle.law_change_fits.proofs.Parts.{same_key_of}
 use Rattle.zb_keys.specs.declared.contents.Contents.{Contents}
 use Rattle.zb_keys.specs.Tables.{state_of, IsSound, Forgets}
 use Rattle.zb_keys.specs.Declarations.{with_network, with_code, first_state, held_nets, held_links, held_state, code_with, same_eui}

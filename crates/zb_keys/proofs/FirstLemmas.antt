@@ -7,8 +7,8 @@ use Rattle.zb_base.specs.declared.label.Layer.{Layer}
 use Rattle.zb_node_types.specs.declared.change.Change.{Change}
 use Rattle.zb_node_types.specs.declared.change.Change.TheVariants as change
 use Rattle.zb_node_types.specs.Changes.{edit}
-use Rattle.zb_model_fits.specs.Fitting.{leaves_rules}
-use Rattle.zb_model_fits.proofs.FitLaws.{fits_is}
+use Rattle.law_change_fits.specs.Fitting.{leaves_rules}
+use Rattle.law_change_fits.proofs.FitLaws.{fits_is}
 use Rattle.zb_model.specs.Data.{Reserve, Aps}
 use Rattle.zb_model.specs.State.{NodeState, applied}
 use Rattle.zb_model.specs.Fits.{keeps_rules, fits}

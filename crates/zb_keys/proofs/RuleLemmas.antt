@@ -7,8 +7,8 @@ use Rattle.zb_model.specs.Data.{Bytes, Role, Move, Draw, DropNet, DropLink, Inst
 use Rattle.zb_model.specs.State.{NodeState, SenderFloor, NetKey, LinkKey, booted_floor, booted_net, same_key, live_nets, shown, applied, net_kept, floor_kept, is_centre, is_provisional, is_unverified}
 use Rattle.zb_model.specs.Fits.{keeps_rules, rows_have_room, keys_differ, at_most_two_live, active_is_live, partners_agree, links_are_marked, floors_are_kept, limits_are_started, role_is_kept, pairs_are_kept, senders_ascend, most_senders, row_is_live, all_apart, like_rows, same_bool, most_links, fits, may_change}
 use Rattle.std.proofs.lemmas.List.Folds.{list_all-map}
-use Rattle.zb_model_fits.proofs.Tests.{any_same}
-use Rattle.zb_model_fits.proofs.Shown.{rules_shown}
+use Rattle.law_change_fits.proofs.Tests.{any_same}
+use Rattle.law_change_fits.proofs.Shown.{rules_shown}
 use Rattle.zb_keys.proofs.Mapping.{list_any-map}
 use Rattle.zb_keys.proofs.ShownLemmas.{filter-map}
 use Rattle.zb_keys.proofs.StateLemmas.{both, rules_of, rules_back}

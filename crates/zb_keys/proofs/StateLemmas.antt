@@ -19,7 +19,7 @@ use Rattle.zb_record.specs.Senders.{live_floor, HasRoom}
 use Rattle.zb_keys.specs.Tables.{state_of, with_row, Becomes, IsSound, Forgets}
 use Rattle.zb_record.specs.Redoing.{limited, with_limit}
 use Rattle.zb_keys.proofs.Mapping.{list_any-map}
-use Rattle.zb_model_fits.proofs.ShownApplied.{shown_twice}
+use Rattle.law_change_fits.proofs.ShownApplied.{shown_twice}
 use Rattle.zb_keys.proofs.ShownLemmas.{shown_reserved, shown_started, shown_dropped, shown_stored, shown_limited}
 
 pub both : (a b : Bool) → (a && b) ≡ true → (a ≡ true) × (b ≡ true)

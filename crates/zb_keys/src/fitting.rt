@@ -3,7 +3,7 @@ ghost use Rattle.std.specs.Prelude.{◌≡◌, ◌&&◌, ◌||◌, not, filter, 
 ghost use Rattle.std.specs.List.{list_any};
 ghost use Rattle.std.specs.Option.{option_copied};
 ghost use Rattle.zb_node_types.specs.Changes.{edit, is_sending, model_state, model_layer, model_attribute};
-ghost use Rattle.zb_model_fits.specs.Fitting.{leaves_rules, move_leaves, floor_has_room, is_rival, key_is_used};
+ghost use Rattle.law_change_fits.specs.Fitting.{leaves_rules, move_leaves, floor_has_room, is_rival, key_is_used};
 ghost use Rattle.zb_record.specs.RowViews.{net_key, link_key, heard_floor};
 ghost use Rattle.zb_keys.specs.Tables.{state_of, IsSound};
 ghost use Rattle.zb_record.specs.Headings.{active_bytes};
@@ -67,7 +67,7 @@ impl Contents {
     }
 
     /// Whether the rules for records stand after a change that may be made.
-    #[tactic(auto, unfolding(zb_model_fits::specs::Fitting::leaves_rules))]
+    #[tactic(auto, unfolding(law_change_fits::specs::Fitting::leaves_rules))]
     fn leaves_rules(&self, change: &Change) -> bool
         ensures { result ≡ leaves_rules (edit change.now) (state_of self.now) }
     {
@@ -213,7 +213,7 @@ impl Contents {
     }
 
     /// Whether a floor has a place.
-    #[tactic(auto, unfolding(zb_model_fits::specs::Fitting::leaves_rules))]
+    #[tactic(auto, unfolding(law_change_fits::specs::Fitting::leaves_rules))]
     fn has_floor_room(&self, layer: Layer, key: &Key, sender: Eui, value: u32) -> bool
         ensures { result ≡ leaves_rules (Floor (model_layer layer) key.now.0 sender.0 value) (state_of self.now) }
     {

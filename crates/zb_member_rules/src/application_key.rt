@@ -13,10 +13,10 @@ use crate::link_key::{has_key, row_refusal};
 use arrayvec::ArrayVec;
 use zb_base::{Attribute, Eui, Key, Label, Place};
 use zb_keys::Tables;
-use zb_network::Network;
 use zb_node_types::{Change, Changes, Refusal};
 use zb_rows::{add_drop_partner, live_link};
 use zb_rules::{Effect, Heard, add, is_rejoining};
+use zb_setting::Network;
 
 /// Answers whether the command is a Transport-Key of a key with a partner in the form in which it is taken.
 fn is_app_key(network: &Network, heard: &Heard, partner: Eui) -> bool

@@ -16,9 +16,9 @@ use crate::{
 use zb_base::Place;
 use zb_cmd::Command;
 use zb_keys::Tables;
-use zb_network::Network;
 use zb_node_types::Refusal;
 use zb_rules::{Effect, Heard};
+use zb_setting::Network;
 
 /// Refuses a command that the centre alone takes.
 fn not_taken() -> Result<Effect, Refusal>

@@ -14,10 +14,10 @@ ghost use Rattle.zb_rules.specs.Outcomes.{decided, told, most_changes, Keeps};
 use arrayvec::ArrayVec;
 use zb_base::{Attribute, Eui, Label, Place, State};
 use zb_keys::Tables;
-use zb_network::Network;
 use zb_node_types::{Change, Changes, Refusal};
 use zb_record::LinkRow;
 use zb_rules::{Effect, Heard, add, add_drop, is_rejoining};
+use zb_setting::Network;
 
 /// Answers whether the command is a Confirm-Key in the form in which it is taken.
 fn is_confirm(network: &Network, heard: &Heard, status: u8, kind: u8, destination: Eui) -> bool

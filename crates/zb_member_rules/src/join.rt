@@ -11,11 +11,11 @@ ghost use Rattle.zb_rules.specs.Outcomes.{decided, told, most_changes, Keeps};
 use arrayvec::ArrayVec;
 use zb_base::{Attribute, Place, State};
 use zb_keys::Tables;
-use zb_network::Network;
 use zb_node_types::{Change, Changes, Refusal};
 use zb_record::LinkRow;
 use zb_rows::{add_drop_others, code_row};
 use zb_rules::{Effect, add};
+use zb_setting::Network;
 
 /// Answers whether a node in that state has joined.
 fn has_joined(state: State) -> bool

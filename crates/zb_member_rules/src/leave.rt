@@ -7,10 +7,10 @@ ghost use Rattle.zb_rules.specs.Outcomes.{decided, told, Keeps};
 
 use arrayvec::ArrayVec;
 use zb_base::{Place, State};
-use zb_network::Network;
 use zb_node_types::{Change, Refusal};
 use zb_rules::{Effect, add};
 use zb_seal::Term;
+use zb_setting::Network;
 
 /// Answers whether the options of a Leave ask the receiver itself to go: bit 6.
 fn asks_to_go(options: u8) -> bool

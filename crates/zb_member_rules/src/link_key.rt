@@ -15,11 +15,11 @@ ghost use Rattle.zb_rules.specs.Outcomes.{decided, told, refused_or, most_change
 use arrayvec::ArrayVec;
 use zb_base::{Attribute, Eui, Key, Label, Place, State};
 use zb_keys::Tables;
-use zb_network::Network;
 use zb_node_types::{Change, Changes, Refusal};
 use zb_record::LinkRow;
 use zb_rows::{has_link, links_full, other_user};
 use zb_rules::{Effect, Heard, add, add_drop, is_rejoining};
+use zb_setting::Network;
 
 /// Answers whether the command is a Transport-Key of a link key with the centre in the form in which it is taken.
 fn is_link_key(network: &Network, heard: &Heard, destination: Eui, source: Eui) -> bool

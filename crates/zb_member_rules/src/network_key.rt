@@ -14,11 +14,11 @@ ghost use Rattle.zb_rules.specs.Outcomes.{decided, told, most_changes, Keeps};
 use arrayvec::ArrayVec;
 use zb_base::{Eui, Key, Label, Place, State};
 use zb_keys::Tables;
-use zb_network::Network;
 use zb_node_types::{Change, Changes, Refusal};
 use zb_record::LinkRow;
 use zb_rows::{activates, add_drop_old, dropped_place, has_net, live_of, nets_full};
 use zb_rules::{Effect, Heard, add};
+use zb_setting::Network;
 
 /// Answers whether the command is a Transport-Key of a network key in the form in which it is taken.
 fn is_net_key(network: &Network, heard: &Heard, destination: Eui, source: Eui) -> bool

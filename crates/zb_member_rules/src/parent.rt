@@ -14,12 +14,12 @@ use zb_base::{Eui, Frame, Label, Layer, Place, Short};
 use zb_cmd::Command;
 use zb_cursor::frame_from;
 use zb_keys::Tables;
-use zb_network::Network;
 use zb_node_types::Refusal;
 use zb_record::LinkRow;
 use zb_rows::{is_any_spent, is_spent, usable_active};
 use zb_rules::{Effect, Heard, is_rejoining};
 use zb_send::Body;
+use zb_setting::Network;
 
 /// Answers the status of an Update-Device: 1 for a join, 3 for a rejoin.
 fn child_status(rejoin: bool) -> u8

@@ -9,11 +9,11 @@ ghost use Rattle.zb_rules.specs.Outcomes.{decided, told, Keeps};
 use zb_base::{Eui, Label, Place, Short, State};
 use zb_cmd::Command;
 use zb_keys::Tables;
-use zb_network::Network;
 use zb_node_types::Refusal;
 use zb_rows::{is_any_spent, live_link, usable_active};
 use zb_rules::{Effect, is_rejoining};
 use zb_send::{Body, Payload};
+use zb_setting::Network;
 
 /// Answers whether the centre has confirmed the node's link key.
 fn is_confirmed(state: State) -> bool

@@ -9,11 +9,11 @@ use zb_base::{Label, Layer, Place, Short, State};
 use zb_cmd::Command;
 use zb_keys::Tables;
 use zb_mmo::verify_hash;
-use zb_network::Network;
 use zb_node_types::Refusal;
 use zb_rows::{is_any_spent, is_spent, usable_active};
 use zb_rules::Effect;
 use zb_send::Body;
+use zb_setting::Network;
 
 /// Asks for a link key of its own: Request-Key of type 4, sealed under the current row of the centre.
 #[tactic(auto, unfolding(zb_model::specs::OwnEvents::request_key, zb_rules::specs::Chains::steps))]

@@ -1,5 +1,4 @@
 mod Bytes
-pub mod FirstPathLaws
 mod Toy
 mod Terms
 mod Small

@@ -12,7 +12,6 @@ pub mod Commands
 pub mod Answer
 pub mod Readings
 pub mod Play
-pub mod FirstPath
 pub mod Secrets
 pub mod Transcript
 pub mod Claims

@@ -6,7 +6,7 @@ use Rattle.zb_aps.specs.declared.auxiliary.ApsAux.{ApsAux}
 use Rattle.zb_aps.specs.declared.fault.ApsError.{ApsError}
 use Rattle.zb_aps.specs.declared.frame.ApsFrame.{ApsFrame}
 use Rattle.zb_base.specs.declared.address.Eui.{Eui}
-use Rattle.zb_transported.specs.Carrying.{is_command}
+use Rattle.zb_carried_keys.specs.Carrying.{is_command}
 use Rattle.zb_cmd.specs.declared.command.Command.{Command}
 use Rattle.zb_cmd.specs.declared.command.Command.TheVariants as command
 use Rattle.zb_cmd.specs.declared.fault.CmdError.{CmdError}

@@ -18,11 +18,11 @@ use crate::settling::{activated, add_all_settled, start_for};
 use zb_base::Layer;
 use zb_host::{Outcome, Plan};
 use zb_keys::Tables;
-use zb_network::Network;
 use zb_node_types::{Changes, Refusal};
 use zb_rules::Effect;
 use zb_seal::{KeyMemo, Term};
 use zb_send::send_out;
+use zb_setting::Network;
 
 /// Lists all that an effect stores: reserves, floors, and the changes that change something.
 fn store(

@@ -6,10 +6,10 @@ ghost use Rattle.zb_send.specs.Sendings.{sending_of};
 
 use zb_base::Layer;
 use zb_keys::Tables;
-use zb_network::Network;
 use zb_node_types::{Change, Changes};
 use zb_rules::add;
 use zb_send::{Sending, reserve};
+use zb_setting::Network;
 
 /// Adds the limit that a frame reserves at a layer, where there is one.
 ///

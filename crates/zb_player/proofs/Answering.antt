@@ -1,18 +1,18 @@
 -- What becomes of an event of a schedule.
 use Rattle.std.proofs.Common.{◌≡◌, ℕ, List, Some, None, true, sym, ap, ◌∙◌, subst}
 use Rattle.zb_disk.specs.Memory.{Medium}
-use Rattle.zb_events.specs.Acts.{HasNames, act_for, seat_for}
-use Rattle.zb_events.specs.Outside.{is_outside}
-use Rattle.zb_events.specs.Told.{Adds, IsTold}
-use Rattle.zb_events.specs.declared.acts.Act.{Act}
-use Rattle.zb_events.specs.declared.seats.Seat.{Seat}
+use Rattle.zb_player_events.specs.Acts.{HasNames, act_for, seat_for}
+use Rattle.zb_player_events.specs.Outside.{is_outside}
+use Rattle.zb_player_events.specs.Told.{Adds, IsTold}
+use Rattle.zb_player_events.specs.declared.acts.Act.{Act}
+use Rattle.zb_player_events.specs.declared.seats.Seat.{Seat}
 use Rattle.zb_model.specs.Data.{Station}
 use Rattle.zb_model.specs.Lines.{Line}
 use Rattle.zb_model.specs.Play as play
 use Rattle.zb_model.specs.Play.{Disk, stations, step}
 use Rattle.zb_model_real.specs.Real.{real}
-use Rattle.zb_model_schedules.specs.Schedules.{event_for, schedule_of, stations_for}
-use Rattle.zb_model_schedules.proofs.Meets.{same_stations}
+use Rattle.law_schedules.specs.Schedules.{event_for, schedule_of, stations_for}
+use Rattle.law_schedules.proofs.Meets.{same_stations}
 use Rattle.zb_player.specs.Playing.{AreCalledBy, FitsRun, IsEventAt, RunGoes, RunStands, step_of}
 use Rattle.zb_player.specs.declared.run.Run.{Run}
 use Rattle.zb_player.proofs.CallsMade.{outside_calls}

@@ -7,23 +7,23 @@ use Rattle.std.specs.List.{AllByRecursion}
 use Rattle.zb_base.specs.Outside.{risen}
 use Rattle.zb_base.specs.declared.key.Key.{Key}
 use Rattle.zb_disk.specs.Memory.{Medium}
-use Rattle.zb_events.proofs.FewCalls.{few_in_run}
-use Rattle.zb_events.specs.Acts.{IsFor, act_for}
-use Rattle.zb_events.specs.Calls.{calls_of, event_calls, run_calls}
-use Rattle.zb_events.specs.Told.{Before, Calls, counted_on}
-use Rattle.zb_events.specs.declared.acts.Act.{Act}
-use Rattle.zb_events.specs.declared.acts.Act.TheVariants as act
-use Rattle.zb_events.specs.declared.ledger.Ledger.{Ledger}
+use Rattle.zb_player_events.proofs.FewCalls.{few_in_run}
+use Rattle.zb_player_events.specs.Acts.{IsFor, act_for}
+use Rattle.zb_player_events.specs.Calls.{calls_of, event_calls, run_calls}
+use Rattle.zb_player_events.specs.Told.{Before, Calls, counted_on}
+use Rattle.zb_player_events.specs.declared.acts.Act.{Act}
+use Rattle.zb_player_events.specs.declared.acts.Act.TheVariants as act
+use Rattle.zb_player_events.specs.declared.ledger.Ledger.{Ledger}
 use Rattle.zb_model.specs.Data.{Role, Station}
 use Rattle.zb_model.specs.Lines.{Line}
 use Rattle.zb_model.specs.Play as play
 use Rattle.zb_model.specs.Play.{Disk, Event, Schedule, groups, setting_of, start, stations, step}
-use Rattle.zb_model_laws.proofs.Basics.{nat_eq-refl}
+use Rattle.law_run.proofs.Basics.{nat_eq-refl}
 use Rattle.zb_model_real.specs.Real.{real}
-use Rattle.zb_model_schedules.specs.Schedules.{event_for, schedule_of, stations_for}
-use Rattle.zb_model_steps.specs.Conditions.{condition_of}
-use Rattle.zb_model_steps.specs.Steps.{is_of}
-use Rattle.zb_events.specs.Nodes.{IsSeat, NodeValue, model_task}
+use Rattle.law_schedules.specs.Schedules.{event_for, schedule_of, stations_for}
+use Rattle.law_run_steps.specs.Conditions.{condition_of}
+use Rattle.law_run_steps.specs.Steps.{is_of}
+use Rattle.zb_player_events.specs.Nodes.{IsSeat, NodeValue, model_task}
 use Rattle.zb_player.specs.Playing.{AreCalled, AreCalledBy, FitsRun, IsEventAt, RunStands}
 use Rattle.zb_player.specs.Runs.{AreMade, Answers, HaveMade, IsPlayed, acts_of, disks_after, lines_of}
 use Rattle.zb_player.specs.declared.run.Run.{Run}
@@ -138,7 +138,7 @@ went_calls p h ds number place q a event old disks disks' node m m' few is stand
     let pairs = stations_differ p is in
     let found : StandsAt w h ds number q node m = here w h ds number place q old.nodes.items disks node m at.bound at.station same_node same_disk stands.nodes in
     let me : (setting_of w q.eui).me ≡ q = subst (λ (x : Station). (setting_of w x.eui).me ≡ x) at.station (setting_at w place q at.bound pairs) in
-    let seat = subst (λ (x : Station). IsSeat x node → Rattle.zb_events.specs.Told.IsSeated w x.eui node) at.station (seated_at p place q node is at.bound) in
+    let seat = subst (λ (x : Station). IsSeat x node → Rattle.zb_player_events.specs.Told.IsSeated w x.eui node) at.station (seated_at p place q node is at.bound) in
     let before : Before w h ds number q.eui old.ledger node m = record { told = stands.told; is_in = found.is_in; seat = seat found.seat; few = few } in
     let made : Calls (event_calls real w h (condition_of w h ds q.eui) event) m m' =
     goes w h ds q.eui event before stands.draws at.event_is (subst (λ (r : Role). IsFor r event) (sym (ap (λ (s : Station). s.role) me)) at.role) in

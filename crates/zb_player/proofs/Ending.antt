@@ -3,24 +3,24 @@ use Rattle.std.proofs.Common.{◌≡◌, ℕ, List, [], ◌∷◌, ◌++◌, map
 use Rattle.std.proofs.Math.Seq.{take-append_seam}
 use Rattle.zb_base.specs.declared.key.Key.{Key}
 use Rattle.zb_disk.specs.Memory.{Medium}
-use Rattle.zb_events.specs.Seats.{AreSeats}
+use Rattle.zb_player_events.specs.Seats.{AreSeats}
 use Rattle.zb_model.specs.Data.{Bytes, Station}
 use Rattle.zb_model.specs.Lines.{Line}
 use Rattle.zb_model.specs.Play.{start, stations}
-use Rattle.zb_model_laws.proofs.ConfirmsRuns.{start-stations}
-use Rattle.zb_model_schedules.specs.Schedules.{schedule_of, station_for}
-use Rattle.zb_model_schedules.proofs.Meets.{same_stations}
-use Rattle.zb_events.specs.Nodes.{AllStand}
+use Rattle.law_run.proofs.ConfirmsRuns.{start-stations}
+use Rattle.law_schedules.specs.Schedules.{schedule_of, station_for}
+use Rattle.law_schedules.proofs.Meets.{same_stations}
+use Rattle.zb_player_events.specs.Nodes.{AllStand}
 use Rattle.zb_player.specs.Playing.{RunStands}
 use Rattle.zb_player.specs.Runs.{IsPlayed, text_in}
 use Rattle.zb_player.specs.declared.run.Run.{Run}
-use Rattle.zb_said.specs.Said.{IsLineOf, line_text, text_of}
+use Rattle.zb_trace_model.specs.Said.{IsLineOf, line_text, text_of}
 use Rattle.zb_sched.specs.Schedules as sched
 use Rattle.zb_sched.specs.Schedules.{node_of}
 use Rattle.zb_sched.specs.Valid.{IsSchedule}
 use Rattle.zb_sched.specs.declared.schedule.Schedule.{Schedule as CodeSchedule}
 use Rattle.zb_sched.specs.declared.schedule.Node.{Node as CodeNode}
-use Rattle.zb_scribe.specs.Kept.{Kept}
+use Rattle.zb_player_scribe.specs.Kept.{Kept}
 use Rattle.zb_sched_line.specs.Views.{event_of}
 use Rattle.zb_sched_line.specs.declared.event.Event.{Event as CodeEvent}
 use Rattle.zb_trace.specs.Text.{text}

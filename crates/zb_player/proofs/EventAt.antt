@@ -6,23 +6,23 @@ use Rattle.std.specs.Option.{option_map}
 use Rattle.std.proofs.lemmas.Bool.{false≢true}
 use Rattle.zb_base.specs.declared.node.Role.{Role as role}
 use Rattle.zb_base.specs.declared.node.Role.TheVariants.{Centre, Router, Device}
-use Rattle.zb_events.specs.Acts.{IsFor, act_for, seat_for}
-use Rattle.zb_events.specs.Outside.{is_outside}
-use Rattle.zb_events.specs.Seats.{first_seat, has_name, is_the_centre}
-use Rattle.zb_events.specs.declared.acts.Act.{Act}
-use Rattle.zb_events.specs.declared.acts.Act.TheVariants as act
-use Rattle.zb_events.specs.declared.seats.Seat.{Seat}
+use Rattle.zb_player_events.specs.Acts.{IsFor, act_for, seat_for}
+use Rattle.zb_player_events.specs.Outside.{is_outside}
+use Rattle.zb_player_events.specs.Seats.{first_seat, has_name, is_the_centre}
+use Rattle.zb_player_events.specs.declared.acts.Act.{Act}
+use Rattle.zb_player_events.specs.declared.acts.Act.TheVariants as act
+use Rattle.zb_player_events.specs.declared.seats.Seat.{Seat}
 use Rattle.zb_model.specs.Data.{Bytes, Role, Station, Task, SayTo, TellTo, DoKnock, DoRejoin, DoTimer, AskFor, HasChild, DoProvision, DoRemove, DoRoll, DoSwitch, DoAgain, DoShare, Received}
 use Rattle.zb_model.specs.Play as play
 use Rattle.zb_model.specs.Play.{Schedule, setting_of, stations}
 use Rattle.zb_model.specs.Schedules.{CountsCalls, SuitsRole, is_for_role}
 use Rattle.zb_model.specs.State.{is_centre}
-use Rattle.zb_model_schedules.specs.Schedules.{event_for, schedule_of, station_for, stations_for}
-use Rattle.zb_model_schedules.proofs.Meets.{same_stations}
-use Rattle.zb_events.specs.Nodes.{has_children, model_task, suits}
+use Rattle.law_schedules.specs.Schedules.{event_for, schedule_of, station_for, stations_for}
+use Rattle.law_schedules.proofs.Meets.{same_stations}
+use Rattle.zb_player_events.specs.Nodes.{has_children, model_task, suits}
 use Rattle.zb_node_types.specs.Changes.{model_role}
 use Rattle.zb_player.specs.Playing.{FitsRun, IsEventAt}
-use Rattle.zb_model_steps.specs.Steps.{is_of}
+use Rattle.law_run_steps.specs.Steps.{is_of}
 use Rattle.zb_player.proofs.Named.{adopts, found_at, joins, named_from, of_family, of_partners}
 use Rattle.zb_player.proofs.Seating.{setting_at, stations_differ}
 use Rattle.zb_sched.specs.Judge as judge

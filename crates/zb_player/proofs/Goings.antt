@@ -3,20 +3,20 @@ use Rattle.std.proofs.Common.{◌≡◌, ℕ, ◌+◌, ◌<◌, ◌≤◌, List,
 use Rattle.std.proofs.Math.ListN.{set}
 use Rattle.zb_base.specs.declared.key.Key.{Key}
 use Rattle.zb_disk.specs.Memory.{Medium}
-use Rattle.zb_events.specs.Acts.{IsFor, act_for}
-use Rattle.zb_events.specs.Told.{Adds, Before, Goes}
-use Rattle.zb_events.specs.declared.acts.Act.{Act}
-use Rattle.zb_events.specs.declared.ledger.Ledger.{Ledger}
-use Rattle.zb_events.specs.declared.seats.Seats.{Seats}
-use Rattle.zb_events.specs.Seats.{AreSeats}
+use Rattle.zb_player_events.specs.Acts.{IsFor, act_for}
+use Rattle.zb_player_events.specs.Told.{Adds, Before, Goes}
+use Rattle.zb_player_events.specs.declared.acts.Act.{Act}
+use Rattle.zb_player_events.specs.declared.ledger.Ledger.{Ledger}
+use Rattle.zb_player_events.specs.declared.seats.Seats.{Seats}
+use Rattle.zb_player_events.specs.Seats.{AreSeats}
 use Rattle.zb_model.specs.Data.{Role, Station}
 use Rattle.zb_model.specs.Lines.{Line}
 use Rattle.zb_model.specs.Play.{Disk, Event, Schedule, setting_of, stations, step}
 use Rattle.zb_model_real.specs.Real.{real}
-use Rattle.zb_model_schedules.specs.Schedules.{schedule_of}
-use Rattle.zb_model_steps.specs.Steps.{is_of}
-use Rattle.zb_model_steps.proofs.Spared.{spared}
-use Rattle.zb_events.specs.Nodes.{AllStand, IsSeat, NodeValue}
+use Rattle.law_schedules.specs.Schedules.{schedule_of}
+use Rattle.law_run_steps.specs.Steps.{is_of}
+use Rattle.law_run_steps.proofs.Spared.{spared}
+use Rattle.zb_player_events.specs.Nodes.{AllStand, IsSeat, NodeValue}
 use Rattle.zb_player.specs.Playing.{IsEventAt, RunGoes, RunStands, step_of}
 use Rattle.zb_player.specs.declared.run.Run.{Run}
 use Rattle.zb_player.proofs.Named.{of_others}
@@ -68,7 +68,7 @@ went p h ds number place q act event old new disks disks' node node' m m' few is
     let pairs = stations_differ p is in
     let found : StandsAt w h ds number q node m = here w h ds number place q old.nodes.items disks node m at.bound at.station same_node same_disk stands.nodes in
     let me : (setting_of w q.eui).me ≡ q = subst (λ (x : Station). (setting_of w x.eui).me ≡ x) at.station (setting_at w place q at.bound pairs) in
-    let seat = subst (λ (x : Station). IsSeat x node → Rattle.zb_events.specs.Told.IsSeated w x.eui node) at.station (seated_at p place q node is at.bound) in
+    let seat = subst (λ (x : Station). IsSeat x node → Rattle.zb_player_events.specs.Told.IsSeated w x.eui node) at.station (seated_at p place q node is at.bound) in
     let before : Before w h ds number q.eui old.ledger node m = record { told = stands.told; is_in = found.is_in; seat = seat found.seat; few = few } in
     let went : Goes w g h number q.eui old.ledger new.ledger node' m' =
     goes w h ds q.eui event before stands.draws at.event_is (subst (λ (r : Role). IsFor r event) (sym (ap (λ (s : Station). s.role) me)) at.role) in

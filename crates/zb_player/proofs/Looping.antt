@@ -5,7 +5,7 @@ use Rattle.std.proofs.lemmas.List.{length-map}
 use Rattle.zb_disk.specs.Memory.{Medium}
 use Rattle.zb_model.specs.Lines.{Line}
 use Rattle.zb_model.specs.Play.{Disk}
-use Rattle.zb_model_schedules.specs.Schedules.{event_for, schedule_of, stations_for}
+use Rattle.law_schedules.specs.Schedules.{event_for, schedule_of, stations_for}
 use Rattle.zb_player.specs.Playing.{FitsRun, RunGoes, RunStands, step_of}
 use Rattle.zb_player.specs.Runs.{Answered, Answers, IsPlayed, PrintsAll, acts_of, disks_after, lines_of}
 use Rattle.zb_player.specs.declared.run.Run.{Run}
@@ -16,7 +16,7 @@ use Rattle.zb_sched.specs.Valid.{IsSchedule}
 use Rattle.zb_sched_line.specs.Said as said
 use Rattle.zb_sched_line.specs.Views.{event_of}
 use Rattle.zb_sched_line.specs.declared.event.Event.{Event as CodeEvent}
-use Rattle.zb_scribe.specs.Pages.{cleared, IsClear, IsFor, Takes, TakesFront}
+use Rattle.zb_player_scribe.specs.Pages.{cleared, IsClear, IsFor, Takes, TakesFront}
 
 -- what the program's answer of an event promises
 abbrev pub EventGoes : ℕ → said.Event → Run → List Medium → Run → List Medium → Type 0

@@ -5,16 +5,16 @@ use Rattle.std.specs.Option.{option_map}
 use Rattle.std.proofs.lemmas.Bool.{false≢true}
 use Rattle.std.proofs.lemmas.Bool.Decides.{nat_tests}
 use Rattle.zb_base.specs.declared.node.Role.{Role}
-use Rattle.zb_events.specs.Acts.{HasNames, IsNamed, act_for}
-use Rattle.zb_events.specs.Seats.{first_seat, has_name}
-use Rattle.zb_events.specs.declared.acts.Act.{Act}
-use Rattle.zb_events.specs.declared.acts.Act.TheVariants as act
-use Rattle.zb_events.specs.declared.seats.Seat.{Seat}
+use Rattle.zb_player_events.specs.Acts.{HasNames, IsNamed, act_for}
+use Rattle.zb_player_events.specs.Seats.{first_seat, has_name}
+use Rattle.zb_player_events.specs.declared.acts.Act.{Act}
+use Rattle.zb_player_events.specs.declared.acts.Act.TheVariants as act
+use Rattle.zb_player_events.specs.declared.seats.Seat.{Seat}
 use Rattle.zb_model.specs.Data.{Bytes, Station}
 use Rattle.zb_model.specs.Play as play
-use Rattle.zb_model_schedules.specs.Schedules.{station_for}
-use Rattle.zb_model_steps.specs.Steps.{is_of}
-use Rattle.zb_events.specs.Nodes.{model_task}
+use Rattle.law_schedules.specs.Schedules.{station_for}
+use Rattle.law_run_steps.specs.Steps.{is_of}
+use Rattle.zb_player_events.specs.Nodes.{model_task}
 use Rattle.zb_sched.specs.Judge as judge
 use Rattle.zb_sched.specs.Judge.{are_child_and_parent, are_partners, has_its_nodes, is_joiner, is_parent, role_named}
 use Rattle.zb_sched.specs.Schedules.{Node}

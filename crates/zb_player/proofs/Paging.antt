@@ -6,11 +6,11 @@ use Rattle.zb_disk.specs.Memory.{Medium}
 use Rattle.zb_model.specs.Data.{Bytes}
 use Rattle.zb_model.specs.Lines.{Line}
 use Rattle.zb_model.specs.Play.{Disk}
-use Rattle.zb_model_schedules.specs.Schedules.{schedule_of}
+use Rattle.law_schedules.specs.Schedules.{schedule_of}
 use Rattle.zb_player.specs.Playing.{RunStands}
 use Rattle.zb_player.specs.declared.run.Run.{Run}
 use Rattle.zb_sched.specs.Schedules as sched
-use Rattle.zb_scribe.specs.Pages.{cleared, IsClear, IsFor, Takes, TakesFront}
+use Rattle.zb_player_scribe.specs.Pages.{cleared, IsClear, IsFor, Takes, TakesFront}
 
 -- a text that was printed on a clear page and handed out
 handed_out : (page : Option Bytes) (text : Bytes) (before after : Option Bytes) → IsClear page → IsFor page before → Takes (append_known page text) before after → Appends before after text
@@ -61,9 +61,9 @@ pub paged : (p : sched.Schedule) (h : List Line) (ds : List Disk) (number : ℕ)
 paged p h ds number one other disks same stands = record {
   told = record {
     known = stands.told.known;
-    kept = subst (λ k. Rattle.zb_scribe.specs.Kept.Kept h k) (sym same.scribe) stands.told.kept;
+    kept = subst (λ k. Rattle.zb_player_scribe.specs.Kept.Kept h k) (sym same.scribe) stands.told.kept;
   };
-  nodes = subst (λ v. Rattle.zb_events.specs.Nodes.AllStand (schedule_of p) h ds number (Rattle.zb_model.specs.Play.stations (schedule_of p)) v.items disks) (sym same.nodes) stands.nodes;
-  seats = subst (λ v. Rattle.zb_events.specs.Seats.AreSeats v (Rattle.zb_model.specs.Play.stations (schedule_of p))) (sym same.seats) stands.seats;
+  nodes = subst (λ v. Rattle.zb_player_events.specs.Nodes.AllStand (schedule_of p) h ds number (Rattle.zb_model.specs.Play.stations (schedule_of p)) v.items disks) (sym same.nodes) stands.nodes;
+  seats = subst (λ v. Rattle.zb_player_events.specs.Seats.AreSeats v (Rattle.zb_model.specs.Play.stations (schedule_of p))) (sym same.seats) stands.seats;
   draws = ap (map (λ (k : Rattle.zb_base.specs.declared.key.Key.Key). k.0)) same.draws ∙ stands.draws;
 }

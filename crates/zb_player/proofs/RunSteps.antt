@@ -10,17 +10,17 @@ use Rattle.zb_model.specs.Lines.{Line}
 use Rattle.zb_model.specs.Play.{Disk, Step, groups, stations, step}
 use Rattle.zb_model.specs.Schedules.{CountsCalls, SuitsRole}
 use Rattle.zb_model_real.specs.Real.{real}
-use Rattle.zb_model_schedules.specs.Schedules.{event_for, schedule_of, stations_for}
-use Rattle.zb_model_schedules.proofs.Meets.{is_schedule}
+use Rattle.law_schedules.specs.Schedules.{event_for, schedule_of, stations_for}
+use Rattle.law_schedules.proofs.Meets.{is_schedule}
 use Rattle.zb_player.specs.Playing.{FitsRun, RunGoes, RunStands, step_of}
 use Rattle.zb_player.specs.Runs.{Answered, acts_of, disks_after, lines_of, text_in}
 use Rattle.zb_player.specs.declared.run.Run.{Run}
 use Rattle.zb_player.proofs.Paging.{handed, handed_front, IsSameRun, paged, still_for}
 use Rattle.zb_player.proofs.RunLines.{disks_take, groups_rest, groups_take, next_step}
 use Rattle.zb_player.proofs.Seating.{all_get}
-use Rattle.zb_said.specs.Said.{text_of}
-use Rattle.zb_scribe.specs.Pages.{cleared, IsClear, IsFor, Takes, TakesFront}
-use Rattle.zb_said.proofs.Texts.{text_append}
+use Rattle.zb_trace_model.specs.Said.{text_of}
+use Rattle.zb_player_scribe.specs.Pages.{cleared, IsClear, IsFor, Takes, TakesFront}
+use Rattle.zb_trace_model.proofs.Texts.{text_append}
 use Rattle.zb_sched.specs.Schedules as sched
 use Rattle.zb_sched.specs.Valid.{FitsSchedule, IsSchedule}
 use Rattle.zb_sched_line.specs.Said as said

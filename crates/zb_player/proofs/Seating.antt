@@ -6,12 +6,12 @@ use Rattle.zb_model.specs.Data.{Station, nobody}
 use Rattle.zb_model.specs.Play.{Schedule, setting_of, station_or, stations}
 use Rattle.zb_model.specs.Rules.{centre_of, eui_or, station_of}
 use Rattle.zb_model.specs.State.{is_centre}
-use Rattle.zb_model_schedules.specs.Schedules.{schedule_of, station_for}
-use Rattle.zb_model_schedules.proofs.Meets.{one, same_stations}
-use Rattle.zb_events.specs.Nodes.{IsSeat, NodeValue}
-use Rattle.zb_events.specs.Told.{IsSeated}
+use Rattle.law_schedules.specs.Schedules.{schedule_of, station_for}
+use Rattle.law_schedules.proofs.Meets.{one, same_stations}
+use Rattle.zb_player_events.specs.Nodes.{IsSeat, NodeValue}
+use Rattle.zb_player_events.specs.Told.{IsSeated}
 use Rattle.zb_player.proofs.Stand.{EuisDiffer}
-use Rattle.zb_said.specs.Naming.{IsCalled, name_of, name_or_none}
+use Rattle.zb_trace_model.specs.Naming.{IsCalled, name_of, name_or_none}
 use Rattle.zb_sched.specs.Schedules as sched
 use Rattle.zb_sched.specs.Valid.{Apart, FitsNode, IsSchedule, Pairwise}
 use Rattle.zb_sched.proofs.Splits.{false_if}

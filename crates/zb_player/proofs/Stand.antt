@@ -6,9 +6,9 @@ use Rattle.zb_disk.specs.Memory.{Medium}
 use Rattle.zb_model.specs.Data.{Station}
 use Rattle.zb_model.specs.Lines.{Line}
 use Rattle.zb_model.specs.Play.{Schedule, Disk}
-use Rattle.zb_model_steps.specs.Conditions.{Condition, condition_of}
-use Rattle.zb_events.specs.Nodes.{AllStand, IsIn, IsSeat, NodeValue}
-use Rattle.zb_events.proofs.NodeLaws.{in_later}
+use Rattle.law_run_steps.specs.Conditions.{Condition, condition_of}
+use Rattle.zb_player_events.specs.Nodes.{AllStand, IsIn, IsSeat, NodeValue}
+use Rattle.zb_player_events.proofs.NodeLaws.{in_later}
 
 -- a later event
 pub later : (x : Condition) (number : ℕ) (node : NodeValue) (m : Medium) → IsIn x number node m → IsIn x (number + 1) node m

@@ -6,23 +6,23 @@ use Rattle.std.proofs.Math.Seq.{take-length}
 use Rattle.std.proofs.lemmas.List.{length-map}
 use Rattle.zb_base.specs.Outside.{AppendsFront}
 use Rattle.zb_disk.specs.Memory.{Medium}
-use Rattle.zb_events.specs.Calls.{run_calls}
+use Rattle.zb_player_events.specs.Calls.{run_calls}
 use Rattle.zb_model.specs.Data.{Bytes}
 use Rattle.zb_model.specs.Lines.{Line}
 use Rattle.zb_model.specs.Play.{Disk, start, stations}
 use Rattle.zb_model.specs.Transcript.{end_line, run_lines, transcript}
 use Rattle.zb_model_real.specs.Real.{real}
-use Rattle.zb_model_schedules.specs.Schedules.{event_for, schedule_of, stations_for}
+use Rattle.law_schedules.specs.Schedules.{event_for, schedule_of, stations_for}
 use Rattle.zb_player.specs.Playing.{RunStands}
 use Rattle.zb_player.specs.Runs.{Answers, HaveMade, IsFront, IsPlayed, IsWhole, Played, PrintsAll, Sums, acts_of, disks_after, last_line, lines_of, text_in, transcript_text}
 use Rattle.zb_player.specs.declared.run.Run.{Run}
 use Rattle.zb_player.specs.declared.summary.Summary.{Summary}
 use Rattle.zb_player.proofs.RunSteps.{front_at, front_of}
-use Rattle.zb_said.specs.Said.{text_of}
-use Rattle.zb_said.proofs.Texts.{text_append}
+use Rattle.zb_trace_model.specs.Said.{text_of}
+use Rattle.zb_trace_model.proofs.Texts.{text_append}
 use Rattle.zb_sched.specs.Schedules as sched
 use Rattle.zb_sched_line.specs.Said as said
-use Rattle.zb_scribe.specs.Pages.{IsFor}
+use Rattle.zb_player_scribe.specs.Pages.{IsFor}
 
 abbrev pub begin : sched.Schedule → List Line
 begin p = start (schedule_of p)
@@ -125,14 +125,14 @@ pub played_disks : (p : sched.Schedule) (run : Run) (disks : List Medium) (befor
 played_disks p run disks before after e calls = record {
   nodes = run.nodes.items;
   ds = e.ds;
-  stand = subst (λ h. Rattle.zb_events.specs.Nodes.AllStand (schedule_of p) h e.ds (length p.events + 1) (stations (schedule_of p)) run.nodes.items disks) (sym (run_is p)) e.stands.nodes;
+  stand = subst (λ h. Rattle.zb_player_events.specs.Nodes.AllStand (schedule_of p) h e.ds (length p.events + 1) (stations (schedule_of p)) run.nodes.items disks) (sym (run_is p)) e.stands.nodes;
   calls = calls;
 }
 
 -- what a scribe sums up are the words of the last line
 pub sums_up : (p : sched.Schedule) (run : Run) (disks : List Medium) (before after : Option Bytes) (s : Summary) (events : ℕ) → Ended p run disks before after
     → events ≡ length p.events
-    → ((h : List Line) → Rattle.zb_scribe.specs.Kept.Kept h run.ledger.scribe → last_line s ≡ end_line real events h)
+    → ((h : List Line) → Rattle.zb_player_scribe.specs.Kept.Kept h run.ledger.scribe → last_line s ≡ end_line real events h)
     → last_line s ≡ last p
 sums_up p run disks before after s events e many of =
     of (begin p ++ middle p) e.stands.told.kept ∙ ap (λ n. end_line real n (begin p ++ middle p)) many

@@ -3,20 +3,20 @@ use Rattle.std.specs.Prelude.{◌≡◌, ℕ, ◌+◌, ◌<◌, List, [], ◌∷
 use Rattle.std.specs.Io.KnownBytes.{append_known}
 use Rattle.zb_base.specs.declared.key.Key.{Key}
 use Rattle.zb_disk.specs.Memory.{Medium}
-use Rattle.zb_events.specs.Acts.{IsFor, act_for}
-use Rattle.zb_events.specs.Seats.{AreSeats}
-use Rattle.zb_events.specs.declared.acts.Act.{Act}
-use Rattle.zb_events.specs.Calls.{calls_of}
-use Rattle.zb_events.specs.Told.{Calls, IsTold}
+use Rattle.zb_player_events.specs.Acts.{IsFor, act_for}
+use Rattle.zb_player_events.specs.Seats.{AreSeats}
+use Rattle.zb_player_events.specs.declared.acts.Act.{Act}
+use Rattle.zb_player_events.specs.Calls.{calls_of}
+use Rattle.zb_player_events.specs.Told.{Calls, IsTold}
 use Rattle.zb_model.specs.Data.{Station}
 use Rattle.zb_model.specs.Lines.{Line}
 use Rattle.zb_model.specs.Play.{Disk, Step, Event, stations, step}
 use Rattle.zb_model_real.specs.Real.{real}
 use Rattle.zb_model.specs.Schedules.{CountsCalls, SuitsRole}
-use Rattle.zb_model_schedules.specs.Schedules.{event_for, schedule_of, stations_for}
-use Rattle.zb_events.specs.Nodes.{AllStand}
+use Rattle.law_schedules.specs.Schedules.{event_for, schedule_of, stations_for}
+use Rattle.zb_player_events.specs.Nodes.{AllStand}
 use Rattle.zb_player.specs.declared.run.Run.{Run}
-use Rattle.zb_said.specs.Said.{text_of}
+use Rattle.zb_trace_model.specs.Said.{text_of}
 use Rattle.zb_sched.specs.Schedules as sched
 use Rattle.zb_sched.specs.Valid.{FitsSchedule}
 use Rattle.zb_sched_line.specs.Said as said

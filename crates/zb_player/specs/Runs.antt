@@ -3,19 +3,19 @@ use Rattle.std.specs.Prelude.{◌≡◌, ℕ, ◌+◌, List, [], ◌∷◌, ◌+
 use Rattle.std.specs.Io.KnownBytes.{Appends}
 use Rattle.zb_base.specs.Outside.{AppendsFront}
 use Rattle.zb_disk.specs.Memory.{Medium}
-use Rattle.zb_events.specs.Calls.{run_calls}
+use Rattle.zb_player_events.specs.Calls.{run_calls}
 use Rattle.zb_model.specs.Data.{Bytes, Station}
 use Rattle.zb_model.specs.Lines.{Line}
 use Rattle.zb_model.specs.Play.{Disk, Event, Schedule, groups, start, stations, step}
 use Rattle.zb_model.specs.Transcript.{end_line, run_lines, transcript}
 use Rattle.zb_model_real.specs.Real.{real}
-use Rattle.zb_model_schedules.specs.Schedules.{event_for, schedule_of, stations_for}
-use Rattle.zb_events.specs.Nodes.{AllStand, NodeValue}
+use Rattle.law_schedules.specs.Schedules.{event_for, schedule_of, stations_for}
+use Rattle.zb_player_events.specs.Nodes.{AllStand, NodeValue}
 use Rattle.zb_player.specs.Playing.{AreCalled, RunStands}
 use Rattle.zb_player.specs.declared.run.Run.{Run}
 use Rattle.zb_player.specs.declared.summary.Summary.{Summary}
-use Rattle.zb_said.specs.Said.{text_of}
-use Rattle.zb_scribe.specs.Pages.{IsFor}
+use Rattle.zb_trace_model.specs.Said.{text_of}
+use Rattle.zb_player_scribe.specs.Pages.{IsFor}
 use Rattle.zb_sched.specs.Schedules as sched
 use Rattle.zb_sched.specs.Valid.{IsSchedule}
 use Rattle.zb_sched_line.specs.Said as said

@@ -1,12 +1,12 @@
 //! A whole run.
 ghost use Rattle.std.specs.Prelude.{◌≡◌, ◌≢◌, ◌≤◌, ◌+◌, [], true, IfOk, OnOk, OnErr, Err, length, map};
 ghost use Rattle.zb_base.specs.Outside.{Rose, Unrisen};
-ghost use Rattle.zb_events.specs.Told.{lines_told};
+ghost use Rattle.zb_player_events.specs.Told.{lines_told};
 ghost use Rattle.zb_player.specs.Runs.{Answers, AreMade, IsFront, IsWhole, Played, PrintsAll, Sums};
 ghost use Rattle.zb_sched.specs.Schedules as sched;
 ghost use Rattle.zb_sched.specs.Valid.{IsSchedule};
 ghost use Rattle.zb_sched_line.specs.Views.{event_of};
-ghost use Rattle.zb_scribe.specs.Pages.{IsClear, IsFor};
+ghost use Rattle.zb_player_scribe.specs.Pages.{IsClear, IsFor};
 
 use crate::bench::{Bench, Still};
 use crate::fault::PlayFault;
@@ -15,8 +15,8 @@ use crate::summary::Summary;
 use std::alloc::Global;
 use zb_base::{NoMemory, NullSink, Sink};
 use zb_disk::MemDisk;
+use zb_player_scribe::Page;
 use zb_sched::{Event, Schedule};
-use zb_scribe::Page;
 
 /// Plays a schedule and writes its transcript.
 ///

@@ -9,8 +9,8 @@ ghost use Rattle.zb_model.specs.Lines.{Line};
 ghost use Rattle.zb_model.specs.Play as model;
 ghost use Rattle.zb_model.specs.Play.{Disk, stations, step};
 ghost use Rattle.zb_model_real.specs.Real.{real};
-ghost use Rattle.zb_model_schedules.specs.Schedules.{event_for, schedule_of, stations_for};
-ghost use Rattle.zb_events.specs.Told.{HasRoom, lines_told};
+ghost use Rattle.law_schedules.specs.Schedules.{event_for, schedule_of, stations_for};
+ghost use Rattle.zb_player_events.specs.Told.{HasRoom, lines_told};
 ghost use Rattle.zb_player.specs.Playing.{AreCalledBy, FitsRun, IsEventAt, RunGoes, RunStands, step_of};
 ghost use Rattle.zb_player.specs.Runs.{text_in};
 ghost use Rattle.zb_sched.specs.Schedules as sched;
@@ -21,10 +21,10 @@ use crate::bench::Bench;
 use std::alloc::Global;
 use zb_base::{Key, NoMemory};
 use zb_disk::MemDisk;
-use zb_events::{Act, Ledger, Node, NodePlan, Seat, Seats};
+use zb_player_events::{Act, Ledger, Node, NodePlan, Seat, Seats};
+use zb_player_scribe::{Page, Scribe};
+use zb_player_start::{start_nodes, tell_start};
 use zb_sched::{Event, Schedule};
-use zb_scribe::{Page, Scribe};
-use zb_start::{start_nodes, tell_start};
 
 /// Holds the nodes of a run, the supply of keys, and what is told.
 #[derive(Drop)]

@@ -5,12 +5,12 @@ ghost use Rattle.zb_model.specs.Lines.{Line as log};
 ghost use Rattle.zb_model.specs.Transcript.{end_line as last};
 ghost use Rattle.zb_model_real.specs.Real.{real};
 ghost use Rattle.zb_player.specs.Runs.{last_line};
-ghost use Rattle.zb_said.specs.Said.{IsLineOf};
-ghost use Rattle.zb_scribe.specs.Kept.{Kept};
+ghost use Rattle.zb_trace_model.specs.Said.{IsLineOf};
+ghost use Rattle.zb_player_scribe.specs.Kept.{Kept};
 
-use zb_said::end_line;
-use zb_scribe::Scribe;
+use zb_player_scribe::Scribe;
 use zb_trace::Line;
+use zb_trace_model::end_line;
 
 /// Says what a run comes to: the words of the last line of its transcript.
 #[derive(Clone, Copy, Debug, PartialEq, Eq)]

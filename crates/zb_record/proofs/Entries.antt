@@ -8,9 +8,9 @@ use Rattle.zb_model.specs.Data.{Draw, DropNet, DropLink, Install, Active, Row, P
 use Rattle.zb_model.specs.State.{NodeState, shown, applied, applied_all}
 use Rattle.zb_model.specs.Fits.{keeps_rules, fits, all_fit, may_change}
 use Rattle.zb_model.specs.Record.{edit_bytes, is_stored, payload}
-use Rattle.zb_model_fits.proofs.Tests.{both}
-use Rattle.zb_model_fits.proofs.Shown.{fits_shown}
-use Rattle.zb_model_fits.proofs.ShownApplied.{shown_applied}
+use Rattle.law_change_fits.proofs.Tests.{both}
+use Rattle.law_change_fits.proofs.Shown.{fits_shown}
+use Rattle.law_change_fits.proofs.ShownApplied.{shown_applied}
 use Rattle.zb_record.specs.Changes.{change_at}
 use Rattle.zb_record.specs.Ranges.{InRange}
 use Rattle.zb_record.specs.declared.version.Version.{Version}

@@ -5,12 +5,12 @@ use Rattle.std.proofs.lemmas.List.{map-append}
 use Rattle.zb_model.specs.Data.{Bytes, Draw, DropNet, DropLink, Install, Active, Row, Pair, Became, Live, Removed, Roll, Told, Untold, Edit, Reserve, Floor, Start, Moved, Move, Nwk, Aps}
 use Rattle.zb_model.specs.State.{NodeState, NetKey, same_key, at_net, has_net, new_net, given_net, applied, shown}
 use Rattle.zb_model.specs.Fits.{keeps_rules, rows_have_room, keys_differ, at_most_two_live, active_is_live, partners_agree, links_are_marked, floors_are_kept, limits_are_started, role_is_kept, pairs_are_kept, fits, may_change}
-use Rattle.zb_model_fits.specs.Fitting.{leaves_rules}
-use Rattle.zb_model_fits.proofs.Tests.{both, neither, all_map}
-use Rattle.zb_model_fits.proofs.Parts.{rules_of, floors_rule, same_key_of}
-use Rattle.zb_model_fits.proofs.Nets.{Mild, mild_at, mild_kept}
-use Rattle.zb_model_fits.proofs.FitLaws.{fits_is, change_rules}
-use Rattle.zb_model_fits.proofs.Shown.{rules_shown}
+use Rattle.law_change_fits.specs.Fitting.{leaves_rules}
+use Rattle.law_change_fits.proofs.Tests.{both, neither, all_map}
+use Rattle.law_change_fits.proofs.Parts.{rules_of, floors_rule, same_key_of}
+use Rattle.law_change_fits.proofs.Nets.{Mild, mild_at, mild_kept}
+use Rattle.law_change_fits.proofs.FitLaws.{fits_is, change_rules}
+use Rattle.law_change_fits.proofs.Shown.{rules_shown}
 use Rattle.zb_record.specs.declared.version.Version.{Version}
 use Rattle.zb_record.specs.declared.version.Version.TheVariants.{First, Second, Third}
 use Rattle.zb_record.specs.Redoing.{limited, with_limit, with_net, first_applied, first_fits, fits_behind, applied_behind}

@@ -21,8 +21,8 @@ use Rattle.zb_model.specs.Data.{Role, Provisional, Unverified, Verified}
 use Rattle.zb_model.specs.State.{SenderFloor, NetKey, LinkKey, PairKey, same_key, has_net, booted_floor, booted_net, booted_link, shown_net}
 use Rattle.zb_model.specs.Fits.{senders_ascend, all_apart, most_senders}
 use Rattle.zb_model.specs.Record.{worth, net_bytes, sender_bytes, floors_bytes, link_bytes, pair_bytes, attribute_byte, four_bytes, eight_bytes}
-use Rattle.zb_model_fits.proofs.Tests.{both, any_map, apart_snoc}
-use Rattle.zb_model_fits.proofs.Parts.{nets_alike, links_alike, pairs_alike, pair_rule, floors_rule, limit_rule}
+use Rattle.law_change_fits.proofs.Tests.{both, any_map, apart_snoc}
+use Rattle.law_change_fits.proofs.Parts.{nets_alike, links_alike, pairs_alike, pair_rule, floors_rule, limit_rule}
 use Rattle.zb_record.specs.declared.version.Version.TheVariants.{Third}
 use Rattle.zb_record.specs.Fields.{attribute_at}
 use Rattle.zb_record.specs.Placed.{Placed, onward, ◌>>=◌, give, judged, field, rows_at}

@@ -13,8 +13,8 @@ use Rattle.std.specs.Int.{w16, w32}
 use Rattle.zb_model.specs.Data.{Bytes, Role}
 use Rattle.zb_model.specs.State.{NodeState, SenderFloor, NetKey, LinkKey, PairKey, same_key, is_centre, has_net, shown_net}
 use Rattle.zb_model.specs.Fits.{keeps_rules, role_is_kept, active_is_live, row_is_live, senders_ascend, all_apart, is_fresh, most_nets, most_links, most_pairs, most_senders}
-use Rattle.zb_model_fits.proofs.Tests.{both, never, or_true, apart_seen, apart_snoc}
-use Rattle.zb_model_fits.proofs.Parts.{rules_back, nets_alike, links_alike, pairs_alike, pair_rule, floors_rule, limit_rule, same_key_is, same_key_of}
+use Rattle.law_change_fits.proofs.Tests.{both, never, or_true, apart_seen, apart_snoc}
+use Rattle.law_change_fits.proofs.Parts.{rules_back, nets_alike, links_alike, pairs_alike, pair_rule, floors_rule, limit_rule, same_key_is, same_key_of}
 use Rattle.zb_record.specs.declared.version.Version.{Version}
 use Rattle.zb_record.specs.declared.version.Version.TheVariants.{First, Second, Third}
 use Rattle.zb_record.specs.declared.record.Node.{Node}

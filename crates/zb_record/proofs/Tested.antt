@@ -3,7 +3,7 @@ use Rattle.std.proofs.Common.{◌≡◌, ◌<◌, ◌^◌, Bool, true, ◌&&◌,
 use Rattle.std.specs.Prelude.{nat_eq, nat_lt}
 use Rattle.std.specs.List.{AllByRecursion, list_all}
 use Rattle.std.proofs.lemmas.Bool.{ltb-true, lt-ltb, eqb-true, eq-eqb, and_from}
-use Rattle.zb_model_fits.proofs.Tests.{both}
+use Rattle.law_change_fits.proofs.Tests.{both}
 use Rattle.zb_model.specs.State.{SenderFloor, NetKey, LinkKey, PairKey, NodeState}
 use Rattle.zb_record.specs.Ranges.{NetFits, LinkFits, PairFits, FitsBytes, floor_fits, net_fits, link_fits, pair_fits, fits_widths}
 

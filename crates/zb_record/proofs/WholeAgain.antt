@@ -17,8 +17,8 @@ use Rattle.zb_model.specs.Data.{Bytes, Centre, Router, Device, Fresh, Knocked, J
 use Rattle.zb_model.specs.State.{NodeState, NetKey, same_key, is_centre, live_nets, booted_net, booted_link, after_boot, shown, shown_net}
 use Rattle.zb_model.specs.Fits.{keeps_rules, role_is_kept, active_is_live, row_is_live, is_fresh, most_nets, most_pairs}
 use Rattle.zb_model.specs.Record.{record_of, active_place, place_from, role_byte, state_byte, worth, two_bytes, four_bytes, net_bytes, floors_bytes, link_bytes, pair_bytes}
-use Rattle.zb_model_fits.proofs.Tests.{both}
-use Rattle.zb_model_fits.proofs.Parts.{Rules, rules_of, same_key_is}
+use Rattle.law_change_fits.proofs.Tests.{both}
+use Rattle.law_change_fits.proofs.Parts.{Rules, rules_of, same_key_is}
 use Rattle.zb_record.specs.declared.version.Version.TheVariants.{Third}
 use Rattle.zb_record.specs.declared.record.Node.{Node}
 use Rattle.zb_record.specs.declared.record.Head.{Head}

@@ -14,10 +14,10 @@ use zb_device::plan_member;
 use zb_host::{Outcome, Plan};
 use zb_keys::Tables;
 use zb_member_rules::child_of_router;
-use zb_network::Network;
 use zb_node_types::Refusal;
 use zb_plan::plan_own;
 use zb_seal::{KeyMemo, Term};
+use zb_setting::Network;
 
 /// Plans what a child leads to that knocks, or asks to be let in again.
 ///

@@ -11,7 +11,7 @@ use Rattle.zb_node_types.specs.Changes.{edits}
 use Rattle.zb_model.specs.Data.{Bytes, Edit, Moved}
 use Rattle.zb_model.specs.State.{NodeState, LinkKey, is_live_of, is_unverified}
 use Rattle.zb_model.specs.Fits.{keeps_rules, partners_agree, all_apart, like_rows, same_bool}
-use Rattle.zb_model_fits.proofs.Tests.{both, neither}
+use Rattle.law_change_fits.proofs.Tests.{both, neither}
 use Rattle.zb_model.specs.Rules.{drop_link, drop_partner, drop_others}
 use Rattle.zb_record.specs.declared.link_row.LinkRow.{LinkRow}
 use Rattle.zb_record.specs.RowViews.{link_key}

@@ -1,7 +1,7 @@
 //! A command as it came to a node.
 use zb_base::{Eui, Label};
-use zb_network::Network;
 use zb_record::LinkRow;
+use zb_setting::Network;
 
 /// Says in which form a command came, and from whom.
 #[derive(Debug, Drop)]

@@ -12,7 +12,7 @@ use Rattle.zb_base.specs.declared.node.Peer.{Peer}
 use Rattle.zb_base.specs.declared.node.Role.{Role}
 use Rattle.zb_base.specs.declared.node.Role.TheVariants.{Centre, Router, Device}
 use Rattle.zb_model.specs.Data as model
-use Rattle.zb_network.specs.Settings.{own, setting_for}
+use Rattle.zb_setting.specs.Settings.{own, setting_for}
 use Rattle.zb_node_types.specs.Changes.{model_role}
 use Rattle.zb_sched.specs.Judge.{are_blocks}
 use Rattle.zb_stored_tables.specs.Cores.{IsOfRole}

@@ -19,9 +19,9 @@ use crate::part::{Part, part_of, sealed};
 use crate::sending::{Body, Sending};
 use zb_base::{Frame, Label, Layer, Short};
 use zb_keys::{NetRow, Tables};
-use zb_network::Network;
 use zb_rows::{is_spent, next_counter, stored_limit};
 use zb_seal::{KeyMemo, Term};
+use zb_setting::Network;
 
 /// Makes the term of a NWK frame under a network key.
 fn nwk_term(

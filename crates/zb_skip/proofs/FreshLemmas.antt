@@ -6,9 +6,9 @@ use Rattle.zb_model.specs.Data.{Bytes, Layer, Nwk, Aps, DropNet, Edit, Floor, In
 use Rattle.zb_model.specs.Rules.{Setting}
 use Rattle.zb_model.specs.State.{NetKey, NodeState, after_accepting, after_boot, after_hearing, after_sealing, applied, applied_all, at_net, booted_net, dropped_net, has_net, moved, net_floor, net_kept, net_of, new_net, next_at, of_active, reserved, same_key, sealed_at, shown, shown_net, started_at, stored_limit}
 use Rattle.zb_model.specs.Tools.{Tools}
-use Rattle.zb_model_fits.proofs.Parts.{same_key_is}
-use Rattle.zb_model_seals.specs.Sealing.{SealsNext, before_seals, next_under}
-use Rattle.zb_model_seals.proofs.Next.{answer_next}
+use Rattle.law_change_fits.proofs.Parts.{same_key_is}
+use Rattle.law_answer_seals.specs.Sealing.{SealsNext, before_seals, next_under}
+use Rattle.law_answer_seals.proofs.Next.{answer_next}
 use Rattle.zb_skip.specs.Freshness.{Deed, EachSeal, HasUsed, IsAbove, IsUnused, IsUnusedAt, boots, handles}
 use Rattle.zb_skip.specs.Skipping.{counted_from, skipped, skipped_limit, skipped_net}
 

@@ -8,10 +8,10 @@ use Rattle.std.proofs.lemmas.List.Folds.{list_any-append}
 use Rattle.zb_model.specs.Data.{Bytes, Nwk, Aps, Reserve, Start}
 use Rattle.zb_model.specs.Fits.{all_apart, all_fit, fits, keeps_rules}
 use Rattle.zb_model.specs.State.{LinkKey, NetKey, NodeState, SenderFloor, booted_floor, same_key, has_net, net_of, at_net, started_at, booted_net, booted_link, new_net, shown_net, greatest_counter, applied, applied_all, shown, after_boot, stored_limit}
-use Rattle.zb_model_fits.specs.Fitting.{leaves_rules}
-use Rattle.zb_model_fits.proofs.FitLaws.{fits_is}
-use Rattle.zb_model_fits.proofs.Parts.{rules_of, nets_alike, limit_rule, same_key_of, same_key_sym}
-use Rattle.zb_model_fits.proofs.Tests.{both, neither}
+use Rattle.law_change_fits.specs.Fitting.{leaves_rules}
+use Rattle.law_change_fits.proofs.FitLaws.{fits_is}
+use Rattle.law_change_fits.proofs.Parts.{rules_of, nets_alike, limit_rule, same_key_of, same_key_sym}
+use Rattle.law_change_fits.proofs.Tests.{both, neither}
 use Rattle.zb_node_types.specs.Changes.{edit, edits}
 use Rattle.zb_node_types.specs.declared.change.Change.{Change}
 use Rattle.zb_record.specs.Ranges.{FitsBytes, LinkFits, NetFits}

@@ -4,10 +4,10 @@ use Rattle.std.proofs.lemmas.Bool.{eqb-true}
 use Rattle.std.specs.Prelude.{Some, None, ◌==◌}
 use Rattle.zb_node_types.specs.declared.change.Change.{Change}
 use Rattle.zb_node_types.specs.Changes.{edits}
-use Rattle.zb_model_fits.proofs.Shown.{rules_shown}
+use Rattle.law_change_fits.proofs.Shown.{rules_shown}
 use Rattle.zb_host.specs.Plans.{Restored, gives, bad}
-use Rattle.zb_model_laws.proofs.StoredChanges.{change_again, changes_again}
-use Rattle.zb_model_laws.proofs.StoredFits.{rules_same, fits_same}
+use Rattle.law_run.proofs.StoredChanges.{change_again, changes_again}
+use Rattle.law_run.proofs.StoredFits.{rules_same, fits_same}
 use Rattle.zb_model.specs.Data.{Role, Edit}
 use Rattle.zb_model.specs.State.{NodeState, shown, after_boot, applied, applied_all}
 use Rattle.zb_model.specs.Fits.{keeps_rules, fits, all_fit}

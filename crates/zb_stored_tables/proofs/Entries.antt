@@ -5,7 +5,7 @@ use Rattle.zb_node_types.specs.Changes.{edit}
 use Rattle.zb_model.specs.Data.{Role, Draw, DropNet, DropLink, Install, Active, Row, Pair, Became, Live, Removed, Roll, Told, Untold, Edit, Reserve, Floor, Start, Moved, Nwk, Aps}
 use Rattle.zb_model.specs.State.{NodeState, shown, applied, applied_all}
 use Rattle.zb_model.specs.Fits.{keeps_rules, fits, all_fit}
-use Rattle.zb_model_fits.proofs.Tests.{both}
+use Rattle.law_change_fits.proofs.Tests.{both}
 use Rattle.zb_record.specs.Changes.{change_at}
 use Rattle.zb_record.specs.Ranges.{FitsBytes}
 use Rattle.zb_record.specs.declared.version.Version.{Version}

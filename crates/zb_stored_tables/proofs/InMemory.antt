@@ -6,7 +6,7 @@ use Rattle.std.proofs.lemmas.List.Concat.{flat_map-cons}
 use Rattle.zb_model.specs.Data.{Bytes, Layer, Nwk, Aps, Term}
 use Rattle.zb_model.specs.State.{SenderFloor, NetKey, LinkKey, NodeState, same_key, is_link, at_net, at_link, of_active, next_at, sealed_at, after_sealing, after_counting, floor_kept, net_kept, link_kept, after_hearing, after_accepting, booted_floor, booted_net, booted_link, after_boot, shown_net, shown}
 use Rattle.zb_model.specs.Record.{place_from, active_place, net_bytes, sender_bytes, floors_bytes, link_bytes, record_of}
-use Rattle.zb_model_fits.proofs.ShownApplied.{shown_twice}
+use Rattle.law_change_fits.proofs.ShownApplied.{shown_twice}
 use Rattle.zb_keys.proofs.BootLemmas.{booted_shown}
 
 -- ---- the bytes of rows that are changed

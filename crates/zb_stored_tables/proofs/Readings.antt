@@ -17,8 +17,8 @@ use Rattle.zb_cursor.specs.Reading.{Reading, byte_at, bytes_at, number_at, eui_a
 use Rattle.zb_cursor.specs.Reading as cursor
 use Rattle.zb_model.specs.State.{SenderFloor, NetKey, LinkKey, PairKey, NodeState}
 use Rattle.zb_model.specs.Record.{record_of}
-use Rattle.zb_model_laws.specs.Records.{Taking, follow, a_byte, some_bytes, a_number, so_many, role_of_byte, state_of_byte, attribute_of_byte, yes_or_no, only, two_flags, three_flags, with_floors, active_at, state_in, whole as whole_of}
-use Rattle.zb_model_laws.specs.Records as laws
+use Rattle.law_run.specs.Records.{Taking, follow, a_byte, some_bytes, a_number, so_many, role_of_byte, state_of_byte, attribute_of_byte, yes_or_no, only, two_flags, three_flags, with_floors, active_at, state_in, whole as whole_of}
+use Rattle.law_run.specs.Records as laws
 use Rattle.zb_record.specs.declared.version.Version.{Version}
 use Rattle.zb_record.specs.declared.version.Version.TheVariants.{Third}
 use Rattle.zb_record.specs.declared.record.Node.{Node}
@@ -27,7 +27,7 @@ use Rattle.zb_record.specs.Fields.{chosen, version_of, record_version, role_of, 
 use Rattle.zb_record.specs.Placed.{Placed, ◌>>=◌, give, judged, field, whole, rows_at}
 use Rattle.zb_record.specs.Rows.{net_at, net_flags_fit, is_new_net, allows_limit, sender_at, floors_at, live_floors_at, all_floors_at, is_last, isnt_zero, has_few, link_at, links_at, is_new_link, link_flags_fit, has_link_room, pair_at, all_pairs_at, pairs_at, is_new_pair, is_one, has_pair_room}
 use Rattle.zb_record.specs.Records.{may_enter, may_roll, node_at, head_at, has_net_room, is_place, key_of, nets_at, state_from, record_at, record_read, ended}
-use Rattle.zb_model_laws.proofs.RecordBack.{spelled-back}
+use Rattle.law_run.proofs.RecordBack.{spelled-back}
 use Rattle.zb_model.specs.Fits.{keeps_rules, keys_differ, rows_have_room}
 use Rattle.zb_record.proofs.Sound.{both_read, passed, rows_length, read_kept}
 

@@ -1,9 +1,9 @@
 -- A reserve fits where its limit isn't below the stored one, and makes room for the next counter.
 use Rattle.std.proofs.Common.{◌≡◌, ℕ, ◌≤◌, min, max, Bool, true, false, if◌then◌else◌, List, [], ◌∷◌, map, Option, Some, None, find, option_map, is_some, refl, ap, ◌∙◌}
 use Rattle.std.proofs.lemmas.Bool.{le-leb, and_from}
-use Rattle.zb_model_fits.proofs.FitLaws.{fits_is}
-use Rattle.zb_model_fits.specs.Fitting.{leaves_rules}
-use Rattle.zb_model_laws.proofs.Basics.{find-map}
+use Rattle.law_change_fits.proofs.FitLaws.{fits_is}
+use Rattle.law_change_fits.specs.Fitting.{leaves_rules}
+use Rattle.law_run.proofs.Basics.{find-map}
 use Rattle.zb_model.specs.Data.{Bytes, Layer, Nwk, Aps, Reserve}
 use Rattle.zb_model.specs.State.{NetKey, NodeState, same_key, at_net, of_active, reserved, net_of_active, active_row, next_of, limit_of, next_counter, stored_limit, shown_net, shown, applied, greatest_counter}
 use Rattle.zb_model.specs.Fits.{keeps_rules, fits}

@@ -4,7 +4,7 @@ use Rattle.std.specs.Prelude.{◌≡◌, ℕ, List, Ok}
 use Rattle.zb_base.specs.declared.node.Config.{Config}
 use Rattle.zb_node_types.specs.declared.change.Change.{Change}
 use Rattle.zb_node_types.specs.Changes.{edits}
-use Rattle.zb_network.specs.Settings.{setting_for}
+use Rattle.zb_setting.specs.Settings.{setting_for}
 use Rattle.zb_model.specs.Answer.{accepted_all, sealed_all}
 use Rattle.zb_model.specs.Data.{Role, Term}
 use Rattle.zb_model.specs.Rules.{Setting}

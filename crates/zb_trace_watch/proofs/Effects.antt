@@ -10,7 +10,7 @@ use Rattle.zb_base.specs.declared.key.Key.{Key}
 use Rattle.zb_base.specs.declared.label.Layer.{Layer}
 use Rattle.zb_base.specs.declared.label.Layer.TheVariants as layer
 use Rattle.zb_base.specs.declared.node.Role.{Role}
-use Rattle.zb_transported.specs.Carrying as carrying
+use Rattle.zb_carried_keys.specs.Carrying as carrying
 use Rattle.zb_node_types.specs.Changes.{model_layer, model_attribute}
 use Rattle.zb_base.specs.declared.state.Attribute.{Attribute}
 use Rattle.zb_base.specs.declared.state.Attribute.TheVariants as attribute

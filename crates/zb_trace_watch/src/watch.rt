@@ -18,9 +18,9 @@ use crate::origins::Origins;
 use crate::passing::Passing;
 use std::alloc::Global;
 use zb_base::{Attribute, Eui, Key, Name, NoMemory, Role};
+use zb_carried_keys::carried;
 use zb_seal::Term;
 use zb_trace::Line;
-use zb_transported::carried;
 
 /// Holds what is known of a transcript after the lines so far. A watch keeps no line.
 ///

@@ -1,7 +1,7 @@
 use Rattle.std.proofs.Common.{ℕ, List, subst}
 use Rattle.zb_admin.specs.Commands.{HasLaidOut}
 use Rattle.zb_admin.specs.Served.{tables_of}
-use Rattle.zb_network.specs.Settings.{setting_for}
+use Rattle.zb_setting.specs.Settings.{setting_for}
 use Rattle.zb_record.specs.Records.{record_read}
 use Rattle.zb_skip.specs.Skipping.{skipped}
 use Rattle.zb_admin.proofs.CommandLemmas.{carried_for, carried_new, carried_refused, kept_command, kept_unrisen, new_stands}

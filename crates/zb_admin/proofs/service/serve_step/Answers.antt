@@ -1,5 +1,5 @@
 use Rattle.zb_admin.specs.Serving.{outside}
-use Rattle.zb_network.specs.Settings.{setting_for}
+use Rattle.zb_setting.specs.Settings.{setting_for}
 use Rattle.zb_admin.proofs.CommandLemmas.{always}
 use Rattle.zb_admin.proofs.ServeLemmas.{command_fault, step_cut, step_written, write_fault}
 use Rattle.zb_admin.proofs.service.serve_step.Goals as goal

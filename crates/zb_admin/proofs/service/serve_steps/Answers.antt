@@ -1,6 +1,6 @@
 use Rattle.std.proofs.Common.{arith, refl, ◌∙◌}
 use Rattle.zb_admin.specs.Serving.{outside}
-use Rattle.zb_network.specs.Settings.{setting_for}
+use Rattle.zb_setting.specs.Settings.{setting_for}
 use Rattle.zb_admin.proofs.ServeLemmas.{all_served, begins, fault_later, step_ends, step_more}
 use Rattle.zb_admin.proofs.service.serve_steps.Goals as goal
 

@@ -5,7 +5,7 @@ use Rattle.zb_admin.specs.Serving.{outside}
 use Rattle.zb_admin.specs.Standing.{Stands}
 use Rattle.zb_base.specs.Outside.{Unrisen}
 use Rattle.zb_model.specs.State.{NodeState}
-use Rattle.zb_network.specs.Settings.{setting_for}
+use Rattle.zb_setting.specs.Settings.{setting_for}
 use Rattle.zb_admin.proofs.ServeLemmas.{GoesOn}
 use Rattle.zb_admin.proofs.service.serve_steps.Given as goal
 

@@ -2,7 +2,7 @@ use Rattle.std.proofs.Common.{get_or, sym, ◌∙◌, subst, List}
 use Rattle.zb_campaign.specs.Answers.{Answers, last_lines}
 use Rattle.zb_campaign.specs.Campaigns.{endings}
 use Rattle.zb_campaign.proofs.ShareLaws.{AreAnswered, Came, each_answered, played_all, wanted_of}
-use Rattle.zb_jobs.specs.declared.share.Share.{Share}
+use Rattle.zb_parallel.specs.declared.share.Share.{Share}
 use Rattle.zb_campaign.proofs.writing.play_all.Goals as goal
 
 pub returns : goal.returns

@@ -2,7 +2,7 @@ use Rattle.std.proofs.Common.{subst}
 use Rattle.zb_core.specs.Carrying.{one}
 use Rattle.zb_core.proofs.Parts.{counted_next}
 use Rattle.zb_model_real.specs.Terms.{model_term}
-use Rattle.zb_model_seals.specs.Sealing.{SealsNext}
+use Rattle.law_answer_seals.specs.Sealing.{SealsNext}
 use Rattle.zb_core.proofs.carrying.count.Goals as goal
 
 pub sealed_under-requires : goal.sealed_under-requires

@@ -1,9 +1,9 @@
 use Rattle.std.proofs.Common.{◌≡◌, ◌+◌, ◌*◌, ◌≤◌, map, true}
 use Rattle.zb_base.specs.Outside.{Unrisen}
-use Rattle.zb_events.specs.Told.{lines_told}
+use Rattle.zb_player_events.specs.Told.{lines_told}
 use Rattle.zb_player.specs.Runs.{Answers, AreMade}
 use Rattle.zb_sched_line.specs.Views.{event_of}
-use Rattle.zb_scribe.specs.Pages.{IsClear}
+use Rattle.zb_player_scribe.specs.Pages.{IsClear}
 use Rattle.zb_player.proofs.player.answer_all.Given as goal
 
 abbrev pub invariant-loop-index : goal.invariant-loop-index

@@ -4,7 +4,7 @@ use Rattle.std.specs.Io.KnownBytes.{Appends, append_known}
 use Rattle.std.specs.List.{AllByRecursion}
 use Rattle.zb_disk.specs.Memory.{Medium}
 use Rattle.zb_model.specs.Play.{stations}
-use Rattle.zb_model_schedules.specs.Schedules.{schedule_of}
+use Rattle.law_schedules.specs.Schedules.{schedule_of}
 use Rattle.zb_player.specs.Playing.{RunStands}
 use Rattle.zb_player.specs.Runs.{Played, last_line, text_in}
 use Rattle.zb_player.specs.declared.run.Run.{Run}

@@ -1,6 +1,6 @@
 use Rattle.std.proofs.Common.{[], ◌++◌}
 use Rattle.zb_audit.proofs.Auditing.{and_else, and_then}
-use Rattle.zb_declared.specs.Naming.{names_in}
+use Rattle.zb_audit_names.specs.Naming.{names_in}
 use Rattle.zb_audit.proofs.auditor.Auditor.is_locked.Goals as goal
 
 pub returns-then-ideal : goal.returns-then-ideal

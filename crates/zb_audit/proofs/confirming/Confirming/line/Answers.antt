@@ -2,8 +2,8 @@ use Rattle.std.proofs.Common.{List, ◌++◌, ◌∷◌, [], subst, sym}
 use Rattle.zb_audit.specs.Standing.{AreConfirmed}
 use Rattle.zb_audit.specs.declared.confirming.Confirming.{Confirming}
 use Rattle.zb_audit.proofs.ConfirmedKeys.{commit_follows, drop_follows, quiet_follows, row_follows, seal_follows}
-use Rattle.zb_declared.specs.Naming.{declared_in, speaker}
-use Rattle.zb_declared.specs.Standing.{IsSpeaker}
+use Rattle.zb_audit_names.specs.Naming.{declared_in, speaker}
+use Rattle.zb_audit_names.specs.Standing.{IsSpeaker}
 use Rattle.zb_trace.specs.declared.line.Line.{Line}
 use Rattle.zb_trace.specs.declared.line.Line.TheVariants as line
 use Rattle.zb_audit.proofs.confirming.Confirming.line.Goals as goal

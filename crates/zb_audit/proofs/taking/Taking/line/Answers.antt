@@ -1,8 +1,8 @@
 use Rattle.std.proofs.Common.{List, ◌++◌, ◌∷◌, [], subst, sym}
 use Rattle.zb_audit.specs.Standing.{AreTaken}
 use Rattle.zb_audit.proofs.TakenCounters.{accept_follows, quiet_follows}
-use Rattle.zb_declared.specs.Naming.{declared_in, speaker}
-use Rattle.zb_declared.specs.Standing.{IsSpeaker}
+use Rattle.zb_audit_names.specs.Naming.{declared_in, speaker}
+use Rattle.zb_audit_names.specs.Standing.{IsSpeaker}
 use Rattle.zb_trace.specs.declared.line.Line.{Line}
 use Rattle.zb_audit.proofs.taking.Taking.line.Goals as goal
 

@@ -1,7 +1,7 @@
 use Rattle.std.proofs.Common.{◌∙◌, sym, ap, ◌&&◌}
 use Rattle.zb_node_types.specs.Changes.{edit}
-use Rattle.zb_model_fits.proofs.FitLaws.{fits_is}
-use Rattle.zb_model_fits.specs.Fitting.{leaves_rules}
+use Rattle.law_change_fits.proofs.FitLaws.{fits_is}
+use Rattle.law_change_fits.specs.Fitting.{leaves_rules}
 use Rattle.zb_keys.specs.Tables.{state_of}
 use Rattle.zb_keys.proofs.contents.Contents.fits.Goals as goal
 

@@ -1,6 +1,6 @@
 use Rattle.std.proofs.Common.{refl, sym, ◌∙◌}
-use Rattle.zb_model_schedules.specs.Schedules.{schedule_of}
-use Rattle.zb_events.proofs.Counting.{ok_so}
+use Rattle.law_schedules.specs.Schedules.{schedule_of}
+use Rattle.zb_player_events.proofs.Counting.{ok_so}
 use Rattle.zb_player.proofs.Answering.{answered_at, answered_outside, made_at, outside_made}
 use Rattle.zb_player.proofs.Goings.{on_ok}
 use Rattle.zb_player.proofs.run.Run.answer.Goals as goal

@@ -1,5 +1,5 @@
 use Rattle.std.proofs.Common.{map, sym, ap}
-use Rattle.zb_first.specs.Firsts.{AreNodesOf}
+use Rattle.zb_player_start.specs.Firsts.{AreNodesOf}
 use Rattle.zb_player.proofs.Ending.{started}
 use Rattle.zb_player.proofs.run.Run.start.Goals as goal
 use Rattle.zb_sched.specs.Schedules as sched

@@ -1,0 +1,25 @@
+//! Which clauses of the audit the lines of each run keep. The laws stand as the contracts of functions with empty
+//! bodies; docs/THEOREMS.md says them in words.
+#![tactic(auto)]
+
+ghost use Rattle.law_audit_nonces.specs.Keeping.{KeepsFirst, KeepsSecond};
+ghost use Rattle.zb_model.specs.Play.{Schedule, stations};
+ghost use Rattle.zb_model.specs.Schedules.{IsSchedule};
+ghost use Rattle.zb_model.specs.Tools.{Tools};
+ghost use Rattle.law_run.specs.Commanding.{OneCentre};
+ghost use Rattle.law_run.specs.Opening.{Opens};
+ghost use Rattle.zb_trace_model.specs.Naming.{AreNamed};
+
+/// Says that no line of a run breaks the first clause of the audit: no node seals twice under one key and nonce.
+#[tactic(auto, using(crate::proofs::Fresher::keeps_first))]
+pub fn runs_keep_the_first_clause()
+    ensures { (w : Schedule) → IsSchedule w → KeepsFirst w }
+{}
+
+/// Says that no line of a run breaks the second clause of the audit: no receiver accepts a sender's counter twice under
+/// one key.
+#[tactic(auto, using(crate::proofs::Later::keeps_second))]
+pub fn runs_keep_the_second_clause()
+    ensures { (tools : Tools) → Opens tools → (w : Schedule) → IsSchedule w → OneCentre w → AreNamed (stations w)
+        → KeepsSecond tools w }
+{}

@@ -1,0 +1,16 @@
+//! An audit judges lines by their words alone. The law stands as the contract of a function with an empty body;
+//! docs/THEOREMS.md says it in words.
+#![tactic(auto)]
+
+ghost use Rattle.std.specs.Prelude.{List};
+ghost use Rattle.law_audit_text.specs.Alike.{AreJudgedAlike, HaveSameWords};
+ghost use Rattle.zb_model.specs.Tools.{Tools};
+ghost use Rattle.zb_trace.specs.declared.line.Line.{Line};
+
+/// Says that lines with the same words are judged alike, whoever wrote them.
+///
+/// What a name leaves unused of its room is no word, so an audit doesn't see it.
+pub fn lines_are_judged_by_their_words()
+    ensures { (tools : Tools) (lines others : List Line) → HaveSameWords lines others
+        → AreJudgedAlike tools lines others }
+{}

@@ -1,0 +1,17 @@
+//! When a change fits a state that keeps the rules for records: what is left to be asked, row by row, in place of all
+//! rules after the change. It is a crate of definitions (`specs/`), and its code carries the law.
+#![tactic(auto)]
+
+ghost use Rattle.std.specs.Prelude.{◌≡◌, ◌&&◌, true};
+ghost use Rattle.law_change_fits.specs.Fitting.{leaves_rules};
+ghost use Rattle.zb_model.specs.Data.{Edit};
+ghost use Rattle.zb_model.specs.State.{NodeState};
+ghost use Rattle.zb_model.specs.Fits.{keeps_rules, may_change, fits};
+
+/// Says when a change fits a state that keeps the rules for records.
+///
+/// It does exactly where it may be made and its own questions are answered well.
+#[tactic(auto, using(crate::proofs::FitLaws::fits_is))]
+pub fn fits_where_rules_stand()
+    ensures { (e : Edit) (s : NodeState) → keeps_rules s ≡ true → fits e s ≡ (may_change e s && leaves_rules e s) }
+{}

@@ -1,0 +1,6 @@
+-- Read off the definition, and of a run line by line.
+use Rattle.law_run.proofs.CountedRuns.{floor-block}
+use Rattle.law_run.proofs.a_floor_is_one_block.Goals as goal
+
+pub returns : goal.returns
+returns c = floor-block

@@ -1,0 +1,6 @@
+-- Event by event, what is counted is what the run has.
+use Rattle.law_run_counters.proofs.Unique.{unique}
+use Rattle.law_run_counters.proofs.lawful_and_counted_lines_are_the_transcript.Goals as goal
+
+pub returns : goal.returns
+returns c = unique

@@ -1,0 +1,6 @@
+-- Each group is counted with the counters that its node takes.
+use Rattle.law_run_counters.proofs.Unique.{counted}
+use Rattle.law_run_counters.proofs.transcripts_are_counted.Goals as goal
+
+pub returns : goal.returns
+returns c = counted

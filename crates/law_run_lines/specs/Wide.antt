@@ -1,0 +1,23 @@
+-- Lines whose numbers are in their ranges and whose keys have 16 bytes, whatever their nodes are called.
+use Rattle.std.specs.Prelude.{◌≡◌, ◌≤◌, ℕ, List, [], length}
+use Rattle.std.specs.List.{AllByRecursion}
+use Rattle.hex.specs.Hex.{IsBytes}
+use Rattle.zb_model.specs.Lines as log
+use Rattle.zb_trace_model.specs.Said.{line_for}
+use Rattle.zb_trace.specs.Text.{Word, Called, CalledOrNobody, MayStand, words}
+
+-- the bytes of a key, and those of a frame
+abbrev pub IsKey : List ℕ → Type 0
+IsKey key = IsBytes key × (length key ≡ 16)
+
+abbrev pub IsShort : List ℕ → Type 0
+IsShort bytes = IsBytes bytes × (length bytes ≤ 127)
+
+-- which words may stand in a line, but for names
+abbrev pub MayBe : Word → Type 0
+MayBe (Called name) = Unit {0}
+MayBe (CalledOrNobody name) = Unit {0}
+MayBe word = MayStand word
+
+unfoldable pub IsWide : log.Line → Type 0
+IsWide m = AllByRecursion MayBe (words (line_for [] m))

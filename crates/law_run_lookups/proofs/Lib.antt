@@ -1,0 +1,14 @@
+pub mod Alike
+pub mod Held
+pub mod Joining
+pub mod Drawn
+pub mod Standing
+pub mod NoDraws
+pub mod Senders
+pub mod FrameLayers
+pub mod Suited
+pub mod Newest
+pub mod Waking
+pub mod Rules
+pub mod Plans
+pub mod Delivered

@@ -1,0 +1,4 @@
+pub mod Granted
+pub mod FrameLayers
+pub mod Sealable
+pub mod Carried

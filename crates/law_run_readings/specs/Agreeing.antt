@@ -1,0 +1,38 @@
+-- Where the lines of whole groups say of a node what its state says.
+use Rattle.std.specs.Prelude.{ℕ, ◌≡◌, ◌+◌, true, List, [], ◌∷◌, ◌++◌, find}
+use Rattle.zb_model.specs.Data.{Bytes, Layer, Nwk, Aps}
+use Rattle.zb_model.specs.Lines.{Line}
+use Rattle.zb_model.specs.State.{NodeState, is_link, net_of, next_counter, stored_limit}
+use Rattle.zb_model.specs.Fits.{net_stored, link_stored}
+use Rattle.zb_model.specs.Play.{Schedule, Event, Disk, start, step}
+use Rattle.zb_model.specs.Schedules.{Names}
+use Rattle.zb_model.specs.Tools.{Tools}
+use Rattle.zb_model.specs.Readings.{is_up, state_of}
+use Rattle.law_run_readings.specs.LastLines.{active, flat, limit, next, stored}
+
+-- the stored floor of a sender under a key of the layer
+abbrev pub floor_at : Layer → Bytes → ℕ → NodeState → ℕ
+floor_at Nwk key sender s = net_stored sender (net_of key s)
+floor_at Aps key sender s = link_stored (find (is_link sender key) s.links)
+
+-- What the lines of these groups say of a node is what its state says. Of the next counters that is claimed of a node with power: where a
+-- stop or failure cut a group behind its reserves, a node without power has counters that its boot leaves out.
+pub record Agrees (before : List (List Line)) (n : ℕ) : Type 0 where
+  pub active_is : active (flat before) n ≡ (state_of (flat before) n).active
+  pub limits : (layer : Layer) → limit before n layer ≡ stored_limit layer (state_of (flat before) n)
+  pub nexts : is_up (flat before) n ≡ true → (layer : Layer) → next before n layer ≡ next_counter layer (state_of (flat before) n)
+  pub floors : (layer : Layer) (key : Bytes) (sender : ℕ) → stored (flat before) n layer key sender ≡ floor_at layer key sender (state_of (flat before) n)
+
+abbrev pub AllAgree : Schedule → List (List Line) → Type 0
+AllAgree w before = (n : ℕ) → Names w n → Agrees before n
+
+-- before each of these events and behind the last one, of each declared node
+abbrev pub AgreeFrom : Tools → Schedule → List (List Line) → List Disk → ℕ → List Event → Type 0
+AgreeFrom tools w before disks number [] = AllAgree w before
+AgreeFrom tools w before disks number (event ∷ events) =
+    let g = step tools w (flat before) disks number event in
+    AllAgree w before × AgreeFrom tools w (before ++ g.lines ∷ []) g.disks (number + 1) events
+
+-- Whole groups of a run say what the states of its nodes say: the start lines, and those with the group of each event in turn.
+abbrev pub RunAgrees : Tools → Schedule → Type 0
+RunAgrees tools w = AgreeFrom tools w (start w ∷ []) [] 1 w.events

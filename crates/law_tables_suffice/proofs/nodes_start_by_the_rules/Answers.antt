@@ -1,0 +1,6 @@
+-- A node starts with one network key and one link key at most.
+use Rattle.law_tables_suffice.proofs.Ready.{start_rules}
+use Rattle.law_tables_suffice.proofs.nodes_start_by_the_rules.Goals as goal
+
+pub returns : goal.returns
+returns c = start_rules

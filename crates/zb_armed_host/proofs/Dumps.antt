@@ -1,0 +1,86 @@
+-- What the disk of a node shows.
+use Rattle.std.proofs.Common.{◌≡◌, ℕ, List, false, Option, Some, None, Result, Ok, Err, IfOk, [], refl, sym, ◌∙◌, ap, subst}
+use Rattle.std.proofs.lemmas.Bool.{false≢true}
+use Rattle.std.specs.List.{concat}
+use Rattle.zb_base.specs.declared.fault.OrMemory.{OrMemory}
+use Rattle.zb_base.specs.declared.fault.OrMemory.TheVariants.{Fault, NoMemory as Lacking}
+use Rattle.zb_node_types.specs.declared.fault.KeyError.{KeyError}
+use Rattle.zb_node_types.specs.declared.fault.KeyError.TheVariants.{KeyOld, KeysFull, RowsFull, KeyInUse, NoRow, WrongHash, BadRecord}
+use Rattle.zb_disk.specs.View.{View}
+use Rattle.zb_disk.specs.Memory.{Medium, memory_tells, memory_view}
+use Rattle.zb_disk.proofs.Calls.{off_now}
+use Rattle.zb_store.specs.declared.fault.StoreFault.{StoreFault}
+use Rattle.zb_store.specs.declared.fault.StoreFault.TheVariants as store
+use Rattle.zb_store.specs.Layout.{Standing, IsWhole, stands}
+use Rattle.zb_store.specs.Reading.{AreContents}
+use Rattle.zb_store.specs.Faults.{OnlyReads, IsReadFault}
+use Rattle.zb_host.specs.Plans.{Restored, gives, bad, IsRestoreFault}
+use Rattle.zb_host.specs.Hosts.{Restoring, Gives}
+use Rattle.zb_host.proofs.Lives.{same_standing}
+use Rattle.zb_armed_host.specs.Arms.{IsUnarmed}
+use Rattle.zb_armed_host.specs.Driven.{IsShown, lacks_memory, core_lacks_memory, IsRecordIn, IsRecordOf}
+use Rattle.zb_armed_host.proofs.Armings.{on}
+
+abbrev IsThere : Option Standing → Type 0
+IsThere None = ⊥
+IsThere (Some s) = Unit {0}
+
+abbrev IsGood : Restored → Type 0
+IsGood (gives w) = Unit {0}
+IsGood (bad at) = ⊥
+
+abbrev value : Restored → List ℕ
+value (gives w) = w
+value (bad at) = []
+
+-- a record that is given is read
+pub unread : (fault : OrMemory KeyError) (given : Restored) (w : List ℕ) → core_lacks_memory fault ≡ false → IsRestoreFault given fault → given ≡ gives w → ⊥
+unread Lacking given w lacks of_fault is = false≢true (sym lacks)
+unread (Fault (KeyOld place)) given w lacks of_fault is = of_fault
+unread (Fault KeysFull) given w lacks of_fault is = of_fault
+unread (Fault RowsFull) given w lacks of_fault is = of_fault
+unread (Fault (KeyInUse partner)) given w lacks of_fault is = of_fault
+unread (Fault NoRow) given w lacks of_fault is = of_fault
+unread (Fault WrongHash) given w lacks of_fault is = of_fault
+unread (Fault (BadRecord at)) given w lacks of_fault is = subst IsGood (sym is ∙ of_fault) tt
+
+-- what a core writes is the record that is given
+pub written : (given : Restored) (bytes v w : List ℕ) → bytes ≡ v → given ≡ gives v → given ≡ gives w → bytes ≡ w
+written given bytes v w are one other = are ∙ ap value (sym one ∙ other)
+
+pub given_again : (given : Restored) (bytes v : List ℕ) → bytes ≡ v → given ≡ gives v → given ≡ gives bytes
+given_again given bytes v are is = is ∙ ap gives (sym are)
+
+-- a disk on which something stands and nothing is armed is read
+pub unopened : {T : Type 0} (s : Standing) (m : Medium) (new : View) (fault : StoreFault) → IsWhole s m.bytes → IsUnarmed m → lacks_memory fault ≡ false
+    → OnlyReads {T = T} memory_tells (memory_view m) new (Err fault) → IsReadFault memory_tells (memory_view m) new fault → ⊥
+unopened s m new store.Disk whole quiet lacks reads of_fault = false≢true (sym (on m quiet) ∙ sym (off_now m.arming) ∙ reads.refusal refl refl)
+unopened s m new store.NoRecord whole quiet lacks reads of_fault = subst IsThere (sym whole.stands ∙ of_fault refl) tt
+unopened s m new (store.TooLarge len) whole quiet lacks reads of_fault = of_fault
+unopened s m new store.NoMemory whole quiet lacks reads of_fault = false≢true (sym lacks)
+unopened s m new store.Worn whole quiet lacks reads of_fault = of_fault
+
+-- what is shown of what is read is shown of what stands
+pub shown_then : {E : Type 0} (restored : Restoring) (m : Medium) (content payloads room : List ℕ) (result : Result (Option ℕ) E) → AreContents content payloads m.bytes
+    → IfOk result (λ r. (w : List ℕ) → restored content payloads ≡ gives w → IsShown r room w)
+    → IfOk result (λ r. (s : Standing) (w : List ℕ) → IsWhole s m.bytes → IsUnarmed m → Gives restored s w → IsShown r room w)
+shown_then restored m content payloads room (Err e) read shown = tt
+shown_then restored m content payloads room (Ok r) read shown = λ s w whole quiet given.
+    let same = same_standing read.0 s m.bytes read.1 whole.stands in
+    let there = ap (λ (c : List ℕ). restored c payloads) (read.2 ∙ ap (λ (x : Standing). x.content) same) in
+    shown w (there ∙ ap (λ (q : List ℕ). restored s.content q) (read.3 ∙ ap (λ (x : Standing). concat x.payloads) same) ∙ given)
+
+pub record_then : {E : Type 0} (restored : Restoring) (m : Medium) (content payloads room : List ℕ) (result : Result (Option ℕ) E) → AreContents content payloads m.bytes
+    → IfOk result (λ r. IsRecordIn (restored content payloads) r room) → IfOk result (λ r. IsRecordOf restored (stands m.bytes) r room)
+record_then restored m content payloads room (Err e) read shown = tt
+record_then restored m content payloads room (Ok None) read shown = nothing (stands m.bytes)
+  where
+    nothing : (found : Option Standing) → IsRecordOf restored found None room
+    nothing None = tt
+    nothing (Some s) = tt
+record_then restored m content payloads room (Ok (Some len)) read shown =
+    subst (λ (found : Option Standing). IsRecordOf restored found (Some len) room) (sym read.1)
+    (sym (ap (λ (c : List ℕ). restored c payloads) read.2 ∙ ap (λ (q : List ℕ). restored read.0.content q) read.3) ∙ shown)
+
+-- what the proof of `dump` uses
+pub ruleset dumps = (unopened, shown_then, record_then)

@@ -1,0 +1,54 @@
+-- What is armed on a node's disk, in the model's words and in those of the disk.
+use Rattle.std.specs.Prelude.{ℕ, ◌+◌, ◌≤◌, ◌≡◌, Bool, true, false}
+use Rattle.zb_disk.specs.declared.memory.Arming.TheVariants as disk
+use Rattle.zb_disk.specs.Memory.{Medium, refuses, armed}
+use Rattle.zb_model.specs.Play.{Armed, NotArmed, StopAfter, FailAt, Calls, NoCalls, EntryCalls, RecordCalls, BootCalls, count_of}
+use Rattle.zb_base.specs.Outside.{risen}
+use Rattle.zb_armed_host.specs.declared.arms.Arms.{Arms}
+use Rattle.zb_armed_host.specs.declared.arms.Arms.TheVariants as arms
+
+-- what is armed, in the model's words
+abbrev pub armed_of : Arms → Armed
+armed_of arms.Unarmed = NotArmed
+armed_of (arms.Stop calls torn) = StopAfter calls torn.items
+armed_of (arms.Fail call) = FailAt call
+
+-- the device calls are counted from 1 where one of them is to fail
+abbrev pub IsArming : Armed → Type 0
+IsArming NotArmed = Unit {0}
+IsArming (StopAfter calls torn) = Unit {0}
+IsArming (FailAt call) = 1 ≤ call
+
+-- a disk on which nothing is armed: it refuses no write and no sync
+abbrev pub IsUnarmed : Medium → Type 0
+IsUnarmed m = (k : ℕ) → refuses m.arming k ≡ false
+
+-- a disk that isn't off, once this is armed on it
+abbrev pub armed_medium : Armed → Medium → Medium
+armed_medium NotArmed m = m
+armed_medium (StopAfter calls torn) m = record m { arming = disk.Stop calls; torn = torn }
+armed_medium (FailAt call) m = record m { arming = disk.Fail call }
+
+-- a disk once this is taken back
+abbrev pub disarmed_medium : Armed → Medium → Medium
+disarmed_medium NotArmed m = m
+disarmed_medium (StopAfter calls torn) m = record m { arming = armed m.arming disk.Unarmed }
+disarmed_medium (FailAt call) m = record m { arming = armed m.arming disk.Unarmed }
+
+-- The device calls of a commit: those of a whole record, or of an entry.
+abbrev pub commit_of : Bool → Calls
+commit_of true = RecordCalls
+commit_of false = EntryCalls
+
+-- the count of a disk's calls after these; it stops at 2^64 - 1
+abbrev pub calls_after : ℕ → Calls → ℕ
+calls_after count NoCalls = count
+calls_after count EntryCalls = risen count (count_of EntryCalls)
+calls_after count RecordCalls = risen count (count_of RecordCalls)
+calls_after count (BootCalls both) = risen count (count_of (BootCalls both))
+
+-- how many device calls are made where it falls, the refused one among them
+abbrev pub fallen_calls : Armed → ℕ
+fallen_calls NotArmed = 0
+fallen_calls (StopAfter calls torn) = calls + 1
+fallen_calls (FailAt call) = call

@@ -1,0 +1,59 @@
+//! What is armed on a node's disk.
+ghost use Rattle.std.specs.Prelude.{◌≡◌, false};
+ghost use Rattle.zb_disk.specs.Memory.{is_stopped};
+ghost use Rattle.zb_armed_host.specs.Arms.{armed_of, armed_medium, disarmed_medium};
+
+use arrayvec::ArrayVec;
+use zb_disk::MemDisk;
+
+/// Says what is armed on a node's disk: it falls on the first call of the host with so many device calls.
+#[derive(Debug, Drop)]
+pub enum Arms {
+    /// Nothing is armed.
+    Unarmed,
+    /// After so many device calls the next one is refused, and the disk is off.
+    Stop {
+        /// Counts the device calls that go through first.
+        calls: u8,
+        /// Stands in place of what was written and not synced, over and over. Where it is empty, that stands as it was
+        /// written.
+        torn: ArrayVec<u8, 32>,
+    },
+    /// One device call is refused.
+    Fail {
+        /// Its number, counted from 1.
+        call: u8,
+    },
+}
+
+/// Arms a disk that isn't off. It counts from now on.
+pub(crate) fn arm(disk: &mut MemDisk, arms: &Arms)
+    ensures armed { is_stopped disk.old.arming ≡ false → disk.new ≡ armed_medium (armed_of arms.now) disk.old }
+    ensures faults { disk.new.faults ≡ disk.old.faults }
+{
+    match arms {
+        Arms::Unarmed => {}
+        Arms::Stop { calls, torn } => disk.arm_stop(*calls, copied(torn)),
+        Arms::Fail { call } => disk.arm_fail(*call),
+    }
+}
+
+// Copies the bytes.
+fn copied(torn: &ArrayVec<u8, 32>) -> ArrayVec<u8, 32>
+    ensures { result.items ≡ torn.now.items }
+{
+    let mut copy = ArrayVec::new();
+    let _ = copy.try_extend_from_slice(torn);
+    copy
+}
+
+/// Takes back what was armed, if anything was.
+pub(crate) fn disarm(disk: &mut MemDisk, arms: &Arms)
+    ensures disarmed { disk.new ≡ disarmed_medium (armed_of arms.now) disk.old }
+    ensures faults { disk.new.faults ≡ disk.old.faults }
+{
+    match arms {
+        Arms::Unarmed => {}
+        Arms::Stop { .. } | Arms::Fail { .. } => disk.disarm(),
+    }
+}

@@ -1,0 +1,54 @@
+//! One event of a node that is up.
+ghost use Rattle.std.specs.Prelude.{◌≡◌, ◌≢◌, [], None, is_some, IsTrue, IfOk, IfErr, OnOk, OnErr};
+ghost use Rattle.zb_store.specs.Layout.{Standing};
+ghost use Rattle.zb_armed_host.specs.Arms.{armed_of};
+ghost use Rattle.zb_armed_host.specs.Driven.{memory_words, IsUp, WasHandled, HasFallen};
+
+use crate::arms::{arm, disarm};
+use crate::fall::recover;
+use crate::{Arms, Fall};
+use zb_disk::MemDisk;
+use zb_host::{Core, Host, Plan};
+
+/// Handles an event of a node that is up, over its disk, with what is armed on that.
+///
+/// It writes the changes and what goes out into `plan`. Where what was armed falls, or the disk fails otherwise, the
+/// host is down, the power of the disk is back, and nothing is armed; `plan` then has the changes that were to be
+/// stored.
+///
+/// Errors: how it fell.
+pub fn run<C: Core>(
+    host: &mut Host<C>,
+    disk: &mut MemDisk,
+    arms: &Arms,
+    event: &C::Event,
+    plan: &mut Plan<C::Out>,
+) -> Result<(), Fall>
+    requires up { IsTrue (is_some host.old.store) }
+
+    // What is written is a plan of the core, and the core is the one after it.
+    ensures planned { C.is_plan host.old.core event.now plan.new }
+    ensures after { C.is_after host.old.core plan.new host.new.core }
+
+    // Where the host is up over a disk that holds a record, what is armed falls exactly where the model says, and
+    // leaves what it says.
+    ensures handled { OnOk result ((s : Standing)
+        → IsUp (memory_words C.restored C.recorded C.payload) s (armed_of arms.now) host.old disk.old
+        → WasHandled (memory_words C.restored C.recorded C.payload) s (armed_of arms.now)
+        host.old disk.old plan.new.changes.items host.new disk.new) }
+    ensures fallen { IfErr result (λ fall. (s : Standing)
+        → IsUp (memory_words C.restored C.recorded C.payload) s (armed_of arms.now) host.old disk.old
+        → HasFallen (memory_words C.restored C.recorded C.payload) s (armed_of arms.now)
+        host.old disk.old plan.new.changes.items fall host.new disk.new) }
+    ensures up { OnOk result (IsTrue (is_some host.new.store)) }
+    ensures down { OnErr result (host.new.store ≡ None) }
+{
+    arm(disk, arms);
+    match host.handle_into(disk, event, plan) {
+        Ok(()) => {
+            disarm(disk, arms);
+            Ok(())
+        }
+        Err(_) => Err(recover(disk, arms)),
+    }
+}

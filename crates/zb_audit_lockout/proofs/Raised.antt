@@ -1,0 +1,259 @@
+-- Numbers of keys that rise one by one, and with each key that is raised those of its base keys.
+use Rattle.std.proofs.Common.{◌≡◌, ◌⊎◌, ℕ, ◌+◌, ◌<◌, ◌≤◌, List, [], ◌∷◌, ◌++◌, length, Bool, true, false, true≢false, cond, ◌||◌, ◌&&◌, Option, Some, inl, inr, refl, arith, ap, sym, ◌∙◌, bytes_eq, nat_lt}
+use Rattle.std.specs.Prelude.{if◌then◌else◌, nat_le}
+use Rattle.std.specs.Map.{lookup}
+use Rattle.std.specs.BTreeMap.{is_at}
+use Rattle.std.proofs.lemmas.Bool.{le-leb, leb-true, ltb-true, ltb-false}
+use Rattle.zb_base.specs.declared.key.Key.{Key}
+use Rattle.zb_audit_lockout.specs.Raising.{IsRaised, Raises}
+use Rattle.zb_audit_lockout.specs.Reading.{late_of}
+use Rattle.zb_audit_lockout.specs.declared.lateness.Lateness.{Lateness}
+use Rattle.zb_trace_watch.specs.Sets.{is_among, is_carried, key_cmp, keys_at, keys_of}
+use Rattle.zb_trace_watch.specs.declared.holdings.Holdings.{Holdings}
+use Rattle.zb_trace_watch.specs.declared.keys.Keys.{Keys}
+use Rattle.zb_trace_watch.proofs.Alike.{bytes_alike}
+use Rattle.zb_trace_watch.proofs.Truth.{among_append, among_end, decided, either, itself, none_left, or_left, or_right, same_bytes}
+
+-- What is raised so far, and what is left to raise.
+pub record Raising (carriers : Holdings Key) (old now : Lateness) (start left : List Key) (number : ℕ) (raised : List Key) : Type 0 where
+  pub told : (k : List ℕ) → (late_of now k ≡ late_of old k) ⊎ IsRaised old now number raised k
+  pub only : (k : List ℕ) → is_among raised k ≡ true → late_of now k ≡ number
+  pub reached : (k : List ℕ) → is_among start k ≡ true → (number ≤ late_of now k) ⊎ (is_among left k ≡ true)
+  pub bases : (k b : List ℕ) → is_among raised k ≡ true → is_carried carriers k b ≡ true → (number ≤ late_of now b) ⊎ (is_among left b ≡ true)
+  pub least : (S : List ℕ → Bool) → ((k : List ℕ) → is_among start k ≡ true → S k ≡ true)
+      → ((k b : List ℕ) → S k ≡ true → is_carried carriers k b ≡ true → S b ≡ true)
+      → ((k : List ℕ) → is_among raised k ≡ true → S k ≡ true) × ((k : List ℕ) → is_among left k ≡ true → S k ≡ true)
+
+pub begins : (carriers : Holdings Key) (old : Lateness) (start raised : List Key) (number : ℕ) → raised ≡ [] → Raising carriers old old start start number raised
+begins carriers old start raised number none =
+    record {
+      told = λ k. inl refl;
+      only = λ k there. absurd (nobody k there);
+      reached = λ k there. inr there;
+      bases = λ k b there carried. absurd (nobody k there);
+      least = λ S more closed. ((λ k there. absurd (nobody k there)), more);
+    }
+  where
+    nobody : (k : List ℕ) → is_among raised k ≡ true → ⊥
+    nobody k there = true≢false (sym there ∙ ap (λ (keys : List Key). is_among keys k) none)
+
+pub ends : (carriers : Holdings Key) (old now : Lateness) (start : List Key) (number : ℕ) (raised : List Key) → Raising carriers old now start [] number raised → Raises carriers old now start number raised
+ends carriers old now start number raised l = record {
+  told = l.told;
+  only = l.only;
+  reached = λ k there. elim (l.reached k there) [ inl it ↦ it | inr none ↦ cc ];
+  bases = λ k b there carried. elim (l.bases k b there carried) [ inl it ↦ it | inr none ↦ cc ];
+  least = λ S more closed. (l.least S more closed).0;
+}
+
+module _ (carriers : Holdings Key) (old now new : Lateness) (start left : List Key) (number : ℕ) (raised : List Key) (key : Key)
+    (becomes : (k : List ℕ) → late_of new k ≡ (if bytes_eq k key.0 && nat_lt (late_of now key.0) number then number else late_of now k))
+    (l : Raising carriers old now start (left ++ key ∷ []) number raised) where
+  others : (k : List ℕ) → bytes_eq k key.0 ≡ false → late_of new k ≡ late_of now k
+  others k not_it = becomes k ∙ ap (λ (b : Bool). if b && nat_lt (late_of now key.0) number then number else late_of now k) not_it
+
+  -- of what was left
+  was_left : (k : List ℕ) → is_among (left ++ key ∷ []) k ≡ true → (is_among left k ≡ true) ⊎ (k ≡ key.0)
+  was_left k there =
+      elim (either (is_among left k) (bytes_eq k key.0 || false) (sym (among_append left (key ∷ []) k) ∙ there)) [
+        | inl before ↦ inl before
+        | inr last ↦ inr (same_bytes k key.0 (none_left _ last))
+      ]
+
+  -- A key that is raised brings its base keys.
+  module _ (below : nat_lt (late_of now key.0) number ≡ true) where
+    here : late_of new key.0 ≡ number
+    here = becomes key.0 ∙ ap (λ (b : Bool). if b then number else late_of now key.0) (ap (λ (b : Bool). b && nat_lt (late_of now key.0) number) (itself key.0) ∙ below)
+
+    at_key : (k : List ℕ) → k ≡ key.0 → number ≤ late_of new k
+    at_key k is = let it : late_of new k ≡ number = ap (late_of new) is ∙ here in omega arith
+
+    up : (k : List ℕ) → number ≤ late_of now k → number ≤ late_of new k
+    up k high = elim (decided (bytes_eq k key.0)) [
+      | inl is ↦ at_key k (same_bytes k key.0 is)
+      | inr other ↦ let it : late_of new k ≡ late_of now k = others k other in omega arith
+    ]
+
+    abbrev more : List Key
+    more = keys_at key_cmp carriers key
+
+    moved : (k : List ℕ) → (number ≤ late_of now k) ⊎ (is_among (left ++ key ∷ []) k ≡ true) → (number ≤ late_of new k) ⊎ (is_among (left ++ more) k ≡ true)
+    moved k (inl high) = inl (up k high)
+    moved k (inr there) = elim (was_left k there) [
+      | inl before ↦ inr (among_append left more k ∙ or_left _ _ before)
+      | inr is ↦ inl (at_key k is)
+    ]
+
+    now_raised : (k : List ℕ) → is_among (raised ++ key ∷ []) k ≡ true → (is_among raised k ≡ true) ⊎ (k ≡ key.0)
+    now_raised k there =
+        elim (either (is_among raised k) (bytes_eq k key.0 || false) (sym (among_append raised (key ∷ []) k) ∙ there)) [
+          | inl before ↦ inl before
+          | inr last ↦ inr (same_bytes k key.0 (none_left _ last))
+        ]
+
+    was_below : (k : List ℕ) → k ≡ key.0 → late_of old k < number
+    was_below k is =
+        let low : late_of now key.0 < number = ltb-true (late_of now key.0) number below in
+        let same : late_of now k ≡ late_of now key.0 = ap (late_of now) is in
+        elim (l.told k) [
+          | inl kept ↦ omega arith
+          | inr it ↦ it.was
+        ]
+
+    told_now : (k : List ℕ) → (late_of new k ≡ late_of old k) ⊎ IsRaised old new number (raised ++ key ∷ []) k
+    told_now k = elim (decided (bytes_eq k key.0)) [
+      | inl is ↦ inr (record {
+        was = was_below k (same_bytes k key.0 is);
+        is = ap (late_of new) (same_bytes k key.0 is) ∙ here;
+        among = among_append raised (key ∷ []) k ∙ or_right _ _ (or_left _ _ is);
+      })
+      | inr other ↦ elim (l.told k) [
+        | inl kept ↦ inl (others k other ∙ kept)
+        | inr it ↦ inr (record { was = it.was; is = others k other ∙ it.is; among = among_append raised (key ∷ []) k ∙ or_left _ _ it.among })
+      ]
+    ]
+
+    only_now : (k : List ℕ) → is_among (raised ++ key ∷ []) k ≡ true → late_of new k ≡ number
+    only_now k there = elim (decided (bytes_eq k key.0)) [
+      | inl is ↦ ap (late_of new) (same_bytes k key.0 is) ∙ here
+      | inr other ↦ elim (now_raised k there) [
+        | inl before ↦ others k other ∙ l.only k before
+        | inr is ↦ ap (late_of new) is ∙ here
+      ]
+    ]
+
+    bases_now : (k b : List ℕ) → is_among (raised ++ key ∷ []) k ≡ true → is_carried carriers k b ≡ true → (number ≤ late_of new b) ⊎ (is_among (left ++ more) b ≡ true)
+    bases_now k b there carried = elim (now_raised k there) [
+      | inl before ↦ moved b (l.bases k b before carried)
+      | inr is ↦ inr (among_append left more b ∙ or_right _ _ (ap (λ (q : List ℕ). is_carried carriers q b) (sym is) ∙ carried))
+    ]
+
+    pub raises_new : Raising carriers old new start (left ++ more) number (raised ++ key ∷ [])
+    raises_new = record {
+      told = told_now;
+      only = only_now;
+      reached = λ k there. moved k (l.reached k there);
+      bases = bases_now;
+      least = λ S first closed.
+          let it = l.least S first closed in (
+            λ k there. elim (now_raised k there) [
+              | inl before ↦ it.0 k before
+              | inr is ↦ ap S is ∙ it.1 key.0 (among_end left key)
+            ],
+            λ k there. elim (either (is_among left k) (is_among more k) (sym (among_append left more k) ∙ there)) [
+              | inl before ↦ it.1 k (among_append left (key ∷ []) k ∙ or_left _ _ before)
+              | inr base ↦ closed key.0 k (it.1 key.0 (among_end left key)) base
+            ],
+          );
+    }
+
+  -- A key whose number is as high already brings nothing.
+  module _ (high : nat_lt (late_of now key.0) number ≡ false) where
+    same : (k : List ℕ) → late_of new k ≡ late_of now k
+    same k = becomes k ∙ by (bytes_eq k key.0) (nat_lt (late_of now key.0) number) high
+      where
+        by : (a b : Bool) → b ≡ false → (if a && b then number else late_of now k) ≡ late_of now k
+        by true false h = refl
+        by false false h = refl
+        by a true h = cc
+
+    stays : (k : List ℕ) → (number ≤ late_of now k) ⊎ (is_among (left ++ key ∷ []) k ≡ true) → (number ≤ late_of new k) ⊎ (is_among left k ≡ true)
+    stays k (inl up) = let it : late_of new k ≡ late_of now k = same k in inl (omega arith)
+    stays k (inr there) = elim (was_left k there) [
+      | inl before ↦ inr before
+      | inr is ↦
+          let it : late_of new k ≡ late_of now k = same k in
+          let at : late_of now k ≡ late_of now key.0 = ap (late_of now) is in
+          let up : number ≤ late_of now key.0 = ltb-false (late_of now key.0) number high in
+          inl (omega arith)
+    ]
+
+    pub raises_old : Raising carriers old new start left number raised
+    raises_old = record {
+      told = λ k. elim (l.told k) [
+        | inl kept ↦ inl (same k ∙ kept)
+        | inr it ↦ inr (record { was = it.was; is = same k ∙ it.is; among = it.among })
+      ];
+      only = λ k there. same k ∙ l.only k there;
+      reached = λ k there. stays k (l.reached k there);
+      bases = λ k b there carried. stays b (l.bases k b there carried);
+      least = λ S first closed. let it = l.least S first closed in (it.0, λ k there. it.1 k (among_append left (key ∷ []) k ∙ or_left _ _ there));
+    }
+
+-- How many base keys there are of keys whose number is lower.
+
+abbrev unraised_by : Bool → Keys → ℕ
+unraised_by high keys = if high then 0 else length keys.keys.keys
+
+abbrev is_high : Lateness → ℕ → List ℕ → Bool
+is_high now number k = nat_le number (late_of now k)
+
+abbrev pub unraised : Lateness → ℕ → List (Key × Keys) → ℕ
+unraised now number [] = 0
+unraised now number (e ∷ es) = unraised_by (is_high now number e.0.0) e.1 + unraised now number es
+
+less_or_same : (a b : Bool) (keys : Keys) → (a ≡ true → b ≡ true) → unraised_by b keys ≤ unraised_by a keys
+less_or_same true b keys more = rw (more refl) (omega arith)
+less_or_same false true keys more = omega arith
+less_or_same false false keys more = omega arith
+
+module _ (now new : Lateness) (number : ℕ) (key : Key) (up : (k : List ℕ) → is_high now number k ≡ true → is_high new number k ≡ true) where
+  pub fewer_unraised : (entries : List (Key × Keys)) → unraised new number entries ≤ unraised now number entries
+  fewer_unraised [] = omega arith
+  fewer_unraised (e ∷ es) = omega (arith, less_or_same (is_high now number e.0.0) (is_high new number e.0.0) e.1 (up e.0.0), fewer_unraised es)
+
+  abbrev found : List (Key × Keys) → Option Keys
+  found entries = lookup (is_at (key_cmp key)) entries
+
+  raised_here : (a b : Bool) (keys : Keys) → a ≡ false → b ≡ true → unraised_by b keys + length keys.keys.keys ≤ unraised_by a keys
+  raised_here a b keys e f = rw (e, f) (omega arith)
+
+  module _ (low : is_high now number key.0 ≡ false) (high : is_high new number key.0 ≡ true) where
+    raised_at : (e : Key × Keys) (es : List (Key × Keys)) → unraised new number es + length (keys_of (found es)) ≤ unraised now number es
+        → (b : Bool) → is_at (key_cmp key) e.0 ≡ b
+        → (unraised_by (is_high new number e.0.0) e.1 + unraised new number es) + length (keys_of (cond b (Some e.1) (found es))) ≤ unraised_by (is_high now number e.0.0) e.1 + unraised now number es
+    raised_at e es later true is =
+        let same : e.0.0 ≡ key.0 = sym (same_bytes key.0 e.0.0 (sym (bytes_alike key.0 e.0.0) ∙ is)) in
+        let it : unraised_by (is_high new number e.0.0) e.1 + length e.1.keys.keys ≤ unraised_by (is_high now number e.0.0) e.1 =
+        raised_here (is_high now number e.0.0) (is_high new number e.0.0) e.1 (ap (is_high now number) same ∙ low) (ap (is_high new number) same ∙ high) in
+        let rest : unraised new number es ≤ unraised now number es = fewer_unraised es in
+        omega arith
+    raised_at e es later false is =
+        let it : unraised_by (is_high new number e.0.0) e.1 ≤ unraised_by (is_high now number e.0.0) e.1 = less_or_same (is_high now number e.0.0) (is_high new number e.0.0) e.1 (up e.0.0) in
+        omega arith
+
+    pub raised_once : (entries : List (Key × Keys)) → unraised new number entries + length (keys_of (lookup (is_at (key_cmp key)) entries)) ≤ unraised now number entries
+    raised_once [] = omega arith
+    raised_once (e ∷ es) = raised_at e es (raised_once es) (is_at (key_cmp key) e.0) refl
+
+module _ (now new : Lateness) (number : ℕ) (key : Key)
+    (becomes : (k : List ℕ) → late_of new k ≡ (if bytes_eq k key.0 && nat_lt (late_of now key.0) number then number else late_of now k)) where
+  rises : (k : List ℕ) → late_of now k ≤ late_of new k
+  rises k = by (bytes_eq k key.0) (nat_lt (late_of now key.0) number) refl refl
+    where
+      by : (a b : Bool) → bytes_eq k key.0 ≡ a → nat_lt (late_of now key.0) number ≡ b → late_of now k ≤ late_of new k
+      by true true is below =
+          let it : late_of new k ≡ number = becomes k ∙ rw (is, below) refl in
+          let at : late_of now k ≡ late_of now key.0 = ap (late_of now) (same_bytes k key.0 is) in
+          let low : late_of now key.0 < number = ltb-true (late_of now key.0) number below in
+          omega arith
+      by false b is below = let it : late_of new k ≡ late_of now k = becomes k ∙ rw is refl in omega arith
+      by true false is below = let it : late_of new k ≡ late_of now k = becomes k ∙ rw (is, below) refl in omega arith
+
+  pub stays_high : (k : List ℕ) → is_high now number k ≡ true → is_high new number k ≡ true
+  stays_high k high =
+      let it : number ≤ late_of now k = leb-true number (late_of now k) high in
+      let up : late_of now k ≤ late_of new k = rises k in
+      le-leb number (late_of new k) (omega arith)
+
+  pub was_low : nat_lt (late_of now key.0) number ≡ true → is_high now number key.0 ≡ false
+  was_low below = lt-low (ltb-true (late_of now key.0) number below) (decided (is_high now number key.0))
+    where
+      lt-low : late_of now key.0 < number → (is_high now number key.0 ≡ true) ⊎ (is_high now number key.0 ≡ false) → is_high now number key.0 ≡ false
+      lt-low low (inr it) = it
+      lt-low low (inl it) = let high : number ≤ late_of now key.0 = leb-true number (late_of now key.0) it in absurd (omega arith)
+
+  pub is_high_now : nat_lt (late_of now key.0) number ≡ true → is_high new number key.0 ≡ true
+  is_high_now below =
+      let it : late_of new key.0 ≡ number = becomes key.0 ∙ rw (itself key.0, below) refl in
+      le-leb number (late_of new key.0) (omega arith)

@@ -1,0 +1,260 @@
+//! Lockout over the lines so far.
+ghost use Rattle.std.specs.Prelude.{◌≡◌, ◌+◌, ◌++◌, ◌∷◌, ◌||◌, ◌&&◌, [], List, length, true, not, bytes_eq};
+ghost use Rattle.std.specs.Prelude.{IfOk, OnOk, if◌then◌else◌, None, Some};
+ghost use Rattle.zb_audit_names.specs.Naming.{declared_in};
+ghost use Rattle.zb_audit_names.specs.Standing.{IsSpeaker};
+ghost use Rattle.zb_audit_lockout.specs.Lockout as of_lines;
+ghost use Rattle.zb_audit_lockout.specs.Facts.{eui_of_node};
+ghost use Rattle.zb_audit_lockout.specs.Reading.{accepts, is_foul, knows};
+ghost use Rattle.zb_audit_lockout.specs.Standing.{Admits, CarriesSome, Forges, Forgets, Holds, Judges, RaisesOne, Removes};
+ghost use Rattle.zb_audit_lockout.specs.Standing.{Seals, Stands, Tells};
+ghost use Rattle.zb_model.specs.Data.{Bytes};
+ghost use Rattle.zb_model.specs.Tools.{Tools};
+ghost use Rattle.zb_trace.specs.declared.line.Line.{Line as AnyLine};
+ghost use Rattle.zb_trace_watch.specs.Sets.{is_node};
+ghost use Rattle.zb_trace_watch.specs.Standing.{FindKeys};
+ghost use Rattle.zb_carried_keys.specs.Carrying.{carried as carried_of};
+
+use crate::evidence::Evidence;
+use crate::past::{Past, eui_of, partner_at};
+use crate::reach::Reach;
+use std::alloc::Global;
+use zb_audit_names::Who;
+use zb_base::{Eui, Key, Layer, NoMemory};
+use zb_carried_keys::carried;
+use zb_seal::Term;
+use zb_trace::Line;
+
+/// Holds what is needed of the lines so far to tell where lockout first fails.
+///
+/// It keeps no line. What it keeps stands in ordered maps and sets, and a line takes a few look-ups. Nothing is rebuilt
+/// when a device is removed or admitted, and no lines are gone over again: each key has one number, the greatest number
+/// of a removal behind which a key was drawn to which it leads, since terms carry keys under it. So a removed device
+/// comes by a key that was drawn since exactly where a key that it ever held has a number that isn't below that of its
+/// removal.
+///
+/// - A key is raised at most once for each removal behind which a key is drawn to which it leads. That costs a step for
+///   each base key under which it was carried, and one for each device that held it; all removed devices hold the
+///   well-known key.
+/// - What the lines of a group say of keys waits until the group ends. Then it is taken in once, as a watch over a
+///   transcript takes it in.
+/// - An accepted term is looked up among the forged ones and those that removed devices sealed. Of its seals the last
+///   ones are forgotten whose devices were admitted since, up to one that is still late.
+/// - Which live network keys outsiders may know is noted for each node as they learn keys, each key once. So a node
+///   that accepts foul terms has such a key at hand, and its keys are gone through at most once: then lockout fails.
+///
+/// Over honest transcripts, and over most others, the time grows with the length. Known to take longer: thousands of
+/// pairs of a removal and a draw of one key, where thousands of base keys lead to it or thousands of devices hold it.
+/// Memory grows with the length.
+#[derive(Drop)]
+pub struct Lockout {
+    /// The number of the first line with which lockout fails.
+    pub first: Option<u32>,
+    /// What stood before the group of the last line.
+    pub past: Past,
+    /// Which keys lead to keys that were drawn after a removal.
+    pub reach: Reach,
+    /// Which terms were forged, and which were sealed by removed devices.
+    pub evidence: Evidence,
+}
+
+impl Lockout {
+    /// Makes the value of no lines.
+    pub fn new(alloc: Global) -> Result<Lockout, NoMemory>
+        ensures { IfOk result (λ lockout. (tools : Tools) (names : List Bytes) → Stands tools names lockout []) }
+    {
+        Ok(Lockout {
+            first: None,
+            past: Past::new(alloc)?,
+            reach: Reach::new(alloc),
+            evidence: Evidence::new(alloc),
+        })
+    }
+
+    /// Answers the number of the first line with which lockout fails, if there is one.
+    pub fn first_unlocked(&self) -> Option<u32>
+        ensures { (tools : Tools) (names : List Bytes) (h : List AnyLine) → Stands tools names self.now h
+            → result ≡ of_lines.first_unlocked tools h }
+    {
+        self.first
+    }
+
+    /// Goes on by one line, the `number`-th. `who` is the line's node. After `NoMemory` the value isn't used further.
+    pub fn line(
+        &mut self,
+        alloc: Global,
+        number: u32,
+        line: &Line,
+        who: Who,
+    ) -> Result<(), NoMemory>
+        ensures { OnOk result ((tools : Tools) (names : List Bytes) (h : List AnyLine) → FindKeys tools
+            → number ≡ length h + 1 → IsSpeaker who names (declared_in h) line.now → Stands tools names self.old h
+            → Stands tools names self.new (h ++ line.now ∷ [])) }
+    {
+        match self.first {
+            Some(_) => Ok(()),
+            None => self.go_on(alloc, number, line, who),
+        }
+    }
+
+    fn go_on(&mut self, alloc: Global, number: u32, line: &Line, who: Who) -> Result<(), NoMemory>
+        ensures { OnOk result ((tools : Tools) (names : List Bytes) (h : List AnyLine) → FindKeys tools
+            → number ≡ length h + 1 → IsSpeaker who names (declared_in h) line.now → self.old.first ≡ None
+            → Stands tools names self.old h → Stands tools names self.new (h ++ line.now ∷ [])) }
+    {
+        self.past.line(alloc, line, who)?;
+        let stays = self.judge(alloc, number, line, who)?;
+        self.first = unless(stays, number);
+        Ok(())
+    }
+
+    // Takes a line in, whose past stands already, and answers whether lockout still holds.
+    fn judge(&mut self, alloc: Global, number: u32, line: &Line, who: Who) -> Result<bool, NoMemory>
+        ensures judges { IfOk result (λ stays. Judges self.old self.new number line.now who stays) }
+        ensures first { OnOk result (self.new.first ≡ self.old.first) }
+    {
+        match line {
+            Line::GivenNet { key, .. } => self.hold(alloc, eui_of(who.node), None, *key),
+            Line::GivenLink { key, .. } => self.hold(alloc, eui_of(who.node), None, *key),
+            Line::Install { key, .. } => self.hold(alloc, eui_of(who.node), None, *key),
+            Line::Row { partner, key, .. } => self.hold(
+                alloc,
+                eui_of(who.node),
+                partner_at(who.is_centre, *partner),
+                *key,
+            ),
+            Line::Pair {
+                first,
+                second,
+                key,
+                ..
+            } => self.hold(alloc, Some(*first), Some(*second), *key),
+            Line::Draw { key, .. } => self.draw(alloc, *key),
+            Line::Removed { device, .. } => self.remove(*device, number),
+            Line::Live { device, .. } => Ok(self.admit(*device)),
+            Line::Seal { term, .. } => self.seal(alloc, who, term),
+            Line::Forge { term, .. } => self.forge(alloc, term),
+            Line::Accept { term, .. } => self.accepts(who, term),
+            _ => Ok(true),
+        }
+    }
+
+    fn hold(
+        &mut self,
+        alloc: Global,
+        first: Option<Eui>,
+        second: Option<Eui>,
+        key: Key,
+    ) -> Result<bool, NoMemory>
+        ensures reach { OnOk result (Holds self.old.reach self.new.reach
+            (λ d k. (is_node first d && bytes_eq k key.0) || (is_node second d && bytes_eq k key.0))) }
+        ensures tells { IfOk result (λ stays. Tells self.old.reach self.new.reach stays) }
+        ensures evidence { self.new.evidence ≡ self.old.evidence }
+        ensures past { self.new.past ≡ self.old.past }
+        ensures first { self.new.first ≡ self.old.first }
+    {
+        Ok(self.reach.hold_both(alloc, first, second, key)?)
+    }
+
+    fn draw(&mut self, alloc: Global, key: Key) -> Result<bool, NoMemory>
+        ensures reach { OnOk result (RaisesOne self.old.reach self.new.reach key self.old.reach.windows.last) }
+        ensures tells { IfOk result (λ stays. Tells self.old.reach self.new.reach stays) }
+        ensures evidence { self.new.evidence ≡ self.old.evidence }
+        ensures past { self.new.past ≡ self.old.past }
+        ensures first { self.new.first ≡ self.old.first }
+    {
+        Ok(self.reach.draw(alloc, key)?)
+    }
+
+    fn remove(&mut self, device: Eui, number: u32) -> Result<bool, NoMemory>
+        ensures removes { OnOk result (Removes self.old.reach self.new.reach device.0 number) }
+        ensures stays { IfOk result (λ stays. stays ≡ true) }
+        ensures evidence { self.new.evidence ≡ self.old.evidence }
+        ensures past { self.new.past ≡ self.old.past }
+        ensures first { self.new.first ≡ self.old.first }
+    {
+        self.reach.windows.remove(device, number)?;
+        Ok(true)
+    }
+
+    fn admit(&mut self, device: Eui) -> bool
+        ensures admits { Admits self.old.reach self.new.reach device.0 }
+        ensures stays { result ≡ true }
+        ensures evidence { self.new.evidence ≡ self.old.evidence }
+        ensures past { self.new.past ≡ self.old.past }
+        ensures first { self.new.first ≡ self.old.first }
+    {
+        self.reach.windows.admit(device);
+        true
+    }
+
+    fn seal(&mut self, alloc: Global, who: Who, term: &Term) -> Result<bool, NoMemory>
+        ensures reach { OnOk result (CarriesSome self.old.reach self.new.reach term.now.base (carried_of term.now)) }
+        ensures tells { IfOk result (λ stays. Tells self.old.reach self.new.reach stays) }
+        ensures evidence { OnOk result
+            (Seals self.old.reach self.old.evidence self.new.evidence (eui_of_node who.node) term.now) }
+        ensures past { self.new.past ≡ self.old.past }
+        ensures first { self.new.first ≡ self.old.first }
+    {
+        self.evidence
+            .seal(alloc, &self.reach.windows, eui_of(who.node), term)?;
+        self.carry(alloc, term)
+    }
+
+    fn forge(&mut self, alloc: Global, term: &Term) -> Result<bool, NoMemory>
+        ensures reach { OnOk result (CarriesSome self.old.reach self.new.reach term.now.base (carried_of term.now)) }
+        ensures tells { IfOk result (λ stays. Tells self.old.reach self.new.reach stays) }
+        ensures evidence { OnOk result (Forges self.old.evidence self.new.evidence term.now) }
+        ensures past { self.new.past ≡ self.old.past }
+        ensures first { self.new.first ≡ self.old.first }
+    {
+        self.evidence.forge(term)?;
+        self.carry(alloc, term)
+    }
+
+    fn carry(&mut self, alloc: Global, term: &Term) -> Result<bool, NoMemory>
+        ensures reach { OnOk result (CarriesSome self.old.reach self.new.reach term.now.base (carried_of term.now)) }
+        ensures tells { IfOk result (λ stays. Tells self.old.reach self.new.reach stays) }
+        ensures evidence { self.new.evidence ≡ self.old.evidence }
+        ensures past { self.new.past ≡ self.old.past }
+        ensures first { self.new.first ≡ self.old.first }
+    {
+        match carried(term) {
+            Some(key) => Ok(self.reach.carry(alloc, term.base, key)?),
+            None => Ok(true),
+        }
+    }
+
+    // Whether the line's node may accept the term.
+    fn accepts(&mut self, who: Who, term: &Term) -> Result<bool, NoMemory>
+        ensures stays { IfOk result (λ stays. stays ≡ accepts self.old who.place term.now) }
+        ensures evidence { OnOk result (Forgets self.old.reach.windows self.old.evidence self.new.evidence) }
+        ensures reach { self.new.reach ≡ self.old.reach }
+        ensures past { self.new.past ≡ self.old.past }
+        ensures first { self.new.first ≡ self.old.first }
+    {
+        match term.layer {
+            Layer::Aps => Ok(true),
+            Layer::Nwk => self.may_accept(who.place, term),
+        }
+    }
+
+    fn may_accept(&mut self, place: usize, term: &Term) -> Result<bool, NoMemory>
+        ensures stays { IfOk result (λ stays. stays
+            ≡ (not (is_foul self.old.reach.windows self.old.evidence term.now) || knows self.old.past.before place)) }
+        ensures evidence { OnOk result (Forgets self.old.reach.windows self.old.evidence self.new.evidence) }
+        ensures reach { self.new.reach ≡ self.old.reach }
+        ensures past { self.new.past ≡ self.old.past }
+        ensures first { self.new.first ≡ self.old.first }
+    {
+        let is_foul = self.evidence.is_foul(&self.reach.windows, term)?;
+        Ok(!is_foul || self.past.before.holds_known(place))
+    }
+}
+
+/// The number, unless lockout stays.
+fn unless(stays: bool, number: u32) -> Option<u32>
+    ensures { result ≡ (if stays then None else Some number) }
+{
+    if stays { None } else { Some(number) }
+}

@@ -1,0 +1,154 @@
+//! The names that lines speak of, and what was declared of them.
+ghost use Rattle.std.specs.Prelude.{◌≡◌, ◌++◌, ◌∷◌, [], ◌&&◌, List, None, Some, OnOk, IfOk, not};
+ghost use Rattle.std.specs.BTreeMap.{get};
+ghost use Rattle.zb_model.specs.Data.{Bytes, Station};
+ghost use Rattle.zb_model.specs.State.{is_centre};
+ghost use Rattle.zb_node_types.specs.Changes.{model_role};
+ghost use Rattle.zb_trace.specs.declared.line.Line.{Line as AnyLine};
+ghost use Rattle.zb_audit_names.specs.Naming.{declared_in, declares, named_by, names_in, place_in, station_named, with_name, with_station};
+ghost use Rattle.zb_audit_names.specs.Standing.{name_cmp, IsSpeaker, IsStation, Stands, Tells};
+
+use crate::lines::speaker;
+use crate::node::{NOBODY, Node, Who};
+use std::alloc::Global;
+use std::collections::BTreeMap;
+use zb_base::{Name, NoMemory, Role};
+use zb_trace::Line;
+
+/// Holds the names of a transcript so far. A name is looked up once a line; all else goes by its place.
+#[derive(Drop)]
+pub struct Directory {
+    /// Who each name is.
+    pub names: BTreeMap<Name, Who>,
+    /// Whether a centre was declared.
+    pub has_centre: bool,
+}
+
+impl Directory {
+    /// Makes the directory of no lines.
+    pub fn new(alloc: Global) -> Directory
+        ensures { Stands result [] [] }
+    {
+        Directory {
+            names: BTreeMap::new(alloc),
+            has_centre: false,
+        }
+    }
+
+    /// Goes on by one line, and answers who its node is by the lines before it. For a line that speaks of no node the
+    /// answer says nothing.
+    pub fn line(&mut self, line: &Line) -> Result<Who, NoMemory>
+        ensures stands { OnOk result ((h : List AnyLine) → Stands self.old (names_in h) (declared_in h)
+            → Stands self.new (names_in (h ++ line.now ∷ [])) (declared_in (h ++ line.now ∷ []))) }
+        ensures tells { IfOk result (λ who. (h : List AnyLine) → Stands self.old (names_in h) (declared_in h)
+            → IsSpeaker who (names_in (h ++ line.now ∷ [])) (declared_in h) line.now) }
+    {
+        let who = self.speaker(line)?;
+        self.declare(line, who)?;
+        Ok(who)
+    }
+
+    /// Answers who the node of a line is.
+    fn speaker(&mut self, line: &Line) -> Result<Who, NoMemory>
+        ensures stands { OnOk result ((names : List Bytes) (known : List Station) → Stands self.old names known
+            → Stands self.new (named_by names line.now) known) }
+        ensures tells { IfOk result (λ who. (names : List Bytes) (known : List Station) → Stands self.old names known
+            → IsSpeaker who (named_by names line.now) known line.now) }
+    {
+        match speaker(line) {
+            Some(name) => self.who(&name),
+            None => Ok(NOBODY),
+        }
+    }
+
+    /// Answers who a name is. A name that is new gets the next place.
+    fn who(&mut self, name: &Name) -> Result<Who, NoMemory>
+        ensures stands { OnOk result ((names : List Bytes) (known : List Station) → Stands self.old names known
+            → Stands self.new (with_name names name.now.bytes) known) }
+        ensures tells { IfOk result (λ who. (names : List Bytes) (known : List Station) → Stands self.old names known
+            → Tells who (with_name names name.now.bytes) known name.now.bytes) }
+    {
+        match self.names.get(name).copied() {
+            Some(who) => Ok(who),
+            None => self.new_name(*name),
+        }
+    }
+
+    fn new_name(&mut self, name: Name) -> Result<Who, NoMemory>
+        ensures stands { OnOk result (get name_cmp self.old.names name ≡ None → (names : List Bytes)
+            (known : List Station) → Stands self.old names known
+            → Stands self.new (with_name names name.bytes) known) }
+        ensures tells { IfOk result (λ who. get name_cmp self.old.names name ≡ None → (names : List Bytes)
+            (known : List Station) → Stands self.old names known
+            → Tells who (with_name names name.bytes) known name.bytes) }
+    {
+        let who = Who {
+            place: self.names.len(),
+            node: None,
+            is_centre: false,
+        };
+        self.names.insert(name, who)?;
+        Ok(who)
+    }
+
+    /// Takes in what a line declares, if anything; `who` is its node by the lines before it.
+    fn declare(&mut self, line: &Line, who: Who) -> Result<(), NoMemory>
+        ensures { OnOk result ((names : List Bytes) (known : List Station) → IsSpeaker who names known line.now
+            → Stands self.old names known → Stands self.new names (declares known line.now)) }
+    {
+        match line {
+            Line::Node {
+                name,
+                role,
+                eui,
+                out_block,
+                in_block,
+                ..
+            } => self.declare_node(
+                *name,
+                who,
+                Node {
+                    eui: *eui,
+                    role: *role,
+                    out_block: *out_block,
+                    in_block: *in_block,
+                },
+            ),
+            _ => Ok(()),
+        }
+    }
+
+    fn declare_node(&mut self, name: Name, who: Who, node: Node) -> Result<(), NoMemory>
+        ensures { OnOk result ((names : List Bytes) (known : List Station) (s : Station) → IsStation s name.bytes node
+            → Tells who names known name.bytes → Stands self.old names known
+            → Stands self.new names (with_station known s)) }
+    {
+        match who.node {
+            Some(_) => Ok(()),
+            None => self.first_node(name, who.place, node),
+        }
+    }
+
+    /// Declares the first node of a name.
+    fn first_node(&mut self, name: Name, place: usize, node: Node) -> Result<(), NoMemory>
+        ensures { OnOk result ((names : List Bytes) (known : List Station) (s : Station) → IsStation s name.bytes node
+            → place_in names name.bytes ≡ Some place → station_named known name.bytes ≡ None
+            → Stands self.old names known → Stands self.new names (known ++ s ∷ [])) }
+    {
+        let is_centre = self.is_first_centre(node.role);
+        let who = Who {
+            place,
+            node: Some(node),
+            is_centre,
+        };
+        self.names.insert(name, who)?;
+        self.has_centre = self.has_centre || is_centre;
+        Ok(())
+    }
+
+    fn is_first_centre(&self, role: Role) -> bool
+        ensures { result ≡ (is_centre (model_role role) && not self.now.has_centre) }
+    {
+        role == Role::Centre && !self.has_centre
+    }
+}

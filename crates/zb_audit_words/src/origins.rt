@@ -1,0 +1,174 @@
+//! Where what was accepted, and the keys that were taken in, came from.
+ghost use Rattle.std.specs.Ordering.{nat_cmp};
+ghost use Rattle.std.specs.Prelude.{◌≡◌, ◌||◌, ◌&&◌, ◌⊎◌, ℕ, List, OnOk, bytes_eq, false, true, not, nat_eq};
+ghost use Rattle.zb_model.specs.Secrets.{same_term};
+ghost use Rattle.zb_model_real.specs.Terms.{model_term};
+ghost use Rattle.zb_seal.specs.declared.term.Term.{Term as AnyTerm};
+ghost use Rattle.zb_audit_words.specs.Places.{came, place_has, TakesIn};
+ghost use Rattle.zb_trace_watch.specs.Sets.{is_carried, is_key, key_cmp, keys_at, meet};
+ghost use Rattle.zb_trace_watch.specs.Terms.{has_term};
+
+use std::alloc::{AllocError, Global};
+use zb_base::Key;
+use zb_seal::Term;
+use zb_trace_watch::holdings::Holdings;
+use zb_trace_watch::terms::Terms;
+
+/// Holds the terms so far, and whether all that was accepted or taken in came from earlier ones. A node goes by its
+/// place among all names.
+#[derive(Drop)]
+pub struct Origins {
+    /// The terms that were sealed or forged.
+    pub terms: Terms,
+    /// The link keys of each node's install code.
+    pub codes: Holdings<usize>,
+    /// The keys under which each node may be sent a key: its code's, and those of its link rows.
+    pub bases: Holdings<usize>,
+    /// For each key that terms carry, the base keys of these terms.
+    pub carriers: Holdings<Key>,
+    /// For each node, keys of which it was found where they came from, so that none is looked for twice.
+    pub traced: Holdings<usize>,
+    /// Whether each accepted term was sealed or forged before, and each key that a router or device took in is its
+    /// code's or came in an earlier term under one of its keys.
+    pub ideal: bool,
+}
+
+impl Origins {
+    /// Makes the origins before the first line.
+    pub fn new(alloc: Global) -> Origins
+        ensures terms { (t : AnyTerm) → has_term result.terms t ≡ false }
+        ensures codes { (n : ℕ) (k : List ℕ) → place_has result.codes n k ≡ false }
+        ensures bases { (n : ℕ) (k : List ℕ) → place_has result.bases n k ≡ false }
+        ensures carriers { (k b : List ℕ) → is_carried result.carriers k b ≡ false }
+        ensures traced { (n : ℕ) (k : List ℕ) → place_has result.traced n k ≡ false }
+        ensures ideal { result.ideal ≡ true }
+    {
+        Origins {
+            terms: Terms::new(alloc),
+            codes: Holdings::new(alloc),
+            bases: Holdings::new(alloc),
+            carriers: Holdings::new(alloc),
+            traced: Holdings::new(alloc),
+            ideal: true,
+        }
+    }
+
+    /// Notes that a term was sealed or forged, and which key it carries, if any.
+    pub fn term(&mut self, alloc: Global, term: &Term, key: Option<Key>) -> Result<(), AllocError>
+        ensures terms { OnOk result ((t : AnyTerm)
+            → has_term self.new.terms t
+            ≡ (has_term self.old.terms t || same_term (model_term t) (model_term term.now))) }
+        ensures codes { OnOk result (self.new.codes ≡ self.old.codes) }
+        ensures bases { OnOk result (self.new.bases ≡ self.old.bases) }
+        ensures carriers { OnOk result ((k b : List ℕ)
+            → is_carried self.new.carriers k b
+            ≡ (is_carried self.old.carriers k b || (is_key key k && bytes_eq b term.now.base.0))) }
+        ensures traced { OnOk result (self.new.traced ≡ self.old.traced) }
+        ensures ideal { OnOk result (self.new.ideal ≡ self.old.ideal) }
+    {
+        self.carriers.add_under(alloc, key, term.base)?;
+        self.terms.add(term)?;
+        Ok(())
+    }
+
+    /// Notes that a term was accepted.
+    pub fn accept(&mut self, term: &Term)
+        ensures { self.new ≡ record self.old { ideal = self.old.ideal && has_term self.old.terms term.now } }
+    {
+        self.ideal = self.ideal && self.terms.has(term);
+    }
+
+    /// Notes that a node took a key in, which matters where it is a router or device. What was traced isn't looked for
+    /// again, and once a key came from nowhere none is.
+    pub fn take_in(
+        &mut self,
+        alloc: Global,
+        joins: bool,
+        place: usize,
+        key: Key,
+    ) -> Result<(), AllocError>
+        ensures takes { OnOk result (TakesIn self.old self.new place joins key.0) }
+    {
+        if joins {
+            self.trace(alloc, place, key)?;
+        }
+        Ok(())
+    }
+
+    fn trace(&mut self, alloc: Global, place: usize, key: Key) -> Result<(), AllocError>
+        ensures ideal { OnOk result
+            ((place_has self.old.traced place key.0 ≡ true → came self.old place key.0 ≡ true)
+            → self.new.ideal ≡ (self.old.ideal && came self.old place key.0)) }
+        ensures traced { OnOk result ((n : ℕ) (k : List ℕ) → place_has self.new.traced n k ≡ true
+            → (place_has self.old.traced n k ≡ true)
+            ⊎ (((nat_eq n place && bytes_eq k key.0) ≡ true) × (came self.old place key.0 ≡ true))) }
+        ensures terms { OnOk result (self.new.terms ≡ self.old.terms) }
+        ensures codes { OnOk result (self.new.codes ≡ self.old.codes) }
+        ensures bases { OnOk result (self.new.bases ≡ self.old.bases) }
+        ensures carriers { OnOk result (self.new.carriers ≡ self.old.carriers) }
+    {
+        if self.is_settled(place, &key) {
+            return Ok(());
+        }
+        if self.came(place, &key) {
+            self.traced.add(alloc, place, key)?;
+        } else {
+            self.ideal = false;
+        }
+        Ok(())
+    }
+
+    // Whether nothing is to be looked for: the key was traced, or the run isn't ideal anyway.
+    fn is_settled(&self, place: usize, key: &Key) -> bool
+        ensures { result ≡ (not self.now.ideal || place_has self.now.traced place key.now.0) }
+    {
+        !self.ideal || self.traced.has(&place, key)
+    }
+
+    // Whether the key is that of the node's code, or a term carries it under one of the node's keys.
+    fn came(&self, place: usize, key: &Key) -> bool
+        ensures { result ≡ came self.now place key.now.0 }
+    {
+        self.codes.has(&place, key) || self.came_under_a_key(place, key)
+    }
+
+    fn came_under_a_key(&self, place: usize, key: &Key) -> bool
+        ensures { result ≡ meet (keys_at nat_cmp self.now.bases place)
+            (keys_at key_cmp self.now.carriers key.now) }
+    {
+        match self.bases.sets.get(&place) {
+            Some(bases) => self.carriers.meets(key, bases),
+            None => false,
+        }
+    }
+
+    /// Notes the link key of a node's install code.
+    pub fn code(&mut self, alloc: Global, place: usize, key: Key) -> Result<(), AllocError>
+        ensures codes { OnOk result ((n : ℕ) (k : List ℕ)
+            → place_has self.new.codes n k ≡ (place_has self.old.codes n k || (nat_eq n place && bytes_eq k key.0))) }
+        ensures bases { OnOk result ((n : ℕ) (k : List ℕ)
+            → place_has self.new.bases n k ≡ (place_has self.old.bases n k || (nat_eq n place && bytes_eq k key.0))) }
+        ensures terms { OnOk result (self.new.terms ≡ self.old.terms) }
+        ensures carriers { OnOk result (self.new.carriers ≡ self.old.carriers) }
+        ensures traced { OnOk result (self.new.traced ≡ self.old.traced) }
+        ensures ideal { OnOk result (self.new.ideal ≡ self.old.ideal) }
+    {
+        self.codes.add(alloc, place, key)?;
+        self.bases.add(alloc, place, key)?;
+        Ok(())
+    }
+
+    /// Notes a node's link row with that key.
+    pub fn row(&mut self, alloc: Global, place: usize, key: Key) -> Result<(), AllocError>
+        ensures bases { OnOk result ((n : ℕ) (k : List ℕ)
+            → place_has self.new.bases n k ≡ (place_has self.old.bases n k || (nat_eq n place && bytes_eq k key.0))) }
+        ensures codes { OnOk result (self.new.codes ≡ self.old.codes) }
+        ensures terms { OnOk result (self.new.terms ≡ self.old.terms) }
+        ensures carriers { OnOk result (self.new.carriers ≡ self.old.carriers) }
+        ensures traced { OnOk result (self.new.traced ≡ self.old.traced) }
+        ensures ideal { OnOk result (self.new.ideal ≡ self.old.ideal) }
+    {
+        self.bases.add(alloc, place, key)?;
+        Ok(())
+    }
+}

@@ -1,6 +1,0 @@
--- What a name leaves unused of its room is seen by no definition of the audit.
-use Rattle.zb_audited_words.proofs.Judging.{judged_alike}
-use Rattle.zb_audited_words.proofs.lines_are_judged_by_their_words.Goals as goal
-
-pub returns : goal.returns
-returns c = judged_alike

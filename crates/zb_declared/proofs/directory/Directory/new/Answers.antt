@@ -1,5 +1,0 @@
-use Rattle.zb_declared.proofs.Entries.{stands_for_none}
-use Rattle.zb_declared.proofs.directory.Directory.new.Goals as goal
-
-pub returns : goal.returns
-returns c = stands_for_none c.new.result c.new.ensures.empty

@@ -1,2 +1,0 @@
--- Laws of nodes, for those who stand on their events.
-pub use Rattle.zb_node.proofs.Conditions.{in_later}

@@ -1,4 +1,0 @@
-pub mod Lists
-pub mod Settings
-pub mod StartLines
-pub mod Records

@@ -1,7 +1,0 @@
--- Each key that is new brings those that terms carry under it, once.
-use Rattle.std.proofs.Common.{◌+◌, length}
-use Rattle.zb_trace_watch.proofs.Learning.{unopened}
-use Rattle.zb_lockout.proofs.shown.Shown.learn.Given as goal
-
-abbrev pub decreases-loop-key : goal.decreases-loop-key
-decreases-loop-key l = unopened l.self.learnt l.exposure.carried.sets.entries + length l.keys.items

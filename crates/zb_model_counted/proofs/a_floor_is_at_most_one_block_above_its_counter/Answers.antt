@@ -1,6 +1,0 @@
--- The floors of a group are those that its accepted terms ask for, each its own.
-use Rattle.zb_model_counted.proofs.Floors.{floors-are-for}
-use Rattle.zb_model_counted.proofs.a_floor_is_at_most_one_block_above_its_counter.Goals as goal
-
-pub returns : goal.returns
-returns c = floors-are-for

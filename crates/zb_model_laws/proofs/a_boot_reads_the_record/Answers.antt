@@ -1,6 +1,0 @@
--- The record is read back, and a boot's line does what a boot does.
-use Rattle.zb_model_laws.proofs.RecordLaws.{boot-reads}
-use Rattle.zb_model_laws.proofs.a_boot_reads_the_record.Goals as goal
-
-pub returns : goal.returns
-returns c = boot-reads

@@ -1,6 +1,0 @@
--- Changes, accepted terms and seals, one after the other; the other lines leave the state.
-use Rattle.zb_model_laws.proofs.GroupStates.{group-state}
-use Rattle.zb_model_laws.proofs.a_group_is_read_back.Goals as goal
-
-pub returns : goal.returns
-returns c = λ h number n a. group-state h h number n a

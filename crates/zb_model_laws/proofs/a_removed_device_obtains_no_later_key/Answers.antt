@@ -1,6 +1,0 @@
--- The keys drawn while a device is away, and the link keys of others, are a set that nothing it ever held opens.
-use Rattle.zb_model_laws.proofs.LockoutLaw.{keeps-removed-out}
-use Rattle.zb_model_laws.proofs.a_removed_device_obtains_no_later_key.Goals as goal
-
-pub returns : goal.returns
-returns c = keeps-removed-out

@@ -1,6 +1,0 @@
--- Each live verified row of the centre is stored before a group's seals, and a Confirm-Key names such a row.
-use Rattle.zb_model_laws.proofs.ConfirmsRuns.{confirms}
-use Rattle.zb_model_laws.proofs.only_stored_keys_are_confirmed.Goals as goal
-
-pub returns : goal.returns
-returns c = confirms

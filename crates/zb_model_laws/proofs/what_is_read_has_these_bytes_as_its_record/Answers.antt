@@ -1,6 +1,0 @@
--- Each reading, undone.
-use Rattle.zb_model_laws.proofs.RecordBack.{spelled-back}
-use Rattle.zb_model_laws.proofs.what_is_read_has_these_bytes_as_its_record.Goals as goal
-
-pub returns : goal.returns
-returns c = spelled-back

@@ -1,6 +1,0 @@
--- One lemma a rule.
-use Rattle.zb_model_runs.proofs.Refusing.{app-request-why, confirm-why, request-why, verify-why}
-use Rattle.zb_model_runs.proofs.commands_find_the_rows_that_they_tested.Goals as goal
-
-pub returns : goal.returns
-returns c = record { confirm = confirm-why; request = request-why; app_request = app-request-why; verify = verify-why }

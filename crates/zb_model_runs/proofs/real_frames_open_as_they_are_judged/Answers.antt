@@ -1,6 +1,0 @@
--- By what real frames show.
-use Rattle.zb_model_runs.proofs.Opening.{opens_as_judged}
-use Rattle.zb_model_runs.proofs.real_frames_open_as_they_are_judged.Goals as goal
-
-pub returns : goal.returns
-returns c = opens_as_judged

@@ -1,5 +1,0 @@
-use Rattle.zb_model_schedules.proofs.Holding.{premises}
-use Rattle.zb_model_schedules.proofs.laws.schedules_meet_the_premises.Goals as goal
-
-pub returns : goal.returns
-returns c = premises

@@ -1,4 +1,0 @@
-pub mod Waking
-pub mod Rules
-pub mod Plans
-pub mod Delivered

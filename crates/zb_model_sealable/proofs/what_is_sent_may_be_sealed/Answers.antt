@@ -1,6 +1,0 @@
--- Answers keep that a node with a network key has an active row.
-use Rattle.zb_model_sealable.proofs.Plans.{sealable}
-use Rattle.zb_model_sealable.proofs.what_is_sent_may_be_sealed.Goals as goal
-
-pub returns : goal.returns
-returns c = sealable

@@ -1,2 +1,0 @@
-pub mod Sealable
-pub mod Carried

@@ -1,6 +1,0 @@
--- What opens a NWK frame is a usable row, and so a live one, which is found by its key.
-use Rattle.zb_model_shown.proofs.LiveKeys.{accepts_live}
-use Rattle.zb_model_shown.proofs.accepted_terms_are_under_live_keys.Goals as goal
-
-pub returns : goal.returns
-returns c = accepts_live

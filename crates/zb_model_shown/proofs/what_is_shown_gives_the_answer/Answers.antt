@@ -1,6 +1,0 @@
--- The plan and each counter are the same.
-use Rattle.zb_model_shown.proofs.Answers.{answer_same}
-use Rattle.zb_model_shown.proofs.what_is_shown_gives_the_answer.Goals as goal
-
-pub returns : goal.returns
-returns c = answer_same

@@ -1,9 +1,0 @@
--- Accepted terms are under live keys in every state that lines give.
-use Rattle.zb_model.specs.Readings.{state_of}
-use Rattle.zb_model_shown.proofs.Answers.{answer_same}
-use Rattle.zb_model_shown.proofs.LiveKeys.{accepts_live}
-use Rattle.zb_model_shown.proofs.States.{read_differ}
-use Rattle.zb_model_shown.proofs.what_tables_forget_is_asked_by_none.Goals as goal
-
-pub returns : goal.returns
-returns c = λ tools opens x h n task. answer_same tools x (state_of h n) task (accepts_live tools opens x (state_of h n) (read_differ h n) task)

@@ -1,6 +1,0 @@
--- The lines of the group one after the other, and the cut by whether the commit stands.
-use Rattle.zb_model_steps.proofs.Answered.{calls-are, is-answered, whole-disks}
-use Rattle.zb_model_steps.proofs.an_answer_leads_on.Goals as goal
-
-pub returns : goal.returns
-returns c = record { calls = calls-are; answer = is-answered; disks = whole-disks }

@@ -1,6 +1,0 @@
--- No line of the step is the node's own, and its disk is left.
-use Rattle.zb_model_steps.proofs.Spared.{spared}
-use Rattle.zb_model_steps.proofs.other_nodes_are_spared.Goals as goal
-
-pub returns : goal.returns
-returns c = spared

@@ -1,6 +1,0 @@
--- Read off what each rule changes.
-use Rattle.zb_model_steps.proofs.Centre.{none-of-others}
-use Rattle.zb_model_steps.proofs.others_make_no_change_of_the_centre.Goals as goal
-
-pub returns : goal.returns
-returns c = none-of-others

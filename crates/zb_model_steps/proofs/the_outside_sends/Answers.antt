@@ -1,6 +1,0 @@
--- By what a step of the outside is, with its terms for what they are.
-use Rattle.zb_model_steps.proofs.Others.{injected, net-forged, both-forged, open-forged}
-use Rattle.zb_model_steps.proofs.the_outside_sends.Goals as goal
-
-pub returns : goal.returns
-returns c = record { bytes = injected; net = net-forged; both = both-forged; clear = open-forged }

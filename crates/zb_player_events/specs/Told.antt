@@ -1,0 +1,81 @@
+-- What is told of a run so far, and what an event of a node adds.
+use Rattle.std.specs.Prelude.{◌≡◌, ℕ, zero, suc, ◌+◌, ◌≤◌, ◌<◌, List, ◌++◌, true}
+use Rattle.std.specs.Io.KnownBytes.{append_known}
+use Rattle.zb_base.specs.Outside.{risen}
+use Rattle.zb_disk.specs.Memory.{Medium}
+use Rattle.zb_armed_host.specs.declared.fall.Fall.{Fall}
+use Rattle.zb_armed_host.specs.declared.fall.Fall.TheVariants.{Stopped as stopped, Failed as failed}
+use Rattle.zb_model.specs.Data.{AtEvent, Reason}
+use Rattle.zb_model.specs.Lines.{Line, Stopped, DownDisk}
+use Rattle.zb_model.specs.Play.{Schedule, Disk, Step, setting_of, stations}
+use Rattle.zb_model.specs.Readings.{stations_of}
+use Rattle.zb_model.specs.State.{is_centre}
+use Rattle.law_run_steps.specs.Conditions.{condition_of}
+use Rattle.zb_player_node.specs.Nodes.{IsIn}
+use Rattle.zb_player_node.specs.Values.{NodeValue}
+use Rattle.zb_node_types.specs.Changes.{model_place, place_of, reason}
+use Rattle.zb_node_types.specs.declared.refusal.Refusal.{Refusal}
+use Rattle.zb_player_events.specs.declared.ledger.Ledger.{Ledger}
+use Rattle.zb_trace_model.specs.Naming.{IsCalled}
+use Rattle.zb_trace_model.specs.Said.{IsLineOf, text_of}
+use Rattle.zb_player_scribe.specs.Kept.{Kept, told}
+use Rattle.zb_text.specs.Fields.{is_name}
+use Rattle.zb_trace.specs.declared.line.Line.{Line as Printed}
+use Rattle.zb_trace.specs.Views.{the_centre}
+
+-- how many lines were counted; an event adds at most 24
+abbrev pub lines_told : Ledger → ℕ
+lines_told k = told k.scribe
+
+abbrev pub HasRoom : Ledger → Type 0
+HasRoom k = lines_told k ≤ 4294967000
+
+-- The lines so far declare the nodes of the schedule, and the scribe has of them what a run needs.
+pub record IsTold (w : Schedule) (h : List Line) (k : Ledger) : Type 0 where
+  pub known : stations_of h ≡ stations w
+  pub kept : Kept h k.scribe
+
+-- Further lines were told: their text is behind what stood on the page, where that is read.
+pub record Adds (w : Schedule) (h lines : List Line) (old new : Ledger) : Type 0 where
+  pub page : new.page ≡ append_known old.page (text_of (stations w) lines)
+  pub told : IsTold w (h ++ lines) new
+
+-- a refusal of the event itself, for this reason
+abbrev pub IsRefusedFor : Reason → Refusal → Type 0
+IsRefusedFor why refusal = (model_place (place_of refusal) ≡ AtEvent) × (reason refusal ≡ why)
+
+-- the line of a node on whose call a stop or a failure fell
+abbrev pub fall_line : Fall → ℕ → ℕ → Line
+fall_line stopped event n = Stopped event n
+fall_line failed event n = DownDisk event n
+
+abbrev pub IsFallen : Printed → ℕ → List ℕ → Fall → Type 0
+IsFallen line event name fall =
+    (w : Schedule) (n : ℕ) → IsCalled (stations w) n name → IsLineOf (stations w) line (fall_line fall event n)
+
+-- The node is the schedule's node of this EUI: its name leads there, and the centre is the schedule's centre.
+pub record IsSeated (w : Schedule) (n : ℕ) (node : NodeValue) : Type 0 where
+  pub called : IsCalled (stations w) n node.peer.name.bytes
+  pub spelled : is_name node.peer.name.bytes ≡ true
+  pub centre : is_centre (setting_of w n).me.role ≡ true → the_centre (stations w) ≡ n
+
+-- before an event of the node of this EUI, over its disk
+pub record Before (w : Schedule) (h : List Line) (ds : List Disk) (number n : ℕ) (k : Ledger) (node : NodeValue) (m : Medium) : Type 0 where
+  pub told : IsTold w h k
+  pub is_in : IsIn (condition_of w h ds n) number node m
+  pub seat : IsSeated w n node
+  pub few : number < 4294967296
+
+-- the count of a disk's calls after so many more; it stops at 2^64 - 1
+abbrev pub counted_on : ℕ → ℕ → ℕ
+counted_on count zero = count
+counted_on count (suc more) = risen count (suc more)
+
+-- The disk made so many device calls.
+abbrev pub Calls : ℕ → Medium → Medium → Type 0
+Calls made old new = new.calls ≡ counted_on old.calls made
+
+-- The event's lines were told, and the node is in the condition that they leave.
+pub record Goes (w : Schedule) (g : Step) (h : List Line) (number n : ℕ) (old new : Ledger) (node : NodeValue) (m : Medium) : Type 0 where
+  pub adds : Adds w h g.lines old new
+  pub is_in : IsIn (condition_of w (h ++ g.lines) g.disks n) (number + 1) node m

@@ -1,0 +1,120 @@
+//! What is told of a run: the scribe, and the lines of the event that is being answered.
+ghost use Rattle.std.specs.Prelude.{◌≡◌, ◌≤◌, ◌<◌, ◌+◌, ℕ, List, OnOk, Some, false, map, slice_get, [], ◌∷◌};
+ghost use Rattle.std.specs.Option.{option_map};
+ghost use Rattle.zb_base.specs.declared.key.Key.{Key as key};
+ghost use Rattle.zb_player_events.specs.Acts.{IsFor, act_for};
+ghost use Rattle.zb_player_events.specs.Told.{Adds, Before, Calls, Goes, HasRoom, IsTold, lines_told};
+ghost use Rattle.zb_model.specs.Lines as log;
+ghost use Rattle.zb_model.specs.Play as model;
+ghost use Rattle.zb_model.specs.Play.{Disk, Schedule, setting_of, stations, step};
+ghost use Rattle.zb_model_real.specs.Real.{real};
+ghost use Rattle.zb_player_events.specs.Calls.{event_calls};
+ghost use Rattle.law_run_steps.specs.Conditions.{condition_of};
+ghost use Rattle.zb_node_types.specs.Changes.{model_place, place_of, reason};
+ghost use Rattle.zb_trace_model.specs.Naming.{IsCalled};
+ghost use Rattle.zb_trace_model.specs.Said.{IsLineOf};
+ghost use Rattle.zb_player_scribe.specs.Kept.{declares_node};
+
+use crate::acts::Act;
+use std::alloc::Global;
+use zb_base::{Key, Name, NoMemory};
+use zb_disk::MemDisk;
+use zb_node_types::Refusal;
+use zb_player_node::{Node, NodePlan, Task};
+use zb_player_scribe::{Page, Scribe};
+use zb_trace::Line;
+use zb_trace_model::refuse_line;
+
+/// Keeps what was told, and the lines that aren't handed out yet.
+#[derive(Drop)]
+pub struct Ledger {
+    /// Where memory comes from.
+    pub alloc: Global,
+    /// Tells lines, and keeps what the rest of the run needs of them.
+    pub scribe: Scribe,
+    /// The text of the lines that aren't handed out yet, where it is read.
+    pub page: Page,
+    /// The place of the plan of an event. What stood in it before is gone.
+    pub plan: NodePlan,
+}
+
+impl Ledger {
+    /// Answers the next key of the supply.
+    #[tactic(auto, using(crate::proofs::Adding::drawn))]
+    pub fn draw(&self, draws: &[Key]) -> Option<Key>
+        ensures { option_map (λ (k : key). k.0) result
+            ≡ slice_get (map (λ (k : key). k.0) draws.now) self.now.scribe.used }
+    {
+        draws.get(self.scribe.used()).copied()
+    }
+
+    /// Tells a line that declares no node.
+    ///
+    /// Errors: `NoMemory`.
+    pub fn tell(&mut self, line: &Line) -> Result<(), NoMemory>
+        requires room { lines_told self.old < 4294967295 }
+        ensures few { OnOk result (lines_told self.new ≤ lines_told self.old + 1) }
+        ensures adds { OnOk result ((w : Schedule) (h : List log.Line) (m : log.Line) → IsTold w h self.old
+            → IsLineOf (stations w) line.now m → declares_node m ≡ false → Adds w h (m ∷ []) self.old self.new) }
+    {
+        self.scribe.tell(self.alloc, &mut self.page, line)
+    }
+
+    /// Tells that an event of a node is refused.
+    ///
+    /// Errors: `NoMemory`.
+    pub fn refuse(&mut self, event: u32, node: Name, refusal: Refusal) -> Result<(), NoMemory>
+        requires room { lines_told self.old < 4294967295 }
+        ensures few { OnOk result (lines_told self.new ≤ lines_told self.old + 1) }
+        ensures adds { OnOk result ((w : Schedule) (h : List log.Line) (n : ℕ) → IsTold w h self.old
+            → IsCalled (stations w) n node.bytes
+            → Adds w h (log.Refuse event n (model_place (place_of refusal)) (reason refusal) ∷ []) self.old self.new) }
+    {
+        self.tell(&refuse_line(event, node, refusal))
+    }
+
+    /// Answers an event of a node, over its disk.
+    ///
+    /// Errors: `NoMemory`.
+    pub fn answer_node(
+        &mut self,
+        draws: &[Key],
+        node: &mut Node,
+        disk: &mut MemDisk,
+        number: u32,
+        act: Act,
+    ) -> Result<(), NoMemory>
+        requires room { HasRoom self.old }
+        ensures few { OnOk result (lines_told self.new ≤ lines_told self.old + 24) }
+        ensures seat { node.new.peer ≡ node.old.peer }
+        ensures goes { OnOk result ((w : Schedule) (h : List log.Line) (ds : List Disk) (n : ℕ) (event : model.Event)
+            → Before w h ds number n self.old node.old disk.old → map (λ (k : key). k.0) draws.now ≡ w.draws
+            → act_for n act ≡ Some event → IsFor (setting_of w n).me.role event
+            → Goes w (step real w h ds number event) h number n self.old self.new node.new disk.new) }
+        ensures calls { OnOk result ((w : Schedule) (h : List log.Line) (ds : List Disk) (n : ℕ) (event : model.Event)
+            → Before w h ds number n self.old node.old disk.old → map (λ (k : key). k.0) draws.now ≡ w.draws
+            → act_for n act ≡ Some event → IsFor (setting_of w n).me.role event
+            → Calls (event_calls real w h (condition_of w h ds n) event) disk.old disk.new) }
+    {
+        match act {
+            Act::Own(task) => self.handle(node, disk, number, task),
+            Act::Roll => {
+                let draw = self.draw(draws);
+                self.handle(node, disk, number, Task::Roll { draw })
+            }
+            Act::Deliver(frame) => self.deliver(node, disk, draws, number, frame),
+            Act::Reset => self.reset(node, disk, number),
+            Act::Boot => self.boot(node, disk, number),
+            Act::Dump => self.dump(node, disk, number),
+            Act::Stop { calls, torn } => {
+                node.arm_stop(calls, torn);
+                Ok(())
+            }
+            Act::Fail { call } => {
+                node.arm_fail(call);
+                Ok(())
+            }
+            Act::Outside => Ok(()),
+        }
+    }
+}

@@ -1,0 +1,244 @@
+//! The events of a node.
+ghost use Rattle.std.specs.Prelude.{◌≡◌, ◌≤◌, ◌<◌, ◌+◌, ◌∷◌, [], ℕ, List, None, OnOk, if◌then◌else◌, map, true};
+ghost use Rattle.zb_base.specs.declared.key.Key.{Key as key};
+ghost use Rattle.zb_disk.specs.Memory.{Medium as medium};
+ghost use Rattle.zb_model.specs.Answer.{counting_of};
+ghost use Rattle.zb_model.specs.Data.{Down as model_down, NoFrame as model_no_frame, Received, WrongState as model_wrong_state};
+ghost use Rattle.zb_model.specs.Lines as log;
+ghost use Rattle.zb_model.specs.Play as model;
+ghost use Rattle.zb_model.specs.Play.{Disk, Schedule, deliver_step, frame_at, setting_of, stations, step, supply, task_step};
+ghost use Rattle.zb_model_real.specs.Real.{real};
+ghost use Rattle.zb_player_events.specs.Calls.{event_calls, frame_calls, task_calls};
+ghost use Rattle.law_run_steps.specs.Conditions.{condition_of};
+ghost use Rattle.zb_player_node.specs.Tasks.{model_task, suits};
+ghost use Rattle.zb_player_events.specs.Told.{Adds, Before, Calls, Goes, HasRoom, IsFallen, IsRefusedFor, IsTold, fall_line, lines_told};
+ghost use Rattle.zb_trace_model.specs.Naming.{IsCalled};
+
+use crate::ledger::Ledger;
+use zb_armed_host::Fall;
+use zb_base::{Frame, Key, List, Name, NoMemory, Place};
+use zb_disk::MemDisk;
+use zb_node_types::Refusal;
+use zb_player_node::{Handled, Node, Task};
+use zb_trace::Line;
+use zb_trace_model::{boot_line, disk_line, dump_line, reset_line, stopped_line};
+
+// Makes the line of a node on whose call a stop or a failure fell.
+fn fallen_line(event: u32, node: Name, fall: Fall) -> Line
+    ensures { IsFallen result event node.bytes fall }
+{
+    match fall {
+        Fall::Stopped => stopped_line(event, node),
+        Fall::Failed => disk_line(event, node),
+    }
+}
+
+impl Ledger {
+    /// Answers an event of a node's own, over its disk.
+    ///
+    /// Errors: `NoMemory`.
+    pub fn handle(
+        &mut self,
+        node: &mut Node,
+        disk: &mut MemDisk,
+        event: u32,
+        task: Task,
+    ) -> Result<(), NoMemory>
+        requires room { HasRoom self.old }
+        ensures few { OnOk result (lines_told self.new ≤ lines_told self.old + 24) }
+        ensures goes { OnOk result ((w : Schedule) (h : List log.Line) (ds : List Disk) (n : ℕ)
+            → Before w h ds event n self.old node.old disk.old
+            → suits (setting_of w n).me.role (model_task task) ≡ true
+            → Goes w (task_step real counting_of w h ds event n (model_task task)) h event n
+            self.old self.new node.new disk.new) }
+        ensures calls { OnOk result ((w : Schedule) (h : List log.Line) (ds : List Disk) (n : ℕ)
+            → Before w h ds event n self.old node.old disk.old
+            → suits (setting_of w n).me.role (model_task task) ≡ true
+            → Calls (task_calls real (condition_of w h ds n) (model_task task)) disk.old disk.new) }
+        ensures seat { node.new.peer ≡ node.old.peer }
+    {
+        let name = node.name();
+        if !node.is_up() {
+            return self.refuse(event, name, down());
+        }
+        match node.handle(disk, task, &mut self.plan) {
+            Some(Handled::Whole) => {
+                self.scribe.stored(self.alloc, &mut self.page, event, name, &self.plan.changes)?;
+                self.scribe
+                    .answered(self.alloc, &mut self.page, event, name, &self.plan.out)
+            }
+            Some(Handled::Cut { fall }) => {
+                let stored = &self.plan.changes;
+                self.scribe
+                    .stored(self.alloc, &mut self.page, event, name, stored)?;
+                self.fallen(event, name, fall)
+            }
+            None => self.refuse(event, name, down()),
+        }
+    }
+
+    // Tells that a stop or a failure fell on a call of a node.
+    fn fallen(&mut self, event: u32, node: Name, fall: Fall) -> Result<(), NoMemory>
+        requires room { lines_told self.old < 4294967295 }
+        ensures few { OnOk result (lines_told self.new ≤ lines_told self.old + 1) }
+        ensures adds { OnOk result ((w : Schedule) (h : List log.Line) (n : ℕ) → IsTold w h self.old
+            → IsCalled (stations w) n node.bytes → Adds w h (fall_line fall event n ∷ []) self.old self.new) }
+    {
+        self.tell(&fallen_line(event, node, fall))
+    }
+
+    /// Answers the arrival of a frame at a node. The frame is named by its number.
+    ///
+    /// Errors: `NoMemory`.
+    pub fn deliver(
+        &mut self,
+        node: &mut Node,
+        disk: &mut MemDisk,
+        draws: &[Key],
+        event: u32,
+        frame: u32,
+    ) -> Result<(), NoMemory>
+        requires room { HasRoom self.old }
+        ensures few { OnOk result (lines_told self.new ≤ lines_told self.old + 24) }
+        ensures goes { OnOk result ((w : Schedule) (h : List log.Line) (ds : List Disk) (n : ℕ)
+            → Before w h ds event n self.old node.old disk.old → map (λ (k : key). k.0) draws.now ≡ w.draws
+            → Goes w (deliver_step real counting_of w h ds event n (frame_at h frame)) h event n
+            self.old self.new node.new disk.new) }
+        ensures calls { OnOk result ((w : Schedule) (h : List log.Line) (ds : List Disk) (n : ℕ)
+            → Before w h ds event n self.old node.old disk.old → map (λ (k : key). k.0) draws.now ≡ w.draws
+            → Calls (frame_calls real (condition_of w h ds n) (supply w h) (frame_at h frame)) disk.old disk.new) }
+        ensures seat { node.new.peer ≡ node.old.peer }
+    {
+        match self.scribe.frame(frame) {
+            Some(bytes) => self.receive(node, disk, draws, event, bytes),
+            None => self.miss(node, event),
+        }
+    }
+
+    // The bytes of a frame reach a node.
+    fn receive(
+        &mut self,
+        node: &mut Node,
+        disk: &mut MemDisk,
+        draws: &[Key],
+        event: u32,
+        bytes: Frame,
+    ) -> Result<(), NoMemory>
+        requires room { HasRoom self.old }
+        ensures few { OnOk result (lines_told self.new ≤ lines_told self.old + 24) }
+        ensures seat { node.new.peer ≡ node.old.peer }
+        ensures goes { OnOk result ((w : Schedule) (h : List log.Line) (ds : List Disk) (n : ℕ)
+            → Before w h ds event n self.old node.old disk.old → map (λ (k : key). k.0) draws.now ≡ w.draws
+            → Goes w (task_step real counting_of w h ds event n (Received bytes.items (supply w h))) h event n
+            self.old self.new node.new disk.new) }
+        ensures calls { OnOk result ((w : Schedule) (h : List log.Line) (ds : List Disk) (n : ℕ)
+            → Before w h ds event n self.old node.old disk.old → map (λ (k : key). k.0) draws.now ≡ w.draws
+            → Calls (task_calls real (condition_of w h ds n) (Received bytes.items (supply w h)))
+            disk.old disk.new) }
+    {
+        let draw = self.draw(draws);
+        self.handle(node, disk, event, Task::Deliver { bytes, draw })
+    }
+
+    // No frame of that number went on the air.
+    fn miss(&mut self, node: &mut Node, event: u32) -> Result<(), NoMemory>
+        requires room { HasRoom self.old }
+        ensures few { OnOk result (lines_told self.new ≤ lines_told self.old + 24) }
+        ensures node { node.new ≡ node.old }
+        ensures goes { OnOk result ((w : Schedule) (h : List log.Line) (ds : List Disk) (n : ℕ) (m : medium)
+            → Before w h ds event n self.old node.old m
+            → Goes w (deliver_step real counting_of w h ds event n None) h event n self.old self.new node.new m) }
+    {
+        let refusal = missed(node.is_up());
+        self.refuse(event, node.name(), refusal)
+    }
+
+    /// Answers the loss of a node's power.
+    ///
+    /// Errors: `NoMemory`.
+    pub fn reset(&mut self, node: &mut Node, disk: &mut MemDisk, event: u32) -> Result<(), NoMemory>
+        requires room { HasRoom self.old }
+        ensures few { OnOk result (lines_told self.new ≤ lines_told self.old + 24) }
+        ensures seat { node.new.peer ≡ node.old.peer }
+        ensures goes { OnOk result ((w : Schedule) (h : List log.Line) (ds : List Disk) (n : ℕ)
+            → Before w h ds event n self.old node.old disk.old
+            → Goes w (step real w h ds event (model.Reset n)) h event n self.old self.new node.new disk.new) }
+        ensures calls { OnOk result (Calls 0 disk.old disk.new) }
+    {
+        let name = node.name();
+        if !node.is_up() {
+            return self.refuse(event, name, down());
+        }
+        node.reset(disk);
+        self.tell(&reset_line(event, name))
+    }
+
+    /// Answers that a node gets power.
+    ///
+    /// Errors: `NoMemory`.
+    pub fn boot(&mut self, node: &mut Node, disk: &mut MemDisk, event: u32) -> Result<(), NoMemory>
+        requires room { HasRoom self.old }
+        ensures few { OnOk result (lines_told self.new ≤ lines_told self.old + 24) }
+        ensures seat { node.new.peer ≡ node.old.peer }
+        ensures goes { OnOk result ((w : Schedule) (h : List log.Line) (ds : List Disk) (n : ℕ)
+            → Before w h ds event n self.old node.old disk.old
+            → Goes w (step real w h ds event (model.PowerOn n)) h event n self.old self.new node.new disk.new) }
+        ensures calls { OnOk result ((w : Schedule) (h : List log.Line) (ds : List Disk) (n : ℕ)
+            → Before w h ds event n self.old node.old disk.old
+            → Calls (event_calls real w h (condition_of w h ds n) (model.PowerOn n)) disk.old disk.new) }
+    {
+        let name = node.name();
+        if node.is_up() {
+            return self.refuse(event, name, wrong_state());
+        }
+        match node.boot(self.alloc, disk)? {
+            None => self.tell(&boot_line(event, name)),
+            Some(fall) => self.tell(&fallen_line(event, name, fall)),
+        }
+    }
+
+    /// Shows the record that a node's disk stands for.
+    ///
+    /// Errors: `NoMemory`.
+    pub fn dump(&mut self, node: &Node, disk: &mut MemDisk, event: u32) -> Result<(), NoMemory>
+        requires room { HasRoom self.old }
+        ensures few { OnOk result (lines_told self.new ≤ lines_told self.old + 24) }
+        ensures goes { OnOk result ((w : Schedule) (h : List log.Line) (ds : List Disk) (n : ℕ)
+            → Before w h ds event n self.old node.now disk.old
+            → Goes w (step real w h ds event (model.ShowRecord n)) h event n self.old self.new node.now disk.new) }
+        ensures calls { OnOk result (Calls 0 disk.old disk.new) }
+    {
+        let record = node.dump(self.alloc, disk)?;
+        self.tell(&dump_line(event, node.name(), List::from_vec(record)))
+    }
+}
+
+// The refusals before a node is asked.
+
+fn down() -> Refusal
+    ensures { IsRefusedFor model_down result }
+{
+    Refusal::Down {
+        place: Place::Event,
+    }
+}
+
+fn missed(is_up: bool) -> Refusal
+    ensures { IsRefusedFor (if is_up then model_no_frame else model_down) result }
+{
+    if is_up {
+        Refusal::NoFrame {
+            place: Place::Event,
+        }
+    } else {
+        down()
+    }
+}
+
+fn wrong_state() -> Refusal
+    ensures { IsRefusedFor model_wrong_state result }
+{
+    Refusal::WrongState {
+        place: Place::Event,
+    }
+}

@@ -1,0 +1,17 @@
+use Rattle.std.proofs.Common.{ℕ, List, sym, ◌∙◌, subst}
+use Rattle.zb_armed_host.specs.Driven.{IsShown}
+use Rattle.zb_host.specs.Hosts.{Gives}
+use Rattle.zb_player_node.proofs.Conditions.{was_dumped}
+use Rattle.zb_player_node.proofs.Machines.{room_is}
+use Rattle.zb_player_node.specs.Values.{NodeValue}
+use Rattle.zb_node_types.specs.Changes.{model_role}
+use Rattle.zb_stored_tables.specs.Stored.{restored}
+use Rattle.zb_player_node.proofs.node.Node.dump.Goals as goal
+
+pub returns-clause-record_is : goal.returns-clause-record_is
+returns-clause-record_is c =
+    let room = c.dump.new.room in
+    let same = room_is c.resize.new.self.len room c.resize.new.self.items (c.dump.auto.room ∙ c.deref_mut.ensures.len) in
+    was_dumped c.args.self.now c.args.disk.now c.dump.new.disk c.keep_shown.new.room.items c.in_ok-len.ensures.still
+    (λ s w whole quiet given. c.keep_shown.ensures w (subst (λ (l : List ℕ). IsShown c.in_ok-len.len l w) (sym same)
+    (c.in_ok-len.ensures.shown s w whole quiet (subst (λ (n : NodeValue). Gives (restored (model_role n.peer.role)) s w) (sym c.self.view_is) given))))

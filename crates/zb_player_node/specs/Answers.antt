@@ -1,0 +1,142 @@
+-- What a node's calls leave, in the model's words.
+use Rattle.std.specs.Prelude.{ℕ, ◌≡◌, ◌+◌, ◌<◌, ◌^◌, Bool, true, false, if◌then◌else◌, List, [], Option, Some, None, Result, Ok, Err, is_some, ⊤}
+use Rattle.std.specs.List.{concat}
+use Rattle.arrayvec.specs.declared.array_vec.ArrayVec.{ArrayVec}
+use Rattle.zb_base.specs.Outside.{risen}
+use Rattle.zb_base.specs.declared.fault.OrMemory.{OrMemory}
+use Rattle.zb_base.specs.declared.fault.OrMemory.TheVariants.{Fault, NoMemory}
+use Rattle.zb_base.specs.declared.node.Config.{Config}
+use Rattle.zb_core.specs.CorePlans.{CorePlan, IsCoreAfter}
+use Rattle.zb_disk.specs.Memory.{Medium, memory_view}
+use Rattle.zb_armed_host.specs.Arms.{IsUnarmed, calls_after, fallen_calls}
+use Rattle.zb_armed_host.specs.Driven.{IsUp, WasHandled, HasFallen, IsDown, WasBooted, HasFallenAtBoot, fall_of}
+use Rattle.zb_armed_host.specs.declared.fall.Fall.{Fall}
+use Rattle.zb_host.specs.Hosts.{Hosted}
+use Rattle.zb_model.specs.Answer.{Answer, answer}
+use Rattle.zb_model.specs.Data.{Role}
+use Rattle.zb_model.specs.Data as model
+use Rattle.zb_model.specs.Play.{Armed, NotArmed, StopAfter, FailAt, BootCalls, falls, stands, new_disk}
+use Rattle.zb_model.specs.Rules.{Setting}
+use Rattle.zb_model.specs.State.{NodeState, after_boot, shown}
+use Rattle.zb_model_real.specs.Real.{real}
+use Rattle.law_run_steps.specs.Conditions.{Condition, calls_by, after_whole, after_cut, after_power_on, after_cut_boot}
+use Rattle.zb_setting.specs.Settings.{setting_for}
+use Rattle.zb_player_node.specs.Nodes.{IsIn, IsStored, words_for}
+use Rattle.zb_player_node.specs.Tasks.{suits}
+use Rattle.zb_player_node.specs.Values.{NodeValue, Running, running}
+use Rattle.zb_player_node.specs.declared.machine.Machine.{Machine}
+use Rattle.zb_player_node.specs.declared.node.Handled.{Handled}
+use Rattle.zb_player_node.specs.declared.node.Handled.TheVariants.{Whole, Cut}
+use Rattle.zb_node_types.specs.Changes.{edits}
+use Rattle.zb_node_types.specs.declared.change.Change.{Change}
+use Rattle.zb_plan.specs.Answers.{IsAnswer}
+use Rattle.zb_store.specs.Layout.{Standing}
+use Rattle.zb_store.specs.Power.{stop_commits, failure_commits}
+use Rattle.zb_store.specs.Store.{IsHeld}
+use Rattle.zb_stored_tables.specs.Cores.{CoreValue, IsBooted}
+use Rattle.zb_stored_tables.specs.Stored.{IsStorable}
+
+-- ---- of a node
+
+-- A task that a node in this condition may have: it is of its role, and its answer asks for nothing that tables forget.
+pub record CanHave (x : Condition) (number : ℕ) (task : model.Task) : Type 0 where
+  pub early : number < 2 ^ 32
+  pub suits : suits x.setting.me.role task ≡ true
+  pub shown : answer real x.setting (shown x.state) task ≡ answer real x.setting x.state task
+
+-- An event was handled: nothing falls on it, it gave this answer, the node is in the condition after it, and so many device
+-- calls were made.
+pub record WasAnswered (a : Answer) (x : Condition) (number : ℕ) (p : CorePlan) (old : Medium) (node : NodeValue) (m : Medium) : Type 0 where
+  pub missed : falls x.disk.armed (calls_by x.commits a.edits) ≡ false
+  pub answer_is : IsAnswer p a
+  pub leaves : IsIn (after_whole a x) (number + 1) node m
+  pub calls : m.calls ≡ calls_after old.calls (calls_by x.commits a.edits)
+
+-- An event was cut: what was armed falls on its commit, its changes are stored where the model says that they stand, and the
+-- device calls up to the refused one were made.
+pub record WasCut (a : Answer) (x : Condition) (number : ℕ) (stored : List Change) (fall : Fall) (old : Medium) (node : NodeValue) (m : Medium) : Type 0 where
+  pub fell : falls x.disk.armed (calls_by x.commits a.edits) ≡ true
+  pub stored_are : edits stored ≡ (if stands x.disk.armed (calls_by x.commits a.edits) then a.edits else [])
+  pub fall_is : fall ≡ fall_of x.disk.armed
+  pub leaves : IsIn (after_cut a x) (number + 1) node m
+  pub calls : m.calls ≡ risen old.calls (fallen_calls x.disk.armed)
+
+-- What became of an event of a node, by what is told of it: nothing where it is down.
+abbrev pub HasHandled : model.Task → NodeValue → Medium → Option Handled → CorePlan → NodeValue → Medium → Type 0
+HasHandled task old m None p new m' = (old.machine ≡ None) × (new ≡ old) × (m' ≡ m)
+HasHandled task old m (Some Whole) p new m' = (x : Condition) (number : ℕ) → IsIn x number old m → CanHave x number task
+    → WasAnswered (answer real x.setting x.state task) x number p m new m'
+HasHandled task old m (Some (Cut fall)) p new m' = (x : Condition) (number : ℕ) → IsIn x number old m → CanHave x number task
+    → WasCut (answer real x.setting x.state task) x number p.changes.items fall m new m'
+
+-- A node was booted: nothing falls on its boot, and it is up.
+pub record IsUpAgain (x : Condition) (number : ℕ) (old : Medium) (node : NodeValue) (m : Medium) : Type 0 where
+  pub missed : falls x.disk.armed (BootCalls x.disk.both_open) ≡ false
+  pub leaves : IsIn (after_power_on x) (number + 1) node m
+  pub calls : m.calls ≡ calls_after old.calls (BootCalls x.disk.both_open)
+
+-- Its boot was cut: it is still down.
+pub record IsStillDown (x : Condition) (number : ℕ) (fall : Fall) (old : Medium) (node : NodeValue) (m : Medium) : Type 0 where
+  pub fell : falls x.disk.armed (BootCalls x.disk.both_open) ≡ true
+  pub fall_is : fall ≡ fall_of x.disk.armed
+  pub leaves : IsIn (after_cut_boot x) (number + 1) node m
+  pub calls : m.calls ≡ risen old.calls (fallen_calls x.disk.armed)
+
+-- what became of the boot of a node that was down
+abbrev pub HasBooted : NodeValue → Medium → Option Fall → NodeValue → Medium → Type 0
+HasBooted old m None new m' = (x : Condition) (number : ℕ) → IsIn x number old m → x.up ≡ false → IsUpAgain x number m new m'
+HasBooted old m (Some fall) new m' = (x : Condition) (number : ℕ) → IsIn x number old m → x.up ≡ false → IsStillDown x number fall m new m'
+
+-- the condition of a node at the start: it is up, and made no commit
+abbrev pub start_condition : Setting → NodeState → Condition
+start_condition setting state = record { setting = setting; state = state; commits = 0; up = true; disk = new_disk }
+
+-- a node at the start: it is in that condition before the first event, and its boot made one device call
+pub record IsStarted (setting : Setting) (state : NodeState) (old : Medium) (node : NodeValue) (m : Medium) : Type 0 where
+  pub is : IsIn (start_condition setting state) 1 node m
+  pub calls : m.calls ≡ risen old.calls 1
+
+-- A state at the start, over a disk that holds its record: a boot leaves that state as it is.
+pub record CanStart (setting : Setting) (state : NodeState) (s : Standing) (config : Config) (m : Medium) : Type 0 where
+  pub setting_is : setting_for config ≡ setting
+  pub stored : IsStored setting.me.role state 0 0 s
+  pub booted : after_boot (shown state) ≡ shown state
+  pub held : IsHeld s (memory_view m)
+  pub unarmed : IsUnarmed m
+
+-- ---- of a host
+
+-- A plan of a host's core for a task: it is the policy's answer to the task, its changes can be stored, and the core is the one
+-- after it.
+pub record IsPlanFor (role : Role) (task : model.Task) (before : CoreValue) (p : CorePlan) (after : CoreValue) : Type 0 where
+  pub answer_is : IsAnswer p (answer real before.setting before.tables task)
+  pub storable : IsStorable role before.tables p.changes.items
+  pub after_is : IsCoreAfter before p after
+
+abbrev pub Changes : Type 0
+Changes = ArrayVec Change 16 (Unit {0})
+
+-- What an event of a host gave: its plan, and what is left of the host and its disk.
+abbrev pub HasGiven : Role → model.Task → Armed → Hosted CoreValue → Medium → CorePlan → Result (Unit {0}) Fall → Hosted CoreValue → Medium → Type 0
+HasGiven role task a before old p (Ok u) after new = IsPlanFor role task before.core p after.core
+    × ((s : Standing) → IsUp (words_for role) s a before old → WasHandled (words_for role) s a before old p.changes.items after new)
+HasGiven role task a before old p (Err fall) after new = IsPlanFor role task before.core p after.core
+    × ((s : Standing) → IsUp (words_for role) s a before old → HasFallen (words_for role) s a before old p.changes.items fall after new)
+
+-- what a boot made: a host with the core of what stands, or nothing
+abbrev pub HasMade : Role → Config → Armed → Medium → Result Running (OrMemory Fall) → Medium → Type 0
+HasMade role config a old (Ok r) new = (r.role ≡ role) × (is_some r.host.store ≡ true) × ((s : Standing) (w : List ℕ) → IsDown (words_for role) s w a old
+    → IsBooted role config s.content (concat s.payloads) r.host.core × WasBooted (words_for role) s w a old r.host new)
+HasMade role config a old (Err (Fault fall)) new = (s : Standing) (w : List ℕ) → IsDown (words_for role) s w a old → HasFallenAtBoot s a old fall new
+HasMade role config a old (Err NoMemory) new = ⊤
+
+-- the host that a boot made, of whichever role
+abbrev pub made : Result Machine (OrMemory Fall) → Result Running (OrMemory Fall)
+made (Ok machine) = Ok (running machine)
+made (Err fault) = Err fault
+
+-- Whether a commit stands on which what is armed fell.
+abbrev pub arms_stand : Armed → Bool
+arms_stand NotArmed = false
+arms_stand (StopAfter calls torn) = stop_commits calls torn
+arms_stand (FailAt call) = failure_commits call

@@ -1,0 +1,73 @@
+-- A node and its disk in a condition of the model: what its disk stands for, what its host has, and what is armed.
+use Rattle.std.specs.Prelude.{ℕ, ◌≡◌, ◌≢◌, ◌≤◌, ◌+◌, ◌%◌, Bool, true, false, List, [], ◌∷◌, length, get_or, Option, Some, None, Ok, ⊤}
+use Rattle.std.specs.List.{concat}
+use Rattle.zb_disk.specs.Memory.{Medium, memory_view}
+use Rattle.zb_armed_host.specs.Arms.{armed_of, IsArming, IsUnarmed}
+use Rattle.zb_armed_host.specs.Driven.{IsAtRest, memory_words}
+use Rattle.zb_host.specs.Calls.{Words}
+use Rattle.zb_host.specs.Hosts.{Gives, IsCurrent}
+use Rattle.zb_model.specs.Data.{Role, Station}
+use Rattle.zb_model.specs.Lines.{Line}
+use Rattle.zb_model.specs.Play.{Schedule, Disk}
+use Rattle.zb_model.specs.Record.{payload, record_of}
+use Rattle.zb_model.specs.State.{NodeState, after_boot, shown}
+use Rattle.law_run_steps.specs.Conditions.{Condition, condition_of}
+use Rattle.zb_setting.specs.Settings.{setting_for}
+use Rattle.zb_player_node.specs.Values.{NodeValue, Running}
+use Rattle.zb_node_types.specs.Changes.{edits, model_role}
+use Rattle.zb_store.specs.Layout.{Standing}
+use Rattle.zb_store.specs.Store.{both_gates_open}
+use Rattle.zb_stored_tables.specs.Cores.{CoreValue}
+use Rattle.zb_stored_tables.specs.Stored.{restored, state_given}
+
+-- What stands for the state of a node of this role: a boot reads it as what is shown of that state, there is an entry for
+-- each commit since the last whole record, and no generation is without an event before the one of this number.
+pub record IsStored (role : Role) (t : NodeState) (commits number : ℕ) (s : Standing) : Type 0 where
+  pub reads : state_given role s.content (concat s.payloads) ≡ Ok (after_boot (shown t))
+  pub gives_it : Gives (restored role) s (record_of t)
+  pub newest : get_or s.content 0 0 ≢ 1
+  pub entries : length s.payloads ≡ commits % 33
+  pub generation : s.generation ≤ number + 1
+
+-- what the laws on calls have of a core of this role
+abbrev pub words_for : Role → Words CoreValue Medium
+words_for role = memory_words (restored role) (λ (c : CoreValue). record_of c.tables) (λ changes. payload (edits changes))
+
+-- A node that is up: its host has the setting and what is shown of the state, and every image of the disk stands for them. The
+-- next commit is an entry, unless no entry more fits.
+pub record IsRunning (x : Condition) (s : Standing) (r : Running) (m : Medium) : Type 0 where
+  pub role : r.role ≡ x.setting.me.role
+  pub core : r.host.core ≡ record { setting = x.setting; tables = shown x.state }
+  pub entry_next : r.host.whole ≡ false
+  pub current : IsCurrent (restored x.setting.me.role) (λ (c : CoreValue). record_of c.tables) s r.host (memory_view m)
+
+-- A node has a host while it has power; while it has none its disk is at rest.
+abbrev pub IsPowered : Bool → Condition → Standing → Option Running → Medium → Type 0
+IsPowered true x s (Some r) m = IsRunning x s r m
+IsPowered true x s None m = ⊥
+IsPowered false x s (Some r) m = ⊥
+IsPowered false x s None m = IsAtRest s m
+
+-- The node is in this condition over this disk, before the event of this number.
+pub record IsIn (x : Condition) (number : ℕ) (node : NodeValue) (m : Medium) : Type 0 where
+  pub standing : Standing
+  pub stored : IsStored x.setting.me.role x.state x.commits number standing
+  pub powered : IsPowered x.up x standing node.machine m
+  pub unarmed : IsUnarmed m
+  pub gates : both_gates_open m.bytes ≡ x.disk.both_open
+  pub armed : armed_of node.arms ≡ x.disk.armed
+  pub arming : IsArming x.disk.armed
+  pub setting : setting_for node.config ≡ x.setting
+  pub role : model_role node.peer.role ≡ x.setting.me.role
+
+-- the node is the declared one: its name, its address and its role
+pub record IsSeat (p : Station) (node : NodeValue) : Type 0 where
+  pub name : node.peer.name.bytes ≡ p.name
+  pub eui : node.peer.eui.0 ≡ p.eui
+  pub role : model_role node.peer.role ≡ p.role
+
+-- Nodes and disks, place by place, are as the model says after these lines.
+abbrev pub AllStand : Schedule → List Line → List Disk → ℕ → List Station → List NodeValue → List Medium → Type 0
+AllStand w h ds number [] [] [] = ⊤
+AllStand w h ds number (p ∷ ps) (node ∷ nodes) (m ∷ ms) = IsSeat p node × IsIn (condition_of w h ds p.eui) number node m × AllStand w h ds number ps nodes ms
+AllStand w h ds number _ _ _ = ⊥

@@ -1,0 +1,201 @@
+//! The host of a node, of whichever role it is.
+ghost use Rattle.std.specs.Prelude.{◌≡◌, ◌≤◌, ℕ, List, true, is_some, length, option_map, IfOk, IsTrue, OnOk};
+ghost use Rattle.zb_base.specs.Config.{IsConfig};
+ghost use Rattle.zb_disk.specs.View.{IsStill};
+ghost use Rattle.zb_disk.specs.Memory.{memory_view};
+ghost use Rattle.zb_armed_host.specs.Arms.{IsUnarmed, armed_of};
+ghost use Rattle.zb_armed_host.specs.Driven.{IsShown};
+ghost use Rattle.zb_host.specs.Hosts.{Gives};
+ghost use Rattle.zb_model.specs.Data as model;
+ghost use Rattle.zb_player_node.specs.Answers.{HasGiven, HasMade, made};
+ghost use Rattle.zb_player_node.specs.Tasks.{model_task, suits};
+ghost use Rattle.zb_player_node.specs.Values.{running};
+ghost use Rattle.zb_node_types.specs.Changes.{model_role};
+ghost use Rattle.zb_store.specs.Layout.{IsWhole, Standing};
+ghost use Rattle.zb_store.specs.Sizes.{record_room};
+ghost use Rattle.zb_stored_tables.specs.Cores.{IsOfRole};
+ghost use Rattle.zb_stored_tables.specs.Stored.{restored};
+
+use crate::roles::{centre_event, device_event, router_event};
+use crate::task::Task;
+use std::alloc::Global;
+use zb_armed_host::{Arms, Fall, boot_armed, dump, run};
+use zb_base::{Config, NoMemory, OrMemory, Place, Role};
+use zb_centre::Centre;
+use zb_disk::MemDisk;
+use zb_host::{Host, Outcome, Plan};
+use zb_node_types::Refusal;
+use zb_router::{Device, Router};
+use zb_seal::Term;
+
+/// Is the host of a node of any role.
+#[derive(Drop)]
+pub enum Machine {
+    /// That of the centre.
+    Centre(Host<Centre>),
+    /// That of a router.
+    Router(Host<Router>),
+    /// That of a device.
+    Device(Host<Device>),
+}
+
+/// What an event of a node gives: its changes, and what goes out once they are stored.
+pub type NodePlan = Plan<Outcome<Term, Refusal>>;
+
+// Refuses an event that the role of a node doesn't have.
+fn refuse(plan: &mut NodePlan) {
+    plan.changes.clear();
+    plan.out = Outcome::nothing();
+    plan.out.refused = Some(Refusal::Policy {
+        place: Place::Event,
+    });
+}
+
+// Handles an event of the centre.
+fn handle_centre(
+    host: &mut Host<Centre>,
+    disk: &mut MemDisk,
+    arms: &Arms,
+    task: Task,
+    plan: &mut NodePlan,
+) -> Result<(), Fall>
+    requires up { IsTrue (is_some host.old.store) }
+    ensures given { suits model.Centre (model_task task) ≡ true → HasGiven model.Centre (model_task task)
+        (armed_of arms.now) host.old disk.old plan.new result host.new disk.new }
+    ensures up { OnOk result (IsTrue (is_some host.new.store)) }
+{
+    match centre_event(task) {
+        Some(event) => run(host, disk, arms, &event, plan),
+        None => {
+            refuse(plan);
+            Ok(())
+        }
+    }
+}
+
+// Handles an event of a router.
+fn handle_router(
+    host: &mut Host<Router>,
+    disk: &mut MemDisk,
+    arms: &Arms,
+    task: Task,
+    plan: &mut NodePlan,
+) -> Result<(), Fall>
+    requires up { IsTrue (is_some host.old.store) }
+    ensures given { suits model.Router (model_task task) ≡ true → HasGiven model.Router (model_task task)
+        (armed_of arms.now) host.old disk.old plan.new result host.new disk.new }
+    ensures up { OnOk result (IsTrue (is_some host.new.store)) }
+{
+    match router_event(task) {
+        Some(event) => run(host, disk, arms, &event, plan),
+        None => {
+            refuse(plan);
+            Ok(())
+        }
+    }
+}
+
+// Handles an event of a device.
+fn handle_device(
+    host: &mut Host<Device>,
+    disk: &mut MemDisk,
+    arms: &Arms,
+    task: Task,
+    plan: &mut NodePlan,
+) -> Result<(), Fall>
+    requires up { IsTrue (is_some host.old.store) }
+    ensures given { suits model.Device (model_task task) ≡ true → HasGiven model.Device (model_task task)
+        (armed_of arms.now) host.old disk.old plan.new result host.new disk.new }
+    ensures up { OnOk result (IsTrue (is_some host.new.store)) }
+{
+    match device_event(task) {
+        Some(event) => run(host, disk, arms, &event, plan),
+        None => {
+            refuse(plan);
+            Ok(())
+        }
+    }
+}
+
+impl Machine {
+    /// Boots a node of that role from its disk, with what is armed on that.
+    ///
+    /// Requires a configuration of a node of that role.
+    ///
+    /// Errors: how the boot ended; want of memory.
+    pub(crate) fn boot(
+        alloc: Global,
+        role: Role,
+        config: &Config,
+        disk: &mut MemDisk,
+        arms: &Arms,
+    ) -> Result<Machine, OrMemory<Fall>>
+        requires config { IsConfig config.now }
+        requires role { IsOfRole (model_role role) config.now }
+        ensures { HasMade (model_role role) config.now (armed_of arms.now) disk.old (made result) disk.new }
+    {
+        match role {
+            Role::Centre => {
+                let host = boot_armed(alloc, config, disk, arms)?;
+                Ok(Machine::Centre(host))
+            }
+            Role::Router => {
+                let host = boot_armed(alloc, config, disk, arms)?;
+                Ok(Machine::Router(host))
+            }
+            Role::Device => {
+                let host = boot_armed(alloc, config, disk, arms)?;
+                Ok(Machine::Device(host))
+            }
+        }
+    }
+
+    /// Handles an event of a node that is up, over its disk, with what is armed on that.
+    pub(crate) fn handle(
+        &mut self,
+        disk: &mut MemDisk,
+        arms: &Arms,
+        task: Task,
+        plan: &mut NodePlan,
+    ) -> Result<(), Fall>
+        requires up { IsTrue (is_some (running self.old).host.store) }
+        ensures given { suits (running self.old).role (model_task task) ≡ true
+            → HasGiven (running self.old).role (model_task task) (armed_of arms.now)
+            (running self.old).host disk.old plan.new result (running self.new).host disk.new }
+        ensures role { (running self.new).role ≡ (running self.old).role }
+        ensures up { OnOk result (IsTrue (is_some (running self.new).host.store)) }
+    {
+        match self {
+            Machine::Centre(host) => handle_centre(host, disk, arms, task, plan),
+            Machine::Router(host) => handle_router(host, disk, arms, task, plan),
+            Machine::Device(host) => handle_device(host, disk, arms, task, plan),
+        }
+    }
+
+    /// Writes the record that the disk of a node of that role stands for, and answers its length.
+    ///
+    /// It answers None where the disk fails or stands for no record of such a node. Requires a configuration of a node
+    /// of that role, and room for a record.
+    ///
+    /// Errors: `NoMemory`.
+    pub(crate) fn dump(
+        alloc: Global,
+        role: Role,
+        config: &Config,
+        disk: &mut MemDisk,
+        room: &mut [u8],
+    ) -> Result<Option<u32>, NoMemory>
+        requires config { IsConfig config.now }
+        requires role { IsOfRole (model_role role) config.now }
+        requires room { record_room ≤ length room.old }
+        ensures still { IsStill (memory_view disk.old) (memory_view disk.new) }
+        ensures shown { IfOk result (λ r. (s : Standing) (w : List ℕ) → IsWhole s disk.old.bytes
+            → IsUnarmed disk.old → Gives (restored (model_role role)) s w → IsShown r room.new w) }
+    {
+        match role {
+            Role::Centre => dump::<Centre>(alloc, config, disk, room),
+            Role::Router => dump::<Router>(alloc, config, disk, room),
+            Role::Device => dump::<Device>(alloc, config, disk, room),
+        }
+    }
+}

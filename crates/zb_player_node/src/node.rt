@@ -1,0 +1,274 @@
+//! A node.
+ghost use Rattle.std.specs.Prelude.{◌≡◌, ◌+◌, ◌≤◌, ℕ, List, [], true, None, if◌then◌else◌, is_some, IfOk};
+ghost use Rattle.zb_base.specs.Config.{IsConfig};
+ghost use Rattle.zb_disk.specs.Memory.{Medium};
+ghost use Rattle.zb_armed_host.specs.Arms.{armed_of};
+ghost use Rattle.zb_armed_host.specs.Driven.{IsShown};
+ghost use Rattle.zb_model.specs.Play.{FailAt, StopAfter};
+ghost use Rattle.zb_model.specs.Record.{record_of};
+ghost use Rattle.zb_model.specs.Rules.{Setting};
+ghost use Rattle.zb_model.specs.State.{NodeState};
+ghost use Rattle.law_run_steps.specs.Conditions.{Condition, after_arming, after_reset};
+ghost use Rattle.zb_player_node.specs.Answers.{CanStart, HasBooted, HasHandled, IsStarted, arms_stand};
+ghost use Rattle.zb_player_node.specs.Nodes.{IsIn};
+ghost use Rattle.zb_player_node.specs.Tasks.{model_task};
+ghost use Rattle.zb_node_types.specs.Changes.{model_role};
+ghost use Rattle.zb_store.specs.Layout.{Standing, open_gate};
+ghost use Rattle.zb_store.specs.Power.{reads_open, stop_commits};
+ghost use Rattle.zb_stored_tables.specs.Cores.{IsOfRole};
+
+use crate::machine::{Machine, NodePlan};
+use crate::task::Task;
+use arrayvec::ArrayVec;
+use std::alloc::Global;
+use std::marker::Model;
+use zb_armed_host::{Arms, Fall, reset};
+use zb_base::{Config, Eui, Name, NoMemory, OrMemory, Peer, Role};
+use zb_disk::MemDisk;
+use zb_node_types::Changes;
+use zb_store::RECORD_ROOM;
+
+/// Tells what became of an event of a node that was up.
+#[derive(Clone, Copy, Debug, PartialEq, Eq)]
+pub enum Handled {
+    /// It was handled: the changes of its plan are stored, and what goes out goes out.
+    Whole,
+    /// A stop or a failure of the disk cut it. The node is down. The plan has the changes that are stored: all or none.
+    Cut {
+        /// How it ended.
+        fall: Fall,
+    },
+}
+
+/// Is a node: its configuration, its host while it has power, and what is armed on its disk.
+#[derive(Drop)]
+pub struct Node {
+    peer: Peer,
+    // It is large, and a node is handed from call to call when it is made.
+    config: Box<Config>,
+    machine: Option<Machine>,
+    arms: Arms,
+}
+
+impl Model for Node {
+    ghost use Rattle.zb_player_node.specs.Values.{NodeValue, IsNode, running};
+    ghost use Rattle.std.specs.Prelude.{option_map};
+
+    ghost Value = { NodeValue };
+
+    ghost view = { λ n. record {
+      peer = n.peer;
+      config = n.config.value;
+      machine = option_map running n.machine;
+      arms = n.arms;
+    } };
+
+    ghost invariant = { λ n. IsNode (record {
+      peer = n.peer;
+      config = n.config.value;
+      machine = option_map running n.machine;
+      arms = n.arms;
+    }) };
+}
+
+// Whether a commit stands on which what is armed fell.
+fn stands(arms: &Arms) -> bool
+    ensures { result ≡ arms_stand (armed_of arms.now) }
+{
+    match arms {
+        Arms::Unarmed => false,
+        Arms::Stop { calls, torn } => stop_stands(*calls, torn.as_slice()),
+        Arms::Fail { call } => *call > 3,
+    }
+}
+
+// Whether one stands that a stop ended after so many calls, where it left these bytes.
+fn stop_stands(calls: u8, torn: &[u8]) -> bool
+    ensures { result ≡ stop_commits calls torn.now }
+{
+    if calls == 3 {
+        return opens(torn);
+    }
+    calls > 3
+}
+
+// Whether a gate that was written open and not synced reads open after a stop.
+fn opens(torn: &[u8]) -> bool
+    ensures { result ≡ reads_open torn.now open_gate }
+{
+    match torn {
+        [] => true,
+        [first, ..] => *first == 0xa5,
+    }
+}
+
+// Keeps the changes of a fallen event that are stored: all or none.
+fn keep_stored(arms: &Arms, changes: &mut Changes)
+    ensures { changes.new.items ≡ (if arms_stand (armed_of arms.now) then changes.old.items else []) }
+{
+    if !stands(arms) {
+        changes.clear();
+    }
+}
+
+// Keeps what is shown: so many bytes, or none where nothing is.
+fn keep_shown(room: &mut Vec<u8>, len: Option<u32>)
+    ensures { (bytes : List ℕ) → IsShown len room.old.items bytes → room.new.items ≡ bytes }
+{
+    match len {
+        Some(len) => room.truncate(len as usize),
+        None => room.clear(),
+    }
+}
+
+impl Node {
+    /// Boots a node for the first time, from the record that stands on its disk.
+    ///
+    /// Requires a configuration of this node. Where the disk holds no record of such a node it stays down.
+    ///
+    /// Errors: `NoMemory`.
+    pub fn start(
+        alloc: Global,
+        peer: Peer,
+        config: Config,
+        disk: &mut MemDisk,
+    ) -> Result<Node, NoMemory>
+        requires config { IsConfig config }
+        requires role { IsOfRole (model_role peer.role) config }
+        ensures names { IfOk result (λ node. (node.peer ≡ peer) × (node.config ≡ config)) }
+        ensures starts { IfOk result (λ node. (setting : Setting) (state : NodeState) (s : Standing)
+            → CanStart setting state s config disk.old → IsStarted setting state disk.old node disk.new) }
+    {
+        reset(disk);
+        let mut node = Node {
+            peer,
+            config: Box::new(alloc, config)?,
+            machine: None,
+            arms: Arms::Unarmed,
+        };
+        node.boot(alloc, disk)?;
+        Ok(node)
+    }
+
+    /// Answers the node's name.
+    pub fn name(&self) -> Name
+        ensures { result ≡ self.now.peer.name }
+    {
+        self.peer.name
+    }
+
+    /// Answers the node's IEEE address.
+    pub fn eui(&self) -> Eui
+        ensures { result ≡ self.now.peer.eui }
+    {
+        self.peer.eui
+    }
+
+    /// Answers the node's role.
+    pub fn role(&self) -> Role
+        ensures { result ≡ self.now.peer.role }
+    {
+        self.peer.role
+    }
+
+    /// Answers whether the node has power.
+    pub fn is_up(&self) -> bool
+        ensures { result ≡ is_some self.now.machine }
+    {
+        self.machine.is_some()
+    }
+
+    /// Arms a stop of the disk in place of what was armed.
+    pub fn arm_stop(&mut self, calls: u8, torn: ArrayVec<u8, 32>)
+        ensures armed { self.new ≡ record self.old { arms = Arms.Stop calls torn } }
+        ensures leaves { (x : Condition) (number : ℕ) (m : Medium) → IsIn x number self.old m
+            → IsIn (after_arming (StopAfter calls torn.items) x) (number + 1) self.new m }
+    {
+        self.arms = Arms::Stop { calls, torn };
+    }
+
+    /// Arms a failure of the disk in place of what was armed; its calls are counted from 1.
+    pub fn arm_fail(&mut self, call: u8)
+        ensures armed { self.new ≡ record self.old { arms = Arms.Fail call } }
+        ensures leaves { (x : Condition) (number : ℕ) (m : Medium) → IsIn x number self.old m → 1 ≤ call
+            → IsIn (after_arming (FailAt call) x) (number + 1) self.new m }
+    {
+        self.arms = Arms::Fail { call };
+    }
+
+    /// Handles an event, over the node's disk, and writes its changes and what goes out into `plan`.
+    ///
+    /// It answers None where the node is down. Where a stop or a failure falls on the event, or the disk fails, the
+    /// node is down after it.
+    pub fn handle(&mut self, disk: &mut MemDisk, task: Task, plan: &mut NodePlan) -> Option<Handled>
+        ensures event { HasHandled (model_task task) self.old disk.old result plan.new self.new disk.new }
+        ensures peer { self.new.peer ≡ self.old.peer }
+        ensures config { self.new.config ≡ self.old.config }
+    {
+        match &mut self.machine {
+            None => None,
+            Some(machine) => match machine.handle(disk, &self.arms, task, plan) {
+                Ok(()) => Some(Handled::Whole),
+                Err(fall) => {
+                    keep_stored(&self.arms, &mut plan.changes);
+                    self.machine = None;
+                    self.arms = Arms::Unarmed;
+                    Some(Handled::Cut { fall })
+                }
+            },
+        }
+    }
+
+    /// Takes the node's power away and gives it back to its disk.
+    pub fn reset(&mut self, disk: &mut MemDisk)
+        ensures down { self.new ≡ record self.old { machine = None } }
+        ensures rest { (x : Condition) (number : ℕ) → IsIn x number self.old disk.old → x.up ≡ true
+            → IsIn (after_reset x) (number + 1) self.new disk.new }
+        ensures calls { disk.new.calls ≡ disk.old.calls }
+    {
+        self.machine = None;
+        reset(disk);
+    }
+
+    /// Boots the node, which is down, from its disk. It answers how the boot ended, where it didn't end well.
+    ///
+    /// Errors: `NoMemory`.
+    pub fn boot(&mut self, alloc: Global, disk: &mut MemDisk) -> Result<Option<Fall>, NoMemory>
+        ensures booted { IfOk result (λ r. HasBooted self.old disk.old r self.new disk.new) }
+        ensures peer { self.new.peer ≡ self.old.peer }
+        ensures config { self.new.config ≡ self.old.config }
+    {
+        match Machine::boot(
+            alloc,
+            self.peer.role,
+            self.config.as_ref(),
+            disk,
+            &self.arms,
+        ) {
+            Ok(machine) => {
+                self.machine = Some(machine);
+                Ok(None)
+            }
+            Err(OrMemory::Fault(fall)) => {
+                self.arms = Arms::Unarmed;
+                Ok(Some(fall))
+            }
+            Err(OrMemory::NoMemory) => Err(NoMemory),
+        }
+    }
+
+    /// Answers the record that the node's disk stands for: no bytes where it stands for none of such a node.
+    ///
+    /// Errors: `NoMemory`.
+    pub fn dump(&self, alloc: Global, disk: &mut MemDisk) -> Result<Vec<u8>, NoMemory>
+        ensures record_is { IfOk result (λ r. (x : Condition) (number : ℕ) → IsIn x number self.now disk.old
+            → (r.items ≡ record_of x.state) × IsIn x (number + 1) self.now disk.new) }
+        ensures calls { disk.new.calls ≡ disk.old.calls }
+    {
+        let mut room = Vec::with_capacity(alloc, RECORD_ROOM)?;
+        room.resize(RECORD_ROOM, 0)?;
+        let len = Machine::dump(alloc, self.peer.role, self.config.as_ref(), disk, &mut room)?;
+        keep_shown(&mut room, len);
+        Ok(room)
+    }
+}

@@ -1,6 +1,0 @@
-use Rattle.std.proofs.Common.{refl}
-use Rattle.zb_recount.proofs.Hearing.{start_heard}
-use Rattle.zb_recount.proofs.counters.Counters.start.Goals as goal
-
-pub returns-clause-heard : goal.returns-clause-heard
-returns-clause-heard c = λ number e m. start_heard c.args.group number e m c.args.key c.args.value c.args.self.now c.put_key.new.keys _ (rw (c.set.ensures, c.set-2.ensures, c.key_in-counters.ensures) refl) c.in_ok-put_key.ensures

@@ -1,5 +1,0 @@
-use Rattle.zb_recount.proofs.Puts.{key_put}
-use Rattle.zb_recount.proofs.counters.put_key.Goals as goal
-
-pub returns : goal.returns
-returns c = key_put c.args.keys.now c.insert.new.self c.args.key c.args.counters c.in_ok-insert.ensures.updates.0

@@ -1,7 +1,0 @@
--- The lines before are met.
-use Rattle.std.proofs.Common.{◌≡◌, drop}
-use Rattle.zb_recount.specs.Recounting.{first_unmet_by}
-use Rattle.zb_recount.proofs.recount.Recount.first_unmet.Given as goal
-
-abbrev pub invariant-loop-wait : goal.invariant-loop-wait
-invariant-loop-wait l = first_unmet_by l.self (drop l.wait-index l.waits) ≡ first_unmet_by l.self l.self.waits.items

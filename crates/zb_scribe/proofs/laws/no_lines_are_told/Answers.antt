@@ -1,5 +1,0 @@
-use Rattle.zb_scribe.proofs.Telling.{none_told}
-use Rattle.zb_scribe.proofs.laws.no_lines_are_told.Goals as goal
-
-pub returns : goal.returns
-returns c = none_told

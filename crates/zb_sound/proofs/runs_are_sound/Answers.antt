@@ -1,6 +1,0 @@
--- What a node's own frame shows of a key is asked of real frames by lockout alone.
-use Rattle.zb_sound.proofs.Whole.{sound}
-use Rattle.zb_sound.proofs.runs_are_sound.Goals as goal
-
-pub returns : goal.returns
-returns c = sound c.frames_show_their_own_keys.ensures

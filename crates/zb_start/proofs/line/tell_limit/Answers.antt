@@ -1,6 +1,0 @@
--- A limit of 0 has no line.
-use Rattle.zb_scribe.proofs.Telling.{none_told}
-use Rattle.zb_start.proofs.line.tell_limit.Goals as goal
-
-pub returns-then-limit-eq0-clause-tells : goal.returns-then-limit-eq0-clause-tells
-returns-then-limit-eq0-clause-tells c = λ known n called. rw c.if-limit-eq0.true (none_told known _ _)

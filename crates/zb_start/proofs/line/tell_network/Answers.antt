@@ -1,6 +1,0 @@
--- A node without a network key has no such line.
-use Rattle.zb_scribe.proofs.Telling.{none_told}
-use Rattle.zb_start.proofs.line.tell_network.Goals as goal
-
-pub returns-in-None-clause-tells : goal.returns-in-None-clause-tells
-returns-in-None-clause-tells c = λ known called. rw c.in-None.is (none_told known _ _)
