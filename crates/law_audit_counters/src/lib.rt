@@ -18,7 +18,7 @@ ghost use Rattle.zb_trace_model.specs.Naming.{AreNamed};
 /// Each seal has the next counter, each reserve, floor and start stands where it must, with its value, and nothing else
 /// does, whatever is delivered, and whichever disk stops or fails.
 #[tactic(auto, using(crate::proofs::Runs::keeps_fourth))]
-pub fn runs_keep_the_fourth_clause()
+pub fn runs_keep_the_fourth_claim()
     ensures { (tools : Tools) → Opens tools → OpensAsJudged tools → (w : Schedule) → IsSchedule w
         → euis_differ w ≡ true → OneCentre w → AreNamed (stations w) → KeepsFourth tools w }
 {}

@@ -17,7 +17,7 @@ ghost use Rattle.zb_trace_model.specs.Naming.{AreNamed};
 /// Its number of events is at least that of each event, its counts are right, and its two words are those that the
 /// audit reads by names.
 #[tactic(auto, using(crate::proofs::Endings::keeps_sixth))]
-pub fn runs_keep_the_sixth_clause()
+pub fn runs_keep_the_sixth_claim()
     ensures { (tools : Tools) → OpensAsJudged tools → (w : Schedule) → IsSchedule w → euis_differ w ≡ true
         → OneCentre w → AreNamed (stations w) → KeepsSixth tools w }
 {}

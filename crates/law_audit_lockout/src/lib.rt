@@ -37,7 +37,7 @@ pub fn groups_of_a_run_begin_with_their_events()
 /// them. `ShowsKeys` is of the frames: what a node's own frame shows of a key is the key of the command that is in it.
 /// `KeysApart` is of the schedule: its keys are different keys.
 #[tactic(auto, using(crate::proofs::Fifth::keeps_fifth))]
-pub fn runs_keep_the_fifth_clause()
+pub fn runs_keep_the_fifth_claim()
     ensures { (tools : Tools) → Opens tools → OpensAsJudged tools → ShowsKeys tools → (w : Schedule) → IsSchedule w
         → euis_differ w ≡ true → OneCentre w → KeysApart w → AreNamed (stations w) → KeepsFifth tools w }
 {}

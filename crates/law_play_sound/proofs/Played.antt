@@ -139,7 +139,7 @@ of_plan : (p : sched.Schedule) (input output : Bytes) (w : Schedule) → w ≡ s
     → IsPlayedSound input output
 of_plan p input output w w_is judges sound back reads same =
     record {
-      plan = p;
+      schedule = p;
       reads = reads;
       verdict = verdict_of w;
       says = subst (λ x. SaysAsEnd (verdict_of w) (last_line x)) w_is (says_end w);

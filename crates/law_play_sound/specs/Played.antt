@@ -50,10 +50,10 @@ EndsOn text v =
 -- of it is no line, and none breaks a claim. Where it is no longer than the longest input, `audit` writes that verdict,
 -- or the source, the sink or the memory failed.
 pub record IsPlayedSound (input text : Bytes) : Type 0 where
-  pub plan : sched.Schedule
-  pub reads : schedule_in input ≡ Ok plan
+  pub schedule : sched.Schedule
+  pub reads : schedule_in input ≡ Ok schedule
   pub verdict : Verdict
-  pub says : SaysAsEnd verdict (last_line (schedule_of plan))
+  pub says : SaysAsEnd verdict (last_line (schedule_of schedule))
   pub sound : IsSoundText text verdict
   pub only : (other : Verdict) → IsSoundText text other → other ≡ verdict
   pub all_lines : (line : ℕ) → IsFirstBad text line → ⊥

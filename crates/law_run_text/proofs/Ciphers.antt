@@ -11,7 +11,7 @@ use Rattle.zb_aes.proofs.Xored.{length-xored}
 use Rattle.zb_base.specs.declared.label.Label.{Label}
 use Rattle.zb_base.specs.declared.label.Label.TheVariants as label
 use Rattle.zb_ccm.specs.Blocks.{block_count, chain, chained}
-use Rattle.zb_ccm.specs.Ccm.{authenticated_blocks, code, crypted, stream, stream_block}
+use Rattle.zb_ccm.specs.Ccm.{authenticated_blocks, mic_of, crypted, stream, stream_block}
 use Rattle.zb_ccm.proofs.Streams.{stream-more}
 use Rattle.zb_mmo.specs.Hash.{blocks_of, hash, mixed, padded, padding, zeros}
 use Rattle.zb_mmo.specs.Keyed.{keyed, inner_pad, outer_pad}
@@ -213,8 +213,8 @@ chain_in : (key value : List ℕ) (blocks : List (List ℕ)) → AreBytes key �
 chain_in key value [] k v = v
 chain_in key value (b ∷ bs) k v = chain_in key (chained key value b) bs k (enciphered_in key (xored value b) k)
 
-pub mic_in : (key nonce a message : List ℕ) → AreBytes key → AreBytes (code key nonce a message 4)
-unfolding code stream_block
+pub mic_in : (key nonce a message : List ℕ) → AreBytes key → AreBytes (mic_of key nonce a message 4)
+unfolding mic_of stream_block
 mic_in key nonce a message k =
     let value = chain key (replicate 16 0) (authenticated_blocks nonce a message 4) in
     taken 4 (xored value (stream_block key nonce 0)) (xored_in value (stream_block key nonce 0) (chain_in key (replicate 16 0) (authenticated_blocks nonce a message 4) k (zeros_in 16)) (enciphered_in key (1 ∷ nonce ++ to_be_bytes w16 0) k))

@@ -13,7 +13,7 @@ use Rattle.zb_aps.proofs.FaultLaws as aps_laws
 use Rattle.zb_base.specs.declared.address.Eui.{Eui}
 use Rattle.zb_base.specs.declared.address.Short.{Short}
 use Rattle.zb_base.specs.declared.label.Layer.TheVariants as layer
-use Rattle.zb_ccm.specs.Ccm.{opens, crypted, code}
+use Rattle.zb_ccm.specs.Ccm.{opens, crypted, mic_of}
 use Rattle.zb_cmd.specs.Reading.{command_of}
 use Rattle.zb_cmd.specs.Shape as cmd_shape
 use Rattle.zb_cmd.specs.Spelling as cmd_spelling
@@ -80,7 +80,7 @@ from_in s base (Some source) is k e =
     let key = sealing_key s.label base in
     let n = nonce source s.counter s.control in
     let key_in = sealing_in s.label base k in
-    if_open s base source key (crypted key n s.text.items) (bytes_eq (code key n s.header.items (crypted key n s.text.items) (length s.mic)) s.mic) is k e (crypted_in key n s.text.items key_in.0 is.text) (omega (arith, crypted_length key n s.text.items key_in.1))
+    if_open s base source key (crypted key n s.text.items) (bytes_eq (mic_of key n s.header.items (crypted key n s.text.items) (length s.mic)) s.mic) is k e (crypted_in key n s.text.items key_in.0 is.text) (omega (arith, crypted_length key n s.text.items key_in.1))
 
 level_in : (control : ℕ) → IsByte control → IsByte (real_level control)
 level_in control c = omega (arith, c)

@@ -1,7 +1,7 @@
 -- What is sealed and spelled is of bytes, and how long it is.
 use Rattle.std.proofs.Common.{◌≡◌, ℕ, zero, suc, ◌+◌, ◌-◌, ◌≤◌, Bool, true, false, cond, List, [], ◌∷◌, ◌++◌, length, nat_le, refl, arith, length-append}
 use Rattle.std.specs.Int.{w16, w64, to_le_bytes}
-use Rattle.zb_ccm.specs.Ccm.{sealed, crypted, code}
+use Rattle.zb_ccm.specs.Ccm.{sealed, crypted, mic_of}
 use Rattle.zb_cursor.specs.Spelling.{byte, number}
 use Rattle.zb_model.specs.Data.{Bytes, Command, TransportNet, TransportApp, TransportLink, UpdateDevice, RemoveDevice, RequestApp, RequestLink, SwitchKey, Tunnel, VerifyKey, ConfirmKey, Term}
 use Rattle.law_run_ranges.specs.Asking.{CommandInRange, IsPlain}
@@ -34,7 +34,7 @@ wire_in t is =
     let key_in = sealing_in (label_of t.label) t.base is.base in
     let n = nonce (eui_of t.source) t.counter t.control in
     let air = on_air (aux_size (layer_of t.layer) t.control) t.header in
-    bytes_append (air ++ crypted key n t.content) (code key n t.header t.content 4)
+    bytes_append (air ++ crypted key n t.content) (mic_of key n t.header t.content 4)
     (bytes_append air (crypted key n t.content) (air_in (aux_size (layer_of t.layer) t.control) t.header is.header.0) (crypted_in key n t.content key_in.0 is.content.0))
     (mic_in key n t.header t.content key_in.0)
 
@@ -44,7 +44,7 @@ wire_length_in t is =
     let key = sealing_key (label_of t.label) t.base in
     let key_in = sealing_in (label_of t.label) t.base is.base in
     let n = nonce (eui_of t.source) t.counter t.control in
-    length-wire (term_of t) key (crypted key n t.content) (code key n t.header t.content 4) refl refl refl (crypted_length key n t.content key_in.1) (length-mic key n t.header t.content key_in.1)
+    length-wire (term_of t) key (crypted key n t.content) (mic_of key n t.header t.content 4) refl refl refl (crypted_length key n t.content key_in.1) (length-mic key n t.header t.content key_in.1)
 
 -- ---- commands
 

@@ -7,7 +7,7 @@ use std::thread::Threads;
 use zb_base::MemSink;
 use zb_capture::read_capture;
 use zb_inspect::{InspectFault, report};
-use zb_parallel::{Gate, OpenGate};
+use zb_parallel::{Gate, NoGate};
 
 /// Writes the report on a capture of at most 4,096 bytes by so many jobs, to a sink whose calls of some numbers fail.
 pub(crate) fn reported<H: AllocGlobal + Threads + Sync, G: Gate>(
@@ -109,7 +109,7 @@ fn worked_captures_have_their_reports(rt: HostRuntime) -> Result<(), Fail> {
     ];
     for (capture, report) in captures {
         for jobs in [1, 3, 64] {
-            let (ended, sink) = reported(&rt, capture, jobs, &OpenGate, &[])?;
+            let (ended, sink) = reported(&rt, capture, jobs, &NoGate, &[])?;
             assert!(rt; ended == Ok(()) && sink.taken() == report);
         }
     }
@@ -119,7 +119,7 @@ fn worked_captures_have_their_reports(rt: HostRuntime) -> Result<(), Fail> {
 #[test]
 fn a_sink_that_fails_has_a_front_of_the_report(rt: HostRuntime) -> Result<(), Fail> {
     for (call, writes_nothing) in [(1, true), (2, false)] {
-        let (ended, sink) = reported(&rt, CAPTURE, 2, &OpenGate, &[call])?;
+        let (ended, sink) = reported(&rt, CAPTURE, 2, &NoGate, &[call])?;
         let front = sink.taken();
         assert!(rt;
             ended == Err(InspectFault::Write)

@@ -10,7 +10,7 @@ use Rattle.zb_aes.proofs.Xored.{xored-zeros}
 use Rattle.zb_aes.specs.Block.{enciphered}
 use Rattle.zb_aes.specs.Bytes.{xored}
 use Rattle.zb_ccm.specs.Blocks.{block_at, block_count, blocks_of, chain, chained}
-use Rattle.zb_ccm.specs.Ccm.{code, with_length, first_block, flags, stream_block}
+use Rattle.zb_ccm.specs.Ccm.{mic_of, with_length, first_block, flags, stream_block}
 
 -- One block more is chained.
 pub chain_more : (key start bytes value block total next : List ℕ) (i : ℕ)
@@ -81,14 +81,14 @@ chain-with_length_some key value (x ∷ xs) block total first result count h p q
     let blocks = blocks_of-more (with_length (x ∷ xs)) (omega arith) in
     rw blocks (rest ∙ ap (λ l. chain key l (blocks_of (drop 14 (x ∷ xs)))) (r ∙ ap (enciphered key) (q ∙ ap (xored value) p)))
 
--- The whole code, from what its parts are.
-pub code_built : (key nonce a message first start middle value last total : List ℕ) (size : ℕ) → length nonce ≡ 13
+-- The whole MIC, from what its parts are.
+pub mic_built : (key nonce a message first start middle value last total : List ℕ) (size : ℕ) → length nonce ≡ 13
     → first ≡ first_block nonce a message size → start ≡ enciphered key first
     → middle ≡ chain key start (blocks_of (with_length a)) → value ≡ chain key middle (blocks_of message)
     → last ≡ stream_block key nonce 0 → total ≡ xored value last
-    → take size total ≡ code key nonce a message size
-unfolding code
-code_built key nonce a message first start middle value last total size l p q r s t u =
+    → take size total ≡ mic_of key nonce a message size
+unfolding mic_of
+mic_built key nonce a message first start middle value last total size l p q r s t u =
     let block : List ℕ = first_block nonce a message size in
     let long : length block ≤ 16 =
     omega (arith, length-append (flags a size ∷ nonce) (to_be_bytes w16 (length message))) in

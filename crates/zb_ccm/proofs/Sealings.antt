@@ -8,7 +8,7 @@ use Rattle.zb_aes.specs.Bytes.{xored}
 use Rattle.zb_ccm.proofs.Openings.{crypted_twice}
 use Rattle.zb_ccm.proofs.Streams.{stream-more}
 use Rattle.zb_ccm.specs.Blocks.{block_count, chain, chained}
-use Rattle.zb_ccm.specs.Ccm.{authenticated_blocks, code, crypted, opens, sealed, stream, stream_block}
+use Rattle.zb_ccm.specs.Ccm.{authenticated_blocks, mic_of, crypted, opens, sealed, stream, stream_block}
 
 length-stream_block : (key nonce : List ℕ) (i : ℕ) → length key ≡ 16 → length (stream_block key nonce i) ≡ 16
 unfolding stream_block
@@ -33,10 +33,10 @@ length-chain key value [] h g = g
 length-chain key value (b ∷ bs) h g =
     length-chain key (chained key value b) bs h (length-enciphered key (xored value b) h)
 
-length-code : (key nonce a message : List ℕ) (size : ℕ) → length key ≡ 16 → size ≤ 16
-    → length (code key nonce a message size) ≡ size
-unfolding code
-length-code key nonce a message size h g =
+length-mic : (key nonce a message : List ℕ) (size : ℕ) → length key ≡ 16 → size ≤ 16
+    → length (mic_of key nonce a message size) ≡ size
+unfolding mic_of
+length-mic key nonce a message size h g =
     let value : List ℕ = chain key (replicate 16 0) (authenticated_blocks nonce a message size) in
     let long : length value ≡ 16 = length-chain key (replicate 16 0) (authenticated_blocks nonce a message size) h refl in
     let total = length-xored value (stream_block key nonce 0) (omega (arith, length-stream_block key nonce 0 h)) in
@@ -51,8 +51,8 @@ unfolding opens sealed
 opens-sealed key nonce a message size h g =
     rw (
       crypted_twice key nonce message (covered key nonce message h),
-      length-code key nonce a message size h g,
-      same_bytes (code key nonce a message size),
+      length-mic key nonce a message size h g,
+      same_bytes (mic_of key nonce a message size),
     ) refl
 
 chosen : (b : Bool) (x y : List ℕ) → (if b then Some x else None) ≡ Some y → (b ≡ true) × (x ≡ y)
@@ -64,11 +64,11 @@ pub sealed-opens : (key nonce a text mic message : List ℕ) → length key ≡ 
     → sealed key nonce a message (length mic) ≡ record { text = text; mic = mic }
 unfolding opens sealed
 sealed-opens key nonce a text mic message h e =
-    let found = chosen (bytes_eq (code key nonce a (crypted key nonce text) (length mic)) mic) (crypted key nonce text)
+    let found = chosen (bytes_eq (mic_of key nonce a (crypted key nonce text) (length mic)) mic) (crypted key nonce text)
     message e in
-    let same : code key nonce a message (length mic) ≡ mic =
-    ap (λ m. code key nonce a m (length mic)) (sym found.1)
-    ∙ (bytes_eq-Decides (code key nonce a (crypted key nonce text) (length mic)) mic).0 found.0 in
+    let same : mic_of key nonce a message (length mic) ≡ mic =
+    ap (λ m. mic_of key nonce a m (length mic)) (sym found.1)
+    ∙ (bytes_eq-Decides (mic_of key nonce a (crypted key nonce text) (length mic)) mic).0 found.0 in
     let back : crypted key nonce message ≡ text =
     ap (crypted key nonce) (sym found.1) ∙ crypted_twice key nonce text (covered key nonce text h) in
     rw (back, same) refl

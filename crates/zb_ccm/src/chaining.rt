@@ -1,9 +1,9 @@
-//! The code of a message: cipher block chaining over all that is authenticated, enciphered (RFC 3610, 2.2 and 2.3).
+//! The MIC of a message: cipher block chaining over all that is authenticated, enciphered (RFC 3610, 2.2 and 2.3).
 
 ghost use Rattle.std.specs.Prelude.{◌≡◌, ◌≤◌, ◌<◌, length, take};
 ghost use Rattle.zb_aes.specs.Columns.{state_bytes};
 ghost use Rattle.zb_ccm.specs.Blocks.{block_at, blocks_of, chain};
-ghost use Rattle.zb_ccm.specs.Ccm.{code, with_length, flags};
+ghost use Rattle.zb_ccm.specs.Ccm.{mic_of, with_length, flags};
 
 use crate::blocks::{block_of, filled, numbered};
 use crate::keystream::stream_block_of;
@@ -58,8 +58,8 @@ fn flags_of(associated: &[u8], size: u8) -> u8
     }
 }
 
-/// Computes the code of a message and the data authenticated with it: its first `size` bytes count.
-pub fn code_of(
+/// Computes the MIC of a message and the data authenticated with it: its first `size` bytes count.
+pub fn compute_mic(
     cipher: &Cipher,
     nonce: &[u8; 13],
     associated: &[u8],
@@ -70,7 +70,7 @@ pub fn code_of(
     requires message_fits { length message.now < 65280 }
     requires low { 2 ≤ size }
     requires high { size ≤ 16 }
-    ensures { take size result ≡ code cipher.now nonce.now associated.now message.now size }
+    ensures { take size result ≡ mic_of cipher.now nonce.now associated.now message.now size }
 {
     let first = numbered(flags_of(associated, size), nonce, message.len() as u16);
     let start = cipher.encrypt_state(first);

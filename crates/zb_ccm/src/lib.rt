@@ -1,5 +1,5 @@
-//! CCM*, the authenticated encryption of Zigbee (05-3474-21, annex A), with a nonce of 13 bytes and codes of 4 bytes.
-//! With codes of 8 bytes it is the CCM of RFC 3610, whose packets serve as its test.
+//! CCM*, the authenticated encryption of Zigbee (05-3474-21, annex A), with a nonce of 13 bytes and MICs of 4 bytes.
+//! With MICs of 8 bytes it is the CCM of RFC 3610, whose packets serve as its test.
 //!
 //! Each call comes in two forms: with a key, and with a `Cipher` that was made of the key once.
 #![tactic(auto)]
@@ -13,18 +13,18 @@ mod keystream;
 mod laws;
 mod opening;
 
-use chaining::code_of;
+use chaining::compute_mic;
 use keystream::crypt;
 pub use laws::{a_sealed_message_opens, what_opens_was_sealed};
 use opening::{COPIED, open_copy, open_in_place};
 use zb_aes::Cipher;
 use zb_base::Key;
 
-/// The fault of a code that isn't the one that key, nonce, authenticated data and message give.
+/// The fault of a MIC that isn't the one that key, nonce, authenticated data and message give.
 #[derive(Clone, Copy, Debug, PartialEq, Eq)]
 pub struct BadMic;
 
-/// Replaces `message` by its cipher text, and answers its code of 4 bytes.
+/// Replaces `message` by its cipher text, and answers its MIC of 4 bytes.
 ///
 /// Requires fewer than 65,280 bytes of message and of authenticated data each.
 pub fn seal(key: &Key, nonce: &[u8; 13], associated: &[u8], message: &mut [u8]) -> [u8; 4]
@@ -36,7 +36,7 @@ pub fn seal(key: &Key, nonce: &[u8; 13], associated: &[u8], message: &mut [u8]) 
     seal_with(&Cipher::new(&key.0), nonce, associated, message)
 }
 
-/// Replaces `message` by its cipher text, and answers its code of 8 bytes, as in RFC 3610.
+/// Replaces `message` by its cipher text, and answers its MIC of 8 bytes, as in RFC 3610.
 ///
 /// Requires fewer than 65,280 bytes of message and of authenticated data each.
 pub fn seal8(key: &Key, nonce: &[u8; 13], associated: &[u8], message: &mut [u8]) -> [u8; 8]
@@ -52,7 +52,7 @@ pub fn seal8(key: &Key, nonce: &[u8; 13], associated: &[u8], message: &mut [u8])
 ///
 /// Requires fewer than 65,280 bytes of text and of authenticated data each.
 ///
-/// Errors: `BadMic` where `mic` isn't the code of that message; `text` then stays as it was.
+/// Errors: `BadMic` where `mic` isn't the MIC of that message; `text` then stays as it was.
 pub fn open(
     key: &Key,
     nonce: &[u8; 13],
@@ -81,7 +81,7 @@ pub fn seal_with(
     ensures { record { text = message.new; mic = result }
         ≡ sealed cipher.now nonce.now associated.now message.old 4 }
 {
-    let mic = code_of(cipher, nonce, associated, message, 4);
+    let mic = compute_mic(cipher, nonce, associated, message, 4);
     crypt(cipher, nonce, message);
     [mic[0], mic[1], mic[2], mic[3]]
 }
@@ -98,7 +98,7 @@ pub fn seal8_with(
     ensures { record { text = message.new; mic = result }
         ≡ sealed cipher.now nonce.now associated.now message.old 8 }
 {
-    let mic = code_of(cipher, nonce, associated, message, 8);
+    let mic = compute_mic(cipher, nonce, associated, message, 8);
     crypt(cipher, nonce, message);
     [
         mic[0], mic[1], mic[2], mic[3], mic[4], mic[5], mic[6], mic[7],

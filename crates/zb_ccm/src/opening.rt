@@ -1,19 +1,19 @@
-//! Opening: the text becomes its message only where its code is right.
+//! Opening: the text becomes its message only where its MIC is right.
 
 ghost use Rattle.std.specs.Prelude.{◌≡◌, ◌<◌, ◌≤◌, length};
 ghost use Rattle.std.specs.Str.{bytes_eq};
-ghost use Rattle.zb_ccm.specs.Ccm.{code, IsOpening};
+ghost use Rattle.zb_ccm.specs.Ccm.{mic_of, IsOpening};
 
 use crate::BadMic;
-use crate::chaining::code_of;
+use crate::chaining::compute_mic;
 use crate::keystream::crypt;
 use zb_aes::Cipher;
 
 /// The greatest length of a text that is opened in a copy, so that one that doesn't open is deciphered once.
 pub const COPIED: usize = 128;
 
-// Answers whether `mic` is the code of the message.
-fn is_code(
+// Answers whether `mic` is the MIC of the message.
+fn is_mic(
     cipher: &Cipher,
     nonce: &[u8; 13],
     associated: &[u8],
@@ -22,10 +22,10 @@ fn is_code(
 ) -> bool
     requires associated_fits { length associated.now < 65280 }
     requires message_fits { length message.now < 65280 }
-    ensures { result ≡ bytes_eq (code cipher.now nonce.now associated.now message.now 4) mic.now }
+    ensures { result ≡ bytes_eq (mic_of cipher.now nonce.now associated.now message.now 4) mic.now }
 {
-    let code = code_of(cipher, nonce, associated, message, 4);
-    code[..4] == mic[..]
+    let computed = compute_mic(cipher, nonce, associated, message, 4);
+    computed[..4] == mic[..]
 }
 
 // Opens a text by way of a copy.
@@ -44,7 +44,7 @@ fn open_through(
 {
     copy.copy_from_slice(text);
     crypt(cipher, nonce, copy);
-    if !is_code(cipher, nonce, associated, copy, mic) {
+    if !is_mic(cipher, nonce, associated, copy, mic) {
         return Err(BadMic);
     }
     text.copy_from_slice(copy);
@@ -81,7 +81,7 @@ pub fn open_in_place(
     ensures { IsOpening cipher.now nonce.now associated.now text.old mic.now text.new result }
 {
     crypt(cipher, nonce, text);
-    if !is_code(cipher, nonce, associated, text, mic) {
+    if !is_mic(cipher, nonce, associated, text, mic) {
         crypt(cipher, nonce, text);
         return Err(BadMic);
     }

@@ -4,7 +4,7 @@ use Rattle.zb_base.specs.Outside.{Rose}
 use Rattle.zb_model.specs.Data.{Bytes}
 use Rattle.zb_command.specs.Answers.{Answer, Refuses, Exceeds, longest, status_of, wanted}
 use Rattle.zb_command.specs.Auditing.{Audits}
-use Rattle.zb_command.specs.Commands.{Task, Playing, Installing, Making, Inspecting, Sniffing, Campaigning, Auditing, Serving}
+use Rattle.zb_command.specs.Commands.{Invocation, Playing, Installing, Making, Inspecting, Sniffing, Campaigning, Auditing, Serving}
 use Rattle.zb_command.specs.Finishing.{Finishes}
 use Rattle.zb_command.specs.Serving.{ServesOut}
 use Rattle.zb_command.specs.Outcomes.{IsWritten, WritesFront, WritesNothing}
@@ -13,7 +13,7 @@ use Rattle.zb_command.specs.declared.status.Status.{Status}
 use Rattle.zb_command.specs.declared.status.Status.TheVariants as status
 use Rattle.zb_command.proofs.Completeness as ends
 
-pub is_used : (t : Task) (s : Status) (rest before after : Option Bytes) (old new : ℕ) → Finishes t s rest before after old new → s ≡ status.Usage → ⊥
+pub is_used : (t : Invocation) (s : Status) (rest before after : Option Bytes) (old new : ℕ) → Finishes t s rest before after old new → s ≡ status.Usage → ⊥
 is_used Playing s rest before after old new f is = ends.is_used s (wanted Playing rest) before after old new f is
 is_used (Installing code) s rest before after old new f is = ends.is_used s (wanted (Installing code) rest) before after old new f is
 is_used (Making count) s rest before after old new f is = ends.is_used s (wanted (Making count) rest) before after old new f is
@@ -23,7 +23,7 @@ is_used (Campaigning count start jobs) s rest before after old new f is = ends.i
 is_used Auditing s rest before after old new f is = subst (λ (x : Status). Audits x rest before after old new) is f
 is_used Serving s rest before after old new f is = subst (λ (x : Status). ServesOut x before after old new) is f
 
-pub written : (t : Task) (s : Status) (rest before after : Option Bytes) (old new : ℕ) → Finishes t s rest before after old new → s ≡ status.Ok
+pub written : (t : Invocation) (s : Status) (rest before after : Option Bytes) (old new : ℕ) → Finishes t s rest before after old new → s ≡ status.Ok
     → IfSome (wanted t rest) (λ answer. IsWritten answer before after)
 written Playing s rest before after old new f is = ends.written s (wanted Playing rest) before after old new f is
 written (Installing code) s rest before after old new f is = ends.written s (wanted (Installing code) rest) before after old new f is
@@ -34,7 +34,7 @@ written (Campaigning count start jobs) s rest before after old new f is = ends.w
 written Auditing s rest before after old new f is = tt
 written Serving s rest before after old new f is = tt
 
-pub write_failed : (t : Task) (s : Status) (rest before after : Option Bytes) (old new : ℕ) → Finishes t s rest before after old new → s ≡ status.WriteFault → Rose old new
+pub write_failed : (t : Invocation) (s : Status) (rest before after : Option Bytes) (old new : ℕ) → Finishes t s rest before after old new → s ≡ status.WriteFault → Rose old new
 write_failed Playing s rest before after old new f is = ends.write_failed s (wanted Playing rest) before after old new f is
 write_failed (Installing code) s rest before after old new f is = ends.write_failed s (wanted (Installing code) rest) before after old new f is
 write_failed (Making count) s rest before after old new f is = ends.write_failed s (wanted (Making count) rest) before after old new f is
@@ -45,7 +45,7 @@ write_failed Auditing s rest before after old new f is =
     let at : Audits status.WriteFault rest before after old new = subst (λ (x : Status). Audits x rest before after old new) is f in at.1
 write_failed Serving s rest before after old new f is = subst (λ (x : Status). ServesOut x before after old new) is f
 
-pub refused : (t : Task) (s : Status) (rest before after : Option Bytes) (old new line : ℕ) (cause : Cause) → Finishes t s rest before after old new
+pub refused : (t : Invocation) (s : Status) (rest before after : Option Bytes) (old new line : ℕ) (cause : Cause) → Finishes t s rest before after old new
     → s ≡ status.Refused line cause → IfSome (wanted t rest) (λ answer. answer ≡ Refuses line cause)
 refused Playing s rest before after old new line cause f is = ends.refused s (wanted Playing rest) before after old new line cause f is
 refused (Installing code) s rest before after old new line cause f is = ends.refused s (wanted (Installing code) rest) before after old new line cause f is
@@ -57,7 +57,7 @@ refused (Campaigning count start jobs) s rest before after old new line cause f 
 refused Auditing s rest before after old new line cause f is = tt
 refused Serving s rest before after old new line cause f is = tt
 
-pub too_long : (t : Task) (s : Status) (rest before after : Option Bytes) (old new limit : ℕ) → Finishes t s rest before after old new
+pub too_long : (t : Invocation) (s : Status) (rest before after : Option Bytes) (old new limit : ℕ) → Finishes t s rest before after old new
     → s ≡ status.TooLong limit → (limit ≡ longest) × IfSome (wanted t rest) (λ answer. answer ≡ Exceeds)
 too_long Playing s rest before after old new limit f is = ends.too_long s (wanted Playing rest) before after old new limit f is
 too_long (Installing code) s rest before after old new limit f is = ends.too_long s (wanted (Installing code) rest) before after old new limit f is
@@ -99,7 +99,7 @@ serve_nothing (status.Broken line clause) before after old new f = absurd f
 serve_nothing (status.BadStore at) before after old new f = tt
 serve_nothing status.Worn before after old new f = tt
 
-pub nothing : (t : Task) (s : Status) (rest before after : Option Bytes) (old new : ℕ) → Finishes t s rest before after old new → WritesNothing s before after
+pub nothing : (t : Invocation) (s : Status) (rest before after : Option Bytes) (old new : ℕ) → Finishes t s rest before after old new → WritesNothing s before after
 nothing Playing s rest before after old new f = ends.nothing s (wanted Playing rest) before after old new f
 nothing (Installing code) s rest before after old new f = ends.nothing s (wanted (Installing code) rest) before after old new f
 nothing (Making count) s rest before after old new f = ends.nothing s (wanted (Making count) rest) before after old new f
@@ -109,7 +109,7 @@ nothing (Campaigning count start jobs) s rest before after old new f = ends.noth
 nothing Auditing s rest before after old new f = audit_nothing s rest before after old new f
 nothing Serving s rest before after old new f = serve_nothing s before after old new f
 
-pub front : (t : Task) (s : Status) (rest before after : Option Bytes) (old new : ℕ) → Finishes t s rest before after old new
+pub front : (t : Invocation) (s : Status) (rest before after : Option Bytes) (old new : ℕ) → Finishes t s rest before after old new
     → IfSome (wanted t rest) (λ answer. WritesFront s answer before after)
 front Playing s rest before after old new f = ends.front s (wanted Playing rest) before after old new f
 front (Installing code) s rest before after old new f = ends.front s (wanted (Installing code) rest) before after old new f
@@ -120,7 +120,7 @@ front (Campaigning count start jobs) s rest before after old new f = ends.front 
 front Auditing s rest before after old new f = tt
 front Serving s rest before after old new f = tt
 
-pub completes : (t : Task) (s : Status) (a : Answer) (rest before after : Option Bytes) (old new : ℕ) → Finishes t s rest before after old new → wanted t rest ≡ Some a
+pub completes : (t : Invocation) (s : Status) (a : Answer) (rest before after : Option Bytes) (old new : ℕ) → Finishes t s rest before after old new → wanted t rest ≡ Some a
     → (s ≡ status.ReadFault → ⊥) → (Rose old new → ⊥) → (s ≡ status_of a) ⊎ (s ≡ status.NoMemory)
 completes Playing s a rest before after old new f is no_read no_write =
     ends.completes s a before after old new (subst (λ (w : Option Answer). Rattle.zb_command.specs.Outcomes.Ends s w before after old new) is f) no_read no_write

@@ -14,7 +14,7 @@ pub told : (rest : Option Bytes) (bytes read : Bytes) (plan : Schedule) (before 
     → schedule_in read ≡ Ok plan → Holds (schedule_of plan) → Appends before after (transcript_text plan) → IfSome rest (λ input. Played input before after)
 told None bytes read plan before after whole same reads holds written = tt
 told (Some input) bytes read plan before after whole same reads holds written = record {
-  plan = plan;
+  schedule = plan;
   reads = subst (λ (l : Bytes). schedule_in l ≡ Ok plan) (same ∙ whole) reads;
   written = written;
   holds = holds;

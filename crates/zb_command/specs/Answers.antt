@@ -20,7 +20,7 @@ use Rattle.zb_sched.specs.Printed.{printed}
 use Rattle.zb_sched.specs.Reading.{schedule_in}
 use Rattle.zb_sched.specs.declared.error.SchedError.{SchedError}
 use Rattle.zb_command.specs.CountsLine.{counts_line}
-use Rattle.zb_command.specs.Commands.{Task, Playing, Installing, Making, Inspecting, Sniffing, Campaigning, Auditing, Serving}
+use Rattle.zb_command.specs.Commands.{Invocation, Playing, Installing, Making, Inspecting, Sniffing, Campaigning, Auditing, Serving}
 use Rattle.zb_command.specs.Statuses.{cause_of, schedule_cause, capture_cause, pcap_cause}
 use Rattle.zb_command.specs.declared.status.Status.{Status}
 use Rattle.zb_command.specs.declared.status.Status.TheVariants as status
@@ -81,7 +81,7 @@ campaign_answer (Err e) = Refuses e.line (schedule_cause e.cause)
 
 -- What is wanted of a command, by the bytes that a source has to come. None where the command reads them and the source doesn't
 -- tell them; and for `audit` and `admin`, of which Auditing and Serving say how they end.
-abbrev pub wanted : Task → Option Bytes → Option Answer
+abbrev pub wanted : Invocation → Option Bytes → Option Answer
 wanted Playing rest = option_map (λ input. within_limit input (play_answer (schedule_in input))) rest
 wanted (Installing code) rest = Some (install_answer (code_of_text code))
 wanted (Making count) rest = Some (make_answer (made_schedule 0 count))

@@ -10,15 +10,15 @@ use Rattle.zb_command.specs.KeyWords.{all_keys, keys_in}
 -- `sniff JOBS KEY ..` does that for the frames of the capture file on its input, under at most 256 keys; `campaign COUNT START JOBS` plays
 -- that many made schedules from the start value START on, by so many jobs, and writes what they come to; `audit` judges the transcript on its
 -- input; `admin PATH` carries out the script on its input on the store in the file of that path
-pub data Task : Type 0 where
-  Playing : Task
-  Installing : (code : Bytes) → Task
-  Making : (count : ℕ) → Task
-  Inspecting : (jobs : ℕ) → Task
-  Sniffing : (jobs : ℕ) (keys : List Key) → Task
-  Campaigning : (count start jobs : ℕ) → Task
-  Auditing : Task
-  Serving : Task
+pub data Invocation : Type 0 where
+  Playing : Invocation
+  Installing : (code : Bytes) → Invocation
+  Making : (count : ℕ) → Invocation
+  Inspecting : (jobs : ℕ) → Invocation
+  Sniffing : (jobs : ℕ) (keys : List Key) → Invocation
+  Campaigning : (count start jobs : ℕ) → Invocation
+  Auditing : Invocation
+  Serving : Invocation
 
 -- a number from 1 on
 abbrev pub positive : Option ℕ → Option ℕ
@@ -29,30 +29,30 @@ positive (Some number) = if number == 0 then None else Some number
 abbrev pub count_of : ℕ → Bytes → Option ℕ
 count_of limit word = positive (number_of limit word)
 
-abbrev pub making : Option ℕ → Option Task
+abbrev pub making : Option ℕ → Option Invocation
 making None = None
 making (Some count) = Some (Making count)
 
-abbrev pub inspecting : Option ℕ → Option Task
+abbrev pub inspecting : Option ℕ → Option Invocation
 inspecting None = None
 inspecting (Some jobs) = Some (Inspecting jobs)
 
-abbrev pub sniffing : List Key → Option ℕ → Option Task
+abbrev pub sniffing : List Key → Option ℕ → Option Invocation
 sniffing keys None = None
 sniffing keys (Some jobs) = Some (Sniffing jobs keys)
 
-abbrev pub sniff_words : Bytes → List Bytes → Option Task
+abbrev pub sniff_words : Bytes → List Bytes → Option Invocation
 sniff_words operand words =
     if nat_le (length words) 256 && all_keys words then sniffing (keys_in words) (count_of 64 operand) else None
 
-abbrev pub lone_word : Bytes → Option Task
+abbrev pub lone_word : Bytes → Option Invocation
 lone_word word =
     if bytes_eq word (codes "play") then Some Playing
     else if bytes_eq word (codes "audit") then Some Auditing
     else None
 
 -- a code has fewer than 2^32 - 1 bytes; a longer word is none
-abbrev pub word_and_operand : Bytes → Bytes → Option Task
+abbrev pub word_and_operand : Bytes → Bytes → Option Invocation
 word_and_operand word operand =
     if bytes_eq word (codes "install") && nat_lt (length operand) 4294967295 then Some (Installing operand)
     else if bytes_eq word (codes "make") then making (count_of 60 operand)
@@ -60,27 +60,27 @@ word_and_operand word operand =
     else if bytes_eq word (codes "admin") then Some Serving
     else None
 
-abbrev pub campaigning : Option ℕ → Option ℕ → Option ℕ → Option Task
+abbrev pub campaigning : Option ℕ → Option ℕ → Option ℕ → Option Invocation
 campaigning None start jobs = None
 campaigning (Some count) None jobs = None
 campaigning (Some count) (Some start) None = None
 campaigning (Some count) (Some start) (Some jobs) = Some (Campaigning count start jobs)
 
 -- the start values of all runs are below 2^32
-abbrev pub campaign_words : Bytes → Bytes → Bytes → Option Task
+abbrev pub campaign_words : Bytes → Bytes → Bytes → Option Invocation
 campaign_words count start jobs = campaigning (count_of 1000 count) (number_of 4294966295 start) (count_of 64 jobs)
 
-abbrev pub word_and_three : Bytes → Bytes → Bytes → Bytes → Option Task
+abbrev pub word_and_three : Bytes → Bytes → Bytes → Bytes → Option Invocation
 word_and_three word first second third =
     if bytes_eq word (codes "campaign") then campaign_words first second third else None
 
-abbrev pub word_and_more : Bytes → Bytes → List Bytes → Option Task
+abbrev pub word_and_more : Bytes → Bytes → List Bytes → Option Invocation
 word_and_more word operand [] = word_and_operand word operand
 word_and_more word operand (second ∷ third ∷ []) = word_and_three word operand second third
 word_and_more word operand _ = None
 
 -- None where the words are no command
-abbrev pub task_of : List Bytes → Option Task
-task_of [] = None
-task_of (word ∷ []) = lone_word word
-task_of (word ∷ operand ∷ more) = if bytes_eq word (codes "sniff") then sniff_words operand more else word_and_more word operand more
+abbrev pub invocation_of : List Bytes → Option Invocation
+invocation_of [] = None
+invocation_of (word ∷ []) = lone_word word
+invocation_of (word ∷ operand ∷ more) = if bytes_eq word (codes "sniff") then sniff_words operand more else word_and_more word operand more

@@ -12,7 +12,7 @@ use Rattle.zb_sched.specs.Printed.{printed}
 use Rattle.zb_sched.specs.Reading.{schedule_in}
 use Rattle.zb_sched.specs.Valid.{IsSchedule}
 use Rattle.zb_command.specs.Answers.{Answer, Writes, Refuses, Exceeds, longest, output_of}
-use Rattle.zb_command.specs.Commands.{Task, Playing, Installing, Making, Inspecting, Sniffing, Campaigning, Auditing, Serving}
+use Rattle.zb_command.specs.Commands.{Invocation, Playing, Installing, Making, Inspecting, Sniffing, Campaigning, Auditing, Serving}
 use Rattle.zb_command.specs.declared.status.Status.{Status}
 use Rattle.zb_command.specs.declared.status.Status.TheVariants as status
 
@@ -43,7 +43,7 @@ Ends (status.BadStore at) wanted before after old new = ⊥
 Ends status.Worn wanted before after old new = ⊥
 
 -- Nothing is left to come of the input of a command that has one.
-abbrev pub ReadsToEnd : Task → Option Bytes → Type 0
+abbrev pub ReadsToEnd : Invocation → Option Bytes → Type 0
 ReadsToEnd Playing left = IsAtEnd left
 ReadsToEnd (Installing code) left = Unit {0}
 ReadsToEnd (Making count) left = Unit {0}
@@ -76,15 +76,15 @@ WritesFront s answer before after = Unit {0}
 -- The input is a schedule, and the text of its transcript was written. Everything holds of that transcript that the laws over
 -- runs say, and it is the only list of lines that the schedule gives.
 pub record Played (input : Bytes) (before after : Option Bytes) : Type 0 where
-  pub plan : sched.Schedule
-  pub reads : schedule_in input ≡ Ok plan
-  pub written : Appends before after (transcript_text plan)
-  pub holds : Holds (schedule_of plan)
+  pub schedule : sched.Schedule
+  pub reads : schedule_in input ≡ Ok schedule
+  pub written : Appends before after (transcript_text schedule)
+  pub holds : Holds (schedule_of schedule)
 
 -- A schedule was made, and its printed text was written, which is a text that reads as that schedule.
 pub record Made (count : ℕ) (before after : Option Bytes) : Type 0 where
-  pub plan : sched.Schedule
-  pub is : made_schedule 0 count ≡ Ok plan
-  pub valid : IsSchedule plan
-  pub reads : schedule_in (printed plan) ≡ Ok plan
-  pub written : Appends before after (printed plan)
+  pub schedule : sched.Schedule
+  pub is : made_schedule 0 count ≡ Ok schedule
+  pub valid : IsSchedule schedule
+  pub reads : schedule_in (printed schedule) ≡ Ok schedule
+  pub written : Appends before after (printed schedule)

@@ -1,19 +1,19 @@
--- A command of the program as a task.
+-- A command of the program as a invocation.
 use Rattle.std.specs.Prelude.{◌<◌, ◌≤◌, ◌^◌, ◌-◌, length, map, string_bytes, ⊤}
 use Rattle.zb_command.specs.KeyWords.{keys_in}
-use Rattle.zb_command.specs.Commands.{Task, Playing, Installing, Making, Inspecting, Sniffing, Campaigning, Auditing, Serving}
+use Rattle.zb_command.specs.Commands.{Invocation, Playing, Installing, Making, Inspecting, Sniffing, Campaigning, Auditing, Serving}
 use Rattle.zb_command.specs.declared.command.Command.{Command}
 use Rattle.zb_command.specs.declared.command.Command.TheVariants.{Play, Install, Make, Inspect, Sniff, Campaign, Audit, Admin}
 
-abbrev pub task : Command → Task
-task Play = Playing
-task (Install code) = Installing code.now
-task (Make count) = Making count
-task (Inspect jobs) = Inspecting jobs
-task (Sniff jobs words) = Sniffing jobs (keys_in (map string_bytes words.now))
-task (Campaign count start jobs) = Campaigning count start jobs
-task Audit = Auditing
-task Admin = Serving
+abbrev pub invocation : Command → Invocation
+invocation Play = Playing
+invocation (Install code) = Installing code.now
+invocation (Make count) = Making count
+invocation (Inspect jobs) = Inspecting jobs
+invocation (Sniff jobs words) = Sniffing jobs (keys_in (map string_bytes words.now))
+invocation (Campaign count start jobs) = Campaigning count start jobs
+invocation Audit = Auditing
+invocation Admin = Serving
 
 -- A code has fewer than 2^32 - 1 bytes; a made schedule has 1 to 60 routers and devices; jobs are 1 to 64;
 -- at most 256 keys are given; a campaign has 1 to 1,000 runs, and the start value of its last run is below 2^32.

@@ -10,7 +10,7 @@ use std::alloc::Global;
 use std::thread::Threads;
 use zb_base::Sink;
 use zb_campaign::{CampaignFault, campaign};
-use zb_parallel::OpenGate;
+use zb_parallel::NoGate;
 
 /// Plays `count` made schedules from the start value `start` on, by so many jobs, and writes what they come to.
 pub(crate) fn write_campaign<T: Threads + Sync, W: Sink>(
@@ -29,7 +29,7 @@ pub(crate) fn write_campaign<T: Threads + Sync, W: Sink>(
     ensures read_fault { result ≡ Status.ReadFault → ⊥ }
     ensures no_write_fault { result ≢ Status.WriteFault → Unrisen (W.faults output.old) (W.faults output.new) }
 {
-    match campaign(rt, alloc, count, start, jobs, &OpenGate, output) {
+    match campaign(rt, alloc, count, start, jobs, &NoGate, output) {
         Ok(()) => Status::Ok,
         Err(CampaignFault::Write) => Status::WriteFault,
         Err(CampaignFault::Clash { line, cause }) => Status::Refused {

@@ -1,8 +1,8 @@
 //! The words of the command line.
 ghost use Rattle.std.specs.Prelude.{◌≡◌, map, string_bytes, IfSome, ◌≤◌};
 ghost use Rattle.std.specs.Option.{option_map};
-ghost use Rattle.zb_command.specs.Commands.{campaign_words, count_of, lone_word, sniff_words, task_of, word_and_operand, word_and_three};
-ghost use Rattle.zb_command.specs.Words.{task, Fits};
+ghost use Rattle.zb_command.specs.Commands.{campaign_words, count_of, lone_word, sniff_words, invocation_of, word_and_operand, word_and_three};
+ghost use Rattle.zb_command.specs.Words.{invocation, Fits};
 
 use crate::keys::are_keys;
 use zb_text::numbers::number;
@@ -51,7 +51,7 @@ pub(crate) enum Command<'a> {
 
 /// Reads the words after the program's name as a command.
 pub(crate) fn read_words<'a>(words: &'a [String]) -> Option<Command<'a>>
-    ensures value { option_map task result ≡ task_of (map string_bytes words.now) }
+    ensures value { option_map invocation result ≡ invocation_of (map string_bytes words.now) }
     ensures fits { IfSome result Fits }
 {
     match words {
@@ -69,7 +69,7 @@ pub(crate) fn read_words<'a>(words: &'a [String]) -> Option<Command<'a>>
 }
 
 fn sniff<'a>(operand: &str, words: &'a [String]) -> Option<Command<'a>>
-    ensures value { option_map task result ≡ sniff_words operand.now (map string_bytes words.now) }
+    ensures value { option_map invocation result ≡ sniff_words operand.now (map string_bytes words.now) }
     ensures fits { IfSome result Fits }
 {
     if words.len() > 256 || !are_keys(words) {
@@ -80,7 +80,7 @@ fn sniff<'a>(operand: &str, words: &'a [String]) -> Option<Command<'a>>
 }
 
 fn lone<'a>(word: &str) -> Option<Command<'a>>
-    ensures value { option_map task result ≡ lone_word word.now }
+    ensures value { option_map invocation result ≡ lone_word word.now }
     ensures fits { IfSome result Fits }
 {
     if word == "play" {
@@ -93,7 +93,7 @@ fn lone<'a>(word: &str) -> Option<Command<'a>>
 }
 
 fn with_operand<'a>(word: &str, operand: &'a str) -> Option<Command<'a>>
-    ensures value { option_map task result ≡ word_and_operand word.now operand.now }
+    ensures value { option_map invocation result ≡ word_and_operand word.now operand.now }
     ensures fits { IfSome result Fits }
 {
     if word == "install" && operand.len() < 4_294_967_295 {
@@ -112,7 +112,7 @@ fn with_operand<'a>(word: &str, operand: &'a str) -> Option<Command<'a>>
 }
 
 fn with_three<'a>(word: &str, first: &str, second: &str, third: &str) -> Option<Command<'a>>
-    ensures value { option_map task result ≡ word_and_three word.now first.now second.now third.now }
+    ensures value { option_map invocation result ≡ word_and_three word.now first.now second.now third.now }
     ensures fits { IfSome result Fits }
 {
     if word == "campaign" {
@@ -123,7 +123,7 @@ fn with_three<'a>(word: &str, first: &str, second: &str, third: &str) -> Option<
 }
 
 fn campaign<'a>(runs: &str, start: &str, jobs: &str) -> Option<Command<'a>>
-    ensures value { option_map task result ≡ campaign_words runs.now start.now jobs.now }
+    ensures value { option_map invocation result ≡ campaign_words runs.now start.now jobs.now }
     ensures fits { IfSome result Fits }
 {
     let runs = count(runs, 1000)?;

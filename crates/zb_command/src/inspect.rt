@@ -17,7 +17,7 @@ use std::thread::Threads;
 use zb_base::{Sink, Source};
 use zb_capture::Capture;
 use zb_inspect::{InspectFault, report};
-use zb_parallel::OpenGate;
+use zb_parallel::NoGate;
 
 /// Writes the report on the capture on the input, read and worked out by so many jobs.
 pub(crate) fn inspect_input<T: Threads + Sync, R: Source, W: Sink>(
@@ -63,7 +63,7 @@ pub(crate) fn report_on<T: Threads + Sync, W: Sink>(
     ensures read_fault { result ≡ Status.ReadFault → ⊥ }
     ensures no_write_fault { result ≢ Status.WriteFault → Unrisen (W.faults output.old) (W.faults output.new) }
 {
-    match report(rt, alloc, capture, jobs, &OpenGate, output) {
+    match report(rt, alloc, capture, jobs, &NoGate, output) {
         Ok(()) => Status::Ok,
         Err(InspectFault::Write) => Status::WriteFault,
         Err(InspectFault::NoMemory) => Status::NoMemory,

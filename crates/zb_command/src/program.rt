@@ -5,12 +5,12 @@ ghost use Rattle.zb_admin.specs.Serving.{outside};
 ghost use Rattle.zb_base.specs.Outside.{Rose, Unrisen};
 ghost use Rattle.zb_command.specs.Answers.{Answer, Refuses, Exceeds, longest, status_of, wanted};
 ghost use Rattle.zb_command.specs.Auditing.{Audits};
-ghost use Rattle.zb_command.specs.Commands.{Task, Auditing, Playing, Making, Serving, task_of};
+ghost use Rattle.zb_command.specs.Commands.{Invocation, Auditing, Playing, Making, Serving, invocation_of};
 ghost use Rattle.zb_command.specs.Finishing.{Finishes};
 ghost use Rattle.zb_command.specs.Inputs.{TakesAtMost};
 ghost use Rattle.zb_command.specs.Outcomes.{IsWritten, Made, Played, ReadsToEnd, WritesFront, WritesNothing};
 ghost use Rattle.zb_command.specs.Serving.{Serviced};
-ghost use Rattle.zb_command.specs.Words.{task, Fits};
+ghost use Rattle.zb_command.specs.Words.{invocation, Fits};
 ghost use Rattle.zb_command.specs.declared.status.Cause.{Cause};
 
 use crate::admin::serve_input;
@@ -38,50 +38,50 @@ pub fn run<T: Threads + Sync, R: Source, W: Sink, D: Disk>(
     store: &mut D,
 ) -> Status
     // `Usage` comes exactly where the words are no command.
-    ensures usage { result ≡ Status.Usage → task_of (map string_bytes words.now) ≡ None }
-    ensures no_command { task_of (map string_bytes words.now) ≡ None → result ≡ Status.Usage }
+    ensures usage { result ≡ Status.Usage → invocation_of (map string_bytes words.now) ≡ None }
+    ensures no_command { invocation_of (map string_bytes words.now) ≡ None → result ≡ Status.Usage }
     // At Ok the output that is wanted of the command was written, and its input was read to its end.
-    ensures done { (job : Task) → task_of (map string_bytes words.now) ≡ Some job → result ≡ Status.Ok
+    ensures done { (job : Invocation) → invocation_of (map string_bytes words.now) ≡ Some job → result ≡ Status.Ok
         → IfSome (wanted job (R.rest input.old))
         (λ answer. IsWritten answer (W.taken output.old) (W.taken output.new)) }
-    ensures end { (job : Task) → task_of (map string_bytes words.now) ≡ Some job → result ≡ Status.Ok
+    ensures end { (job : Invocation) → invocation_of (map string_bytes words.now) ≡ Some job → result ≡ Status.Ok
         → ReadsToEnd job (R.rest input.new) }
     // It takes no more of the input than one byte past the longest.
     ensures few { TakesAtMost (R.rest input.old) (R.rest input.new) 16777217 }
     // What `play` wrote is a lawful run of the schedule that its input is.
-    ensures played { task_of (map string_bytes words.now) ≡ Some Playing → result ≡ Status.Ok
+    ensures played { invocation_of (map string_bytes words.now) ≡ Some Playing → result ≡ Status.Ok
         → IfSome (R.rest input.old) (λ bytes. Played bytes (W.taken output.old) (W.taken output.new)) }
     // What `make` wrote is the made schedule, and reads as that.
-    ensures made { (count : ℕ) → task_of (map string_bytes words.now) ≡ Some (Making count) → result ≡ Status.Ok
+    ensures made { (count : ℕ) → invocation_of (map string_bytes words.now) ≡ Some (Making count) → result ≡ Status.Ok
         → Made count (W.taken output.old) (W.taken output.new) }
     // What `audit` wrote is the verdict on the lines that its input is the text of, no line of which is bad; else the
     // status has the first bad line, or the first that is no text of a line.
-    ensures audited { task_of (map string_bytes words.now) ≡ Some Auditing → Audits result (R.rest input.old)
+    ensures audited { invocation_of (map string_bytes words.now) ≡ Some Auditing → Audits result (R.rest input.old)
         (W.taken output.old) (W.taken output.new) (W.faults output.old) (W.faults output.new) }
     // `admin` served the script that its input is over the store, so far as the status says; other commands leave it.
-    ensures served { task_of (map string_bytes words.now) ≡ Some Serving
+    ensures served { invocation_of (map string_bytes words.now) ≡ Some Serving
         → Serviced (outside D.tells D.state W.taken W.faults) result (R.rest input.old) store.old output.old
         store.new output.new }
-    ensures store { (task_of (map string_bytes words.now) ≡ Some Serving → ⊥) → store.new ≡ store.old }
+    ensures store { (invocation_of (map string_bytes words.now) ≡ Some Serving → ⊥) → store.new ≡ store.old }
     // The cause of each other answer.
     ensures read_fault { result ≡ Status.ReadFault → Rose (R.faults input.old) (R.faults input.new) }
     ensures write_fault { result ≡ Status.WriteFault → Rose (W.faults output.old) (W.faults output.new) }
     // A fault of the source or of the sink is told as nothing else.
     ensures no_read_fault { result ≢ Status.ReadFault → Unrisen (R.faults input.old) (R.faults input.new) }
     ensures no_write_fault { result ≢ Status.WriteFault → Unrisen (W.faults output.old) (W.faults output.new) }
-    ensures refused { (job : Task) (line : ℕ) (cause : Cause) → task_of (map string_bytes words.now) ≡ Some job
+    ensures refused { (job : Invocation) (line : ℕ) (cause : Cause) → invocation_of (map string_bytes words.now) ≡ Some job
         → result ≡ Status.Refused line cause
         → IfSome (wanted job (R.rest input.old)) (λ answer. answer ≡ Refuses line cause) }
-    ensures too_long { (job : Task) (limit : ℕ) → task_of (map string_bytes words.now) ≡ Some job → result
+    ensures too_long { (job : Invocation) (limit : ℕ) → invocation_of (map string_bytes words.now) ≡ Some job → result
         ≡ Status.TooLong limit
         → (limit ≡ longest) × IfSome (wanted job (R.rest input.old)) (λ answer. answer ≡ Exceeds) }
     // What was written at these.
     ensures nothing { WritesNothing result (W.taken output.old) (W.taken output.new) }
-    ensures front { (job : Task) → task_of (map string_bytes words.now) ≡ Some job
+    ensures front { (job : Invocation) → invocation_of (map string_bytes words.now) ≡ Some job
         → IfSome (wanted job (R.rest input.old))
         (λ answer. WritesFront result answer (W.taken output.old) (W.taken output.new)) }
     // Where neither the source nor the sink fails, only the status of the answer comes, or want of memory.
-    ensures complete { (job : Task) (answer : Answer) → task_of (map string_bytes words.now) ≡ Some job → wanted job
+    ensures complete { (job : Invocation) (answer : Answer) → invocation_of (map string_bytes words.now) ≡ Some job → wanted job
         (R.rest input.old) ≡ Some answer
         → (Rose (R.faults input.old) (R.faults input.new) → ⊥) → (Rose (W.faults output.old) (W.faults output.new) → ⊥)
         → (result ≡ status_of answer) ⊎ (result ≡ Status.NoMemory) }
@@ -102,17 +102,17 @@ fn carry_out<T: Threads + Sync, R: Source, W: Sink, D: Disk>(
     store: &mut D,
 ) -> Status
     requires { Fits command }
-    ensures ends { Finishes (task command.entry) result (R.rest input.old) (W.taken output.old)
+    ensures ends { Finishes (invocation command.entry) result (R.rest input.old) (W.taken output.old)
         (W.taken output.new) (W.faults output.old) (W.faults output.new) }
-    ensures served { task command.entry ≡ Serving
+    ensures served { invocation command.entry ≡ Serving
         → Serviced (outside D.tells D.state W.taken W.faults) result (R.rest input.old) store.old output.old
         store.new output.new }
-    ensures store { (task command.entry ≡ Serving → ⊥) → store.new ≡ store.old }
-    ensures end { result ≡ Status.Ok → ReadsToEnd (task command.entry) (R.rest input.new) }
+    ensures store { (invocation command.entry ≡ Serving → ⊥) → store.new ≡ store.old }
+    ensures end { result ≡ Status.Ok → ReadsToEnd (invocation command.entry) (R.rest input.new) }
     ensures few { TakesAtMost (R.rest input.old) (R.rest input.new) 16777217 }
-    ensures played { task command.entry ≡ Playing → result ≡ Status.Ok
+    ensures played { invocation command.entry ≡ Playing → result ≡ Status.Ok
         → IfSome (R.rest input.old) (λ bytes. Played bytes (W.taken output.old) (W.taken output.new)) }
-    ensures made { (count : ℕ) → task command.entry ≡ Making count → result ≡ Status.Ok
+    ensures made { (count : ℕ) → invocation command.entry ≡ Making count → result ≡ Status.Ok
         → Made count (W.taken output.old) (W.taken output.new) }
     ensures read_fault { result ≡ Status.ReadFault → Rose (R.faults input.old) (R.faults input.new) }
     ensures no_read_fault { result ≢ Status.ReadFault → Unrisen (R.faults input.old) (R.faults input.new) }

@@ -18,7 +18,7 @@ use std::alloc::{AllocError, Global};
 use std::thread::Threads;
 use zb_base::{OrMemory, Sink, Source};
 use zb_inspect::{InspectFault, report};
-use zb_parallel::OpenGate;
+use zb_parallel::NoGate;
 use zb_pcap::{Counts, Extraction, extract};
 use zb_text::page::{add_number, end_line, hand_out, put};
 
@@ -79,7 +79,7 @@ fn report_and_count<T: Threads + Sync, W: Sink>(
     let Ok(mut page) = counts_page(alloc, &extraction.counts) else {
         return Status::NoMemory;
     };
-    match report(rt, alloc, &extraction.capture, jobs, &OpenGate, output) {
+    match report(rt, alloc, &extraction.capture, jobs, &NoGate, output) {
         Ok(()) => {}
         Err(InspectFault::Write) => return Status::WriteFault,
         Err(InspectFault::NoMemory) => return Status::NoMemory,

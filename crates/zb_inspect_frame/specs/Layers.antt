@@ -15,7 +15,7 @@ abbrev pub with_source : Envelope → Option Eui → Finding
 with_source s None = NoSource
 with_source s (Some source) = Closed s source
 
--- what a layer is before any key is tried; a code is not judged then
+-- what a layer is before any key is tried; a MIC is not judged then
 abbrev pub looked : Result Envelope OpenError → Option Eui → Finding
 looked (Err (fault.Frame nwk aps)) given = Malformed
 looked (Err fault.NotSecured) given = NotSecured

@@ -2,7 +2,7 @@ mod Bytes
 mod Toy
 mod Terms
 mod Small
-pub mod Rows
+pub mod Runs
 mod Refusals
 mod Cases
 mod FitCases

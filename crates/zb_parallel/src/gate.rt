@@ -10,8 +10,8 @@ pub trait Gate: Sync {
 
 /// Stands open: every share passes at once.
 #[derive(Clone, Copy, Debug, Default, PartialEq, Eq)]
-pub struct OpenGate;
+pub struct NoGate;
 
-impl Gate for OpenGate {
+impl Gate for NoGate {
     fn pass(&self, _share: u32) {}
 }

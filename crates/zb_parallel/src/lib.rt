@@ -5,6 +5,6 @@ mod gate;
 mod idle;
 mod share;
 
-pub use gate::{Gate, OpenGate};
+pub use gate::{Gate, NoGate};
 pub use idle::IdleThread;
 pub use share::{Share, shares};

@@ -1,4 +1,4 @@
--- Keys that are derived have 16 bytes, a code has the length that is asked for, and how long a term is on the air.
+-- Keys that are derived have 16 bytes, a MIC has the length that is asked for, and how long a term is on the air.
 use Rattle.std.proofs.Common.{◌≡◌, ℕ, zero, suc, ◌+◌, ◌-◌, ◌*◌, ◌/◌, ◌≤◌, Bool, true, false, cond, List, [], ◌∷◌, ◌++◌, length, take, drop, map, replicate, nat_le, refl, ap, ◌∙◌, arith, length-append, length-take, length-drop}
 use Rattle.std.specs.List.{fold, range_with_len}
 use Rattle.zb_base.specs.declared.label.Label.{Label}
@@ -10,7 +10,7 @@ use Rattle.zb_aes.specs.Bytes.{xored}
 use Rattle.zb_mmo.specs.Hash.{blocks_of, mixed, hash, padded}
 use Rattle.zb_mmo.specs.Keyed.{keyed, inner_pad, outer_pad}
 use Rattle.zb_ccm.specs.Blocks.{chain, chained}
-use Rattle.zb_ccm.specs.Ccm.{authenticated_blocks, code, sealed, stream_block}
+use Rattle.zb_ccm.specs.Ccm.{authenticated_blocks, mic_of, sealed, stream_block}
 use Rattle.zb_seal.specs.Keys.{sealing_key}
 use Rattle.zb_seal.specs.Wire.{zero_level, at_place, aux_size, on_air, sealed_term, wire, wire_length}
 use Rattle.zb_seal.specs.declared.term.Term.{Term}
@@ -45,7 +45,7 @@ length-chain key value [] h g = g
 length-chain key value (b ∷ bs) h g = length-chain key (chained key value b) bs h (length-enciphered key (xored value b) h)
 
 pub length-mic : (key nonce a message : List ℕ) → length key ≡ 16 → length (sealed key nonce a message 4).mic ≡ 4
-unfolding sealed code stream_block
+unfolding sealed mic_of stream_block
 length-mic key nonce a message h =
     let value : List ℕ = chain key (replicate 16 0) (authenticated_blocks nonce a message 4) in
     let long : length value ≡ 16 = length-chain key (replicate 16 0) (authenticated_blocks nonce a message 4) h refl in
@@ -60,10 +60,10 @@ length-one_of false xs ys h = refl
 length-on_air : (size : ℕ) (header : List ℕ) → length (on_air size header) ≡ length header
 length-on_air size header = length-one_of (nat_le size (length header)) (at_place zero_level (length header - size) header) header (length-at_place zero_level (length header - size) header)
 
--- the length on the air, from those of the cipher text and of the code
+-- the length on the air, from those of the cipher text and of the MIC
 pub length-wire : (t : Term) (key text mic : List ℕ) → key ≡ sealing_key t.label t.base.0 → text ≡ (sealed_term key t).text → mic ≡ (sealed_term key t).mic → length text ≡ length t.content.items → length mic ≡ 4
     → length (wire t) ≡ wire_length t
-length-wire t key text mic is at code same four =
+length-wire t key text mic is at mic_of same four =
     let air : List ℕ = on_air (aux_size t.layer t.control) t.header.items in
-    let parts : wire t ≡ (air ++ text) ++ mic = rw (at, code, is) refl in
+    let parts : wire t ≡ (air ++ text) ++ mic = rw (at, mic_of, is) refl in
     ap (length {A = ℕ}) parts ∙ omega (arith, length-append (air ++ text) mic, length-append air text, length-on_air (aux_size t.layer t.control) t.header.items, same, four)

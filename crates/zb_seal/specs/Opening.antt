@@ -135,7 +135,7 @@ abbrev pub opened_seen : Result Envelope OpenError → Key → Option Eui → Re
 opened_seen (Err e) base given = Err e
 opened_seen (Ok s) base given = opened s base given
 
--- What a NWK frame opens to, or the first of its faults: no frame, not secured, a code that is not the content's.
+-- What a NWK frame opens to, or the first of its faults: no frame, not secured, a MIC that is not the content's.
 unfoldable pub opened_nwk : List ℕ → Key → Result Term OpenError
 opened_nwk bytes base = opened_seen (seen_nwk bytes) base None
 

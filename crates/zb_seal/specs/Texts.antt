@@ -7,4 +7,4 @@ abbrev pub fault_text : OpenError → List ℕ
 fault_text (Frame nwk aps) = codes "no frame"
 fault_text NotSecured = codes "the frame is not secured"
 fault_text NoSource = codes "the source of the frame is not known"
-fault_text BadMic = codes "the code of the frame is wrong"
+fault_text BadMic = codes "the MIC of the frame is wrong"

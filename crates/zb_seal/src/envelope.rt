@@ -28,7 +28,7 @@ pub enum OpenError {
     NotSecured,
     /// The frame names no source, and none was given.
     NoSource,
-    /// The message integrity code is not that of a content under this key.
+    /// The MIC (message integrity code) is not that of a content under this key.
     BadMic,
 }
 
@@ -43,7 +43,7 @@ impl fmt::Display for OpenError {
             OpenError::Frame { .. } => f.write_str("no frame"),
             OpenError::NotSecured => f.write_str("the frame is not secured"),
             OpenError::NoSource => f.write_str("the source of the frame is not known"),
-            OpenError::BadMic => f.write_str("the code of the frame is wrong"),
+            OpenError::BadMic => f.write_str("the MIC of the frame is wrong"),
         }
     }
 }
@@ -86,7 +86,7 @@ pub struct Envelope {
     pub header: Frame,
     /// The cipher text.
     pub text: Frame,
-    /// The message integrity code.
+    /// The MIC (message integrity code).
     pub mic: [u8; 4],
 }
 
@@ -108,7 +108,7 @@ impl Envelope {
     ///
     /// # Errors
     ///
-    /// `BadMic` where the code is not that of a content under this key and source. Then all stays as it was, for the
+    /// `BadMic` where the MIC is not that of a content under this key and source. Then all stays as it was, for the
     /// next key.
     pub fn unseal(&mut self, cipher: &Cipher, source: Eui) -> Result<(), OpenError>
         ensures opened { OnOk result (content_of self.old cipher.now source ≡ Some self.new.text.items) }
@@ -153,7 +153,7 @@ impl Envelope {
     ///
     /// # Errors
     ///
-    /// `NoSource` where the source is not known, then `BadMic` where the code is not that of a content.
+    /// `NoSource` where the source is not known, then `BadMic` where the MIC is not that of a content.
     #[tactic(auto, unfolding(crate::specs::Opening::opened))]
     pub fn open_with(
         self,

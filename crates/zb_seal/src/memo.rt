@@ -99,7 +99,7 @@ impl KeyMemo {
     ///
     /// # Errors
     ///
-    /// `NoSource` where the source is not known, then `BadMic` where the code is not that of a content.
+    /// `NoSource` where the source is not known, then `BadMic` where the MIC is not that of a content.
     #[tactic(auto, unfolding(crate::specs::Opening::opened))]
     pub fn open(&self, envelope: Envelope, key: &Key, given: Option<Eui>) -> Result<Term, OpenError>
         ensures { result ≡ opened envelope key.now given }

@@ -202,7 +202,7 @@ pub fn open_nwk_with(bytes: &[u8], key: &Key, cipher: &Cipher) -> Result<Term, O
 ///
 /// # Errors
 ///
-/// `Frame` where the bytes are no NWK frame, then `NotSecured` where it is not secured, then `BadMic` where its code is
+/// `Frame` where the bytes are no NWK frame, then `NotSecured` where it is not secured, then `BadMic` where its MIC is
 /// not that of a content under the key.
 pub fn open_nwk(bytes: &[u8], key: &Key) -> Result<Term, OpenError>
     ensures exact { result ≡ opened_nwk bytes.now key.now }
@@ -249,7 +249,7 @@ fn open_aps_once(bytes: &[u8], base: &Key, source: Option<Eui>) -> Result<Term, 
 /// # Errors
 ///
 /// `Frame` where the bytes are no APS frame, then `NotSecured` where it is not secured, then `NoSource` where its
-/// source is not known, then `BadMic` where its code is not that of a content under the key.
+/// source is not known, then `BadMic` where its MIC is not that of a content under the key.
 pub fn open_aps(bytes: &[u8], base: &Key, source: Option<Eui>) -> Result<Term, OpenError>
     ensures exact { result ≡ opened_aps bytes.now base.now source }
     // What is answered is what the bytes open to, and what the bytes open to is answered.
