@@ -1,5 +1,5 @@
--- The counters that an answer's seals take are the next ones of the state after its changes and accepted terms: no change
--- touches a next counter but a first counter, which isn't above that of the active key.
+-- The counters that an answer's seals take are the next ones of the state after its changes and accepted terms: no
+-- change touches a next counter but a first counter, which isn't above that of the active key.
 use Rattle.std.proofs.Common.{◌≡◌, ℕ, ◌≤◌, Bool, true, false, if◌then◌else◌, List, [], ◌∷◌, ◌++◌, filter, find, flat_map, Option, Some, None, option_map, option_to_list, refl, sym, ap, ◌∙◌, subst, arith, le_refl, zero-le}
 use Rattle.std.specs.Prelude.{nat_le}
 use Rattle.std.specs.List.{AllByRecursion}
@@ -58,7 +58,7 @@ pub reserve_gentle : (n : ℕ) (layer : Layer) (o : Option ℕ) → AllByRecursi
 reserve_gentle n layer None = tt
 reserve_gentle n layer (Some limit) = (tt, tt)
 
--- the changes behind the reserves
+-- the changes after the reserves
 abbrev pub rest_of : Setting → NodeState → Plan → List Edit
 rest_of c s p = flat_map (floor_edit (counting_of c s p)) p.accepts ++ flat_map (move_edits (counting_of c s p)) (filter (changes s) (moves_of p.outcome))
 

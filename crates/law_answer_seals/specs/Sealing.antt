@@ -5,7 +5,8 @@ use Rattle.zb_model.specs.State.{greatest_counter, NetKey, NodeState, net_of, af
 use Rattle.zb_model.specs.Rules.{Setting}
 use Rattle.zb_model.specs.Answer.{Answer, accepted_all}
 
--- The state in which an answer's seals are made: after its changes, as the tables then show it, and its accepted terms.
+-- The state in which an answer's seals are made: after its changes, as the tables then show it, and its accepted
+-- terms.
 abbrev pub before_seals : Answer → NodeState → NodeState
 before_seals a s = accepted_all a.accepts (shown (applied_all a.edits s))
 

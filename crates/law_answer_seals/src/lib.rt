@@ -12,7 +12,7 @@ ghost use Rattle.zb_model.specs.Tools.{Tools};
 ghost use Rattle.law_answer_seals.specs.Sealing.{AreHeard, AreSeals, IsWithinLimits, SealsNext, SealsReserved, before_seals};
 ghost use Rattle.law_answer_storable.specs.Storing.{OpensAsJudged};
 
-/// Says that what an answer seals takes the next counters of the state after its changes and accepted terms.
+/// States that what an answer seals takes the next counters of the state after its changes and accepted terms.
 ///
 /// It holds of every state. Which key the answer makes active, drops or gives its first counter doesn't matter: the
 /// seal at NWK is under the key that was active before.
@@ -22,7 +22,7 @@ pub fn an_answer_seals_with_the_next_counters()
         → SealsNext (before_seals (answer tools c s task) s) (answer tools c s task).seals }
 {}
 
-/// Says that the counters of what an answer seals are below the limits that are stored by then.
+/// States that the counters of what an answer seals are below the limits that are stored by then.
 ///
 /// No next counter is above its limit before, and a block is 1 or more: then a reserve makes room.
 #[tactic(auto, using(crate::proofs::Room::answer_reserved))]
@@ -31,7 +31,7 @@ pub fn an_answer_seals_with_reserved_counters()
         → SealsReserved (before_seals (answer tools c s task) s) (answer tools c s task).seals }
 {}
 
-/// Says that no next counter passes its limit in an answer: not by its changes, accepted terms and seals.
+/// States that no next counter passes its limit in an answer: not by its changes, accepted terms and seals.
 ///
 /// A boot sets each counter to its limit, so from then on it holds. Nor does a counter pass its limit by one change
 /// alone, as when a journal is read, or by what tables forget.
@@ -45,7 +45,7 @@ pub fn no_counter_passes_its_limit()
     ensures boot { (s : NodeState) → IsWithinLimits (after_boot s) }
 {}
 
-/// Says that an answer seals at most one term of APS and then one of NWK, under the key that was active before.
+/// States that an answer seals at most one term of APS and then one of NWK, under the key that was active before.
 ///
 /// Both have the node itself as their source.
 #[tactic(auto, using(crate::proofs::SealLayers::answer_seals))]
@@ -54,7 +54,7 @@ pub fn an_answer_seals_once_at_each_layer()
         → AreSeals c s (answer tools c s task).seals }
 {}
 
-/// Says that an answer accepts at most one term of NWK and then one of APS, with counters below the greatest.
+/// States that an answer accepts at most one term of NWK and then one of APS, with counters below the greatest.
 #[tactic(auto, using(crate::proofs::Heard::answer_hears, crate::proofs::Heard::answer_below_last))]
 pub fn an_answer_accepts_once_at_each_layer()
     ensures layers { (tools : Tools) → OpensAsJudged tools → (c : Setting) (s : NodeState) (task : Task)
@@ -63,7 +63,7 @@ pub fn an_answer_accepts_once_at_each_layer()
         → AllByRecursion (λ (t : Term). t.counter < greatest_counter) (answer tools c s task).accepts }
 {}
 
-/// Says that terms may be accepted and sealed in two parts, as those of one layer and then those of the other.
+/// States that terms may be accepted and sealed in two parts, as those of one layer and then those of the other.
 #[tactic(auto, using(crate::proofs::InParts::parts))]
 pub fn terms_go_in_parts()
     ensures next { (first second : List Term) (s : NodeState) → SealsNext s (first ++ second)

@@ -1,5 +1,5 @@
--- What judging accepts has its row: a floor for it has a live row to be stored in, and room there. And the plan of every
--- event: what it accepts, and moves that may be made.
+-- What judging accepts has its row: a floor for it has a live row to be stored in, and room there. And the plan of
+-- every event: what it accepts, and moves that may be made.
 use Rattle.std.proofs.Common.{◌≡◌, ℕ, ◌<◌, Bool, true, false, not, if◌then◌else◌, ◌&&◌, ◌||◌, List, [], ◌∷◌, ◌++◌, length, Option, Some, None, refl, sym, ap, ◌∙◌, arith, ◌⊎◌, inl, inr}
 use Rattle.std.specs.Prelude.{find, filter, reverse, option_to_list, nat_eq, nat_lt, nat_le}
 use Rattle.std.specs.List.{list_any}

@@ -1,4 +1,4 @@
--- A link row that is entered behind those that were dropped: it has room and no rival.
+-- A link row that is entered after those that were dropped: it has room and no rival.
 use Rattle.std.proofs.Common.{◌≡◌, ℕ, ◌+◌, ◌≤◌, List, [], ◌∷◌, ◌++◌, length, map, refl, ap, ◌∙◌, arith, Bool, true, false, not, if◌then◌else◌, ◌&&◌, ◌||◌, Option, Some, None, nat_eq, length-append}
 use Rattle.std.specs.Prelude.{find, filter, option_to_list, nat_lt, nat_le}
 use Rattle.std.specs.List.{list_any}
@@ -98,7 +98,7 @@ kind_of_offered partner r e = tests (is_live_of partner r) (is_unverified r.attr
     tests a true e = e
     tests a false e = e
 
--- a row alone, or with what stands behind it
+-- a row alone, or with what stands after it
 
 pub row_alone : (start u : NodeState) (partner : ℕ) (key : Bytes) (attribute : Attribute) → move_fits (Row partner key attribute) u ≡ true → moves_fit start (Row partner key attribute ∷ []) u ≡ true
 row_alone start u partner key attribute fit = by_test (changes start (Row partner key attribute))

@@ -1,5 +1,5 @@
--- The moves of a rule, one after the other: each that changes something may be made after those before it and leaves the
--- rules. Then their changes fit, with the first counter of a key that becomes active.
+-- The moves of a rule, one after the other: each that changes something may be made after those before it and leaves
+-- the rules. Then their changes fit, with the first counter of a key that becomes active.
 use Rattle.std.proofs.Common.{◌≡◌, ℕ, List, [], ◌∷◌, ◌++◌, map, refl, sym, ap, ◌∙◌, arith, Bool, true, false, if◌then◌else◌, ◌&&◌, Option, Some, None, is_some, option_map, le-leb, eqb-true}
 use Rattle.std.specs.Prelude.{find, filter, flat_map, is_none, nat_le, nat_eq}
 use Rattle.zb_model.specs.Data.{Bytes, Move, Draw, DropNet, DropLink, Install, Active, Row, Pair, Became, Live, Removed, Roll, Told, Untold, Start, Moved}
@@ -15,7 +15,7 @@ use Rattle.law_answer_storable.proofs.Bare.{bare, moved_bare, may_bare, leaves_b
 abbrev pub move_fits : Move → NodeState → Bool
 move_fits m s = may_move m s && move_leaves m s
 
--- no other key becomes active behind one that does
+-- no other key becomes active after one that does
 abbrev pub is_last : Move → Option Bytes → Bool
 is_last (Active key) later = is_none later
 is_last _ later = true

@@ -121,7 +121,7 @@ new_live key sequence (x ∷ xs) none =
     let parts = neither (same_key x.key key) (has_net key xs) none in
     rw parts.0 (new_live key sequence xs parts.1)
 
--- a key that is installed, and what stands behind it
+-- a key that is installed, and what stands after it
 abbrev Behind : NodeState → NodeState → Bytes → List Move → Type 0
 Behind start s key rest = (nets : List NetKey) → row_is_live (find (λ (r : NetKey). same_key r.key key) nets) ≡ true → moves_fit start rest (record s { nets = nets }) ≡ true
 

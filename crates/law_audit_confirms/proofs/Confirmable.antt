@@ -95,14 +95,14 @@ confirming t device found = by_layer t.layer refl found
     by_layer Nwk is same = absurd (nothing device same)
     by_layer Aps is same = by_header is (is_command_header t.header) refl same
 
--- ---- a line behind those that declare
+-- ---- a line after those that declare
 
 record Setting (w : Schedule) : Type 0 where
   schedule : IsSchedule w
   differ : euis_differ w ≡ true
   fits : AreNamed (stations w)
 
--- lines of a run, behind all that declare: these begin it, and these follow
+-- lines of a run, after all that declare: these begin it, and these follow
 record IsBehind (w : Schedule) (h g : List Line) : Type 0 where
   begins : h ≡ map Declared (stations w) ++ g
   plain : AllByRecursion NotDeclared g

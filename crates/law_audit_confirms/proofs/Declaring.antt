@@ -117,7 +117,7 @@ given_lines w =
     ++ (flat_map (λ (m : Node). link_line (centre_of (stations w)) m.station.eui m.code) w.nodes
     ++ flat_map (λ (m : Node). limit_line m.station.eui Nwk m.start_nwk ++ limit_line m.station.eui Aps m.start_aps) w.nodes)
 
--- the lines behind those that declare
+-- the lines after those that declare
 abbrev pub lines_behind : Tools → Schedule → List Line
 lines_behind tools w = given_lines w ++ (groups tools w (start w) [] 1 w.events ++ end_line tools (length w.events) (run_lines tools w) ∷ [])
 

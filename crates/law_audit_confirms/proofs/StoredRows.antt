@@ -34,7 +34,7 @@ abbrev others : List Line → List Line
 others [] = []
 others (l ∷ ls) = ls
 
--- a line that declares nothing stands behind those that declare
+-- a line that declares nothing stands after those that declare
 behind_declared : (ps : List Station) (g before tail : List Line) (m : Line) → NotDeclared m → map Declared ps ++ g ≡ before ++ m ∷ tail → (front : List Line) × (g ≡ front ++ m ∷ tail)
 behind_declared [] g before tail m plain is = (before, is)
 behind_declared (p ∷ ps) g [] tail m plain is = absurd (subst NotDeclared (sym (ap (first_or m) is)) plain)
@@ -181,7 +181,7 @@ there_kept Absent there = absurd there
 there_kept Made there = refl
 there_kept Kept there = refl
 
--- the row's line, that commit, and what stands between and behind them
+-- the row's line, that commit, and what stands between and after them
 kept_by : (known : List Station) (c d : ℕ) (b : Bytes) → Centred known c → IsDeclared known c → (row_event commit_event : ℕ) (front between later : List Line)
     → AllByRecursion NotDeclared (front ++ log.Changed row_event c (model.Moved (model.Row d b model.Verified)) ∷ (between ++ log.Commit commit_event c ∷ later))
     → AllByRecursion (IsOfNodes known) (front ++ log.Changed row_event c (model.Moved (model.Row d b model.Verified)) ∷ (between ++ log.Commit commit_event c ∷ later))

@@ -1,5 +1,5 @@
--- What stands in the answer of a node to a task: what each change is stored for, and what each accepted and each sealed
--- term calls for.
+-- What stands in the answer of a node to a task: what each change is stored for, and what each accepted and each
+-- sealed term calls for.
 use Rattle.std.proofs.Common.{◌≡◌, ℕ, ◌<◌, ◌≤◌, ◌+◌, min, Bool, true, false, cond, ◌&&◌, ◌⊎◌, inl, inr, List, [], ◌∷◌, ◌++◌, map, Option, Some, None, nat_eq, nat_lt, nat_le, flat_map, refl, sym, ap, ◌∙◌, subst, arith, lt-ltb, leb-true, leb-false}
 use Rattle.std.proofs.lemmas.Bool.{false≢true, and_parts}
 use Rattle.std.specs.List.{AllByRecursion}
@@ -108,8 +108,8 @@ pub record FloorFits (block : ℕ) (s : NodeState) (accepts : List Term) (layer 
   pub each : (u : Term) → In u accepts → u.layer ≡ layer → (nat_le (stored_floor term s) u.counter ≡ true) × (value ≡ min (u.counter + block) greatest_counter)
   pub rises : nat_lt (stored_floor term s) value ≡ true
 
--- A reserve stands for a sealed term of its layer, where the next counter has reached the limit; a start with the change
--- that makes its key active, which has a start unless the key has started.
+-- A reserve represents a sealed term of its layer, where the next counter has reached the limit; a start with the
+-- change that makes its key active, which has a start unless the key has started.
 unfoldable pub EditFits : Schedule → List Line → ℕ → Answer → Edit → Type 0
 EditFits w h n a (Reserve layer value) =
     (nat_eq (next_counter layer (state_of h n)) (stored_limit layer (state_of h n)) ≡ true) × (value ≡ block_reserved w (state_of h n) n layer) × ((t : Term) × In t a.seals × (t.layer ≡ layer))
@@ -122,7 +122,8 @@ EditFits w h n a _ = Unit {0}
 abbrev pub AcceptFits : List Line → ℕ → Answer → Term → Type 0
 AcceptFits h n a t = (nat_lt t.counter (stored_floor t (state_of h n)) ≡ true) ⊎ ((value : ℕ) × In (Floor t.layer t.base t.source value) a.edits)
 
--- A sealed term has the next counter, at NWK under the active key, and a reserve where that counter has reached the limit.
+-- A sealed term has the next counter, at NWK under the active key, and a reserve where that counter has reached the
+-- limit.
 pub record SealFits (h : List Line) (n : ℕ) (a : Answer) (t : Term) : Type 0 where
   pub counter : t.counter ≡ next_counter t.layer (state_of h n)
   pub under : IsActive t.layer t.base (state_of h n)
@@ -294,7 +295,7 @@ none_active w h n a k (Roll b ∷ ms) all = (tt, none_active w h n a k ms all.1)
 none_active w h n a k (Told d ∷ ms) all = (tt, none_active w h n a k ms all.1)
 none_active w h n a k (Untold d ∷ ms) all = (tt, none_active w h n a k ms all.1)
 
--- a key that becomes active and the change behind it, its start, if it has none yet
+-- a key that becomes active and the change after it, its start, if it has none yet
 activates : (w : Schedule) (h : List Line) (n : ℕ) (a : Answer) (key : Bytes) (rest : List Edit) (b : Bool) → has_started h n key ≡ b → AllByRecursion (EditFits w h n a) rest
     → ((e : Edit) → In e (Moved (Active key) ∷ (start_edit key (cond b None (Some (start_value (state_of h n)))) ++ rest)) → In e a.edits)
     → AllByRecursion (EditFits w h n a) (Moved (Active key) ∷ (start_edit key (cond b None (Some (start_value (state_of h n)))) ++ rest))

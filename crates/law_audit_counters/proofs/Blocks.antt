@@ -1,4 +1,5 @@
--- Whatever lines follow the start of a run, the first node that they declare by the name of one of its nodes is that node.
+-- Whatever lines follow the start of a run, the first node that they declare by the name of one of its nodes is that
+-- node.
 use Rattle.std.proofs.Common.{◌≡◌, Bool, true, false, cond, ℕ, List, [], ◌∷◌, ◌++◌, map, fold, find, Option, Some, None, is_some, nat_eq, bytes_eq, refl, sym, ap, ◌∙◌, append_assoc}
 use Rattle.std.proofs.lemmas.Bool.{false≢true}
 use Rattle.std.proofs.lemmas.Slice.Eq.{bytes_eq-Decides}

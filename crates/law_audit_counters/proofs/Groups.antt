@@ -23,13 +23,13 @@ use Rattle.zb_trace.specs.declared.line.Line.{Line}
 use Rattle.law_audit_counters.proofs.Answers.{AcceptFits, AnswerFits, EditFits, FloorFits, SealFits, each_in, in_left, in_map, in_right}
 use Rattle.law_audit_counters.proofs.EachKind.{Told, accept_counts, active_counts, all_more, any_in, bytes_same, floor_counts, from_same, is_there, last_in, layer_same, layers_are, reserve_counts, seal_counts, start_counts, there_in}
 
--- ---- each line of a group, behind those in front of it
+-- ---- each line of a group, after those before it
 
 abbrev pub EachCounts : List Station → List (List Line) → List Line → List Line → List log.Line → Type 0
 EachCounts known before group front [] = Unit {0}
 EachCounts known before group front (m ∷ ms) = (is_counted before group front (line_for known m) ≡ true) × EachCounts known before group (front ++ line_for known m ∷ []) ms
 
--- wherever it stands in the group behind those
+-- wherever it stands in the group after those
 abbrev pub CountsBehind : List Station → List (List Line) → List Line → List Line → log.Line → Type 0
 CountsBehind known before group first m = (more : List Line) → is_counted before group (first ++ more) (line_for known m) ≡ true
 
@@ -56,7 +56,7 @@ none_uncounted known before group front number (m ∷ ms) all =
     ap (λ b. cond b [] (number ∷ []) ++ uncounted_in before group (front ++ line_for known m ∷ []) (number + 1) (printed known ms)) all.0
     ∙ none_uncounted known before group (front ++ line_for known m ∷ []) (number + 1) ms all.1
 
--- ---- behind the stored changes
+-- ---- after the stored changes
 
 -- all seals and accepts of the answer stand there
 pub record Whole (number n : ℕ) (a : Answer) (tail : List log.Line) : Type 0 where
@@ -270,7 +270,7 @@ stored_count w h before number n a tail told ends fits =
     from_behind (stations w) before group [] [] (stored_lines number n a)
     (all-append (CountsBehind (stations w) before group []) (change_lines number n a.edits) (commit_lines number n a.edits) (edits_count w h before number n a tail told ends a.edits fits) (commit_counts (stations w) before group number n a.edits))
 
--- a group is counted where the lines behind its stored changes are
+-- a group is counted where the lines after its stored changes are
 group_counts : (w : Schedule) (h : List log.Line) (before : List (List Line)) (number n : ℕ) (a : Answer) (tail : List log.Line) → Told w h before n → Tail (stations w) number n a tail → AllByRecursion (EditFits w h n a) a.edits
     → AllByRecursion (CountsBehind (stations w) before (printed (stations w) (stored_lines number n a ++ tail)) (printed (stations w) (stored_lines number n a))) tail → GroupCounts (stations w) before (stored_lines number n a ++ tail)
 group_counts w h before number n a tail told ends fits rest =
@@ -302,7 +302,7 @@ all_mapped : (P : log.Line → Type 0) (f : Term → log.Line) (ts : List Term) 
 all_mapped P f [] all = tt
 all_mapped P f (t ∷ ts) all = (all.0, all_mapped P f ts all.1)
 
--- what holds of each line behind the stored changes: of accepts and seals, and of others
+-- what holds of each line after the stored changes: of accepts and seals, and of others
 told_all : (P : log.Line → Type 0) (h : List log.Line) (number n : ℕ) (a : Answer) → ((t : Term) → In t a.accepts → P (log.Accept number n t)) → ((t : Term) → In t a.seals → P (log.Seal number n t))
     → ((place : Place) (reason : Reason) → P (log.Refuse number n place reason)) → ((frame : ℕ) (bytes : Bytes) → P (log.Send number (Some n) frame bytes)) → AllByRecursion P (told_of h number n a)
 unfolding told_lines

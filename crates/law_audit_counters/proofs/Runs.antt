@@ -240,7 +240,7 @@ step_counts tools opens w i h before ds number (ForgeOpen to from source label b
 
 -- ---- group by group
 
--- no line of a group, and of those behind it
+-- no line of a group, and of those after it
 group_and_more : (known : List Station) (before : List (List Line)) (number : ℕ) (g : List log.Line) (more : List (List log.Line)) → GroupCounts known before g
     → ((count : ℕ) → uncounted_from (before ++ all_printed known (with_group g [])) count (all_printed known more) ≡ []) → uncounted_from before number (all_printed known (with_group g more)) ≡ []
 unfolding uncounted_from

@@ -1,4 +1,4 @@
-//! That no line of a run breaks the fourth clause of the audit. The law stands as the contract of a function with an
+//! That no line of a run breaks the fourth clause of the audit. The law is the contract of a function with an
 //! empty body; docs/THEOREMS.md says it in words.
 #![tactic(auto)]
 
@@ -13,10 +13,10 @@ ghost use Rattle.law_tables_suffice.specs.Along.{euis_differ};
 ghost use Rattle.law_answer_storable.specs.Storing.{OpensAsJudged};
 ghost use Rattle.zb_trace_model.specs.Naming.{AreNamed};
 
-/// Says that no line of a run breaks the fourth clause of the audit: all its counters add up.
+/// States that no line of a run breaks the fourth clause of the audit: all its counters add up.
 ///
-/// Each seal has the next counter, each reserve, floor and start stands where it must, with its value, and nothing else
-/// does, whatever is delivered, and whichever disk stops or fails.
+/// Each seal has the next counter, each reserve, floor and start stands where it must, with its value, and nothing
+/// else does, whatever is delivered, and whichever disk stops or fails.
 #[tactic(auto, using(crate::proofs::Runs::keeps_fourth))]
 pub fn runs_keep_the_fourth_claim()
     ensures { (tools : Tools) → Opens tools → OpensAsJudged tools → (w : Schedule) → IsSchedule w

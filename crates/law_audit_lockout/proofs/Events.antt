@@ -1,5 +1,5 @@
--- The events of a run's lines: those of each event have its number, as the audit reads it and as the model does, and the
--- numbers rise. So what is before the group of a line is what comes before its event.
+-- The events of a run's lines: those of each event have its number, as the audit reads it and as the model does, and
+-- the numbers rise. So what is before the group of a line is what comes before its event.
 use Rattle.std.proofs.Common.{◌≡◌, ℕ, ◌+◌, ◌<◌, ◌≤◌, Bool, true, false, cond, not, List, [], ◌∷◌, ◌++◌, map, filter, flat_map, length, Option, Some, None, ◌⊎◌, inl, inr, nat_eq, refl, sym, ap, ◌∙◌, subst, append_assoc, eqb-true, eq-eqb, arith}
 use Rattle.std.specs.List.{AllByRecursion}
 use Rattle.std.proofs.lemmas.List.{append-nil}
@@ -284,7 +284,7 @@ begins_in known number h done (m ∷ ms) ahead at before all = (
       ap (λ ls. before_group (printed known ls)) (sym is) ∙ read_before known number h done m ahead at all.0,
     )
 
--- behind the lines of an event
+-- after the lines of an event
 last_of : (known : List Station) (number : ℕ) (h g : List Line) → AllOf number g → (last_event (printed known (h ++ g)) ≡ last_event (printed known h)) ⊎ (last_event (printed known (h ++ g)) ≡ Some number)
 last_of known number h [] all = inl (ap (λ ls. last_event (printed known ls)) (append-nil h))
 last_of known number h (m ∷ g) all = by_rest (append_assoc h (m ∷ []) g) (last_of known number (h ++ m ∷ []) g all.1)

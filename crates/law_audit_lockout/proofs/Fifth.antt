@@ -1,5 +1,5 @@
--- No line of a run breaks the fifth claim of the audit: removed devices are locked out of its printed lines, and so of each
--- front of them.
+-- No line of a run breaks the fifth claim of the audit: removed devices are locked out of its printed lines, and so of
+-- each prefix of them.
 use Rattle.std.proofs.Common.{◌≡◌, ℕ, Bool, true, false, cond, not, ◌&&◌, List, [], ◌∷◌, ◌++◌, flat_map, length, None, refl, sym, ap, ◌∙◌, subst, append_assoc}
 use Rattle.std.specs.List.{AllByRecursion, list_any}
 use Rattle.std.proofs.lemmas.Grind.{flat_map-append}
@@ -42,7 +42,7 @@ use Rattle.zb_trace_watch.proofs.Truth.{and_left, and_right, both}
 
 -- ---- along the lines of a run
 
--- what is read of each front of these lines
+-- what is read of each prefix of these lines
 abbrev Fronts : Tools → List Station → List Line → Type 0
 Fronts tools known all = (h rest : List Line) → h ++ rest ≡ all → ReadSame tools known h
 

@@ -1,4 +1,5 @@
--- Removed devices are locked out of the printed lines of a run, as the audit reads them, since they are locked out of the run.
+-- Removed devices are locked out of the printed lines of a run, as the audit reads them, since they are locked out of
+-- the run.
 use Rattle.std.proofs.Common.{◌≡◌, ℕ, Bool, true, false, cond, not, ◌||◌, List, [], ◌∷◌, ◌++◌, flat_map, ◌⊎◌, inl, inr, refl, sym, ap, ◌∙◌}
 use Rattle.std.specs.List.{AllByRecursion, Any, list_any}
 use Rattle.std.proofs.lemmas.List.Folds.{Any-from_list_any, list_any-append}
@@ -110,7 +111,7 @@ has_term terms t there = any_claim (same_term t) (λ (u : Term). u ≡ t) terms 
 
 -- ---- a window
 
--- the lines behind a window
+-- the lines after a window
 pub record Behind (u ms : List Line) : Type 0 where
   pub rest : List Line
   pub whole : u ++ rest ≡ ms

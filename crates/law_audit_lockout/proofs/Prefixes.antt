@@ -1,5 +1,6 @@
--- Where removed devices are locked out of lines, they are locked out of each front of them: more lines expose no fewer
--- keys, and the windows of a front are fronts of the windows. So no line is the first with which lockout fails.
+-- Where removed devices are locked out of lines, they are locked out of each prefix of them: more lines expose no
+-- fewer keys, and the windows of a prefix are prefixes of the windows. So no line is the first with which lockout
+-- fails.
 use Rattle.std.proofs.Common.{◌≡◌, ℕ, ◌+◌, Bool, true, false, cond, List, [], ◌∷◌, ◌++◌, length, ◌⊎◌, inl, inr, Some, None, refl, ap, sym, ◌∙◌, subst, append_assoc, flat_map}
 use Rattle.std.specs.List.{AllByRecursion, list_any}
 use Rattle.std.proofs.lemmas.Grind.{flat_map-append}
@@ -37,7 +38,7 @@ module _ (tools : Tools) where
       least tools h from S (λ q start. covers tools (h ++ g) more q (within q start))
       (all_left (Passes tools S) (terms_of h) (terms_of g) (subst (λ (ts : List Term). IsClosed tools S ts) (terms_append h g) (closed tools (h ++ g) more))) k there
 
-  -- what a device can have behind lines, and behind one more
+  -- what a device can have after lines, and after one more
   abbrev had : List Line → ℕ → List Bytes
   had h d = well_known ∷ ever h d
 
@@ -48,7 +49,7 @@ module _ (tools : Tools) where
         | inr held ↦ or_right _ _ (ever_more h l d k ∙ or_left _ _ held)
       ]
 
-  -- One window of a front
+  -- One window of a prefix
 
   keeps_less : (a b : List Line) (l : Line) (d : ℕ) → keeps_out tools a (b ++ l ∷ []) d ≡ true → keeps_out tools a b d ≡ true
   unfolding keeps_out
@@ -82,7 +83,7 @@ module _ (tools : Tools) where
   locks_less a b l d all =
       both _ _ (keeps_less a b l d (and_left (keeps_out tools a (b ++ l ∷ []) d) _ all)) (refuses_less d a [] b l (and_right (keeps_out tools a (b ++ l ∷ []) d) _ all))
 
-  -- a window of a front is the window, or that without its last line
+  -- a window of a prefix is the window, or that without its last line
   abbrev IsCut : List Line → List Line → Line → Type 0
   IsCut whole front l = (whole ≡ front) ⊎ (whole ≡ front ++ l ∷ [])
 

@@ -15,7 +15,7 @@ numbered (End events seals accepts refusals ideal private) = None
 numbered m = Some (event_of m)
 
 -- The lines before the group of a line, which the audit has by the longest runs of one number, are all lines of other
--- events before it. They are a front of the lines: only lines of its own event stand behind them.
+-- events before it. They are a prefix of the lines: only lines of its own event stand after them.
 pub record BeginsAt (known : List Station) (h : List Line) (m : Line) : Type 0 where
   pub group : List Line
   pub whole : before_group (event_of m) h ++ group ≡ h

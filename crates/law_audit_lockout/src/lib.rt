@@ -17,7 +17,7 @@ ghost use Rattle.law_answer_storable.specs.Storing.{OpensAsJudged};
 ghost use Rattle.zb_trace_model.specs.Naming.{AreNamed};
 ghost use Rattle.zb_trace.specs.declared.line.Line.{Line};
 
-/// Says that lockout of any lines, whoever wrote them, is lockout of each front of them.
+/// States that lockout of any lines, whoever wrote them, is lockout of each prefix of them.
 ///
 /// So no line is the first with which lockout fails exactly where it holds of all.
 #[tactic(auto, using(crate::proofs::Prefixes::locks_fronts))]
@@ -25,15 +25,15 @@ pub fn fronts_of_locked_lines_are_locked()
     ensures { (tools : Tools) (lines : List Line) → LocksFronts tools lines }
 {}
 
-/// Says that what an audit has before the group of a run's line is the run before its event.
+/// States that what an audit has before the group of a run's line is the run before its event.
 #[tactic(auto, using(crate::proofs::Events::begins))]
 pub fn groups_of_a_run_begin_with_their_events()
     ensures { (tools : Tools) (w : Schedule) → RunBegins tools w }
 {}
 
-/// Says that no line of a run breaks the fifth clause of the audit, which is lockout.
+/// States that no line of a run breaks the fifth clause of the audit, which is lockout.
 ///
-/// Where both words of the end line hold, removed devices are locked out of the printed lines and of each front of
+/// Where both words of the end line hold, removed devices are locked out of the printed lines and of each prefix of
 /// them. `ShowsKeys` is of the frames: what a node's own frame shows of a key is the key of the command that is in it.
 /// `KeysApart` is of the schedule: its keys are different keys.
 #[tactic(auto, using(crate::proofs::Fifth::keeps_fifth))]

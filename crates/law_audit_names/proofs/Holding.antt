@@ -20,7 +20,7 @@ use Rattle.law_audit_names.specs.Agreeing.{HoldSame}
 use Rattle.law_audit_names.proofs.Leading.{Begins, Leads, TellsApart, all_of_nodes, begins_left, by_line, centres_same, declared_same, declares_same, leads_right, named_same, tells_apart, whose_same}
 use Rattle.law_audit_names.proofs.Showing.{flat_where, removed_same, terms_same}
 
--- ---- behind all node lines
+-- ---- after all node lines
 
 -- The names and addresses of all nodes differ, so a name has the address of its node.
 record AreApart (known : List Station) : Type 0 where

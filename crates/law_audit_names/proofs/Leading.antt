@@ -1,4 +1,4 @@
--- Lines whose node lines come first, and who is who behind them.
+-- Lines whose node lines come first, and who is who after them.
 use Rattle.std.proofs.Common.{◌≡◌, ℕ, ◌&&◌, ◌||◌, ◌⊎◌, Bool, true, false, cond, not, List, [], ◌∷◌, ◌++◌, fold, find, Option, Some, None, is_some, nat_eq, bytes_eq, unwrap_or, refl, sym, ap, ◌∙◌, subst, append_assoc, eqb-true, eq-eqb, ⊎_elim}
 use Rattle.std.specs.List.{AllByRecursion, list_any}
 use Rattle.std.specs.Option.{option_map}
@@ -31,7 +31,7 @@ abbrev pub NotNode : log.Line → Type 0
 NotNode (log.Declared p) = ⊥
 NotNode _ = Unit {0}
 
--- the line of the next node; or a line behind all node lines, of one of these nodes or of none
+-- the line of the next node; or a line after all node lines, of one of these nodes or of none
 abbrev pub IsNext : List Station → List Station → log.Line → Type 0
 IsNext known front m = (p : Station) × (m ≡ log.Declared p) × (more : List Station) × (known ≡ front ++ p ∷ more)
 
@@ -79,7 +79,7 @@ pub front_of : (known front : List Station) (h : List log.Line) → Leads known 
 front_of known front [] all now = now
 front_of known front (m ∷ h) all now = front_of known (station_line front m) h all.1 (next_front known front m all.0 now)
 
--- ---- what is read of a run behind some of its lines
+-- ---- what is read of a run after some of its lines
 
 -- The lines begin a run of these nodes, whose names and addresses differ.
 pub record Begins (known : List Station) (h : List log.Line) : Type 0 where

@@ -1,4 +1,4 @@
--- Each front of a run's lines is read by names as by addresses.
+-- Each prefix of a run's lines is read by names as by addresses.
 use Rattle.std.proofs.Common.{◌≡◌, ℕ, ◌+◌, Bool, true, false, cond, List, [], ◌∷◌, ◌++◌, map, flat_map, length, Option, Some, None, nat_eq, refl, sym, ap, ◌∙◌, subst, append_assoc, inl, inr}
 use Rattle.std.specs.List.{AllByRecursion}
 use Rattle.zb_model.specs.Claims.{Each}
@@ -28,7 +28,7 @@ use Rattle.law_audit_names.proofs.Lively.{IsLively, run_lively}
 use Rattle.law_audit_names.proofs.Showing.{show_same}
 use Rattle.law_audit_names.proofs.Wording.{words_same}
 
--- ---- no node line comes behind the first lines
+-- ---- no node line comes after the first lines
 
 abbrev Any : List Disk → Type 0
 Any ds = Unit {0}
@@ -105,7 +105,7 @@ start_behind w =
     (each_behind (λ (m : Node). limit_line m.station.eui Nwk m.start_nwk ++ limit_line m.station.eui Aps m.start_aps)
     (λ m. all-append NotNode (limit_line m.station.eui Nwk m.start_nwk) (limit_line m.station.eui Aps m.start_aps) (limit_behind m.station.eui Nwk m.start_nwk (nat_eq m.start_nwk 0)) (limit_behind m.station.eui Aps m.start_aps (nat_eq m.start_aps 0))) w.nodes))
 
--- the lines of a run behind its node lines
+-- the lines of a run after its node lines
 abbrev later : Tools → Schedule → List Line
 later tools w = (nets w ++ (links w ++ limits w)) ++ (groups tools w (start w) [] 1 w.events ++ end_line tools (length w.events) (run_lines tools w) ∷ [])
 
@@ -159,7 +159,7 @@ each_left : (P : List Line → Line → Type 0) (h xs ys : List Line) → Each P
 each_left P h [] ys all = tt
 each_left P h (x ∷ xs) ys all = (all.0, each_left P (h ++ x ∷ []) xs ys all.1)
 
--- each front of the lines begins a run of its nodes
+-- each prefix of the lines begins a run of its nodes
 pub run_begins : (tools : Tools) (w : Schedule) → IsSchedule w → euis_differ w ≡ true → OneCentre w → AreNamed (stations w) → (h rest : List Line) → h ++ rest ≡ transcript tools w → Begins (stations w) h
 unfolding euis_differ
 run_begins tools w is differ one fits h rest same =

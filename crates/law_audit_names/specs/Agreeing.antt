@@ -42,7 +42,7 @@ pub record NameSame (known : List Station) (h : List log.Line) : Type 0 where
   pub addressed : (n : ℕ) → IsDeclared known n
       → naming.eui_of (nodes_in known h) (name_of known n)
       ≡ option_map (λ (p : Station). p.eui) (station_of (stations_of h) n)
-  -- a name has an address only behind the line that declares its node
+  -- a name has an address only after the line that declares its node
   pub whose : (n d : ℕ) → IsDeclared known n
       → naming.is_of (nodes_in known h) d (name_of known n) ≡ (is_some (station_of (stations_of h) n) && nat_eq n d)
   pub centres : (n : ℕ) → IsDeclared known n
@@ -57,7 +57,7 @@ pub record HoldSame (tools : Tools) (known : List Station) (h : List log.Line) :
   pub bases : (n : ℕ) → IsDeclared known n → audit.bases (printed known h) (name_of known n) ≡ model.bases h n
   pub came_by : (n : ℕ) (key : Bytes) → IsDeclared known n
       → audit.came_by tools (printed known h) (name_of known n) key ≡ model.came_by tools h n key
-  -- of a part of the lines, read behind those before it
+  -- of a part of the lines, read after those before it
   pub sealed : (d : ℕ) (front since : List log.Line) → front ++ since ≡ h
       → audit.along (lockout.sealed_by d) (nodes_in known front) (printed known since)
       ≡ flat_map (claims.seals_of d) since
@@ -88,6 +88,6 @@ pub record ReadSame (tools : Tools) (known : List Station) (h : List log.Line) :
   pub lives : LiveSame tools known h
   pub words : WordsSame tools known h
 
--- of each front of the transcript
+-- of each prefix of the transcript
 abbrev pub RunReadSame : Tools → Schedule → Type 0
 RunReadSame tools w = (h rest : List log.Line) → h ++ rest ≡ transcript tools w → ReadSame tools (stations w) h

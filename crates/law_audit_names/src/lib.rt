@@ -1,5 +1,5 @@
 //! What the audit reads by names from the printed lines of a run is what the model reads by addresses: who is who,
-//! which keys the lines show and who holds them, and the two words of the end line. The law stands as the contract of
+//! which keys the lines show and who holds them, and the two words of the end line. The law is the contract of
 //! a function with an empty body; docs/THEOREMS.md says it in words.
 #![tactic(auto)]
 
@@ -13,7 +13,8 @@ ghost use Rattle.law_tables_suffice.specs.Along.{euis_differ};
 ghost use Rattle.law_answer_storable.specs.Storing.{OpensAsJudged};
 ghost use Rattle.zb_trace_model.specs.Naming.{AreNamed};
 
-/// Says that the audit reads each front of a run's printed lines by names as the model reads its lines by addresses.
+/// States that the audit reads each prefix of a run's printed lines by names as the model reads its lines by
+/// addresses.
 ///
 /// So both say the same of the declared nodes and the centre, of the terms and the keys that come out, of what devices
 /// ever held and sealed, of live network keys that are known outside, and of the two words of the end line.

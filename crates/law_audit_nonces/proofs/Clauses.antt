@@ -11,7 +11,7 @@ printed_snoc : (known : List Station) (h : List Line) (m : Line) → printed kno
 printed_snoc known [] m = refl
 printed_snoc known (x ∷ h) m = ap (λ ls. line_for known x ∷ ls) (printed_snoc known h m)
 
--- a test passes at each of the lines behind those
+-- a test passes at each of the lines after those
 abbrev pub Passes : (List Printed → Printed → Bool) → List Station → List Line → List Line → Type 0
 Passes test known h [] = Unit {0}
 Passes test known h (m ∷ ms) = (test (printed known h) (line_for known m) ≡ true) × Passes test known (h ++ m ∷ []) ms

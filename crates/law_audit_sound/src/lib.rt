@@ -12,7 +12,7 @@ ghost use Rattle.law_audit_sound.specs.Sound.{IsSound};
 use law_real_runs::frames_show_their_own_keys;
 use law_schedules::texts_read_as_schedules;
 
-/// Says that no line of the run of a schedule is bad, with real frames, whatever happens in it.
+/// States that no line of the run of a schedule is bad, with real frames, whatever happens in it.
 ///
 /// So an audit of its printed lines answers just the verdict on it, unless memory is lacking: the seals and accepts
 /// that its end line counts, and lockout where both words of that line hold.

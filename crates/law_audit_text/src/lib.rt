@@ -1,4 +1,4 @@
-//! An audit judges lines by their words alone. The law stands as the contract of a function with an empty body;
+//! An audit judges lines by their words alone. The law is the contract of a function with an empty body;
 //! docs/THEOREMS.md says it in words.
 #![tactic(auto)]
 
@@ -7,7 +7,7 @@ ghost use Rattle.law_audit_text.specs.Alike.{AreJudgedAlike, HaveSameWords};
 ghost use Rattle.zb_model.specs.Tools.{Tools};
 ghost use Rattle.zb_trace.specs.declared.line.Line.{Line};
 
-/// Says that lines with the same words are judged alike, whoever wrote them.
+/// States that lines with the same words are judged alike, whoever wrote them.
 ///
 /// What a name leaves unused of its room is no word, so an audit doesn't see it.
 pub fn lines_are_judged_by_their_words()

@@ -23,7 +23,7 @@ same_bool_refl : (b : Bool) → same_bool b b ≡ true
 same_bool_refl true = refl
 same_bool_refl false = refl
 
--- The rows of a partner in use are told as the partner is.
+-- The rows of a partner in use are reported as the partner is.
 
 -- a row of the partner in use that isn't told so
 abbrev is_odd : ℕ → Bool → LinkKey → Bool

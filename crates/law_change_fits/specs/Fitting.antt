@@ -1,5 +1,5 @@
--- What a change asks of a state that keeps the rules for records, beside that it may be made: that the rules stand after
--- it. Each question speaks of the rows that the change touches.
+-- What a change asks of a state that keeps the rules for records, beside that it may be made: that the rules stand
+-- after it. Each question speaks of the rows that the change touches.
 use Rattle.std.specs.Prelude.{ℕ, Bool, true, not, ◌&&◌, ◌||◌, List, length, Option, Some, None, nat_eq, nat_lt}
 use Rattle.std.specs.List.{list_any}
 use Rattle.zb_model.specs.Data.{Bytes, Attribute, Nwk, Move, DropNet, Install, Row, Pair, Became, Roll, Edit, Floor, Moved}

@@ -46,9 +46,9 @@ EndsOn text v =
     (s : Status) (before after : Option Bytes) (old new : ℕ) → Audits s (Some text) before after old new
     → EndsSound v s before after
 
--- The text of the run that an input gives is that of a sound transcript, on which this verdict is the only one: no line
--- of it is no line, and none breaks a claim. Where it is no longer than the longest input, `audit` writes that verdict,
--- or the source, the sink or the memory failed.
+-- The text of the run that an input gives is that of a sound transcript, on which this verdict is the only one: no
+-- line of it is no line, and none breaks a claim. Where it is no longer than the longest input, `audit` writes that
+-- verdict, or the source, the sink or the memory failed.
 pub record IsPlayedSound (input text : Bytes) : Type 0 where
   pub schedule : sched.Schedule
   pub reads : schedule_in input ≡ Ok schedule

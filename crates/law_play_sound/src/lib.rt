@@ -1,4 +1,4 @@
-//! What `play` writes is never called broken, and never refused, by `audit`. The law stands as the contract of a
+//! What `play` writes is never called broken, and never refused, by `audit`. The law is the contract of a
 //! function that does nothing; docs/THEOREMS.md says it in words.
 #![tactic(auto)]
 
@@ -10,7 +10,7 @@ use law_audit_text::lines_are_judged_by_their_words;
 use law_run_text::the_text_of_a_run_reads_back;
 use law_schedules::texts_read_as_schedules;
 
-/// Says that the text which `play` is to write for an input is that of a sound transcript, as `audit` judges it.
+/// States that the text which `play` is to write for an input is that of a sound transcript, as `audit` judges it.
 ///
 /// So `audit` of it writes the verdict that the end line of the transcript says, unless the text is longer than the
 /// longest input, the source or the sink fails, or memory is lacking.

@@ -1,5 +1,5 @@
--- For what a rule refuses. Where a rule looks for what is there in every run, it names a refusal for where it isn't, and that refusal
--- decides nothing: each reason comes only for what it is named for elsewhere in the rule.
+-- For what a rule refuses. Where a rule looks for what is there in every run, it names a refusal for where it isn't,
+-- and that refusal decides nothing: each reason comes only for what it is named for elsewhere in the rule.
 use Rattle.std.specs.Prelude.{ℕ, ◌≡◌, ◌⊎◌, true, false, not, ◌&&◌, ◌||◌, List, Option, Some, None, nat_eq, ⊤}
 use Rattle.zb_model.specs.Data.{Bytes, Offered, NoKey, NotMember, WrongState, RowsFull, WrongHash, Policy, Place, AtNwk, Reason, Received}
 use Rattle.zb_model.specs.Lines.{Line}
@@ -21,8 +21,8 @@ abbrev pub why_timer : NodeState → Reason → Type 0
 why_timer s NoKey = s.state ≡ Offered → usable_active s ≡ None
 why_timer s _ = ⊤
 
--- the timer of the centre: for want of a key only where there is no active row; as out of place only where nothing is being sent, or
--- each member was
+-- the timer of the centre: for want of a key only where there is no active row; as out of place only where nothing is
+-- being sent, or each member was
 abbrev pub why_rollover : NodeState → Reason → Type 0
 why_rollover s NoKey = active_row s ≡ None
 why_rollover s WrongState = (s.sending ≡ false) ⊎ (next_member s ≡ None)
@@ -61,7 +61,7 @@ abbrev pub IsNotFull : Place → Option Reason → Type 0
 IsNotFull AtNwk (Some RowsFull) = ⊥
 IsNotFull _ _ = ⊤
 
--- of a node, behind the lines
+-- of a node, after the lines
 pub record NoFillerDecides (tools : Tools) (w : Schedule) (h : List Line) (n : ℕ) : Type 0 where
   pub timer : is_centre (setting_of w n).me.role ≡ false → RefusedFor (why_timer (state_of h n)) (member_timer tools (setting_of w n) (state_of h n))
   pub rollover : is_centre (setting_of w n).me.role ≡ true → RefusedFor (why_rollover (state_of h n)) (centre_timer (setting_of w n) (state_of h n))

@@ -17,8 +17,8 @@ pub record NodesAreSound (w : Schedule) : Type 0 where
   -- of all start lines each node's own alone say what it is, and it starts by the rules for records
   pub starts : AllByRecursion (StartsAlone w) w.nodes
   pub rules_first : (n : ℕ) → Names w n → keeps_rules (state_of (start w) n) ≡ true
-  -- before each event its node is as it was declared, keeps the rules for records, and has a newest live network key if it has an
-  -- active one
+  -- before each event its node is as it was declared, keeps the rules for records, and has a newest live network key
+  -- if it has an active one
   pub declared : NodesAllAlong IsAsDeclared real w
   pub rules : NodesAllAlong IsRuled real w
   pub newest : NodesAllAlong HasNewest real w

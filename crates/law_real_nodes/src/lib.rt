@@ -21,19 +21,19 @@ ghost use Rattle.zb_sched.specs.Valid.{IsSchedule};
 use law_schedules::texts_read_as_schedules;
 use law_tables_suffice::nodes_start_by_their_own_lines;
 
-/// Says that no two nodes of a schedule have one EUI, in the words of the model.
+/// States that no two nodes of a schedule have one EUI, in the words of the model.
 ///
 /// The laws over runs that have it as a premise hold of each schedule so.
 pub fn nodes_have_different_euis()
     ensures { (p : Schedule) → IsSchedule p → euis_differ (schedule_of p) ≡ true }
 {}
 
-/// Says that a real frame opens to a term with the key, source and counter by which it was judged.
+/// States that a real frame opens to a term with the key, source and counter by which it was judged.
 pub fn real_frames_open_as_they_are_judged()
     ensures { OpensAsJudged real }
 {}
 
-/// Says that in the run of each schedule its nodes start alone and by the rules, and stay sound.
+/// States that in the run of each schedule its nodes start alone and by the rules, and stay sound.
 ///
 /// Before each event its node is as it was declared, keeps the rules for records and has a newest network key, if it
 /// has an active one; no rule of it refuses for want of what is always there; what any node would send may be sealed.
@@ -51,7 +51,7 @@ pub fn nodes_are_sound_in_each_text(text: &[u8])
     nodes_are_sound_in_each_run();
 }
 
-/// Says that the rules of four commands refuse for nothing but what they test, in every state.
+/// States that the rules of four commands refuse for nothing but what they test, in every state.
 ///
 /// Each finds the row that it looks for, since a test before it was passed by that row.
 pub fn commands_find_the_rows_that_they_tested()

@@ -214,7 +214,7 @@ link-key : (X : List ℕ) (k : Bytes) → key_shown (command_shown (command_of (
 unfolding command_of command_at body_of transport_at transport_of
 link-key X k e = own-key 32 X (link_at (cut_of (5 ∷ 4 ∷ X)) X) k (link-first (cut_of (5 ∷ 4 ∷ X)) X) (link-len (cut_of (5 ∷ 4 ∷ X)) X) e
 
--- a key in front of a text whose length is known
+-- a key before a text whose length is known
 front : (key tail : Bytes) (n : ℕ) (k : Bytes) → length tail ≡ n → length (key ++ tail) ≡ 16 + n → take 16 (key ++ tail) ≡ k → Some key ≡ Some k
 front key tail n k l e t = ap Some (sym (take_at key tail 16 (omega (arith, l, e, length-append key tail))) ∙ t)
 
@@ -250,7 +250,7 @@ confirm-none : (X : List ℕ) → key_shown (command_shown (command_of (16 ∷ X
 unfolding command_of command_at body_of
 confirm-none X = whole-keyless (confirm_at (cut_of (16 ∷ X)) X) (confirm-keyless (cut_of (16 ∷ X)) X)
 
--- the bytes behind the first
+-- the bytes after the first
 abbrev rest_of : model.Command → List ℕ
 rest_of o = drop 1 (command (command_for o))
 

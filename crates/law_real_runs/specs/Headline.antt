@@ -1,5 +1,5 @@
--- What holds of the run of a schedule with real frames, as one record: the claims on transcripts, none of which asks anything of
--- the air, of the disks, or of the strength of the cipher, but for the two words of the end line.
+-- What holds of the run of a schedule with real frames, as one record: the claims on transcripts, none of which asks
+-- anything of the air, of the disks, or of the strength of the cipher, but for the two words of the end line.
 use Rattle.std.specs.Prelude.{ℕ, ◌≡◌, true, List, [], ◌∷◌}
 use Rattle.law_run_counters.specs.Counted.{Counted}
 use Rattle.law_run_counters.specs.Floors.{FloorsAreFor}
@@ -27,8 +27,8 @@ pub record Holds (w : Schedule) : Type 0 where
   pub lawful : Lawful real w (transcript real w)
   pub counted : Counted real w (transcript real w)
   pub alone : (lines : List Line) → Lawful real w lines → Counted real w lines → lines ≡ transcript real w
-  -- so no counter is skipped without a boot, no floor is more than the incoming block above the counter for which it was stored,
-  -- and a node that answers counter-spent stands at 2^32 - 1
+  -- so no counter is skipped without a boot, no floor is more than the incoming block above the counter for which it
+  -- was stored, and a node that answers counter-spent stands at 2^32 - 1
   pub in_order : Each TakesAll [] (transcript real w)
   pub floors : FloorsAreFor w (transcript real w)
   pub spent : Each SpentLine [] (transcript real w)
@@ -39,7 +39,8 @@ pub record Holds (w : Schedule) : Type 0 where
   pub suited : BeforeEach (IsSuited real w) real w (start w) [] 1 w.events
   -- and there is room for the floor of each declared sender
   pub room : BeforeEach (λ (h : List Line) (event : Event). (n : ℕ) → HasRoom w h n) real w (start w) [] 1 w.events
-  -- no node seals twice under one key and nonce; no receiver accepts a sender's counter twice under one key, resets included
+  -- no node seals twice under one key and nonce; no receiver accepts a sender's counter twice under one key, resets
+  -- included
   pub fresh : Fresh real (transcript real w)
   pub once : Once (transcript real w)
   -- only stored keys are confirmed

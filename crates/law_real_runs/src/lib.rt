@@ -1,5 +1,5 @@
 //! What the laws over every run ask of frames and commands, proved of the real ones, so that all laws hold of real
-//! frames: one record of them all. Each law stands as the contract of a function with an empty body.
+//! frames: one record of them all. Each law is the contract of a function with an empty body.
 #![tactic(auto)]
 
 ghost use Rattle.law_run.specs.Commanding.{ShowsKeys, SpellsConfirm};
@@ -15,7 +15,7 @@ pub fn only_confirmations_read_as_such()
 {}
 
 /// What a node's own frame shows of a key is the key of the command that is in it: a spelled command reads as one
-/// with its own key or with none, a command in clear is read behind its control and its counter, and a sealed frame
+/// with its own key or with none, a command in clear is read after its control and its counter, and a sealed frame
 /// shows that it is sealed.
 pub fn frames_show_their_own_keys()
     ensures { ShowsKeys real }

@@ -1,4 +1,4 @@
--- Counters over lines: no limit is behind its counter, and what was sealed stays below.
+-- Counters over lines: no limit is after its counter, and what was sealed stays below.
 use Rattle.std.proofs.Common.{◌≡◌, ℕ, ◌<◌, ◌≤◌, ◌+◌, ◌^◌, max, Bool, true, false, cond, List, [], ◌∷◌, ◌++◌, map, Option, Some, None, option_map, find, refl, sym, ap, ◌∙◌, subst, arith, le_refl}
 use Rattle.zb_model.specs.Data.{Bytes, Layer, Nwk, Aps, ForNetwork, Term, Move, Draw, DropNet, DropLink, Install, Active, Row, Pair, Became, Live, Removed, Roll, Told, Untold, Edit, Reserve, Floor, Start, Moved}
 use Rattle.zb_model.specs.Lines.{Line, Declared, GivenNet, GivenLink, Counter, Changed, Accept, Seal, Boot}

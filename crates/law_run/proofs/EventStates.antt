@@ -1,5 +1,5 @@
--- What holds of every node's state before each event of a run: a claim on states that answers, accepted terms, seals and boots
--- keep.
+-- What holds of every node's state before each event of a run: a claim on states that answers, accepted terms, seals
+-- and boots keep.
 use Rattle.std.proofs.Common.{◌≡◌, ℕ, ◌+◌, ◌⊎◌, Bool, true, false, cond, List, [], ◌∷◌, ◌++◌, map, length, Option, Some, None, nat_eq, refl, sym, ap, ◌∙◌, subst, append_assoc, eqb-true, inl, inr}
 use Rattle.std.specs.List.{AllByRecursion}
 use Rattle.zb_model.specs.Data.{Bytes, Term, Edit, Place, Reason, Down, NoFrame, WrongState, Task, Received, DoRoll}
@@ -102,7 +102,7 @@ told-keep Φ j k number n frame a =
 
 -- The lines of a step
 
--- behind lines that keep each claim
+-- after lines that keep each claim
 behind : (P : List Line → ℕ → NodeState → Type 0) → ((h ls : List Line) (n : ℕ) (s : NodeState) → P h n s → P (h ++ ls) n s) → (h ls : List Line) → ((m : ℕ) → AllByRecursion (LineKeeps (P (h ++ ls) m)) ls) → AllKeep P h → AllKeep P (h ++ ls)
 behind P more h ls k all m = lines-keep (P (h ++ ls) m) m h ls (k m) (more h ls m (state_of h m) (all m))
 

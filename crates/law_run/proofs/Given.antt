@@ -1,5 +1,5 @@
--- A node's network keys were given to it or installed: each is among the keys that it ever had, and so is the base key of what it
--- seals.
+-- A node's network keys were given to it or installed: each is among the keys that it ever had, and so is the base key
+-- of what it seals.
 use Rattle.std.proofs.Common.{◌≡◌, ℕ, ◌+◌, max, Bool, true, false, cond, List, [], ◌∷◌, ◌++◌, map, Option, Some, None, flat_map, fold, nat_eq, refl, sym, subst, append_assoc, ⊎_elim}
 use Rattle.std.proofs.lemmas.Bool.{false≢true}
 use Rattle.std.specs.List.{AllByRecursion}

@@ -17,7 +17,7 @@ use Rattle.law_run.proofs.Counters.{SealFitsAt, SealFits, LineFits, Commanded}
 use Rattle.law_run.proofs.FreshLines.{all-append}
 use Rattle.law_run.proofs.Groups.{NoSeal, plain, stored-plain, accepts-plain, refuse-plain, send-plain, lines-keep, changed-state, ApsGives, Ready, Gentle, ready-applied, ready-accepted, may-seal, applied-all-append, reserves, ready}
 
--- The changes behind the reserves are gentle
+-- The changes after the reserves are gentle
 
 abbrev StartFits : NodeState → Option ℕ → Type 0
 StartFits s None = Unit {0}

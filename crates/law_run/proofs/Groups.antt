@@ -1,4 +1,5 @@
--- The seals of a group fit: whatever a rule decides, the counters are those that come next, and they are stored before.
+-- The seals of a group fit: whatever a rule decides, the counters are those that come next, and they are stored
+-- before.
 use Rattle.std.proofs.Common.{◌≡◌, ℕ, ◌<◌, ◌≤◌, ◌+◌, min, Bool, true, false, cond, not, ◌&&◌, ◌||◌, List, [], ◌∷◌, ◌++◌, map, Option, Some, None, option_map, option_to_list, find, is_some, nat_eq, nat_le, refl, sym, ap, ◌∙◌, subst, arith, append_assoc, leb-false}
 use Rattle.std.proofs.lemmas.Bool.{and_parts, not-true, false≢true, eqb-false}
 use Rattle.std.specs.List.{AllByRecursion}

@@ -1,4 +1,5 @@
--- What the rules of the policy do with keys: what each changes and sends, one lemma a rule. All laws on keys stand on these.
+-- What the rules of the policy do with keys: what each changes and sends, one lemma a rule. All laws on keys stand on
+-- these.
 use Rattle.std.proofs.Common.{◌≡◌, ℕ, Bool, true, false, cond, not, ◌&&◌, ◌||◌, List, [], ◌∷◌, ◌++◌, map, filter, Option, Some, None, option_map, option_to_list, find, is_some, nat_eq, refl, sym, ap, ◌∙◌, append_assoc, subst, eqb-true, ◌⊎◌, inl, inr, ⊎_elim}
 use Rattle.std.proofs.lemmas.Bool.{false≢true, and_parts}
 use Rattle.std.specs.List.{AllByRecursion, list_any}
@@ -79,7 +80,8 @@ abbrev pub BringsNoRow : Move → Type 0
 BringsNoRow (Row p k t) = ⊥
 BringsNoRow _ = Unit {0}
 
--- A command sealed under a base key: a network key, an offered key or a key of two goes to a live device under a key of its own.
+-- A command sealed under a base key: a network key, an offered key or a key of two goes to a live device under a key
+-- of its own.
 abbrev pub CommandFits : Setting → NodeState → Option Bytes → List Move → Bytes → Command → Type 0
 CommandFits c s draw moves base (TransportNet k q d o) = (is_centre c.me.role ≡ true) × ((p : ℕ) × LiveRow s p base) × HasNet s k × AllByRecursion Stays moves
 CommandFits c s draw moves base (TransportLink k d o) =
@@ -153,8 +155,8 @@ OnlyOf q (Row p k t) = p ≡ q
 OnlyOf q (Became g) = ⊥
 OnlyOf q _ = Unit {0}
 
--- What a router or device does to its link rows and its state: nothing; a state at the end, of which Offered has an offered
--- row; another state than Offered, at the end; a key of the centre is taken in; rows of another partner.
+-- What a router or device does to its link rows and its state: nothing; a state at the end, of which Offered has an
+-- offered row; another state than Offered, at the end; a key of the centre is taken in; rows of another partner.
 pub data MemberDeed (centre : ℕ) (s : NodeState) (moves : List Move) : Type 0 where
   still : AllByRecursion Still moves → MemberDeed centre s moves
   goes_on : (g : State) (before : List Move) → AllByRecursion Still before → (g ≡ Offered → is_some (offered s centre) ≡ true) → moves ≡ before ++ (Became g ∷ []) → MemberDeed centre s moves

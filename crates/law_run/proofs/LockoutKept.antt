@@ -157,7 +157,8 @@ pub used-snoc : (h : List Line) (l : Line) → draws_used (h ++ l ∷ []) ≡ dr
 unfolding draws_used
 used-snoc h l = fold-append draw_line 0 h (l ∷ [])
 
--- The safe keys: those drawn while the device is away, and the link keys of others. Nothing that the device ever held opens them.
+-- The safe keys: those drawn while the device is away, and the link keys of others. Nothing that the device ever held
+-- opens them.
 
 pub record Other (s : NodeState) (d : ℕ) (k : Bytes) : Type 0 where
   pub partner : ℕ
@@ -174,7 +175,8 @@ Known c h k = In k (drawn h) ⊎ ((p : ℕ) × HasRow (state_of h c) p k) ⊎ Ha
 abbrev pub Unseen : Tools → ℕ → List Line → Bytes → Type 0
 Unseen tools d h k = ((t : Term) → In t (terms_of h) → carried tools t ≡ Some k → ⊥) × (In k (ever h d) → ⊥)
 
--- The invariant of a device. Net: the keys of the network, over the whole run; Given: those that the device starts with.
+-- The invariant of a device. Net: the keys of the network, over the whole run; Given: those that the device starts
+-- with.
 pub record Kept (tools : Tools) (c d : ℕ) (Net Given : Bytes → Type 0) (h : List Line) : Type 0 where
   pub closed : (t : Term) → In t (terms_of h) → (k : Bytes) → carried tools t ≡ Some k → Safe c d h k → Other (state_of h c) d t.base
   pub out : (k : Bytes) → In k (ever h d) → Safe c d h k → ⊥

@@ -24,7 +24,8 @@ use Rattle.law_run.proofs.LockoutRows.{row-forth, any-in, IsAny}
 use Rattle.law_run.proofs.LockoutKept.{away, away-snoc, row-back, has-net-back, drawn, drawn-new, drawn-more, Known, used-snoc}
 use Rattle.law_run.proofs.LockoutSteps.{Case, centre, given_to, InNet, InGiven, IsKept, IsLedger, Whole, IsIdle, idle, idle-one, Fresh, fresh-bare, draw-bare, draw-step, RowComes, row-step, row-there, present-own, pair-step, net-step}
 
--- What is known of each line of the run: it is ideal, its new keys are keys of the network, and what it forges carries none.
+-- What is known of each line of the run: it is ideal, its new keys are keys of the network, and what it forges carries
+-- none.
 
 pub record Honest (x : Case) (h : List Line) (l : Line) : Type 0 where
   pub ideal : ideal_line x.tools h l ≡ true
@@ -35,7 +36,7 @@ abbrev pub RemovesOther : Case → Line → Type 0
 RemovesOther x (Changed e n (Moved (Removed p))) = p ≡ centre x → ⊥
 RemovesOther x _ = Unit {0}
 
--- The lines keep the invariants: two stand before each of them, and all behind them.
+-- The lines keep the invariants: two stand before each of them, and all after them.
 abbrev pub Standing : Case → List Line → Type 0
 Standing x g = IsKept x g × IsLedger x g
 
@@ -365,7 +366,7 @@ quiet-goes x h w apart g s number n mine k (m ∷ ms) a = by-test (λ y same. qu
         (λ r. subst (λ y. GoesOn x g (map (Changed number n) (move_edits k y) ++ moves_lines number n (state_of h n) k ms)) (sym r.3) (row-first more r.0 r.1 r.2 r.4 r.5)) (first m a.0))
     by-test more false = more g s
 
--- the key that a deed draws, behind lines that leave all as it was
+-- the key that a deed draws, after lines that leave all as it was
 drawn-fresh : (x : Case) → KeysApart x.schedule → (h g : List Line) → Same x h g → (task : Task) → TaskFits x h task → (k : Bytes) → IsNew (state_of h (centre x)) (draw_of task) k → InNet x k → Whole x g → Fresh x g k
 drawn-fresh x apart h g s task f k new net v =
     fresh-new x apart g k v (λ p r. new-rows (state_of h (centre x)) k held p (s.rows p k r)) (λ r. new-nets (state_of h (centre x)) k held (s.nets k r))

@@ -156,7 +156,7 @@ idle-no-row (Changed e n (Moved (Row p k t))) i = absurd i
 idle-no-row (GivenLink n p k) i = absurd i
 idle-no-row _ i = tt
 
--- What a command of the centre may carry, behind its group's changes
+-- What a command of the centre may carry, after its group's changes
 
 record Behind (x : Case) (number n : ℕ) (h : List Line) (kk : Counting) (p : Plan) (a : Answer) (rest : List Line) : Type 0 where
   grounds : Grounds x

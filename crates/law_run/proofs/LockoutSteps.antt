@@ -167,7 +167,7 @@ idle-one x h l i w = idle-step x h l w (idle x h l i)
 
 -- Sealed and forged terms
 
--- what a term may carry, behind the lines h
+-- what a term may carry, after the lines h
 abbrev pub Carries : Case → List Line → Term → Type 0
 Carries x h t = (k : Bytes) → carried x.tools t ≡ Some k → (Safe (centre x) x.device h k → Other (state_of h (centre x)) x.device t.base) × (InNet x k → Known (centre x) h k)
 

@@ -146,7 +146,7 @@ unfolding PreAt TakesAt
 stored-at-takes Nwk t s h lt = row-takes t.counter t.source (find (at_key t.base) s.nets) h lt
 stored-at-takes Aps t s h lt = link-takes t.counter (find (is_link t.source t.base) s.links) h lt
 
--- A term's own edits, behind others that leave its floor
+-- A term's own edits, after others that leave its floor
 
 abbrev floor_list : Term → Option ℕ → List Edit
 floor_list t o = option_to_list (option_map (Floor t.layer t.base t.source) o)
@@ -162,7 +162,7 @@ own-floor c s0 s t layer j block pre go true e =
 own-floor c s0 s t layer j block pre go false e =
     go (stored-at-takes layer t s0 j.pre (subst (λ x. t.counter < stored_at x t s0) j.at (leb-false (stored_at t.layer t s0) t.counter e)))
 
--- The state behind all changes takes each accepted term.
+-- The state after all changes takes each accepted term.
 
 abbrev k_floor : Setting → NodeState → List Term → Term → Option ℕ
 k_floor c s ts t = floor_of c s ts t.layer

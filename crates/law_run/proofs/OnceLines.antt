@@ -1,5 +1,5 @@
--- Lines whose accepted terms fit accept each counter of a sender once: what was accepted stays below the floor, in memory
--- and stored.
+-- Lines whose accepted terms fit accept each counter of a sender once: what was accepted stays below the floor, in
+-- memory and stored.
 use Rattle.std.proofs.Common.{◌≡◌, ℕ, ◌<◌, ◌≤◌, ◌+◌, max, Bool, true, false, cond, List, [], ◌∷◌, ◌++◌, map, Option, Some, None, option_map, find, nat_eq, refl, sym, ap, ◌∙◌, subst, arith, eqb-true}
 use Rattle.std.proofs.lemmas.Bool.{and_parts}
 use Rattle.std.specs.List.{AllByRecursion}

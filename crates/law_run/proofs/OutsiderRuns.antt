@@ -205,7 +205,7 @@ stored-quiet : (number n : ℕ) (a : Answer) → AllByRecursion Quiet (stored_li
 unfolding stored_lines
 stored-quiet number n a = all-append Quiet (map (Changed number n) a.edits) (commit_lines number n a.edits) (changes-quiet number n a.edits) (commit-quiet number n a.edits)
 
--- The claim on an accept line behind quiet lines of its group
+-- The claim on an accept line after quiet lines of its group
 
 live-known : (tools : Tools) (h : List Line) (n : ℕ) (t : Term) → LiveAt Nwk t (state_of h n) → HoldsNoneKnown tools h n → holds (exposed tools h (outside h)) t.base ≡ true → ⊥
 unfolding LiveAt

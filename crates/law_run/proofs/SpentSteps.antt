@@ -1,4 +1,5 @@
--- Counters are taken by seals alone: a boot, a first counter and a limit at the start set those of their own node and row.
+-- Counters are taken by seals alone: a boot, a first counter and a limit at the start set those of their own node and
+-- row.
 use Rattle.std.proofs.Common.{◌≡◌, ℕ, ◌+◌, Bool, true, false, cond, ◌&&◌, List, [], ◌∷◌, ◌++◌, map, length, Option, Some, None, option_map, find, nat_eq, refl, sym, ap, ◌∙◌, subst, arith, min, max}
 use Rattle.std.proofs.lemmas.Bool.{false≢true}
 use Rattle.zb_model.specs.Data.{Bytes, Layer, Nwk, Aps, Term, Move, Draw, DropNet, DropLink, Install, Active, Row, Pair, Became, Live, Removed, Roll, Told, Untold, Edit, Reserve, Floor, Start, Moved}

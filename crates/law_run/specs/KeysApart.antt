@@ -40,8 +40,8 @@ EntersOwn w (Own n (DoRoll draw)) = draw ≡ None
 EntersOwn w (Own n (Received bytes draw)) = draw ≡ None
 EntersOwn w _ = ⊤
 
--- Keys of the supply differ and are new; codes are entered as they may be; no other node has the centre's EUI, and the centre has
--- no code.
+-- Keys of the supply differ and are new; codes are entered as they may be; no other node has the centre's EUI, and the
+-- centre has no code.
 pub record KeysApart (w : Schedule) : Type 0 where
   pub draws_differ : AllDiffer w.draws
   pub draws_new : AllByRecursion (IsNewKey w) w.draws

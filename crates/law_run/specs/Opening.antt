@@ -8,8 +8,8 @@ abbrev pub shown_source : ℕ → Option ℕ → ℕ
 shown_source given None = given
 shown_source given (Some source) = source
 
--- The term that comes out is of its layer, and has the base key under which the bytes opened and the source and counter of the
--- auxiliary header.
+-- The term that comes out is of its layer, and has the base key under which the bytes opened and the source and
+-- counter of the auxiliary header.
 pub record Opens (tools : Tools) : Type 0 where
   pub nwk : (bytes key : Bytes) (f : NwkShown) (aux : NwkAuxiliary) (t : Term) → tools.read_nwk bytes ≡ Some f → f.auxiliary ≡ Some aux → tools.open_nwk bytes key ≡ Some t
       → (t.layer ≡ Nwk) × (t.base ≡ key) × (t.source ≡ aux.source) × (t.counter ≡ aux.counter)

@@ -1,12 +1,13 @@
--- A record read back: field by field in the order in which it is spelled. What a record doesn't keep is as a boot leaves it: the
--- next counters are the limits, the floors in memory the stored ones; a dropped network key has no floors.
+-- A record read back: field by field in the order in which it is spelled. What a record doesn't keep is as a boot
+-- leaves it: the next counters are the limits, the floors in memory the stored ones; a dropped network key has no
+-- floors.
 use Rattle.std.specs.Prelude.{◌≡◌, ℕ, zero, suc, ◌<◌, ◌^◌, Bool, true, false, if◌then◌else◌, List, [], ◌∷◌, length, take, drop, slice_get, Option, Some, None, option_map, nat_eq, nat_lt, is_some}
 use Rattle.std.specs.Int.{Width, w16, w32, w64, byte_len, from_le_bytes}
 use Rattle.std.specs.List.{AllByRecursion}
 use Rattle.zb_model.specs.Data.{Bytes, Role, Centre, Router, Device, State, Fresh, Knocked, Joined, Offered, Confirmed, Rejoining, Gone, Attribute, Provisional, Unverified, Verified}
 use Rattle.zb_model.specs.State.{SenderFloor, NetKey, LinkKey, PairKey, NodeState, net_of_active}
 
--- Readings: a value is taken off the front of bytes
+-- Readings: a value is taken off the start of bytes
 
 abbrev pub Taking : Type 0 → Type 0
 Taking A = Bytes → Option (A × Bytes)
@@ -42,7 +43,7 @@ unfoldable pub so_many : {A : Type 0} → Taking A → ℕ → Taking (List A)
 so_many read zero bytes = Some ([], bytes)
 so_many read (suc n) bytes = follow (read bytes) (λ x rest. follow (so_many read n rest) (λ xs end_. Some (x ∷ xs, end_)))
 
--- Bytes that stand for one of a few values
+-- Bytes that represent one of a few values
 
 unfoldable pub role_of_byte : ℕ → Option Role
 role_of_byte zero = Some Centre
@@ -96,7 +97,7 @@ three_flags _ = None
 
 -- Rows
 
--- key, sequence, flags, limit; its floors stand behind all rows
+-- key, sequence, flags, limit; its floors stand after all rows
 unfoldable pub net_at : Taking NetKey
 net_at = do
   key ← some_bytes 16
@@ -178,7 +179,7 @@ abbrev pub whole : Option (NodeState × Bytes) → Option NodeState
 whole None = None
 whole (Some x) = if nat_eq (length x.1) 0 then Some x.0 else None
 
--- The state that a record stands for: all its bytes are read.
+-- The state that a record represents: all its bytes are read.
 unfoldable pub state_in : Bytes → Option NodeState
 state_in bytes = whole (record_at bytes)
 

@@ -22,9 +22,9 @@ abbrev pub taken_nwk : ℕ → Bytes → Line → ℕ
 taken_nwk m key (Seal e n t) = if nat_eq n m && (same_layer t.layer Nwk && same_key t.base key) then 1 else 0
 taken_nwk m key _ = 0
 
--- Where a line leaves the next counters of a node: at APS, and of its network row with the key. A boot sets its own node's to the
--- limits; a key's first counter, that row's; a limit at the start, its node's at the layer, of the rows that have started. No
--- other line moves one but the seal that takes it.
+-- Where a line leaves the next counters of a node: at APS, and of its network row with the key. A boot sets its own
+-- node's to the limits; a key's first counter, that row's; a limit at the start, its node's at the layer, of the rows
+-- that have started. No other line moves one but the seal that takes it.
 abbrev pub aps_behind : ℕ → Line → NodeState → ℕ
 aps_behind m (Boot e n) s = if nat_eq n m then s.aps_limit else s.aps_next
 aps_behind m (Counter n Aps v) s = if nat_eq n m then max s.aps_next v else s.aps_next
@@ -38,7 +38,7 @@ nwk_behind m key (Counter n Nwk v) r = if nat_eq n m && r.started then max r.nex
 nwk_behind m key (Seal e n t) r = r.next + taken_nwk m key (Seal e n t)
 nwk_behind m key _ r = r.next
 
--- Of each node the next counters are those behind the line.
+-- Of each node the next counters are those after the line.
 abbrev pub TakesAll : List Line → Line → Type 0
 TakesAll h l = (m : ℕ) → ((state_of (h ++ l ∷ []) m).aps_next ≡ aps_behind m l (state_of h m))
     × ((key : Bytes) (r : NetKey) → net_of key (state_of h m) ≡ Some r → option_map (λ (x : NetKey). x.next) (net_of key (state_of (h ++ l ∷ []) m)) ≡ Some (nwk_behind m key l r))

@@ -1,4 +1,5 @@
--- What the lines of an answer call for: of its seals the reserves, of its accepted terms the floors, of its moves the starts.
+-- What the lines of an answer call for: of its seals the reserves, of its accepted terms the floors, of its moves the
+-- starts.
 use Rattle.std.proofs.Common.{◌≡◌, ℕ, ◌+◌, min, Bool, true, false, cond, ◌&&◌, List, [], ◌∷◌, ◌++◌, map, filter, Option, Some, None, option_map, option_to_list, is_some, nat_eq, nat_le, flat_map, refl, sym, ap, ◌∙◌}
 use Rattle.std.proofs.lemmas.Bool.{false≢true}
 use Rattle.std.specs.List.{AllByRecursion}

@@ -1,4 +1,5 @@
--- Behind each floor line of a run stands the accept line for which it is stored, or the stop or failure that cut its event.
+-- After each floor line of a run stands the accept line for which it is stored, or the stop or failure that cut its
+-- event.
 use Rattle.std.proofs.Common.{◌≡◌, ℕ, suc, zero-lt-suc, suc-le-suc, ◌+◌, min, Bool, true, false, cond, List, [], ◌∷◌, ◌++◌, map, filter, length, Option, Some, None, option_map, option_to_list, nat_le, flat_map, refl, sym, subst, arith, append_assoc}
 use Rattle.std.proofs.lemmas.Bool.{false≢true}
 use Rattle.std.specs.List.{AllByRecursion, Any}

@@ -1,5 +1,5 @@
--- The counters, reserves, floors and starts of a whole run, as one relation between a schedule and lines. What each line says
--- else is the policy's; with these no line is left open.
+-- The counters, reserves, floors and starts of a whole run, as one relation between a schedule and lines. What each
+-- line says else is the policy's; with these no line is left open.
 use Rattle.std.specs.Prelude.{ℕ, ◌≡◌, ◌+◌, min, Bool, false, if◌then◌else◌, ◌&&◌, List, [], ◌∷◌, ◌++◌, Some, nat_eq, nat_le, flat_map, ⊤}
 use Rattle.std.specs.List.{AllByRecursion, list_any}
 use Rattle.zb_model.specs.Data.{Bytes, Layer, Nwk, Aps, Active, Reserve, Floor, Start, Moved}
@@ -12,8 +12,8 @@ use Rattle.zb_model.specs.Play.{Schedule, Event, Step, Disk, start, setting_of, 
 
 -- Seals
 
--- A seal line has the counter that comes next at its layer; at NWK its base key is the active one. `h` are the lines before the
--- group, here and below.
+-- A seal line has the counter that comes next at its layer; at NWK its base key is the active one. `h` are the lines
+-- before the group, here and below.
 abbrev pub IsActive : Layer → Bytes → NodeState → Type 0
 IsActive Nwk base s = s.active ≡ Some base
 IsActive Aps base s = ⊤
@@ -24,8 +24,8 @@ TakesCounter h _ = ⊤
 
 -- Reserves
 
--- The reserve line of a layer that a seal line calls for: where the next counter is the limit, one outgoing block ahead of the
--- counter, or the greatest counter.
+-- The reserve line of a layer that a seal line calls for: where the next counter is the limit, one outgoing block
+-- ahead of the counter, or the greatest counter.
 abbrev pub block_reserved : Schedule → NodeState → ℕ → Layer → ℕ
 block_reserved w s n layer = min (next_counter layer s + (setting_of w n).me.out_block) greatest_counter
 
@@ -44,8 +44,8 @@ reserve_there layer _ = []
 
 -- Floors
 
--- The floor line that an accept line calls for: where its counter isn't below the stored floor, one incoming block above the
--- counter, or the greatest counter.
+-- The floor line that an accept line calls for: where its counter isn't below the stored floor, one incoming block
+-- above the counter, or the greatest counter.
 abbrev pub floor_called : Schedule → List Line → Line → List Line
 floor_called w h (Accept e n t) =
     if nat_le (stored_floor t (state_of h n)) t.counter
@@ -67,8 +67,8 @@ starts_key n key _ = false
 unfoldable pub has_started : List Line → ℕ → Bytes → Bool
 has_started h n key = list_any (starts_key n key) h
 
--- The start line that an `active` line calls for: where the key hasn't started; at 0 where the node's next counter has reached
--- half of the range, else at the next counter.
+-- The start line that an `active` line calls for: where the key hasn't started; at 0 where the node's next counter has
+-- reached half of the range, else at the next counter.
 abbrev pub start_value : NodeState → ℕ
 start_value s = if nat_le half (next_counter Nwk s) then 0 else next_counter Nwk s
 
@@ -80,7 +80,8 @@ abbrev pub start_there : Line → List Line
 start_there (Changed e n (Start key value)) = Changed e n (Start key value) ∷ []
 start_there _ = []
 
--- Each counter of a group is the next, and its reserve, floor and start lines are just those that its other lines call for.
+-- Each counter of a group is the next, and its reserve, floor and start lines are just those that its other lines call
+-- for.
 pub record IsCounted (w : Schedule) (h group : List Line) : Type 0 where
   pub seals : AllByRecursion (TakesCounter h) group
   pub reserves : (layer : Layer) → flat_map (reserve_there layer) group ≡ flat_map (reserve_called w h layer) group

@@ -5,9 +5,9 @@ use Rattle.zb_model.specs.Data.{Bytes, Layer, Term, Edit, Floor}
 use Rattle.zb_model.specs.Lines.{Line, Changed, Accept, Stopped, DownDisk}
 use Rattle.zb_model.specs.Play.{Schedule, setting_of}
 
--- What a floor line of an event and a node is stored for: a term that the node accepts in this event, of the floor's layer, base
--- key and source, and the floor is at most the node's incoming block above its counter. Or the event was cut short by a stop or
--- failure, and nothing of it is accepted.
+-- What a floor line of an event and a node is stored for: a term that the node accepts in this event, of the floor's
+-- layer, base key and source, and the floor is at most the node's incoming block above its counter. Or the event was
+-- cut short by a stop or failure, and nothing of it is accepted.
 abbrev pub IsFor : Schedule → ℕ → ℕ → Layer → Bytes → ℕ → ℕ → Line → Type 0
 IsFor w e n layer base source value (Accept d m t) =
     (d ≡ e) × (m ≡ n) × (t.layer ≡ layer) × (t.base ≡ base) × (t.source ≡ source) × (value ≤ t.counter + (setting_of w n).me.in_block)
@@ -19,13 +19,13 @@ abbrev pub FloorLine : Schedule → Line → List Line → Type 0
 FloorLine w (Changed e n (Floor layer base source value)) later = Any (IsFor w e n layer base source value) later
 FloorLine w _ later = ⊤
 
--- Behind each floor line stands what it is for.
+-- After each floor line stands what it is for.
 abbrev pub FloorsAreFor : Schedule → List Line → Type 0
 FloorsAreFor w [] = ⊤
 FloorsAreFor w (l ∷ ls) = FloorLine w l ls × FloorsAreFor w ls
 
--- A floor that an answer stores is for a term that it accepts: of the floor's layer, base key and source, and the floor is at most
--- a block above its counter.
+-- A floor that an answer stores is for a term that it accepts: of the floor's layer, base key and source, and the
+-- floor is at most a block above its counter.
 abbrev pub IsOfTerm : ℕ → Layer → Bytes → ℕ → ℕ → Term → Type 0
 IsOfTerm block layer base source value t = (t.layer ≡ layer) × (t.base ≡ base) × (t.source ≡ source) × (value ≤ t.counter + block)
 

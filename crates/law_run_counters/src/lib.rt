@@ -1,5 +1,5 @@
 //! The counters of whole runs: the transcript of a schedule is counted, and it is the only list of lines that is
-//! lawful and counted. Each law stands as the contract of a function with an empty body; docs/THEOREMS.md says it in
+//! lawful and counted. Each law is the contract of a function with an empty body; docs/THEOREMS.md says it in
 //! words.
 #![tactic(auto)]
 
@@ -33,7 +33,7 @@ pub fn lawful_and_counted_lines_are_the_transcript()
         → lines ≡ transcript tools w }
 {}
 
-/// No floor is more than the node's incoming block above the counter for which it was stored: behind each floor line,
+/// No floor is more than the node's incoming block above the counter for which it was stored: after each floor line,
 /// in its event, stands the accept line of that counter, or the stop or failure that cut the event short.
 pub fn a_floor_is_at_most_one_block_above_its_counter()
     ensures { (tools : Tools) → Opens tools → (w : Schedule) → FloorsAreFor w (transcript tools w) }

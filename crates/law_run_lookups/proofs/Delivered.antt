@@ -1,5 +1,5 @@
--- A delivery is answered with counter-spent only by the rule of its command, and that rule's frame is sealed at the layers of the
--- command's answer.
+-- A delivery is answered with counter-spent only by the rule of its command, and that rule's frame is sealed at the
+-- layers of the command's answer.
 use Rattle.std.proofs.Common.{◌≡◌, ℕ, Bool, true, false, cond, List, [], ◌∷◌, ◌++◌, Option, Some, None, option_to_list, refl, ap, subst}
 use Rattle.zb_model.specs.Data.{Bytes, Layer, Term, Place, AtAps, Reason, CounterSpent, Move, Command, Received}
 use Rattle.zb_model.specs.State.{NodeState, usable_of}

@@ -1,5 +1,5 @@
--- A rule answers counter-spent only where a layer of its frame has no counter left, its frame is sealed at just these layers, and
--- it refuses as policy no event that is for a node of its role.
+-- A rule answers counter-spent only where a layer of its frame has no counter left, its frame is sealed at just these
+-- layers, and it refuses as policy no event that is for a node of its role.
 use Rattle.std.proofs.Common.{◌≡◌, ℕ, ◌≤◌, Bool, true, false, cond, List, [], ◌∷◌, Option, Some, None, find, is_some, nat_eq, not, ◌&&◌, refl, sym, ◌∙◌, subst, leb-true, ◌⊎◌, inl, inr}
 use Rattle.std.proofs.lemmas.Bool.{false≢true, or_cases}
 use Rattle.zb_model.specs.Data.{Bytes, Layer, Nwk, Aps, State, Joined, Offered, Reason, CounterSpent, Policy, Move, Command, TransportNet, TransportApp, TransportLink, UpdateDevice, RemoveDevice, RequestApp, RequestLink, SwitchKey, Tunnel, VerifyKey, ConfirmKey, Task, SayTo, TellTo, DoKnock, DoRejoin, DoTimer, AskFor, HasChild, DoProvision, DoRemove, DoRoll, DoSwitch, DoAgain, DoShare}

@@ -1,5 +1,5 @@
--- What each answer keeps of link rows: at the centre each partner with an offered row has a current one, and a router or device
--- in Offered has an offered row of the centre.
+-- What each answer keeps of link rows: at the centre each partner with an offered row has a current one, and a router
+-- or device in Offered has an offered row of the centre.
 use Rattle.std.proofs.Common.{◌≡◌, ℕ, Bool, true, false, cond, not, ◌&&◌, ◌||◌, List, [], ◌∷◌, ◌++◌, map, filter, Option, Some, None, flat_map, find, is_some, nat_eq, refl, sym, ap, ◌∙◌, subst, eqb-true, eq-eqb, ◌⊎◌, inl, inr, ⊎_elim}
 use Rattle.std.proofs.lemmas.Bool.{false≢true, and_parts}
 use Rattle.std.specs.List.{AllByRecursion, list_any}
@@ -103,7 +103,7 @@ kept-appended kk s0 xs ys s =
 abbrev pub same_rows : NodeState → NodeState → Type 0
 same_rows s t = (q : ℕ) (k : Bytes) → Alike q k s.links t.links
 
--- a row stands behind the moves that bring it
+-- a row stands after the moves that bring it
 pub settle : (kk : Counting) (s0 s1 : NodeState) → same_rows s0 s1 → (q : ℕ) (k : Bytes) (a : Attribute) (before later : List Move) → AllByRecursion (Spares q k) before → AllByRecursion (Spares q k) later
     → Has q k (is_unverified a) (applied_all (kept_edits kk s0 (before ++ Row q k a ∷ later)) s1).links
 unfolding applied_all
@@ -212,7 +212,7 @@ live-has s q c e = by-any (any-in (is_live_of q) s.links e)
 
 -- The centre's answers
 
--- the rows behind the moves
+-- the rows after the moves
 abbrev pub rows_after : Counting → NodeState → NodeState → List Move → List LinkKey
 rows_after kk s s1 ms = (applied_all (kept_edits kk s ms) s1).links
 

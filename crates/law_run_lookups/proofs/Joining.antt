@@ -1,4 +1,4 @@
--- A router or device that is in Offered has an offered row of the centre, behind each of its answers.
+-- A router or device that is in Offered has an offered row of the centre, after each of its answers.
 use Rattle.std.proofs.Common.{◌≡◌, ℕ, Bool, true, false, cond, not, List, [], ◌∷◌, ◌++◌, filter, Option, Some, None, flat_map, is_some, nat_eq, refl, sym, ap, ◌∙◌, subst, ◌⊎◌, inl, inr}
 use Rattle.std.proofs.lemmas.Bool.{false≢true}
 use Rattle.std.specs.List.{AllByRecursion}

@@ -1,5 +1,5 @@
--- What a node sends before an event of a run may be sealed: a frame that was judged under a network key came to a node that has one,
--- so an active row; and a command that passed without NWK security has no answer that is sealed at NWK.
+-- What a node sends before an event of a run may be sealed: a frame that was judged under a network key came to a node
+-- that has one, so an active row; and a command that passed without NWK security has no answer that is sealed at NWK.
 use Rattle.std.proofs.Common.{◌≡◌, ℕ, Bool, true, false, cond, not, ◌&&◌, ◌||◌, List, [], ◌∷◌, ◌++◌, filter, find, reverse, Option, Some, None, option_to_list, is_some, nat_eq, refl, ap, ◌∙◌, inl, inr}
 use Rattle.std.proofs.lemmas.Bool.{false≢true, and_parts}
 use Rattle.std.specs.List.{AllByRecursion}
@@ -29,7 +29,8 @@ Uses s = (sequence : ℕ) (row : NetKey) → usable_of s sequence ≡ Some row �
 
 -- Judging
 
--- a frame that passed the NWK layer: under a network key, or in clear as the carrier of a command under a transport key
+-- a frame that passed the NWK layer: under a network key, or in clear as the carrier of a command under a transport
+-- key
 abbrev Passed : Tools → Setting → NodeState → NwkShown → Option Term → Type 0
 Passed tools c s f (Some term) = Awake s
 Passed tools c s f None = (is_centre c.me.role ≡ false) × (sealed_for_transport (tools.read_aps f.body) ≡ true)

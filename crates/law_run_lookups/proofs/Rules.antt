@@ -1,5 +1,5 @@
--- What a rule sends may be sealed, where a node that judged the frame under a network key has an active row; and behind a network
--- key that comes in a key is active.
+-- What a rule sends may be sealed, where a node that judged the frame under a network key has an active row; and after
+-- a network key that comes in a key is active.
 use Rattle.std.proofs.Common.{◌≡◌, ℕ, Bool, true, false, cond, not, ◌&&◌, ◌||◌, List, [], ◌∷◌, ◌++◌, map, Option, Some, None, find, is_some, is_none, filter, nat_eq, nat_le, length, refl, sym, ap, ◌∙◌, ◌⊎◌, inl, inr}
 use Rattle.std.proofs.lemmas.Bool.{false≢true, and_parts}
 use Rattle.zb_model.specs.Data.{Bytes, Nwk, Aps, ForData, State, Joined, Offered, Reason, CounterSpent, Move, Install, Active, Became, Removed, Command, TransportNet, TransportApp, TransportLink, UpdateDevice, RemoveDevice, RequestApp, RequestLink, SwitchKey, Tunnel, VerifyKey, ConfirmKey, Task, SayTo, TellTo, DoKnock, DoRejoin, DoTimer, AskFor, HasChild, DoProvision, DoRemove, DoRoll, DoSwitch, DoAgain, DoShare, Term}
@@ -294,7 +294,8 @@ own-fits tools c s task = by-test (is_centre c.me.role)
     by-test true = centre-own-fits c s task
     by-test false = member-own-fits tools c s task
 
--- Commands. Where no active row is known, it came without NWK security to a router or device, sealed under a transport key.
+-- Commands. Where no active row is known, it came without NWK security to a router or device, sealed under a transport
+-- key.
 
 abbrev pub Ready : Setting → NodeState → Heard → Type 0
 Ready c s m = Awake s ⊎ ((is_centre c.me.role ≡ false) × (labelled ForData m.label ≡ false))

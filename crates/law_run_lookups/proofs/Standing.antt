@@ -128,7 +128,7 @@ record Answering (w : Schedule) (h : List Line) (n : ℕ) (task : Task) (s : Nod
   deed : Deed (setting_of w n) s task (moves_of p.outcome)
   state : s ≡ state_of h n
 
--- the state behind reserves and floors
+-- the state after reserves and floors
 middle : NodeState → Counting → Plan → NodeState
 middle s kk p = applied_all (rest_edits kk p.accepts) s
 
@@ -144,7 +144,7 @@ middle-state : (s : NodeState) (kk : Counting) (p : Plan) → (middle s kk p).st
 unfolding middle
 middle-state s kk p = edits-state (rest_edits kk p.accepts) (mere-keeps (rest_edits kk p.accepts) (rests-mere kk p.accepts)) s
 
--- a draw of the plan is used behind the lines that store it
+-- a draw of the plan is used after the lines that store it
 draw-used : (h : List Line) (number n : ℕ) (s : NodeState) (kk : Counting) (p : Plan) (more : List Line) (j : Bytes) → Draws j (moves_of p.outcome) → draws_used h < draws_used (h ++ (map (Changed number n) (edits_of s kk p) ++ more))
 draw-used h number n s kk p more j d =
     subst (λ es. draws_used h < draws_used (h ++ (map (Changed number n) es ++ more))) (sym (edits-parts s kk p ∙ ap (λ ms. rest_edits kk p.accepts ++ kept_edits kk s ms) d.1))

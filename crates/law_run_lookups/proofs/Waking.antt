@@ -22,7 +22,7 @@ Awake s = is_some (active_row s) ≡ true
 abbrev pub Rests : NodeState → Type 0
 Rests s = is_some s.active ≡ false → s.nets ≡ []
 
--- behind the moves a key is active; behind each network key that comes in one is
+-- after the moves a key is active; after each network key that comes in one is
 abbrev pub Wakes : List Move → Type 0
 Wakes [] = ⊥
 Wakes (Active k ∷ ms) = Unit {0}
@@ -98,7 +98,7 @@ mere-bares (x ∷ es) a s b = mere-bares es a.1 (applied x s) (mere-bare x a.0 s
 abbrev kept : Counting → NodeState → List Move → List Edit
 kept k s0 ms = flat_map (move_edits k) (filter (changes s0) ms)
 
--- a move behind which the rest goes on, whether or not it changes anything
+-- a move after which the rest goes on, whether or not it changes anything
 abbrev Woken : Counting → NodeState → List Move → Type 0
 Woken k s0 ms = (s : NodeState) → is_some (applied_all (kept k s0 ms) s).active ≡ true
 

@@ -1,4 +1,5 @@
--- The command to whose rule a delivered frame comes, once its layers have passed, and the layers of the frame that answers it.
+-- The command to whose rule a delivered frame comes, once its layers have passed, and the layers of the frame that
+-- answers it.
 use Rattle.std.specs.Prelude.{if◌then◌else◌, List, [], Option, Some, None}
 use Rattle.zb_model.specs.Data.{Bytes, Layer, Term, Command}
 use Rattle.zb_model.specs.State.{NodeState}

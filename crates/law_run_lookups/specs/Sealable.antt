@@ -9,14 +9,14 @@ use Rattle.zb_model.specs.Answer.{Counting, may_seal, out_of, plan_of, sending_o
 use Rattle.zb_model.specs.Readings.{state_of}
 use Rattle.zb_model.specs.Play.{Schedule, setting_of}
 
--- Neither the test in `out_of` nor a missing active row decides: what is sent passes the test, the frame is that of `sent`, and there
--- is one. With the counters of any choice.
+-- Neither the test in `out_of` nor a missing active row decides: what is sent passes the test, the frame is that of
+-- `sent`, and there is one. With the counters of any choice.
 pub record IsSealable (tools : Tools) (c : Setting) (s : NodeState) (send : Option Sending) : Type 0 where
   pub may : may_seal s send ≡ true
   pub as_sent : (k : Counting) → out_of tools c s k send ≡ sent tools c s k send
   pub has_frame : (k : Counting) → is_some (out_of tools c s k send).frame ≡ is_some send
 
--- what a node would send behind the lines, whatever it is to do
+-- what a node would send after the lines, whatever it is to do
 abbrev pub outcome_of : Tools → Schedule → List Line → ℕ → Task → Outcome
 outcome_of tools w h n task = (plan_of tools (setting_of w n) (state_of h n) task).outcome
 

@@ -83,7 +83,7 @@ pub fn a_newest_key_is_there()
         → NodesAllAlong HasNewest tools w }
 {}
 
-/// Says that before each event of a run, what any node would send may be sealed, whatever it is to do.
+/// States that before each event of a run, what any node would send may be sealed, whatever it is to do.
 ///
 /// So neither the test in `out_of` nor a missing active row decides anything in a run: where a rule sends, a frame
 /// goes out. This holds of any schedule, and with any tools.
@@ -92,10 +92,11 @@ pub fn what_is_sent_may_be_sealed()
         → BeforeEach (λ (h : List Line) (event : Event). SendsSealable tools w h) tools w (start w) [] 1 w.events }
 {}
 
-/// Says that a delivery is answered with counter-spent only where a layer of the frame that would answer it is spent.
+/// States that a delivery is answered with counter-spent only where a layer of the frame that would answer it is
+/// spent.
 ///
-/// `carried` is the command to whose rule the frame comes, and `answer_layers` the layers of what that rule sends: what
-/// goes out is sealed at just these. Where the frame carries no command, counter-spent never comes.
+/// `carried` is the command to whose rule the frame comes, and `answer_layers` the layers of what that rule sends:
+/// what goes out is sealed at just these. Where the frame carries no command, counter-spent never comes.
 pub fn counter_spent_is_of_the_layers_of_what_answers()
     ensures refusals { (tools : Tools) (c : Setting) (s : NodeState) (bytes : Bytes) (draw : Option Bytes)
         → refusal_of (plan_of tools c s (Received bytes draw)) ≡ Some CounterSpent

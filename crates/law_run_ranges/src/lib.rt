@@ -1,4 +1,4 @@
-//! The values in the lines of a run are in the ranges of their fields. The law stands as the contract of a function
+//! The values in the lines of a run are in the ranges of their fields. The law is the contract of a function
 //! with an empty body; docs/THEOREMS.md says it in words.
 #![tactic(auto)]
 
@@ -10,7 +10,7 @@ ghost use Rattle.law_run_ranges.specs.Asking.{AreInRange, KeepsRanges, ScheduleI
 ghost use Rattle.law_tables_suffice.specs.Along.{euis_differ};
 ghost use Rattle.law_answer_storable.specs.Storing.{OpensAsJudged};
 
-/// Says that in each line of a run the values are in the ranges of their fields, where the schedule's are.
+/// States that in each line of a run the values are in the ranges of their fields, where the schedule's are.
 ///
 /// Counters, limits, floors, numbers and addresses fit; keys have 16 bytes; frames, headers and contents are of bytes,
 /// at most 127 each.

@@ -1,4 +1,4 @@
--- Behind the groups of a run, what lines say of its nodes is what their states say.
+-- After the groups of a run, what lines say of its nodes is what their states say.
 use Rattle.std.proofs.Common.{◌≡◌, ℕ, ◌+◌, Bool, true, false, cond, List, [], ◌∷◌, ◌++◌, map, find, Option, Some, None, is_some, nat_eq, refl, sym, ap, ◌∙◌, subst, unwrap_or}
 use Rattle.std.specs.List.{AllByRecursion}
 use Rattle.std.specs.Option.{option_or}
@@ -132,7 +132,7 @@ start_stands tools w differ =
 
 -- ---- what is said is what the state says
 
--- what is said behind whole groups
+-- what is said after whole groups
 abbrev said_at : List (List Line) → ℕ → Said
 said_at before n = record {
   lim = λ key. limit_from n key [] before;

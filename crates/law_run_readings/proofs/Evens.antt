@@ -1,4 +1,4 @@
--- Where no counter was taken since the last boot, the next one is the limit: of a node with power, behind whole groups.
+-- Where no counter was taken since the last boot, the next one is the limit: of a node with power, after whole groups.
 use Rattle.std.proofs.Common.{◌≡◌, ℕ, ◌+◌, max, min, Bool, true, false, cond, ◌&&◌, List, [], ◌∷◌, ◌++◌, map, flat_map, Option, Some, None, option_map, nat_eq, refl, sym, ap, ◌∙◌, subst, append_assoc, unwrap_or}
 use Rattle.std.specs.List.{AllByRecursion}
 use Rattle.std.proofs.lemmas.Bool.{false≢true}
@@ -257,7 +257,7 @@ abbrev is_none : Option ℕ → Type 0
 is_none None = Unit {0}
 is_none (Some n) = ⊥
 
--- a line behind which nothing is sealed: nothing was before, and it seals nothing
+-- a line after which nothing is sealed: nothing was before, and it seals nothing
 not_sealed : (layer : Layer) (key : Bytes) (found : Option ℕ) (l : Line) → NoBoot l → sealed_in layer key found l ≡ None → (found ≡ None) × Unsealed layer key l
 not_sealed layer key found (Boot n m) free e = absurd free
 not_sealed layer key found (Seal n m t) free e = by_test (same_layer t.layer layer && is_under layer key t.base) refl e

@@ -53,7 +53,7 @@ sealed_snoc n layer key h l = fold-append (λ found x. cond (nat_eq (speaker x) 
 abbrev pub was_active : List (List Line) → ℕ → Bytes → Bool
 was_active before n key = is_active_key (active (flat before) n) key
 
--- what is said behind whole groups and the front of a further one
+-- what is said after whole groups and the prefix of a further one
 abbrev pub said_of : List (List Line) → List Line → ℕ → Said
 said_of before front n = let h = flat before ++ front in record {
   lim = λ key. option_or (last_said n (limit_in key (was_active before n key)) front) (limit_from n key [] before);

@@ -9,8 +9,8 @@ use Rattle.law_run_readings.proofs.Rows.{row_at, own_row, other_row, new_row_oth
 
 -- ---- one network row
 
--- What lines say of the limit of a key, and of its counter since the last boot: the row has it. A row that has not started has none of
--- both, and neither has a key without a row.
+-- What lines say of the limit of a key, and of its counter since the last boot: the row has it. A row that has not
+-- started has none of both, and neither has a key without a row.
 pub record SaysRow (lim sealed : Option ℕ) (d : ℕ) (r : NetKey) : Type 0 where
   pub limit : r.started ≡ true → r.limit ≡ unwrap_or lim d
   pub fresh : r.started ≡ false → (lim ≡ None) × (sealed ≡ None)

@@ -16,8 +16,8 @@ use Rattle.law_run_readings.proofs.Rows.{row_at, other_row, link_at}
 use Rattle.law_run_readings.proofs.SaidRows.{SaysRow, RowIs, LeavesRow, left_at, reserved_row, start_row, sealed_row, booted_row, installed_row, at_own}
 use Rattle.law_run_readings.proofs.Keeping.{LeavesLink, plain_floors, plain_link, only_link, booted_leaves, kept_leaves, floors_map, floors_at, floors_own, installed_floors, links_map, with_link_stored, with_told_stored, link_floors_own}
 
--- What is said of a node: the limits of its network keys, their counters since the last boot, that of APS, the key that was given and the
--- one that became active, the limits at the start, the limit reserved at APS, and the floors.
+-- What is said of a node: the limits of its network keys, their counters since the last boot, that of APS, the key
+-- that was given and the one that became active, the limits at the start, the limit reserved at APS, and the floors.
 pub record Said : Type 0 where
   pub lim : Bytes → Option ℕ
   pub sealed : Bytes → Option ℕ

@@ -15,8 +15,9 @@ abbrev pub floor_at : Layer → Bytes → ℕ → NodeState → ℕ
 floor_at Nwk key sender s = net_stored sender (net_of key s)
 floor_at Aps key sender s = link_stored (find (is_link sender key) s.links)
 
--- What the lines of these groups say of a node is what its state says. Of the next counters that is claimed of a node with power: where a
--- stop or failure cut a group behind its reserves, a node without power has counters that its boot leaves out.
+-- What the lines of these groups say of a node is what its state says. Of the next counters that is claimed of a node
+-- with power: where a stop or failure cut a group after its reserves, a node without power has counters that its boot
+-- leaves out.
 pub record Agrees (before : List (List Line)) (n : ℕ) : Type 0 where
   pub active_is : active (flat before) n ≡ (state_of (flat before) n).active
   pub limits : (layer : Layer) → limit before n layer ≡ stored_limit layer (state_of (flat before) n)
@@ -26,13 +27,14 @@ pub record Agrees (before : List (List Line)) (n : ℕ) : Type 0 where
 abbrev pub AllAgree : Schedule → List (List Line) → Type 0
 AllAgree w before = (n : ℕ) → Names w n → Agrees before n
 
--- before each of these events and behind the last one, of each declared node
+-- before each of these events and after the last one, of each declared node
 abbrev pub AgreeFrom : Tools → Schedule → List (List Line) → List Disk → ℕ → List Event → Type 0
 AgreeFrom tools w before disks number [] = AllAgree w before
 AgreeFrom tools w before disks number (event ∷ events) =
     let g = step tools w (flat before) disks number event in
     AllAgree w before × AgreeFrom tools w (before ++ g.lines ∷ []) g.disks (number + 1) events
 
--- Whole groups of a run say what the states of its nodes say: the start lines, and those with the group of each event in turn.
+-- Whole groups of a run say what the states of its nodes say: the start lines, and those with the group of each event
+-- in turn.
 abbrev pub RunAgrees : Tools → Schedule → Type 0
 RunAgrees tools w = AgreeFrom tools w (start w ∷ []) [] 1 w.events

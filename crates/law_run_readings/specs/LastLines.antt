@@ -33,8 +33,9 @@ counter_in layer _ = None
 unfoldable pub declared : List Line → ℕ → Layer → ℕ
 declared h n layer = unwrap_or (last_said n (counter_in layer) h) 0
 
--- The stored outgoing limit: at APS that of the last `reserve` line there. At NWK the limit of a network key is that of its `start` line,
--- or of the last `reserve` line that is for it: such a line is for the key that is active before its group.
+-- The stored outgoing limit: at APS that of the last `reserve` line there. At NWK the limit of a network key is that
+-- of its `start` line, or of the last `reserve` line that is for it: such a line is for the key that is active before
+-- its group.
 abbrev pub reserve_in : Layer → Line → Option ℕ
 reserve_in layer (Changed e n (Reserve l limit)) = if same_layer l layer then Some limit else None
 reserve_in layer _ = None
@@ -60,7 +61,7 @@ unfoldable pub limit : List (List Line) → ℕ → Layer → ℕ
 limit before n Aps = unwrap_or (last_said n (reserve_in Aps) (flat before)) (declared (flat before) n Aps)
 limit before n Nwk = limit_of_key before n (active (flat before) n)
 
--- The counter behind the last one that was sealed since the last boot: at NWK under a network key, at APS under any.
+-- The counter after the last one that was sealed since the last boot: at NWK under a network key, at APS under any.
 abbrev pub is_under : Layer → Bytes → Bytes → Bool
 is_under Nwk key base = same_key base key
 is_under Aps key base = true
@@ -73,7 +74,7 @@ sealed_in layer key found _ = found
 unfoldable pub sealed_since : ℕ → Layer → Bytes → List Line → Option ℕ
 sealed_since n layer key h = fold (λ found l. if nat_eq (speaker l) n then sealed_in layer key found l else found) None h
 
--- The next counter: behind the last one that was sealed since the last boot, or else the stored limit.
+-- The next counter: after the last one that was sealed since the last boot, or else the stored limit.
 abbrev pub sealed_of_key : List (List Line) → ℕ → Option Bytes → Option ℕ
 sealed_of_key before n None = None
 sealed_of_key before n (Some key) = sealed_since n Nwk key (flat before)

@@ -90,7 +90,7 @@ fallen-state number n s armed = fold-left (heard_line n) s (fallen_line armed nu
 fallen-counts : (number n k : ℕ) (armed : Armed) → fold (commit_line n) k (fallen_line armed number n) ≡ k
 fallen-counts number n k armed = fold-left (commit_line n) k (fallen_line armed number n) (fallen-all (λ l. commit_line n k l ≡ k) number n refl refl armed)
 
--- behind lines that lead to this state and this count of commits
+-- after lines that lead to this state and this count of commits
 pub fall-behind : (w : Schedule) (h xs : List Line) (ds : List Disk) (number n : ℕ) (armed : Armed) (calls : Calls) (d : DiskState) (s : NodeState) (k : ℕ) → falls armed calls ≡ true → state_of (h ++ xs) n ≡ s → commits_of (h ++ xs) n ≡ k
     → condition_of w (h ++ (xs ++ fallen_line armed number n)) (with_disk ds n d) n ≡ record { setting = setting_of w n; state = s; commits = k; up = false; disk = d }
 fall-behind w h xs ds number n armed calls d s k p e c =

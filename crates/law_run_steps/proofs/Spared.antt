@@ -15,7 +15,7 @@ use Rattle.law_run_steps.specs.Steps.{is_of}
 use Rattle.law_run_steps.proofs.Disks.{cond-same, other-disk}
 use Rattle.law_run_steps.proofs.Walks.{OfTold, OfNode, OfOutside, Asked, Has, step-has}
 
--- Readings go on behind the lines so far.
+-- Readings go on after the lines so far.
 
 pub power-append : (h g : List Line) (n : ℕ) → is_up (h ++ g) n ≡ fold (power_line n) (is_up h n) g
 unfolding is_up

@@ -25,7 +25,7 @@ fallen-all P number n s d NotArmed = tt
 fallen-all P number n s d (StopAfter calls torn) = (s, tt)
 fallen-all P number n s d (FailAt call) = (d, tt)
 
--- a claim on the lines behind the commit of an answer
+-- a claim on the lines after the commit of an answer
 pub record OfTold (P : Line → Type 0) (number n : ℕ) : Type 0 where
   pub accept : (t : Term) → P (Accept number n t)
   pub refuse : (place : Place) (reason : Reason) → P (Refuse number n place reason)

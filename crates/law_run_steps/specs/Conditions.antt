@@ -1,5 +1,5 @@
--- The condition of a node after the lines so far: its setting, its state, how many commits it made, whether it has power, and what
--- is armed on its disk; and what becomes of it at an event.
+-- The condition of a node after the lines so far: its setting, its state, how many commits it made, whether it has
+-- power, and what is armed on its disk; and what becomes of it at an event.
 use Rattle.std.specs.Prelude.{ℕ, ◌+◌, Bool, true, false, if◌then◌else◌, List, [], ◌∷◌}
 use Rattle.zb_model.specs.Answer.{Answer, answered}
 use Rattle.zb_model.specs.Data.{Edit}

@@ -7,7 +7,7 @@ use Rattle.zb_model.specs.Play.{Schedule, Disk, Event, Own, RollOver, Deliver, R
 use Rattle.zb_model.specs.Readings.{air}
 use Rattle.law_run_steps.specs.Conditions.{Condition, condition_of, calls_by, after_whole, after_cut, after_power_on, after_cut_boot}
 
--- The step behind these lines has those lines, and leaves the node in this condition.
+-- The step after these lines has those lines, and leaves the node in this condition.
 pub record ComesTo (w : Schedule) (h : List Line) (n : ℕ) (g : Step) (wanted : List Line) (x : Condition) : Type 0 where
   pub lines : g.lines ≡ wanted
   pub condition : condition_of w (h ++ g.lines) g.disks n ≡ x

@@ -1,4 +1,4 @@
-//! What each event of a run makes of the condition of each node. Each law stands as the contract of a function with an
+//! What each event of a run makes of the condition of each node. Each law is the contract of a function with an
 //! empty body.
 #![tactic(auto)]
 
@@ -25,7 +25,7 @@ ghost use Rattle.zb_model.specs.State.{NodeState, is_centre};
 ghost use Rattle.zb_model.specs.Tools.{Tools};
 ghost use Rattle.zb_model.specs.Transcript.{end_line, run_lines, transcript};
 
-/// Says what an event comes to that a node answers.
+/// Returns what an event comes to that a node answers.
 ///
 /// Where nothing that is armed falls on its commit, its lines are the whole group, and the disks stay; else they are
 /// those that were stored, and the fall.
@@ -37,7 +37,7 @@ pub fn an_answer_leads_on()
         → falls_on a (condition_of w h ds n) ≡ false → (answer_step h ds number n a).disks ≡ ds }
 {}
 
-/// Says what a refusal, a boot, a reset, a dump and the arming of a disk come to.
+/// Returns what a refusal, a boot, a reset, a dump and the arming of a disk come to.
 pub fn other_steps_lead_on()
     ensures refusal { (w : Schedule) (h : List Line) (ds : List Disk) (number n : ℕ) (reason : Reason) (g : Step)
         → g ≡ refused_step ds number n reason
@@ -60,7 +60,7 @@ pub fn other_steps_lead_on()
         (after_arming (FailAt call) (condition_of w h ds n)) }
 {}
 
-/// Says which step an event of a node with power is: it answers its own tasks, rollovers and frames.
+/// Returns which step an event of a node with power is: it answers its own tasks, rollovers and frames.
 pub fn a_node_with_power_answers()
     ensures own { (tools : Tools) (w : Schedule) (h : List Line) (ds : List Disk) (number n : ℕ) (task : Task)
         → is_up h n ≡ true
@@ -82,7 +82,7 @@ pub fn a_node_with_power_answers()
         → is_up h n ≡ true → step tools w h ds number (PowerOn n) ≡ refused_step ds number n WrongState }
 {}
 
-/// Says which step an event of a node without power is: it refuses all but a boot.
+/// Returns which step an event of a node without power is: it refuses all but a boot.
 pub fn a_node_without_power_refuses()
     ensures own { (tools : Tools) (w : Schedule) (h : List Line) (ds : List Disk) (number n : ℕ) (task : Task)
         → is_up h n ≡ false → step tools w h ds number (Own n task) ≡ refused_step ds number n Down }
@@ -96,7 +96,7 @@ pub fn a_node_without_power_refuses()
         → is_up h n ≡ false → step tools w h ds number (PowerOn n) ≡ boot_step ds number n }
 {}
 
-/// Says which lines an event of the outside gives: those of the frame that goes on the air.
+/// Returns which lines an event of the outside gives: those of the frame that goes on the air.
 ///
 /// A forged frame is named by the terms that are sealed in it, `t` at NWK and `inner` at APS.
 pub fn the_outside_sends()
@@ -122,34 +122,34 @@ pub fn the_outside_sends()
         ≡ outside_step ds (forging h number (inner ∷ []) (nwk_header plain_frame to from 0 ++ tools.wire inner)) }
 {}
 
-/// Says that an event leaves the condition of every node of which it isn't; one of the outside leaves all.
+/// States that an event leaves the condition of every node of which it isn't; one of the outside leaves all.
 pub fn other_nodes_are_spared()
     ensures { (tools : Tools) (w : Schedule) (h : List Line) (ds : List Disk) (number : ℕ) (act : Event) (m : ℕ)
         → is_of m act ≡ false → let g = step tools w h ds number act in
         condition_of w (h ++ g.lines) g.disks m ≡ condition_of w h ds m }
 {}
 
-/// Says that the start lines declare the nodes of the schedule, and that no event declares one.
+/// States that the start lines declare the nodes of the schedule, and that no event declares one.
 pub fn nodes_are_declared_at_the_start()
     ensures start { (w : Schedule) → stations_of (start w) ≡ stations w }
     ensures steps { (tools : Tools) (w : Schedule) (h : List Line) (ds : List Disk) (number : ℕ) (act : Event)
         → stations_of (h ++ (step tools w h ds number act).lines) ≡ stations_of h }
 {}
 
-/// Says that every node starts with power, with no commit made and with nothing armed.
+/// States that every node starts with power, with no commit made and with nothing armed.
 pub fn nodes_start_with_power()
     ensures power { (w : Schedule) (n : ℕ) → is_up (start w) n ≡ true }
     ensures commits { (w : Schedule) (n : ℕ) → commits_of (start w) n ≡ 0 }
     ensures disk { (n : ℕ) → disk_of [] n ≡ new_disk }
 {}
 
-/// Says that a node which isn't the centre makes no change that the centre alone makes.
+/// States that a node which isn't the centre makes no change that the centre alone makes.
 pub fn others_make_no_change_of_the_centre()
     ensures { (tools : Tools) (c : Setting) (s : NodeState) (task : Task)
         → is_centre c.me.role ≡ false → list_any is_of_the_centre (answer tools c s task).edits ≡ false }
 {}
 
-/// Says how the lines of a run go on, event by event.
+/// Returns how the lines of a run go on, event by event.
 ///
 /// So a loop over the events carries that the lines so far and the groups to come are the lines of the run.
 pub fn a_run_goes_on()

@@ -71,7 +71,7 @@ euis_in : (ms : List Node) → AllByRecursion FitsNode ms → AllByRecursion Has
 euis_in [] all = tt
 euis_in (m ∷ ms) all = (all.0.0.1.0, euis_in ms all.1)
 
--- a name that has a part stands for an EUI
+-- a name that has a part represents an EUI
 by_name : (name : Bytes) (m : Node) (ms : List Node) (b : Bool) → HasEui m → (is_some (role_named name (map seated ms)) ≡ true → IsEui (named (map station_for ms) name))
     → is_some (option_map (λ (seat : Seat). seat.node.role) (cond b (Some (seated m)) (find (λ seat. has_name name seat) (map seated ms)))) ≡ true
     → IsEui (eui_or nobody (cond b (Some (station_for m)) (find (λ (s : Station). bytes_eq s.name name) (map station_for ms))))

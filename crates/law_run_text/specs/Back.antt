@@ -32,7 +32,7 @@ pub record ReadsBack (w : Schedule) : Type 0 where
   pub text : texts (lines_of_run w) ≡ text_of_run w
   pub only : (lines : List Line) → AllProper lines → texts lines ≡ text_of_run w → AreOfRun w lines
 
--- What a reader answered of this text: the lines of the run, or want of memory.
+-- What a reader answered of this text: the lines of the run, or out of memory.
 pub record IsReadBack (w : Schedule) (result : Result (Vec Line Global) (OrMemory TraceError)) : Type 0 where
   pub found : IfOk result (λ lines. AreOfRun w lines.items)
   pub refused : IfErr result IsNoMemory

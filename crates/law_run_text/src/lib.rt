@@ -1,5 +1,5 @@
-//! Laws: the text of a run determines its lines. All numbers in the lines of a run with real frames are in the ranges of
-//! their fields, and the text reads back as exactly these lines. docs/THEOREMS.md says the laws in words.
+//! Laws: the text of a run determines its lines. All numbers in the lines of a run with real frames are in the ranges
+//! of their fields, and the text reads back as exactly these lines. docs/THEOREMS.md says the laws in words.
 #![tactic(auto)]
 
 ghost use Rattle.std.specs.Prelude.{◌≡◌, Ok, ◌<◌, ◌^◌, length};
@@ -18,7 +18,7 @@ use zb_base::OrMemory;
 use zb_trace::Line;
 use zb_trace_read::{TraceError, read_lines};
 
-/// Says that real frames keep to the ranges.
+/// States that real frames keep to the ranges.
 ///
 /// What is sealed, spelled and hashed is of bytes and as long as it must be; what is read of bytes, and what they open
 /// to, is in its range.
@@ -27,13 +27,14 @@ pub fn real_frames_keep_to_the_ranges()
     ensures { KeepsRanges real }
 {}
 
-/// Says that the values that a schedule declares and its events bring are in their ranges.
+/// States that the values that a schedule declares and its events bring are in their ranges.
 #[tactic(auto, using(crate::proofs::Schedules::schedule_in_range))]
 pub fn schedules_are_in_their_ranges()
     ensures { (p : Schedule) → IsSchedule p → ScheduleInRange (schedule_of p) }
 {}
 
-/// Says that the lines of the run of each schedule are proper, and that their text is the text of no other such lines.
+/// States that the lines of the run of each schedule are proper, and that their text is the text of no other such
+/// lines.
 #[tactic(auto, using(crate::proofs::Wide::are_their_own))]
 pub fn the_lines_of_each_run_are_proper()
     ensures { (p : Schedule) → IsSchedule p → AreTheirOwn (schedule_of p) }
@@ -47,7 +48,7 @@ pub fn the_lines_of_each_text_are_proper(text: &[u8])
     the_lines_of_each_run_are_proper();
 }
 
-/// Says that the text of the run of each schedule is the text of its printed lines, and of no other lines.
+/// States that the text of the run of each schedule is the text of its printed lines, and of no other lines.
 ///
 /// These lines are proper, so a reader finds them, whatever the length of the text.
 #[tactic(auto, using(crate::proofs::Back::reads_back))]
@@ -58,7 +59,7 @@ pub fn the_text_of_a_run_reads_back()
 /// Reads lines as `read_lines` does, and so the text of a run as exactly the lines of that run.
 ///
 /// # Errors
-/// Those of `read_lines`; of the text of a run want of memory alone.
+/// Those of `read_lines`; of the text of a run out of memory alone.
 pub fn read_run(alloc: Global, bytes: &[u8]) -> Result<Vec<Line>, OrMemory<TraceError>>
     requires { length bytes.now < 2 ^ 32 }
     ensures { (p : Schedule) → IsSchedule p → bytes.now ≡ text_of_run (schedule_of p)

@@ -1,6 +1,6 @@
--- The model of a schedule: its nodes, its supply of keys and its events, as the model of whole runs has them. A schedule names
--- nodes; the model knows a node by its EUI. A schedule has install codes; the model has the link keys that they give. And some
--- events of a schedule name no node that they are of: these are the centre's.
+-- The model of a schedule: its nodes, its supply of keys and its events, as the model of whole runs has them. A
+-- schedule names nodes; the model knows a node by its EUI. A schedule has install codes; the model has the link keys
+-- that they give. And some events of a schedule name no node that they are of: these are the centre's.
 use Rattle.std.specs.Prelude.{ℕ, List, map, find, bytes_eq}
 use Rattle.std.specs.Option.{option_map}
 use Rattle.zb_node_types.specs.Changes.{model_role}
@@ -21,8 +21,8 @@ station_for m = record { name = m.name; eui = m.eui; short = m.short; role = mod
 abbrev pub stations_for : Schedule → List Station
 stations_for p = map station_for p.nodes
 
--- A node with what it holds at the start: the link key of its install code, its network key with the sequence, and its stored
--- outgoing limits.
+-- A node with what it holds at the start: the link key of its install code, its network key with the sequence, and its
+-- stored outgoing limits.
 abbrev pub node_for : Node → model.Node
 node_for m = record { station = station_for m; code = option_map code_key m.code; network = m.network; start_nwk = m.start_nwk; start_aps = m.start_aps }
 

@@ -6,7 +6,7 @@ ghost use Rattle.zb_sched.specs.Schedules.{Schedule};
 ghost use Rattle.zb_sched.specs.Valid.{IsSchedule};
 ghost use Rattle.law_real_runs.specs.Headline.{Holds};
 
-/// Says that the model of each schedule is as the laws over runs ask.
+/// States that the model of each schedule is as the laws over runs ask.
 ///
 /// Its numbers are in their ranges, its events are of declared nodes, it has one centre, and its keys are different
 /// keys.
@@ -14,7 +14,7 @@ pub fn schedules_meet_the_premises()
     ensures { (p : Schedule) → IsSchedule p → Premises (schedule_of p) }
 {}
 
-/// Says that all laws over runs hold of the run of each schedule.
+/// States that all laws over runs hold of the run of each schedule.
 ///
 /// The run is lawful and counted, and no other lines are. Its nonces are fresh, its counters taken once, its keys
 /// confirmed, and where the end line says `yes yes` who is removed is locked out.

@@ -1,5 +1,5 @@
 //! What a node's tables show of its state is enough: they forget the floors of dropped network keys, and nothing asks
-//! for them. Each law stands as the contract of a function with an empty body.
+//! for them. Each law is the contract of a function with an empty body.
 #![tactic(auto)]
 
 ghost use Rattle.std.specs.Prelude.{◌≡◌, ℕ, true, List};
@@ -18,7 +18,7 @@ ghost use Rattle.zb_model.specs.Schedules.{IsSchedule, Names};
 ghost use Rattle.zb_model.specs.State.{NodeState, after_boot, applied, applied_all, shown};
 ghost use Rattle.zb_model.specs.Tools.{Tools};
 
-/// Says that every event has the same plan at a state and at what is shown of it.
+/// States that every event has the same plan at a state and at what is shown of it.
 ///
 /// That is the accepted terms, the refusal, the changes and what is sent, and it holds of every state.
 pub fn what_is_shown_gives_the_plan()
@@ -26,7 +26,7 @@ pub fn what_is_shown_gives_the_plan()
         → plan_of tools c (shown s) task ≡ plan_of tools c s task }
 {}
 
-/// Says that every event has the same answer, counters and all, at a state and at what is shown of it.
+/// States that every event has the same answer, counters and all, at a state and at what is shown of it.
 ///
 /// A floor is stored where the accepted counter has reached the one that is stored; so the base keys of accepted NWK
 /// terms must be live, since the floors of a dropped key aren't shown.
@@ -36,24 +36,24 @@ pub fn what_is_shown_gives_the_answer()
         → answer tools c (shown s) task ≡ answer tools c s task }
 {}
 
-/// Says that accepted terms are under live network keys, in a state whose network rows have different keys.
+/// States that accepted terms are under live network keys, in a state whose network rows have different keys.
 pub fn accepted_terms_are_under_live_keys()
     ensures { (tools : Tools) → OpensAsJudged tools → (c : Setting) (s : NodeState) → nets_differ s ≡ true
         → (task : Task) → AreUnderLive s (plan_of tools c s task).accepts }
 {}
 
-/// Says that no two network rows of a node have the same key, whatever lines say of it.
+/// States that no two network rows of a node have the same key, whatever lines say of it.
 pub fn network_keys_differ_after_any_lines()
     ensures { (h : List Line) (n : ℕ) → nets_differ (state_of h n) ≡ true }
 {}
 
-/// Says that no answer asks for what tables forget, in the state that any lines give.
+/// States that no answer asks for what tables forget, in the state that any lines give.
 pub fn what_tables_forget_is_asked_by_none()
     ensures { (tools : Tools) → OpensAsJudged tools → (c : Setting) (h : List Line) (n : ℕ) (task : Task)
         → answer tools c (shown (state_of h n)) task ≡ answer tools c (state_of h n) task }
 {}
 
-/// Says that what is shown after an answer depends on what was shown before alone.
+/// States that what is shown after an answer depends on what was shown before alone.
 ///
 /// It holds of every answer and state, so also where an event drops the key under which its frame was accepted.
 pub fn what_is_shown_goes_on()
@@ -64,7 +64,7 @@ pub fn what_is_shown_goes_on()
     ensures again { (s : NodeState) → shown (shown s) ≡ shown s }
 {}
 
-/// Says that before each event of a run its node is as it was declared, with its EUI and its role.
+/// States that before each event of a run its node is as it was declared, with its EUI and its role.
 ///
 /// Its blocks aren't empty. No two nodes of the schedule may have one EUI.
 pub fn nodes_are_as_declared_all_along()
@@ -72,18 +72,18 @@ pub fn nodes_are_as_declared_all_along()
         → NodesAllAlong IsAsDeclared tools w }
 {}
 
-/// Says that of all start lines of a run each node's own alone say what it is.
+/// States that of all start lines of a run each node's own alone say what it is.
 pub fn nodes_start_by_their_own_lines()
     ensures { (w : Schedule) → euis_differ w ≡ true → AllByRecursion (StartsAlone w) w.nodes }
 {}
 
-/// Says that each declared node starts in a state that keeps the rules for records.
+/// States that each declared node starts in a state that keeps the rules for records.
 pub fn nodes_start_by_the_rules()
     ensures { (w : Schedule) → IsSchedule w → euis_differ w ≡ true → (n : ℕ) → Names w n
         → keeps_rules (state_of (start w) n) ≡ true }
 {}
 
-/// Says that before each event of a run its node's state keeps the rules for records.
+/// States that before each event of a run its node's state keeps the rules for records.
 ///
 /// In such a state all changes of an answer fit (law_answer_storable).
 pub fn states_keep_the_rules_all_along()

@@ -111,7 +111,7 @@ const CHANGES: [(&str, &str, &str); 30] = [
     (REMOVED, "{\"active\"", "{{\"active\""),
 ];
 
-/// Whether a text was refused as no backup.
+/// Returns whether a text was refused as no backup.
 fn is_form(answer: &Result<Tables, BackupError>) -> bool {
     matches!(answer, Err(BackupError::Form))
 }
@@ -158,7 +158,7 @@ fn other_texts_are_no_backups(rt: HostRuntime) -> Result<(), Fail> {
 fn no_depth_and_no_bytes_are_too_much(rt: HostRuntime) -> Result<(), Fail> {
     let nested = vec![in rt.alloc(); b'['; 5000]?;
     assert!(rt; is_form(&read_backup(rt.alloc(), nested.as_slice())));
-    // A member in front of the real one holds a byte that is no UTF-8.
+    // A member before the real one holds a byte that is no UTF-8.
     let mut bytes = Vec::new(rt.alloc());
     bytes.extend_from_slice(b"{\"roll\":\"\xFF\",")?;
     bytes.extend_from_slice(&EMPTY.as_bytes()[1..])?;

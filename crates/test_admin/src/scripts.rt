@@ -69,7 +69,7 @@ const HEADS: [(&str, u32, ScriptCause); 16] = [
     ("centre c 00124B0000000001 4 1025", 1, ScriptCause::Block),
 ];
 
-/// Lines behind the centre and the device of which the last one is bad, its number, and its first cause.
+/// Lines after the centre and the device of which the last one is bad, its number, and its first cause.
 const TAILS: [(&str, u32, ScriptCause); 31] = [
     (
         "peer e centre 00124B0000000003 0000",
@@ -171,7 +171,7 @@ pub(crate) fn read_text(
     read(rt.alloc(), text.as_bytes())
 }
 
-/// Whether a text was refused at that line for that cause.
+/// Returns whether a text was refused at that line for that cause.
 fn is_refused(
     answer: &Result<Script, OrMemory<ScriptError>>,
     line: u32,
@@ -183,7 +183,7 @@ fn is_refused(
     }
 }
 
-/// Whether a configuration is that of the centre beside one device.
+/// Returns whether a configuration is that of the centre beside one device.
 fn is_of_the_centre(config: &Config) -> bool {
     let [centre, device] = config.peers.as_slice() else {
         return false;
@@ -197,7 +197,7 @@ fn is_of_the_centre(config: &Config) -> bool {
         && device.short == Short(0x1A2B)
 }
 
-/// Whether an order is the one that the worked script has at that place.
+/// Returns whether an order is the one that the worked script has at that place.
 fn is_worked(place: usize, order: &Order) -> bool {
     match order {
         Order::Init { key } => place == 0 && *key == KEY,
@@ -213,7 +213,7 @@ fn is_worked(place: usize, order: &Order) -> bool {
     }
 }
 
-/// Whether the steps are those of the worked script, which begin on its fifth line.
+/// Returns whether the steps are those of the worked script, which begin on its fifth line.
 fn are_worked(steps: &[Step]) -> bool {
     for (place, step) in steps.iter().enumerate() {
         if step.line as usize != place + 5 || !is_worked(place, &step.order) {

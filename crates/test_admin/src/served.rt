@@ -101,7 +101,7 @@ fn store_bytes(rt: &(impl AllocGlobal + Abort), buf: &mut [u8]) -> Result<(), Fa
     Ok(())
 }
 
-// Its record has 43 bytes and stands behind 13: a shorter file has no store.
+// Its record has 43 bytes and stands after 13: a shorter file has no store.
 #[test]
 fn fronts_of_a_store(rt: HostRuntime) -> Result<(), Fail> {
     let mut bytes = [0; 60];

@@ -109,7 +109,7 @@ fn counted(alloc: Global, file: &[u8]) -> Option<Result<Counts, PcapError>> {
     }
 }
 
-/// Whether a file has one packet, whose frame has these bytes.
+/// Returns whether a file has one packet, whose frame has these bytes.
 fn has_one_frame(alloc: Global, file: &[u8], bytes: &[u8]) -> bool {
     match extract(alloc, file, &[]) {
         Ok(found) => {
@@ -193,7 +193,7 @@ fn with_records(alloc: Global, records: u32) -> Result<Vec<u8>, NoMemory> {
 
 #[test]
 fn a_file_has_at_most_100_000_records(rt: HostRuntime) -> Result<(), Fail> {
-    // how many records, how many bytes behind them, and the answer
+    // how many records, how many bytes after them, and the answer
     let files: [(u32, usize, Result<Counts, PcapError>); 4] = [
         (100_000, 0, counts(100_000, 0, 100_000)),
         (100_000, 1, fault(100_001, PcapCause::Cut)),

@@ -11,7 +11,7 @@ use zb_capture::{
     Capture, CaptureCause, CaptureError, CaptureReader, read_capture, read_in_pieces, whole_lines,
 };
 
-/// Answers why a text of at most 2,000,000 bytes is no capture; None where it is one.
+/// Returns why a text of at most 2,000,000 bytes is no capture; None where it is one.
 fn refusal(alloc: Global, text: &[u8]) -> Result<Option<CaptureError>, Fail> {
     match read_capture(alloc, &text[..text.len().min(2_000_000)]) {
         Ok(_) => Ok(None),
@@ -75,7 +75,7 @@ fn bad_lines_are_refused_with_their_first_cause(rt: HostRuntime) -> Result<(), F
     Ok(())
 }
 
-/// Writes a front, and behind it a piece so many times.
+/// Writes a prefix, and after it a piece so many times.
 fn repeated(alloc: Global, front: &[u8], piece: &[u8], count: u32) -> Result<Vec<u8>, Fail> {
     let mut text = Vec::from_slice(alloc, front)?;
     for _number in 0..count {
@@ -86,7 +86,7 @@ fn repeated(alloc: Global, front: &[u8], piece: &[u8], count: u32) -> Result<Vec
 
 #[test]
 fn captures_at_their_limits(rt: HostRuntime) -> Result<(), Fail> {
-    // a front, what stands behind it and how often, and the bad line
+    // a prefix, what stands after it and how often, and the bad line
     let inputs: [(&[u8], &[u8], u32, Option<(u32, CaptureCause)>); 8] = [
         (b"", b"key 000102030405060708090A0B0C0D0E0F\n", 256, None),
         (
@@ -155,7 +155,7 @@ fn counted(
 
 #[test]
 fn several_jobs_read_a_capture_whole_and_in_parts(rt: HostRuntime) -> Result<(), Fail> {
-    // a front, what stands behind it and how often, and the counts of the keys, addresses and frames, or the bad line
+    // a prefix, what stands after it and how often, and the counts of the keys, addresses and frames, or the bad line
     let inputs: [(
         &[u8],
         &[u8],

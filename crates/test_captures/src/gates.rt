@@ -27,7 +27,7 @@ impl Held {
         }
     }
 
-    /// Counts a pass of a piece, and answers how many it had before.
+    /// Counts a pass of a piece, and returns how many it had before.
     fn count(&self, piece: u32) -> u32 {
         match piece {
             0 => self.of_piece_0.fetch_add(1, Ordering::SeqCst),
@@ -46,7 +46,7 @@ impl Held {
         self.wrong.store(1, Ordering::SeqCst);
     }
 
-    /// Whether nothing went wrong, and each piece passed so many times.
+    /// Returns whether nothing went wrong, and each piece passed so many times.
     fn each_passed(&self, times: u32) -> bool {
         self.wrong.load(Ordering::SeqCst) == 0
             && self.of_piece_0.load(Ordering::SeqCst) == times

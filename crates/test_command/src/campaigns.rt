@@ -108,7 +108,7 @@ impl Held {
         self.wrong.store(1, Ordering::SeqCst);
     }
 
-    /// Answers whether each of the two shares passed once, and no other.
+    /// Returns whether each of the two shares passed once, and no other.
     fn each_passed(&self) -> bool {
         self.of_share_0.load(Ordering::SeqCst) == 1
             && self.of_share_1.load(Ordering::SeqCst) == 1

@@ -31,7 +31,7 @@ deliver 11 c
 deliver 12 d
 ";
 
-/// A frame forged at both layers, behind the join.
+/// A frame forged at both layers, after the join.
 const FORGED: &[u8] = b"\
 forge 0000 1A2B 00124B0000000002 net 000102030405060708090A0B0C0D0E0F 0 50 \
       aps data A0A1A2A3A4A5A6A7A8A9AAABACADAEAF 50 0804

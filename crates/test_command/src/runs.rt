@@ -438,7 +438,7 @@ fn other_words_and_inputs_are_refused(rt: HostRuntime) -> Result<(), Fail> {
 
 #[test]
 fn a_source_or_a_sink_that_fails_ends_the_run(rt: HostRuntime) -> Result<(), Fail> {
-    // words, the input, the calls of the source and of the sink that fail, the end, and what the sink has a front of
+    // words, the input, the calls of the source and of the sink that fail, the end, and what the sink has a prefix of
     let runs: [(&[&str], &[u8], &[u32], &[u32], Status, &[u8]); 5] = [
         (&["play"], TWO_FRAMES, &[2], &[], Status::ReadFault, b""),
         (&["play"], TWO_FRAMES, &[], &[1], Status::WriteFault, b""),
@@ -460,8 +460,8 @@ fn a_source_or_a_sink_that_fails_ends_the_run(rt: HostRuntime) -> Result<(), Fai
     Ok(())
 }
 
-/// Whether words end a run over the longest input of line feeds as a text says, with this output, and are told that one
-/// byte more is too long.
+/// Returns whether words end a run over the longest input of line feeds as a text says, with this output, and are told
+/// that one byte more is too long.
 fn take_the_longest<H: AllocGlobal + Threads + Sync>(
     rt: &H,
     words: &[&str],
@@ -491,7 +491,7 @@ fn a_capture_is_too_long_past_the_longest(rt: HostRuntime) -> Result<(), Fail> {
     Ok(())
 }
 
-/// A frame behind its key, more bytes than come in before several jobs begin, and the frame again.
+/// Returns a frame after its key, more bytes than come in before several jobs begin, and the frame again.
 fn long_capture<H: AllocGlobal>(rt: &H, byte: u8, last: &[u8]) -> Result<Vec<u8>, Fail> {
     let mut text = Vec::from_slice(
         rt.alloc(),

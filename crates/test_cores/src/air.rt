@@ -110,7 +110,7 @@ pub(crate) fn sent(rt: &(impl AllocGlobal + Abort), number: usize) -> Result<Fra
     frame(rt, digits)
 }
 
-/// The nodes after so many events of the join.
+/// Returns the nodes after so many events of the join.
 pub(crate) fn nodes_after(rt: &(impl AllocGlobal + Abort), events: usize) -> Result<Nodes, Fail> {
     let mut nodes = booted_nodes(rt)?;
     for (step, _) in STEPS.get(..events).unwrap_or(&[]) {

@@ -117,9 +117,9 @@ fn seal_on<D: Disk>(rt: &(impl AllocGlobal + Abort), disk: &mut D) -> Result<u32
     Ok(40)
 }
 
-// How many seals went out and how many stand where a disk takes so many calls: five make the store, one boots, and each
-// of the first 32 commits takes four, the next one six, and each of the others four again. A commit stands once its
-// gate is open, in its third call.
+// How many seals went out and how many stand where a disk takes so many calls: five make the store, one boots, and
+// each of the first 32 commits takes four, the next one six, and each of the others four again. A commit stands once
+// its gate is open, in its third call.
 fn expected(calls: u32) -> (u32, u32) {
     let made = calls.saturating_sub(6);
     let (out, step) = if made < 128 {
@@ -151,8 +151,8 @@ fn stands(alloc: Global, disk: &mut MemDisk, record: &[u8], entries: &[u8]) -> R
     Ok(standing.as_slice() == record && payloads.as_slice() == entries)
 }
 
-// A boot on a record of version 1: the next seal goes on from its one limit, and what is stored for it is the record of
-// version 3. The reserve after that is an entry.
+// A boot on a record of version 1: the next seal goes on from its one limit, and what is stored for it is the record
+// of version 3. The reserve after that is an entry.
 #[test]
 fn writes_the_whole_record_over_a_first_version(rt: HostRuntime) -> Result<(), Fail> {
     let stores: [(&[&[u8]], u8, u8); 2] = [(&[], 8, 8), (&[&[1, 1, 0, 12, 0, 0, 0]], 12, 12)];
@@ -202,7 +202,7 @@ fn changed(alloc: Global, record: &[u8], at: usize) -> Result<Vec<u8>, Fail> {
 }
 
 // Each of the first 16 bytes changed to FF, in versions 1 and 3: the field that is then at fault, if one is. 255
-// network keys are looked for behind the one that is there.
+// network keys are looked for after the one that is there.
 #[test]
 fn bytes_that_are_all_ones(rt: HostRuntime) -> Result<(), Fail> {
     let records: [(&[u8], u32); 2] = [(&FIRST, 34), (&THIRD, 38)];
@@ -236,7 +236,7 @@ fn record_of_role(alloc: Global, role: u8, len: usize) -> Result<Vec<u8>, Fail> 
     Ok(bytes)
 }
 
-// A record of another role, or of none, is bad at its second byte, whatever is wrong behind it.
+// A record of another role, or of none, is bad at its second byte, whatever is wrong after it.
 #[test]
 fn records_of_other_roles(rt: HostRuntime) -> Result<(), Fail> {
     for (role, len) in [(1, 43), (2, 43), (3, 43), (2, 20), (1, 2), (0, 1)] {

@@ -60,7 +60,7 @@ fn peer(name: &str, eui: Eui, short: u16, role: Role) -> Peer
     }
 }
 
-/// How the node of that role is configured, in a network of the centre, the device and the router.
+/// Returns how the node of that role is configured, in a network of the centre, the device and the router.
 #[tactic(auto, unfolding(zb_setting::specs::Settings::setting_for))]
 pub(crate) fn config(role: Role) -> Config
     ensures config { IsConfig result }
@@ -94,7 +94,7 @@ fn configured(me: u8, peers: ArrayVec<Peer, 64>) -> Config
     }
 }
 
-/// How the centre of a network without other nodes is configured, which reserves so many counters at once.
+/// Returns how the centre of a network without other nodes is configured, which reserves so many counters at once.
 #[tactic(auto, unfolding(zb_setting::specs::Settings::setting_for))]
 pub(crate) fn alone(block: u32) -> Config
     requires least { 1 ≤ block }
@@ -136,7 +136,7 @@ pub(crate) fn declared(role: Role, joined: bool, code: Option<HeldCode>) -> Decl
     }
 }
 
-/// A disk in memory with the first record of a node.
+/// Returns a disk in memory with the first record of a node.
 pub(crate) fn first_disk(
     rt: &(impl AllocGlobal + Abort),
     declaration: &Declaration,
@@ -150,7 +150,7 @@ pub(crate) fn first_disk(
     Ok(disk)
 }
 
-/// What an event of a host gives.
+/// Returns what an event of a host gives.
 pub(crate) fn handled<C: Core<Out = Outcome<Term, Refusal>>>(
     rt: &impl Abort,
     host: &mut Host<C>,
@@ -162,13 +162,13 @@ pub(crate) fn handled<C: Core<Out = Outcome<Term, Refusal>>>(
     Ok(outcome)
 }
 
-/// The bytes of a frame in hexadecimal digits.
+/// Returns the bytes of a frame in hexadecimal digits.
 pub(crate) fn frame(rt: &(impl AllocGlobal + Abort), digits: &str) -> Result<Frame, Fail> {
     let bytes = hex::decode(rt.alloc(), digits)?;
     Ok(Frame::try_from(bytes.as_slice()).expect(rt, "a frame"))
 }
 
-/// The record of what a host's core has.
+/// Returns the record of what a host's core has.
 pub(crate) fn standing<C: Core>(
     rt: &(impl AllocGlobal + Abort),
     host: &Host<C>,

@@ -17,7 +17,7 @@ const NONCE: [u8; 13] = [
 // A published packet with a code of 8 bytes. Authenticated data and message count up from 0.
 struct Packet {
     nonce: [u8; 13],
-    // How many bytes are authenticated only, and where the message behind them ends.
+    // How many bytes are authenticated only, and where the message after them ends.
     associated: usize,
     end: usize,
     // The cipher text, filled up with zeros, and the code.

@@ -174,8 +174,8 @@ fn leaves(rt: HostRuntime) {
     assert!(rt; write_leave(&Leave { options: 64 }).as_slice() == [0x04, 0x40].as_slice());
 }
 
-// How many bytes a Tunnel has that go on with bytes 0, its byte at place 11, which is the auxiliary control byte of the
-// frame in it, and the fault.
+// How many bytes a Tunnel has that go on with bytes 0, its byte at place 11, which is the auxiliary control byte of
+// the frame in it, and the fault.
 const TUNNELS: [(usize, u8, Option<CmdError>); 6] = [
     (28, 0x00, Some(CmdError::Short { at: 28 })),
     (128, 0x00, Some(CmdError::Short { at: 128 })),

@@ -37,7 +37,7 @@ fn cut_frames(rt: HostRuntime) {
     }
 }
 
-// The control word, the auxiliary control byte behind a header of 8 bytes, how many bytes there are, and the fault.
+// The control word, the auxiliary control byte after a header of 8 bytes, how many bytes there are, and the fault.
 const REFUSED: [([u8; 2], u8, usize, NwkError); 5] = [
     ([0x0B, 0x00], 0x28, 2, NwkError::FrameType { found: 3 }),
     ([0x0A, 0x00], 0x28, 2, NwkError::FrameType { found: 2 }),

@@ -8,7 +8,7 @@ use zb_player::Still;
 /// Something that is armed on the disk of a node.
 #[derive(Clone, Copy)]
 struct Arming {
-    /// The schedule's line, before the node's name and behind it.
+    /// The schedule's line, before the node's name and after it.
     line: [&'static [u8]; 2],
     /// The transcript's line where it falls, likewise.
     fall: [&'static [u8]; 2],
@@ -16,7 +16,7 @@ struct Arming {
     stands: bool,
 }
 
-/// Stops, by what is said of each behind the node's name, and whether an entry is stored: it is where three calls went
+/// Stops, by what is said of each after the node's name, and whether an entry is stored: it is where three calls went
 /// through and its gate then reads open.
 const STOPS: [(&[u8], bool); 8] = [
     (b" 0 00\n", false),
@@ -37,7 +37,7 @@ const FAILURES: [(&[u8], bool); 4] = [
     (b" 4\n", true),
 ];
 
-/// Whether what is armed before an event falls on it and leaves what it is to leave.
+/// Returns whether what is armed before an event falls on it and leaves what it is to leave.
 fn falls(alloc: Global, step: &Step, arming: &Arming) -> Result<bool, Fail> {
     let node = step.node;
     let mut schedule = Vec::new(alloc);

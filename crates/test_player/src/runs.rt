@@ -5,7 +5,7 @@ use zb_base::MemSink;
 use zb_player::{Bench, play};
 use zb_sched::read;
 
-/// Puts texts behind a text.
+/// Puts texts after a text.
 pub(crate) fn add(text: &mut Vec<u8>, parts: &[&[u8]]) -> Result<(), Fail> {
     for part in parts {
         text.extend_from_slice(part)?;
@@ -13,7 +13,7 @@ pub(crate) fn add(text: &mut Vec<u8>, parts: &[&[u8]]) -> Result<(), Fail> {
     Ok(())
 }
 
-/// Plays a schedule with a bench, and answers what was written. Of a text it takes the first 65,536 bytes.
+/// Plays a schedule with a bench, and returns what was written. Of a text it takes the first 65,536 bytes.
 pub(crate) fn played<B: Bench>(alloc: Global, text: &[u8], bench: &mut B) -> Result<MemSink, Fail> {
     let schedule = read(alloc, &text[..text.len().min(65_536)])?;
     let mut disks = Vec::new(alloc);

@@ -2,7 +2,7 @@
 //! leave where a stop or a failure of the disk falls on it.
 //!
 //! The lines are those of a worked example outside of this repository, with a removal, a rollover and a switch by the
-//! rules of the policy behind them. The records were reckoned from these lines, apart from the program.
+//! rules of the policy after them. The records were reckoned from these lines, apart from the program.
 
 /// The declarations.
 pub(crate) const DECLARATIONS: &[u8] = b"\

@@ -195,7 +195,7 @@ impl Bench for Swap {
     }
 }
 
-/// The disk of a case.
+/// Returns the disk of a case.
 fn disk_of(alloc: Global, case: &Case) -> Result<MemDisk, NoMemory> {
     let mut disk = MemDisk::new(alloc, &case.bytes)?;
     match case.alone {
@@ -206,7 +206,7 @@ fn disk_of(alloc: Global, case: &Case) -> Result<MemDisk, NoMemory> {
     Ok(disk)
 }
 
-/// Whether a run with the disk of a case is written as it is to be.
+/// Returns whether a run with the disk of a case is written as it is to be.
 fn goes_on(alloc: Global, case: &Case) -> Result<bool, Fail> {
     let mut bench = Swap {
         event: case.event,
@@ -228,7 +228,7 @@ fn a_node_goes_on_with_the_disk_under_it(rt: HostRuntime) -> Result<(), Fail> {
     Ok(())
 }
 
-/// The records of the centre and of the device, and the entries behind them, once `BEFORE` was played: the centre
+/// The records of the centre and of the device, and the entries after them, once `BEFORE` was played: the centre
 /// stored its NWK limit of 4.
 const HELD: [(usize, [u8; 43], &[u8]); 2] = [
     (

@@ -15,7 +15,7 @@ IsGiven (bad at) = ⊥
 not_given : {A : Type 0} (at : ℕ) (w : List ℕ) → bad at ≡ gives w → A
 not_given at w e = absurd (subst IsGiven (sym e) tt)
 
--- one more entry behind those that give a core
+-- one more entry after those that give a core
 counted_then : (limit at : ℕ) (entries w : List ℕ) (number : ℕ) → counted limit at entries ≡ gives w → counted limit at (entries ++ 1 ∷ number ∷ []) ≡ gives (spelled number)
 counted_then limit at [] w number is = refl
 counted_then limit at (kind ∷ []) w number is = not_given at w is

@@ -56,9 +56,9 @@ fn seal_on<D: Disk>(rt: &(impl AllocGlobal + Abort), disk: &mut D) -> Result<u8,
     Ok(40)
 }
 
-// What went out and what stands where a disk takes so many calls: five make the store, one boots, and each of the first
-// 32 commits takes four, the next one six, and each of the others four again. A commit stands once its gate is open, in
-// its third call, if that byte comes through.
+// What went out and what stands where a disk takes so many calls: five make the store, one boots, and each of the
+// first 32 commits takes four, the next one six, and each of the others four again. A commit stands once its gate is
+// open, in its third call, if that byte comes through.
 fn expected(calls: u8, gate: u8) -> (u8, u8) {
     let made = calls.saturating_sub(6);
     let (out, step) = if made < 128 {

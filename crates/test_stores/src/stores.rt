@@ -132,7 +132,7 @@ fn puts_or_keeps(rt: HostRuntime) -> Result<(), Fail> {
     Ok(())
 }
 
-// An `append` of 06 behind the entry 04 05.
+// An `append` of 06 after the entry 04 05.
 fn after_append(rt: &(impl AllocGlobal + Abort), ending: Ending) -> Result<Left, Fail> {
     let mut disk = disk_with(rt, &[1], &[4, 5])?;
     let (store, _, _) = Store::open(rt.alloc(), &mut disk)?;
@@ -223,7 +223,7 @@ fn opens_as_before(rt: HostRuntime) -> Result<(), Fail> {
     Ok(())
 }
 
-// A slot with an open gate: generation, record, and what lies behind.
+// A slot with an open gate: generation, record, and what lies after it.
 fn slot(
     alloc: Global,
     gate: u8,
@@ -318,7 +318,7 @@ fn reads_each_prefix(rt: HostRuntime) -> Result<(), Fail> {
 }
 
 // A slot: its gate, its generation, the length that it gives of its record, how many bytes of it there are, and what
-// lies behind them.
+// lies after them.
 type Slot = (u8, u64, u32, usize, &'static [u8]);
 
 const GOOD: Slot = (0xA5, 5, 1, 1, &[0]);

@@ -1,7 +1,7 @@
 //! What the tests of this crate share.
 use arrayvec::ArrayVec;
 
-/// Gives the bytes that a stop leaves: the first 32 of these.
+/// Returns the bytes that a stop leaves: the first 32 of these.
 pub(crate) fn pattern(bytes: &[u8]) -> ArrayVec<u8, 32> {
     let mut torn = ArrayVec::new();
     for byte in bytes {

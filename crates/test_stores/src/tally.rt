@@ -12,7 +12,7 @@ use zb_base::{Config, Layer, OrMemory};
 use zb_host::{Core, Plan};
 use zb_node_types::{Change, Changes, KeyError};
 
-/// Says what happens to a counting core.
+/// What happens to a counting core.
 #[derive(Clone, Copy, Debug, PartialEq, Eq)]
 pub enum TallyEvent {
     /// Nothing happens.
@@ -170,7 +170,7 @@ fn number(change: &Change) -> u8
     }
 }
 
-// The limit that a record and the entries behind it give, or the place of their first fault.
+// The limit that a record and the entries after it give, or the place of their first fault.
 fn read_limit(content: &[u8], entries: &[u8]) -> Result<u8, u32>
     requires { length entries.now ≤ payloads_room }
     ensures { MatchResult result (λ limit. restored content.now entries.now ≡ gives (spelled limit))

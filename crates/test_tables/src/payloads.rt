@@ -1,4 +1,4 @@
-//! Payloads of entries from outside: written, redone behind a record, and cut.
+//! Payloads of entries from outside: written, redone after a record, and cut.
 ghost use Rattle.std.specs.Prelude.{◌≤◌};
 
 use crate::worked::{FIRST, FULL};
@@ -23,7 +23,7 @@ fn payload_of_a_reserve(rt: HostRuntime) {
     assert!(rt; room.get(..len) == Some(&[1, 1, 0, 4, 0, 0, 0][..]));
 }
 
-// Where a payload is at fault behind the full record.
+// Where a payload is at fault after the full record.
 fn redo_of(alloc: Global, payload: &[u8]) -> Option<u32> {
     match Tables::from_record(alloc, &FULL) {
         Ok(mut tables) => match tables.redo(Version::Third, payload) {
@@ -106,7 +106,7 @@ fn cut_payloads(rt: HostRuntime) {
 
 #[test]
 fn cut_install(rt: HostRuntime) {
-    // A new network key behind the drop that makes room for it.
+    // A new network key after the drop that makes room for it.
     let mut payload = [0; 36];
     payload[..2].copy_from_slice(&[2, 3]);
     payload[2..18].fill(0xA2);
@@ -126,7 +126,7 @@ fn payloads_that_do_not_fit(rt: HostRuntime) {
     assert!(rt; redo_of(rt.alloc(), &[1, 0x7F]) == Some(1));
     assert!(rt; redo_of(rt.alloc(), &[1, 0x00]) == Some(1));
     assert!(rt; redo_of(rt.alloc(), &[1, 1, 2, 9, 0, 0, 0]) == Some(1));
-    // more changes than there are, and another payload behind one
+    // more changes than there are, and another payload after one
     assert!(rt; redo_of(rt.alloc(), &[2, 9, 0]) == Some(3));
     assert!(rt; redo_of(rt.alloc(), &[0, 1, 9, 0, 1, 9, 2]) == Some(5));
     // a lower limit, another state of the centre, a device that isn't live
@@ -147,7 +147,7 @@ fn payloads_that_do_not_fit(rt: HostRuntime) {
     assert!(rt; redo_of(rt.alloc(), &next) == None);
 }
 
-// What is stored of it behind the entries that install a third key and then reserve up to 12: all keys have that limit,
+// What is stored of it after the entries that install a third key and then reserve up to 12: all keys have that limit,
 // and so has the declared start.
 const FIRST_REDONE: [u8; 88] = [
     0x03, 0x00, 0x00, 0x0C, 0x00, 0x00, 0x00, 0x00, 0x00, 0x00, 0x00, 0x00, 0x03, 0x00, 0xFF, 0xFF,
@@ -189,7 +189,7 @@ fn counter_goes_on_behind_a_first_version(rt: HostRuntime) -> Result<(), Fail> {
     Ok(())
 }
 
-// Where a payload is at fault behind the record of version 1, taken as a later one too.
+// Where a payload is at fault after the record of version 1, taken as a later one too.
 fn fault_behind(alloc: Global, version: Version, payload: &[u8]) -> Option<u32> {
     match Tables::from_record(alloc, &FIRST) {
         Ok(mut tables) => match tables.redo(version, payload) {
@@ -216,7 +216,7 @@ fn entries_at_fault_behind_a_first_version(rt: HostRuntime) {
     assert!(rt; fault_behind(rt.alloc(), Version::First, &reserve) == None);
     assert!(rt; fault_behind(rt.alloc(), Version::Second, &reserve) == Some(1));
     assert!(rt; fault_behind(rt.alloc(), Version::First, &[1, 1, 0, 7, 0, 0, 0]) == Some(1));
-    // a start, and a pair, which fits behind a later version
+    // a start, and a pair, which fits after a later version
     assert!(rt; fault_behind(rt.alloc(), Version::First, &start) == Some(7));
     assert!(rt; fault_behind(rt.alloc(), Version::First, &pair) == Some(1));
     assert!(rt; fault_behind(rt.alloc(), Version::Third, &pair) == None);

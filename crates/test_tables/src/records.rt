@@ -45,7 +45,7 @@ const BROKEN: [(usize, u8, u32, &str); 25] = [
     (234, 0, 234, "a pair that is not in use"),
 ];
 
-// Where the bytes are at fault as a record: 1,000,000 for want of memory, which doesn't come here.
+// Where the bytes are at fault as a record: 1,000,000 for out of memory, which doesn't come here.
 fn fault_of(alloc: Global, bytes: &[u8]) -> Option<u32> {
     match Tables::from_record(alloc, bytes) {
         Ok(_) => None,
@@ -54,7 +54,7 @@ fn fault_of(alloc: Global, bytes: &[u8]) -> Option<u32> {
     }
 }
 
-// The field that a cut of so many bytes leaves behind.
+// The field that a cut of so many bytes leaves after it.
 fn field_at(len: u32) -> u32 {
     let mut field = 0;
     for begin in FIELDS {
@@ -139,8 +139,8 @@ fn second_pair_of_two_devices(rt: HostRuntime) {
 
 #[test]
 fn bytes_that_are_all_ones(rt: HostRuntime) {
-    // The first 60 bytes: the fields that may have any value, and where another is at fault. 255 network keys are taken
-    // for more than there are.
+    // The first 60 bytes: the fields that may have any value, and where another is at fault. 255 network keys are
+    // taken for more than there are.
     for at in 0..60usize {
         let mut bytes = FULL;
         bytes[at] = 0xFF;

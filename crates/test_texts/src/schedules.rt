@@ -51,7 +51,7 @@ share d r
 tell r d 0102
 ";
 
-/// Texts that are refused behind three nodes at their last line, which has no line feed, by their cause.
+/// Texts that are refused after three nodes at their last line, which has no line feed, by their cause.
 const REFUSED: [(SchedCause, &[&str]); 7] = [
     (
         SchedCause::Syntax,
@@ -245,7 +245,7 @@ const FIRST_BAD: [(&[u8], u32, SchedCause); 6] = [
     (b"timer \xFF\n", 1, SchedCause::Syntax),
 ];
 
-/// The fault of a text, or None.
+/// Returns the fault of a text, or None.
 fn fault(rt: &(impl AllocGlobal + Abort), text: &[u8]) -> Option<SchedError> {
     assert!(rt; text.len() < 4_294_967_295);
     match read(rt.alloc(), text) {
@@ -254,7 +254,7 @@ fn fault(rt: &(impl AllocGlobal + Abort), text: &[u8]) -> Option<SchedError> {
     }
 }
 
-/// The fault of the text behind three nodes.
+/// Returns the fault of the text after three nodes.
 fn behind(rt: &(impl AllocGlobal + Abort), text: &[u8]) -> Result<Option<SchedError>, Fail> {
     let mut whole = Vec::new(rt.alloc());
     whole.extend_from_slice(NODES)?;
@@ -262,7 +262,7 @@ fn behind(rt: &(impl AllocGlobal + Abort), text: &[u8]) -> Result<Option<SchedEr
     Ok(fault(rt, whole.as_slice()))
 }
 
-/// The number of the last line of a text behind three nodes.
+/// Returns the number of the last line of a text after three nodes.
 fn last_line(text: &str) -> u32 {
     let mut line: u32 = 4;
     for byte in text.as_bytes() {
@@ -354,7 +354,7 @@ fn what_is_no_fault(rt: HostRuntime) -> Result<(), Fail> {
     Ok(())
 }
 
-/// A text of a centre and of so many further lines, each the same.
+/// Returns a text of a centre and of so many further lines, each the same.
 fn lines_behind_a_centre(
     rt: &(impl AllocGlobal + Abort),
     line: &[u8],

@@ -2,7 +2,7 @@
 //! it, and runs a watch over the lines. For each file it writes how many lines there are and whether the printed text
 //! is the same. Then it writes of how many changed lines each was refused: with a carriage return, without its line
 //! feed, with two spaces, with a word dropped, with its last word doubled, and, where it has such digits, with
-//! hexadecimal digits in lower case. Behind these it writes how often a line was refused with one of its words
+//! hexadecimal digits in lower case. After these it writes how often a line was refused with one of its words
 //! dropped, doubled, with a zero before it, and with another first byte; and the two words of the watch.
 #![tactic(auto)]
 
@@ -53,7 +53,7 @@ fn read_whole(alloc: Global, bytes: &[u8]) -> Result<Vec<Line>, OrMemory<TraceEr
     }
 }
 
-/// The two words of a watch over the lines.
+/// Returns the two words of a watch over the lines.
 fn watched(alloc: Global, lines: &[Line]) -> Result<(&'static str, &'static str), AllocError> {
     match Watch::over(alloc, lines) {
         Ok(watch) => Ok((yes_or_no(watch.ideal()), yes_or_no(watch.private()))),
@@ -65,7 +65,7 @@ fn yes_or_no(answer: bool) -> &'static str {
     if answer { "yes" } else { "no" }
 }
 
-/// Whether the lines have this text.
+/// Returns whether the lines have this text.
 fn prints_as(alloc: Global, lines: &[Line], bytes: &[u8]) -> Result<bool, AllocError> {
     let mut page = Vec::new(alloc);
     for line in lines {
@@ -74,7 +74,7 @@ fn prints_as(alloc: Global, lines: &[Line], bytes: &[u8]) -> Result<bool, AllocE
     Ok(page.as_slice() == bytes)
 }
 
-/// How many lines of the text were refused with each fault in them.
+/// Returns how many lines of the text were refused with each fault in them.
 fn faults_refused(alloc: Global, bytes: &[u8]) -> Result<[u32; 6], AllocError> {
     let mut refused = [0u32; 6];
     for line in bytes.split(|byte| *byte == b'\n') {
@@ -90,7 +90,7 @@ fn faults_refused(alloc: Global, bytes: &[u8]) -> Result<[u32; 6], AllocError> {
     Ok(refused)
 }
 
-/// Whether a text is no transcript, at its first line.
+/// Returns whether a text is no transcript, at its first line.
 fn is_refused(alloc: Global, text: &[u8]) -> bool {
     match read_whole(alloc, text) {
         Err(OrMemory::Fault(fault)) => fault.line == 1,
@@ -98,7 +98,7 @@ fn is_refused(alloc: Global, text: &[u8]) -> bool {
     }
 }
 
-/// A line with a fault in it.
+/// Returns a line with a fault in it.
 fn changed(alloc: Global, line: &[u8], fault: u8) -> Result<Vec<u8>, AllocError> {
     let mut text = Vec::new(alloc);
     let first = line
@@ -134,7 +134,7 @@ fn changed(alloc: Global, line: &[u8], fault: u8) -> Result<Vec<u8>, AllocError>
     Ok(text)
 }
 
-/// The line with all its letters in lower case.
+/// Returns the line with all its letters in lower case.
 fn lower(text: &mut Vec<u8>, line: &[u8]) -> Result<(), AllocError> {
     for byte in line {
         text.push(byte.to_ascii_lowercase())?;
@@ -142,7 +142,7 @@ fn lower(text: &mut Vec<u8>, line: &[u8]) -> Result<(), AllocError> {
     Ok(())
 }
 
-/// How often a line of the text was refused with each fault in one of its words.
+/// Returns how often a line of the text was refused with each fault in one of its words.
 fn words_refused(alloc: Global, bytes: &[u8]) -> Result<[u32; 4], AllocError> {
     let mut refused = [0u32; 4];
     for line in bytes.split(|byte| *byte == b'\n') {
@@ -154,7 +154,7 @@ fn words_refused(alloc: Global, bytes: &[u8]) -> Result<[u32; 4], AllocError> {
     Ok(refused)
 }
 
-/// How often a line was refused with the fault in one of its words.
+/// Returns how often a line was refused with the fault in one of its words.
 fn line_refused(alloc: Global, line: &[u8], fault: u8) -> Result<u32, AllocError> {
     let mut refused = 0u32;
     let mut behind_space = true;
@@ -169,7 +169,7 @@ fn line_refused(alloc: Global, line: &[u8], fault: u8) -> Result<u32, AllocError
     Ok(refused)
 }
 
-/// The line with a fault in the word that begins there.
+/// Returns the line with a fault in the word that begins there.
 fn with_word_changed(
     alloc: Global,
     line: &[u8],
@@ -204,7 +204,7 @@ fn with_word_changed(
     Ok(text)
 }
 
-/// What stands before and behind a word, with one space less.
+/// What stands before and after a word, with one space less.
 fn without_word(text: &mut Vec<u8>, before: &[u8], after: &[u8]) -> Result<(), AllocError> {
     match before.split_last() {
         Some((_, front)) => {
@@ -218,7 +218,7 @@ fn without_word(text: &mut Vec<u8>, before: &[u8], after: &[u8]) -> Result<(), A
     }
 }
 
-/// The line with the next byte in place of the first of `rest`.
+/// Returns the line with the next byte in place of the first of `rest`.
 fn with_other_byte(text: &mut Vec<u8>, before: &[u8], rest: &[u8]) -> Result<(), AllocError> {
     text.extend_from_slice(before)?;
     match rest.split_first() {

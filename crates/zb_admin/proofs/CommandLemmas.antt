@@ -41,7 +41,7 @@ pub on_ok_then : {T E P Q : Type 0} (r : Result T E) → (P → Q) → OnOk r P 
 on_ok_then (Ok x) f p = f p
 on_ok_then (Err e) f p = tt
 
--- every image stands for what the centre has
+-- every image represents what the centre has
 pub images_stand : (c : Setting) (b : Option NodeState) (centre : Option (Hosted CoreValue)) (v : View) → Stands c b centre v → (image : List ℕ) → v.images image → StandsAs b image
 images_stand c None None v empty image there = empty.images image there
 images_stand c None (Some host) v stood image there = absurd stood

@@ -1,5 +1,5 @@
--- Every moment of a run of commands, as one statement: each image stands for what stands after some first commands, among which
--- is each command of whose lines a byte was written.
+-- Every moment of a run of commands, as one statement: each image represents what stands after some first commands,
+-- among which is each command of whose lines a byte was written.
 use Rattle.std.proofs.Common.{◌≡◌, ℕ, zero, suc, Bool, true, false, inl, inr, List, [], ◌∷◌, ◌++◌, drop, length, take, Option, Some, refl, sym, ap, ◌∙◌, subst, append_assoc, append-nil}
 use Rattle.std.proofs.KnownBytes.{Appends-nil, Appends-trans}
 use Rattle.std.specs.Io.KnownBytes.{Appends}
@@ -75,7 +75,7 @@ module _ {D W : Type 0} (x : Outside D W) (c : Setting) (all : List Step) (first
       ∙ ap (λ (o : Option NodeState). text_after c all first k ++ page (done c step o).lines) (sym h.stood)
 
   module _ (k : ℕ) (step : Step) (steps : List Step) (b : Option NodeState) (before : W) (h : HasCome x c all first origin k (step ∷ steps) b before) where
-    -- what stands after one command more, where a front of its lines was written
+    -- what stands after one command more, where a prefix of its lines was written
     covers_next : (out : W) → AppendsFront (x.taken origin) (x.taken out) (text_after c all first k ++ page (done c step b).lines) → (image : List ℕ) → StandsAs (done c step b).after image → Covers x c all first origin out image
     covers_next out written image stands = record {
       commands = suc k;
@@ -106,7 +106,7 @@ module _ {D W : Type 0} (x : Outside D W) (c : Setting) (all : List Step) (first
     })
     called old disk false is between = calls refl (weakened (x.state old) (x.state disk) (StandsAsEither b (done c step b).after) (Covers x c all first origin before) covers_either (between is))
 
-    -- a front of its lines was written
+    -- a prefix of its lines was written
     told : (disk : D) (sink : W) (text : Bytes) → Appends (x.taken before) (x.taken sink) text → AppendsFront (x.taken origin) (x.taken sink) (text_after c all first k ++ page (done c step b).lines)
         → ((image : List ℕ) → (x.state disk).images image → StandsAs (done c step b).after image) → Stretch x c all first origin (record { disk = disk; out = before }) (record { disk = disk; out = sink })
     told disk sink text more written stand = writes text refl more (λ image there. covers_next sink written image (stand image there))

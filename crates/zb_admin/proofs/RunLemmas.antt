@@ -1,4 +1,5 @@
--- What follows of a run of commands: the lines that were written, what stands at its end, and what a crash inside it leaves.
+-- What follows of a run of commands: the lines that were written, what stands at its end, and what a crash inside it
+-- leaves.
 use Rattle.std.proofs.Common.{◌≡◌, ℕ, zero, suc, inl, inr, List, [], ◌∷◌, ◌++◌, take, Option, Ok, Err, refl, sym, ap, ◌∙◌, subst, append_assoc}
 use Rattle.std.proofs.KnownBytes.{Appends-nil, Appends-trans}
 use Rattle.std.specs.Io.KnownBytes.{Appends}
@@ -18,7 +19,7 @@ pub page_more : (xs ys : List Bytes) → page (xs ++ ys) ≡ page xs ++ page ys
 page_more [] ys = refl
 page_more (x ∷ xs) ys = ap (λ l. ended x ++ l) (page_more xs ys) ∙ sym (append_assoc (ended x) (page xs) (page ys))
 
--- fronts of two texts, one after the other
+-- prefixes of two texts, one after the other
 
 take_front : (xs ys : Bytes) (n : ℕ) → (m : ℕ) × (take m (xs ++ ys) ≡ take n xs)
 take_front [] ys zero = (0, refl)
@@ -50,7 +51,7 @@ module _ {D W : Type 0} (x : Outside D W) (c : Setting) where
       (Appends-trans (x.taken before) (x.taken sink) (x.taken after) (page (done c step b).lines) (page (served c steps (done c step b).after).lines) lines
       (run_whole steps (done c step b).after disk sink result new after ok rest))
 
-  -- at a fault a front of them was
+  -- at a fault a prefix of them was
   pub run_front : (steps : List Step) (b : Option NodeState) (old : D) (before : W) (result : Ended) (new : D) (after : W) (f : AdminFault) → result ≡ Err f → Runs x c steps b old before result new after
       → AppendsFront (x.taken before) (x.taken after) (page (served c steps b).lines)
   run_front [] b old before result new after f err (is, same_disk, same) = not_both result f is err
@@ -64,7 +65,7 @@ module _ {D W : Type 0} (x : Outside D W) (c : Setting) where
       (front_behind (x.taken before) (x.taken sink) (x.taken after) (page (done c step b).lines) (page (served c steps (done c step b).after).lines) lines
       (run_front steps (done c step b).after disk sink result new after f err rest))
 
-  -- at Ok every image stands for the last record
+  -- at Ok every image represents the last record
   pub run_last : (steps : List Step) (b : Option NodeState) (old : D) (before : W) (result : Ended) (new : D) (after : W) → result ≡ Ok tt → ((image : List ℕ) → (x.state old).images image → StandsAs b image)
       → Runs x c steps b old before result new after → (image : List ℕ) → (x.state new).images image → StandsAs (served c steps b).after image
   run_last [] b old before result new after ok now (is, same, same_sink) image there = now image (subst (λ (d : D). (x.state d).images image) same there)

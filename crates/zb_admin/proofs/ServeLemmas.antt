@@ -80,7 +80,7 @@ module _ {D W : Type 0} (x : Outside D W) (c : Setting) (step : Step) (b : Optio
     cut = inr (stored_by c step b centre (x.state old) (x.state disk) front text h, subst (AppendsFront (x.taken before) (x.taken after)) (lines_by c step b centre (x.state old) (x.state disk) front text none h) written);
   }
 
--- the output failed behind a command
+-- the output failed after a command
 pub write_fault : {D W : Type 0} (x : Outside D W) (c : Setting) (centre : Option (Hosted CoreValue)) (old new : D) (before after : W) (r : Ended) → IfErr r (λ f. (f ≡ Write) × Rose (x.faults before) (x.faults after)) → IfErr r (IsServiceFault x c centre old before new after)
 write_fault x c centre old new before after (Ok tt) h = tt
 write_fault x c centre old new before after (Err f) h = subst (IsServiceFault x c centre old before new after) (sym h.0) h.1

@@ -247,7 +247,7 @@ judge_fault_then tells old mid new AdminWorn same still h = h
 judge_fault_then tells old mid new Write same still h = h
 judge_fault_then tells old mid new LackOfMemory same still h = h ∙ same
 
--- the judgement behind the call for the size, which changes nothing
+-- the judgement after the call for the size, which changes nothing
 pub judged_then : (tells : Telling) (c : Setting) (old mid new : View) (r : Result (Option (Hosted CoreValue)) AdminFault) → Unrisen old.faults mid.faults → IsStill old mid → IsJudged tells c mid r new → IsJudged tells c old r new
 judged_then tells c old mid new (Ok o) same still judged = record {
   found = λ told. ap found_on (sym still.same.seen) ∙ judged.found told;

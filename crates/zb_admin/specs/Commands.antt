@@ -66,7 +66,7 @@ IsJudgeFault tells old new Worn = ⊥
 IsJudgeFault tells old new Write = ⊥
 IsJudgeFault tells old new NoMemory = Unrisen old.faults new.faults
 
--- while a store is judged, an image is empty, or stands for what one stood for before
+-- while a store is judged, an image is empty, or represents what one stood for before
 abbrev pub WasThereOrEmpty : View → List ℕ → Type 0
 WasThereOrEmpty old image = (image ≡ []) ⊎ WasThere old image
 
@@ -78,7 +78,7 @@ pub record IsJudged (tells : Telling) (c : Setting) (old : View) (result : Resul
   pub faults : IfErr result (IsJudgeFault tells old new)
   pub unrisen : OnOk result (Unrisen old.faults new.faults)
 
--- A disk that tells its content stands for the record that was just written.
+-- A disk that tells its content represents the record that was just written.
 abbrev pub IsLayOutFault : Telling → View → View → AdminFault → Type 0
 IsLayOutFault tells old new Disk = Rose old.faults new.faults
 IsLayOutFault tells old new NoStore = IsTrue tells.content → ⊥
@@ -138,12 +138,12 @@ lays_out (Init key) None = true
 lays_out (Restore by bytes) None = true
 lays_out _ _ = false
 
--- At each moment of a command, one that is cut too, an image stands for what stood before it or for what stands after it. Of
--- the moments inside a command that makes a new store nothing is said.
+-- At each moment of a command, one that is cut too, an image represents what stood before it or for what stands after
+-- it. Of the moments inside a command that makes a new store nothing is said.
 abbrev pub IsBetween : Bool → Option NodeState → Option NodeState → View → View → Type 0
 IsBetween lays before after old new = lays ≡ false → LeavesOnly old new (StandsAsEither before after)
 
--- A command was carried out, and its lines stand on the page behind what stood there; or it failed.
+-- A command was carried out, and its lines stand on the page after what stood there; or it failed.
 pub record IsCarriedOut (c : Setting) (lays : Bool) (before : Option NodeState) (d : Done) (old : View) (front : List ℕ) (result : Result (Unit {0}) AdminFault) (centre : Option (Hosted CoreValue)) (new : View) (text : List ℕ) : Type 0 where
   pub after : OnOk result (Stands c d.after centre new)
   pub lines : OnOk result (text ≡ front ++ page d.lines)

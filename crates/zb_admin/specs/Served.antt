@@ -1,5 +1,5 @@
--- What a script's commands write, and what stands after them. What stands is the tables of the centre, with their counters in
--- memory; or nothing, where the disk is empty.
+-- What a script's commands write, and what stands after them. What stands is the tables of the centre, with their
+-- counters in memory; or nothing, where the disk is empty.
 use Rattle.std.specs.Prelude.{ℕ, ◌≡◌, List, [], ◌∷◌, ◌++◌, codes, Option, Some, None, Result, Ok, Err}
 use Rattle.zb_admin.specs.Texts.{ok_line, refuse_line, send_line, reason_text, listed}
 use Rattle.zb_backup.specs.Format.{backup_text}

@@ -32,14 +32,14 @@ pub record IsStored (c : Setting) (step : Step) (standing : Option NodeState) (o
   -- a refused command leaves the disk as it was, and what stands
   pub spared : IsRefusal (done c step standing) → IsStill old new × ((done c step standing).after ≡ standing)
 
--- The script ends at this command: it failed before its lines were written, or a front of them was.
+-- The script ends at this command: it failed before its lines were written, or a prefix of them was.
 abbrev pub EndsAt : {D W : Type 0} → Outside D W → Setting → Step → Option NodeState → D → W → D → W → Type 0
 EndsAt x c step standing old before new after =
     (IsBetween (lays_out step.order standing) standing (done c step standing).after (x.state old) (x.state new) × (after ≡ before))
     ⊎ (IsStored c step standing (x.state old) (x.state new) × AppendsFront (x.taken before) (x.taken after) (page (done c step standing).lines))
 
--- The commands are served in their order. Of each one first the disk is called, while nothing is written; once what stands
--- after it is stored, its lines are written, while the disk stays as it is; then comes the next one.
+-- The commands are served in their order. Of each one first the disk is called, while nothing is written; once what
+-- stands after it is stored, its lines are written, while the disk stays as it is; then comes the next one.
 abbrev pub Runs : {D W : Type 0} → Outside D W → Setting → List Step → Option NodeState → D → W → Ended → D → W → Type 0
 Runs x c [] standing old before result new after = (result ≡ Ok tt) × (new ≡ old) × (after ≡ before)
 Runs {D} {W} x c (step ∷ steps) standing old before result new after =
@@ -55,7 +55,8 @@ pub record HasServed {D W : Type 0} (x : Outside D W) (c : Setting) (step : Step
   pub lines : OnOk result (Appends (x.taken before) (x.taken after) (page (done c step standing).lines))
   pub cut : OnErr result (EndsAt x c step standing old before new after)
 
--- When each fault of commands comes, once the store was judged. Where memory is short the disk's count of faults stands.
+-- When each fault of commands comes, once the store was judged. Where memory is short the disk's count of faults
+-- stands.
 abbrev pub IsServiceFault : {D W : Type 0} → Outside D W → Setting → Option (Hosted CoreValue) → D → W → D → W → AdminFault → Type 0
 IsServiceFault x c centre old before new after Disk = Rose (x.state old).faults (x.state new).faults
 IsServiceFault x c centre old before new after NoStore = IsTrue x.tells.content → ⊥
@@ -67,8 +68,8 @@ IsServiceFault x c centre old before new after NoMemory = Unrisen (x.state old).
 
 -- ---- the whole script
 
--- The store was judged and opened, and then the commands were served. While it is opened, an image is empty or stands for what
--- one stood for before.
+-- The store was judged and opened, and then the commands were served. While it is opened, an image is empty or
+-- represents what one stood for before.
 abbrev pub IsServed : {D W : Type 0} → Outside D W → Setting → List Step → Option NodeState → D → W → Ended → D → W → Type 0
 IsServed {D} x c steps standing old before result new after =
     (disk : D) × LeavesOnly (x.state old) (x.state disk) (WasThereOrEmpty (x.state old))
@@ -94,19 +95,19 @@ IsAdminFault x old before new after NoMemory = Unrisen (x.state old).faults (x.s
 pub record Serves {D W : Type 0} (x : Outside D W) (script : Script) (old : D) (before : W) (result : Ended) (new : D) (after : W) : Type 0 where
   -- a store that is no centre's is refused
   pub found : OnOk result (IsTrue x.tells.content → (standing : Option NodeState) × (found_on (x.state old).seen ≡ Ok standing))
-  -- at Ok all lines were written, and every image stands for the last record
+  -- at Ok all lines were written, and every image represents the last record
   pub whole : OnOk result (IsTrue x.tells.content → CanBeServed (x.state old) → (standing : Option NodeState) → found_on (x.state old).seen ≡ Ok standing
       → Appends (x.taken before) (x.taken after) (served_text (setting_for script.config) script.steps standing))
   pub last : OnOk result (IsTrue x.tells.content → CanBeServed (x.state old) → (standing : Option NodeState) → found_on (x.state old).seen ≡ Ok standing
       → (image : List ℕ) → (x.state new).images image → StandsAs (served (setting_for script.config) script.steps standing).after image)
-  -- at a fault a front of them was
+  -- at a fault a prefix of them was
   pub front : OnErr result (IsTrue x.tells.content → CanBeServed (x.state old) → (standing : Option NodeState) → found_on (x.state old).seen ≡ Ok standing
       → AppendsFront (x.taken before) (x.taken after) (served_text (setting_for script.config) script.steps standing))
   -- command by command: what stands after a command is stored before its lines are written
   pub run : IsTrue x.tells.content → CanBeServed (x.state old) → (standing : Option NodeState) → found_on (x.state old).seen ≡ Ok standing
       → IsUnopened x old before result new after ⊎ IsServed x (setting_for script.config) script.steps standing old before result new after
-  -- at every moment of the whole script: each image stands for what stands after some first commands, and each command is among
-  -- them of whose lines a byte was written
+  -- at every moment of the whole script: each image represents what stands after some first commands, and each command
+  -- is among them of whose lines a byte was written
   pub moments : IsTrue x.tells.content → CanBeServed (x.state old) → (standing : Option NodeState) → found_on (x.state old).seen ≡ Ok standing
       → IsRun x (setting_for script.config) script.steps standing old before new after
   -- where a store stands at first, that is so of all images at all moments of the call

@@ -20,8 +20,8 @@ use Rattle.zb_stored_tables.specs.Stored.{restored, state_given}
 
 -- ---- what is found before the first command
 
--- The tables that a record and its entries give, or the place of the first fault. A law's list may have numbers that are no
--- bytes and so give values that no record has; from bytes every value fits.
+-- The tables that a record and its entries give, or the place of the first fault. A law's list may have numbers that
+-- are no bytes and so give values that no record has; from bytes every value fits.
 abbrev pub found_tables : Result NodeState ℕ → Result (Option NodeState) AdminFault
 found_tables (Ok s) = if fits_widths s then Ok (Some s) else Err (BadStore 0)
 found_tables (Err at) = Err (BadStore at)
@@ -38,7 +38,7 @@ found_on (byte ∷ bytes) = found_store (stands (byte ∷ bytes))
 
 -- ---- what a crash leaves
 
--- An image is empty where nothing stands; else it is whole and stands for the record of these tables.
+-- An image is empty where nothing stands; else it is whole and represents the record of these tables.
 abbrev pub StandsAs : Option NodeState → List ℕ → Type 0
 StandsAs None image = image ≡ []
 StandsAs (Some s) image = StandsFor (restored Centre) (record_of s) image
@@ -59,8 +59,8 @@ CanBeServed v = IsEmpty v ⊎ AllWhole v
 abbrev pub recorded : CoreValue → List ℕ
 recorded core = record_of core.tables
 
--- The centre is up with this setting and these tables, and every image stands for their record. Its next commit writes the
--- whole record only where what stands is of the first version, or where no entry more fits.
+-- The centre is up with this setting and these tables, and every image represents their record. Its next commit writes
+-- the whole record only where what stands is of the first version, or where no entry more fits.
 pub record IsUp (c : Setting) (s : NodeState) (centre : Hosted CoreValue) (v : View) : Type 0 where
   pub core : centre.core ≡ record { setting = c; tables = s }
   pub standing : Standing

@@ -9,7 +9,7 @@ use std::fmt;
 use zb_base::NoMemory;
 use zb_host::HostFault;
 
-/// Says why a script wasn't served to its end.
+/// Why a script wasn't served to its end.
 #[derive(Clone, Copy, Debug, PartialEq, Eq)]
 pub enum AdminFault {
     /// The disk failed.

@@ -62,7 +62,7 @@ pub(crate) fn put_sent(page: &mut Vec<u8>, frame: &Frame) -> Result<(), AllocErr
     Ok(())
 }
 
-// Prints why an event was refused, behind a space.
+// Prints why an event was refused, after a space.
 fn add_reason(page: &mut Vec<u8>, refusal: &Refusal) -> Result<(), AllocError>
     ensures { OnOk result (page.new.items ≡ page.old.items ++ then (reason_text (reason refusal.now))) }
 {

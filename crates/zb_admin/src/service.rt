@@ -356,7 +356,8 @@ fn serve_steps<D: Disk, W: Sink>(
 /// The store is judged before the first command. Each command is carried out and stored, and then its lines are
 /// written, before the next one begins. Requires a script that `zb_script::read` gives.
 ///
-/// Errors: `Disk`; `NoStore`, where the disk isn't empty and no slot stands open; `BadStore`, where what stands is no
+/// # Errors
+/// `Disk`; `NoStore`, where the disk isn't empty and no slot stands open; `BadStore`, where what stands is no
 /// record of a centre, with the place of the fault; `Worn`, where the whole record has to be written and there is no
 /// further generation; `Write`; `NoMemory`.
 pub fn serve<D: Disk, W: Sink>(
@@ -368,7 +369,7 @@ pub fn serve<D: Disk, W: Sink>(
     requires { IsScript script.now }
     ensures served { Serves (outside D.tells D.state W.taken W.faults) script.now disk.old out.old
         result disk.new out.new }
-    // No fault of the sink is told as another one.
+    // No fault of the sink is reported as another one.
     ensures out_unrisen { result ≢ Err AdminFault.Write → Unrisen (W.faults out.old) (W.faults out.new) }
 {
     match judge(alloc, &script.config, disk) {

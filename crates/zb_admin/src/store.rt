@@ -49,7 +49,8 @@ fn boot<D: Disk>(alloc: Global, config: &Config, disk: &mut D) -> Result<Host<Ce
 ///
 /// Requires a configuration of the centre.
 ///
-/// Errors: `Disk`; `NoStore`; `BadStore`, with the place of the fault; `NoMemory`.
+/// # Errors
+/// `Disk`; `NoStore`; `BadStore`, with the place of the fault; `NoMemory`.
 pub(crate) fn judge<D: Disk>(
     alloc: Global,
     config: &Config,
@@ -158,7 +159,8 @@ fn first_declaration(key: Key) -> Declaration
 ///
 /// Requires a configuration of the centre.
 ///
-/// Errors: `Disk`, `NoMemory`.
+/// # Errors
+/// `Disk`, `NoMemory`.
 pub(crate) fn init<D: Disk>(
     alloc: Global,
     config: &Config,
@@ -200,7 +202,8 @@ fn skipped(alloc: Global, by: u32, kept: &[u8]) -> Result<Tables, NoMemory>
 ///
 /// Requires a configuration of the centre, and the record of a centre's tables.
 ///
-/// Errors: `Disk`, `NoMemory`.
+/// # Errors
+/// `Disk`, `NoMemory`.
 pub(crate) fn restore<D: Disk>(
     alloc: Global,
     config: &Config,
@@ -221,7 +224,7 @@ pub(crate) fn restore<D: Disk>(
     }
 }
 
-/// Answers the tables of a centre that is up.
+/// Returns the tables of a centre that is up.
 pub(crate) fn centre_tables(host: &Host<Centre>) -> &Tables
     requires { IsTrue (is_some host.now.store) }
     ensures { result.now ≡ host.now.core.tables }
@@ -237,7 +240,7 @@ fn keep_rules(host: &Host<Centre>)
     centre_tables(host).keep_rules();
 }
 
-/// Lets the centre handle an event, and answers what goes out once its changes are stored.
+/// Lets the centre handle an event, and returns what goes out once its changes are stored.
 ///
 /// A refused one of its own changes nothing. Requires a centre that is up. Errors: `Disk`, `Worn`.
 pub(crate) fn handle<D: Disk>(

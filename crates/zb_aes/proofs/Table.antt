@@ -53,7 +53,7 @@ pub substitution_at : (x : ℕ) → x < 256 → get_or SUBSTITUTION x 0 ≡ subs
 substitution_at x h =
     ap (λ l. get_or l x 0) substitution ∙ get_or-map-range_with_len substitute 0 256 x x 0 h (omega arith)
 
--- A look-up behind a place, where what the columns from there on show is a function of the substituted byte.
+-- A look-up after a place, where what the columns from there on show is a function of the substituted byte.
 looked_up : (f : ℕ → List ℕ) (g : ℕ → List ℕ) (place x at : ℕ) → x < 256 → place + x ≡ at
     → length (columns_from place) ≡ 256 → map f (columns_from place) ≡ map g SUBSTITUTION
     → f (get_or MIXED at 0) ≡ g (substitute x)

@@ -1,5 +1,5 @@
--- The cipher of FIPS 197, section 5, with a key of 128 bits. The state is the list of its 16 bytes, column after column,
--- as they are put in and taken out (3.4).
+-- The cipher of FIPS 197, section 5, with a key of 128 bits. The state is the list of its 16 bytes, column after
+-- column, as they are put in and taken out (3.4).
 use Rattle.std.specs.Prelude.{ℕ, zero, suc, List, [], ◌∷◌, ◌++◌, ◌+◌, ◌*◌, ◌%◌, bit_xor, map, take, drop, slice_index}
 use Rattle.std.specs.List.{range_with_len}
 use Rattle.zb_aes.specs.Bytes.{xored}

@@ -1,7 +1,7 @@
 //! AES-128 of FIPS 197, in its forward direction, which is all that CCM* and the hash of Zigbee need.
 //!
-//! `encrypt` takes a key for one block; a `Cipher` holds a key with its round keys, for many. A chain of blocks goes by
-//! `State`, so that no block between two steps is written out as bytes.
+//! `encrypt` takes a key for one block; a `Cipher` holds a key with its round keys, for many. A chain of blocks goes
+//! by `State`, so that no block between two steps is written out as bytes.
 #![tactic(auto)]
 
 ghost use Rattle.std.specs.Prelude.{◌≡◌};

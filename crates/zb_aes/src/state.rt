@@ -37,7 +37,7 @@ impl State {
         )
     }
 
-    /// Answers the bytes of the state, column after column.
+    /// Returns the bytes of the state, column after column.
     pub fn bytes(self) -> [u8; 16]
         ensures { result ≡ state_bytes self }
     {
@@ -87,7 +87,7 @@ impl State {
         )
     }
 
-    /// Answers the round key after this one, with the constant of its round.
+    /// Returns the round key after this one, with the constant of its round.
     pub fn next_key(self, constant: u8) -> State
         ensures { state_bytes result ≡ next_key constant (state_bytes self) }
     {

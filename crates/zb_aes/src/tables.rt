@@ -22,7 +22,7 @@ pub static SUBSTITUTION: [u8; 256] = [
 
 /// FIPS 197, 5.1.3: the columns that bytes become once they are substituted and mixed, the byte of row 0 highest.
 ///
-/// There are 256 for the bytes of row 0, and behind them as many for each of the rows 1 to 3. They stand in one table,
+/// There are 256 for the bytes of row 0, and after them as many for each of the rows 1 to 3. They stand in one table,
 /// so that one address is enough to look up all of them.
 pub static MIXED: [u32; 1024] = [
     0xc66363a5, 0xf87c7c84, 0xee777799, 0xf67b7b8d, 0xfff2f20d, 0xd66b6bbd, 0xde6f6fb1, 0x91c5c554,

@@ -25,7 +25,7 @@ extended_at ack = do
   bits ← optional_at (is_block control && ack) byte_at
   give (record { control = control; block = block; bits = bits })
 
--- the fields behind the control byte
+-- the fields after the control byte
 unfoldable pub fields_at : ℕ → Reading ApsError ApsHeader
 fields_at control = do
   endpoint ← optional_at (is_addressed control && not (to_group control)) byte_at
@@ -64,7 +64,7 @@ aux_at = do
   source ← optional_at (bit control 5) eui_at
   give (record { control = control; counter = counter; source = source })
 
--- behind the header of a secured frame
+-- after the header of a secured frame
 unfoldable pub secured_at : ApsHeader → Reading ApsError ApsFrame
 secured_at header = do
   aux ← aux_at
@@ -85,11 +85,12 @@ frame_at = do
   header ← header_at
   content_at (bit header.control 5) header
 
--- the frame without what is left behind it, which is nothing
+-- the frame without what is left after it, which is nothing
 abbrev pub whole : Result (ApsFrame × List ℕ) ApsError → Result ApsFrame ApsError
 whole (Ok x) = Ok x.0
 whole (Err e) = Err e
 
--- The frame that all of the bytes are, or their first fault: more than 127 bytes, or what the first field gives that is not whole or not known.
+-- The frame that all of the bytes are, or their first fault: more than 127 bytes, or what the first field gives that
+-- is not whole or not known.
 unfoldable pub frame_of : List ℕ → Result ApsFrame ApsError
 frame_of bytes = if nat_lt 127 (length bytes) then Err TooLong else whole (frame_at (Short (length bytes)) bytes)

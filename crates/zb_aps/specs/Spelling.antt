@@ -1,4 +1,5 @@
--- The one spelling of each APS frame (05-3474-21, 2.2.5.1 for the frame, 2.2.5.1.8 for the extended header and 4.5.1 for the auxiliary one).
+-- The one spelling of each APS frame (05-3474-21, 2.2.5.1 for the frame, 2.2.5.1.8 for the extended header and 4.5.1
+-- for the auxiliary one).
 use Rattle.std.specs.Prelude.{ℕ, List, ◌++◌, Option, Some, None}
 use Rattle.std.specs.Int.{w16, w32}
 use Rattle.zb_cursor.specs.Spelling.{byte, number, eui, optional}
@@ -21,7 +22,8 @@ header h = addressing h ++ optional (number w16) h.profile ++ optional byte h.so
 abbrev pub aux : ApsAux → List ℕ
 aux a = byte a.control ++ number w32 a.counter ++ optional eui a.source
 
--- what stands behind the header: the body, and where it is secured an auxiliary header before it and the message integrity code behind it
+-- what stands after the header: the body, and where it is secured an auxiliary header before it and the message
+-- integrity code after it
 abbrev pub content : Option ApsAux → List ℕ → List ℕ → List ℕ
 content None body mic = body
 content (Some a) body mic = aux a ++ body ++ mic

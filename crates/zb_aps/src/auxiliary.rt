@@ -23,7 +23,7 @@ pub struct ApsAux {
 }
 
 impl ApsAux {
-    /// Tells whether the reader takes the key identifier, and the source is there where the control byte tells it.
+    /// Returns whether the reader takes the key identifier, and the source is there where the control byte tells it.
     pub fn shape_ok(&self) -> bool
         ensures { IsTrue result ↔ IsAux self.now }
     {

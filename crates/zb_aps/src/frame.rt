@@ -31,10 +31,10 @@ pub struct ApsFrame {
 }
 
 impl ApsFrame {
-    /// Tells whether this value is a frame that the reader can answer.
+    /// Returns whether this value is a frame that the reader can answer.
     ///
-    /// The reader takes the type, the delivery and the key identifier, the options agree with the control byte, and the
-    /// code is zero where there is no security.
+    /// The reader takes the type, the delivery and the key identifier, the options agree with the control byte, and
+    /// the code is zero where there is no security.
     pub fn shape_ok(&self) -> bool
         ensures { IsTrue result ↔ IsShaped self.now }
     {
@@ -47,7 +47,7 @@ impl ApsFrame {
     }
 }
 
-/// Reads what stands behind a header.
+/// Reads what stands after a header.
 #[tactic(auto, unfolding(crate::specs::Reading::secured_at, crate::specs::Reading::unsecured_at))]
 fn read_content(reader: &mut Reader<ApsError>, header: ApsHeader) -> Result<ApsFrame, ApsError>
     requires fits { length reader.old.rest.now ≤ 127 }

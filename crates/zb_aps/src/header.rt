@@ -59,14 +59,14 @@ fn to_group(control: u8) -> bool
     (control >> 2) & 3 == 3
 }
 
-/// Tells whether the frame says its endpoints, cluster and profile: data, and an ack whose ack format is 0.
+/// Returns whether the frame says its endpoints, cluster and profile: data, and an ack whose ack format is 0.
 fn is_addressed(control: u8) -> bool
     ensures { result ≡ addressed control }
 {
     control & 3 == 0 || (is_ack(control) && !has_bit(u16::from(control), 4))
 }
 
-/// Tells whether an extended header has a block number.
+/// Returns whether an extended header has a block number.
 fn is_block(control: u8) -> bool
     ensures { result ≡ block control }
 {
@@ -94,7 +94,7 @@ impl ApsHeader {
             && self.source_endpoint.is_some() == addressed
     }
 
-    /// Tells whether the reader takes type and delivery mode, and the options are those of the control byte.
+    /// Returns whether the reader takes type and delivery mode, and the options are those of the control byte.
     pub fn shape_ok(&self) -> bool
         ensures { IsTrue result ↔ IsHeader self.now }
     {
@@ -171,7 +171,7 @@ fn read_optional_extended(
     Ok(Some(extended))
 }
 
-/// Reads the fields behind a control byte.
+/// Reads the fields after a control byte.
 #[tactic(auto, unfolding(crate::specs::Reading::fields_at))]
 fn read_fields(reader: &mut Reader<ApsError>, control: u8) -> Result<ApsHeader, ApsError>
     requires { IsControl control }

@@ -145,7 +145,7 @@ lacked restored old new NoRecord fall cause of_fault = absurd (subst IsLack (sym
 lacked restored old new (BadRecord at) fall cause of_fault = absurd (subst IsLack (sym cause) tt)
 lacked restored old new Worn fall cause of_fault = absurd of_fault
 
--- a boot of a node at rest fails for the disk or for want of memory alone
+-- a boot of a node at rest fails for the disk or for out of memory alone
 pub has_fallen_at_boot : {C : Type 0} (words : Words C Medium) (s : Standing) (w : List ℕ) (a : Armed) (old m : Medium) (fault : HostFault) (seen fall : Fall) → IsDown words s w a old
     → IsBootFault memory_tells words.restored (memory_view (armed_medium a old)) (memory_view m) fault
     → ((changes : _) → fault ≡ Disk changes → OpenStop memory_tells s (memory_view (armed_medium a old)) (memory_view m))

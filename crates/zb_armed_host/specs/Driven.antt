@@ -37,7 +37,7 @@ fall_of NotArmed = Failed
 fall_of (StopAfter calls torn) = Stopped
 fall_of (FailAt call) = Failed
 
--- The power is on, and nothing is armed. What the disk reads is its one image, is whole and stands for this.
+-- The power is on, and nothing is armed. What the disk reads is its one image, is whole and represents this.
 pub record IsAtRest (s : Standing) (m : Medium) : Type 0 where
   pub only : Only m.bytes (memory_view m).images
   pub whole : IsWhole s m.bytes
@@ -56,7 +56,8 @@ standing_after whole s content payload (e ∷ es) = next_standing whole s conten
 abbrev pub next_of : {C : Type 0} → Words C Medium → Standing → Hosted C → List Change → Hosted C → Standing
 next_of words s before changes after = standing_after (writes_whole before) s (words.recorded after.core) (words.payload changes) changes
 
--- A host that is up over a disk on which nothing is armed, and what is to be armed. The store isn't at its last generation.
+-- A host that is up over a disk on which nothing is armed, and what is to be armed. The store isn't at its last
+-- generation.
 pub record IsUp {C : Type 0} (words : Words C Medium) (s : Standing) (a : Armed) (host : Hosted C) (m : Medium) : Type 0 where
   pub current : IsCurrent words.restored words.recorded s host (memory_view m)
   pub unarmed : IsUnarmed m
@@ -91,7 +92,7 @@ boot_cause NoRecord fall = Fault fall
 boot_cause (BadRecord at) fall = Fault fall
 boot_cause Worn fall = Fault fall
 
--- A node that is down over a disk at rest, which stands for the core of this record, and what is to be armed.
+-- A node that is down over a disk at rest, which represents the core of this record, and what is to be armed.
 pub record IsDown {C : Type 0} (words : Words C Medium) (s : Standing) (w : List ℕ) (a : Armed) (m : Medium) : Type 0 where
   pub rest : IsAtRest s m
   pub gives_it : Gives words.restored s w

@@ -6,7 +6,7 @@ ghost use Rattle.zb_armed_host.specs.Arms.{armed_of, armed_medium, disarmed_medi
 use arrayvec::ArrayVec;
 use zb_disk::MemDisk;
 
-/// Says what is armed on a node's disk: it falls on the first call of the host with so many device calls.
+/// What is armed on a node's disk: it falls on the first call of the host with so many device calls.
 #[derive(Debug, Drop)]
 pub enum Arms {
     /// Nothing is armed.

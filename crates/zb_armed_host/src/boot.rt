@@ -20,7 +20,8 @@ use zb_host::{Core, Host, HostFault};
 /// Where what was armed falls, or the boot fails otherwise, the power of the disk is back, and nothing is armed.
 /// Requires a configuration of a node of the core's role.
 ///
-/// Errors: how the boot ended; want of memory.
+/// # Errors
+/// How the boot ended; out of memory.
 pub fn boot_armed<C: Core>(
     alloc: Global,
     config: &Config,
@@ -59,7 +60,7 @@ pub fn boot_armed<C: Core>(
     }
 }
 
-// Why a boot failed: want of memory, or that it ended so.
+// Why a boot failed: out of memory, or that it ended so.
 fn cause_of(fault: HostFault, fall: Fall) -> OrMemory<Fall>
     ensures { result ≡ boot_cause fault fall }
 {

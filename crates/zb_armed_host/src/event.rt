@@ -16,7 +16,8 @@ use zb_host::{Core, Host, Plan};
 /// host is down, the power of the disk is back, and nothing is armed; `plan` then has the changes that were to be
 /// stored.
 ///
-/// Errors: how it fell.
+/// # Errors
+/// How it fell.
 pub fn run<C: Core>(
     host: &mut Host<C>,
     disk: &mut MemDisk,

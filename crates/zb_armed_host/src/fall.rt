@@ -9,7 +9,7 @@ use crate::Arms;
 use crate::arms::disarm;
 use zb_disk::MemDisk;
 
-/// Says how a call of a host ended before its last device call.
+/// How a call of a host ended before its last device call.
 #[derive(Clone, Copy, Debug, PartialEq, Eq)]
 pub enum Fall {
     /// A stop fell on it: the disk was off.

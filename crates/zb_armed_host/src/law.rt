@@ -9,10 +9,10 @@ ghost use Rattle.zb_store.specs.Power.{stop_commits, failure_commits, stop_opens
 ghost use Rattle.zb_model.specs.Play.{StopAfter, FailAt, BootCalls, falls, stands, leaves_both, commit_calls};
 ghost use Rattle.zb_armed_host.specs.Arms.{IsUnarmed, commit_of};
 
-/// Says that the model's words on stops and failures that fall are what the store promises of them.
+/// States that the model's words on stops and failures that fall are what the store promises of them.
 ///
-/// A commit on which one falls stands exactly where the model says, and so many gates of slots stand open. The calls of
-/// a commit are those of a whole record exactly where no entry more fits behind the record.
+/// A commit on which one falls stands exactly where the model says, and so many gates of slots stand open. The calls
+/// of a commit are those of a whole record exactly where no entry more fits after the record.
 pub fn stops_and_failures()
     ensures stop_stands { (whole : Bool) (calls : ℕ) (torn : List ℕ)
         → falls (StopAfter calls torn) (commit_of whole) ≡ true
@@ -32,14 +32,14 @@ pub fn stops_and_failures()
         → commit_calls commits ≡ commit_of (entries == 32) }
 {}
 
-/// Says that where nothing is armed on a disk nothing is after device calls that went through.
+/// States that where nothing is armed on a disk nothing is after device calls that went through.
 #[tactic(auto, using(crate::proofs::Armings::unarmed_stays))]
 pub fn nothing_armed_stays()
     ensures { (run : ℕ) (old new : Medium) → IsUnarmed old
         → WentThrough memory_tells run (memory_view old) (memory_view new) → IsUnarmed new }
 {}
 
-/// Says that the gates of both slots aren't open where a record is held, as after a commit and after a boot.
+/// States that the gates of both slots aren't open where a record is held, as after a commit and after a boot.
 #[tactic(auto, using(crate::proofs::Resets::one_open))]
 pub fn one_gate_stands_open()
     ensures { (s : Standing) (m : Medium) → IsHeld s (memory_view m) → both_gates_open m.bytes ≡ false }

@@ -1,4 +1,4 @@
-//! The record that a node's disk stands for.
+//! The record that a node's disk represents.
 ghost use Rattle.std.specs.Prelude.{◌≡◌, ◌≤◌, List, ℕ, length, IfOk, OnErr};
 ghost use Rattle.zb_base.specs.Config.{IsConfig};
 ghost use Rattle.zb_disk.specs.View.{IsStill};
@@ -18,12 +18,13 @@ use zb_host::Core;
 use zb_node_types::KeyError;
 use zb_store::{Store, StoreFault};
 
-/// Writes the record that the disk of a node stands for, up or down, and answers its length.
+/// Writes the record that the disk of a node represents, up or down, and returns its length.
 ///
-/// It answers None where the disk fails or stands for no record of such a node, and changes nothing on the disk.
+/// It answers None where the disk fails or represents no record of such a node, and changes nothing on the disk.
 /// Requires a configuration of a node of the core's role, and room for `RECORD_ROOM` bytes.
 ///
-/// Errors: `NoMemory`.
+/// # Errors
+/// `NoMemory`.
 #[tactic(auto, using(crate::proofs::Dumps::dumps))]
 pub fn dump<C: Core>(
     alloc: Global,
@@ -51,7 +52,7 @@ pub fn dump<C: Core>(
     }
 }
 
-// Writes the record of the core that a record and the payloads behind it give.
+// Writes the record of the core that a record and the payloads after it give.
 #[tactic(auto, using(crate::proofs::Dumps::unread, crate::proofs::Dumps::written, crate::proofs::Dumps::given_again))]
 fn read_record<C: Core>(
     alloc: Global,

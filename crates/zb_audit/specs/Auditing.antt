@@ -33,7 +33,7 @@ pub record Stands (tools : Tools) (a : Auditor) (h : List Line) : Type 0 where
   pub confirming : AreConfirmed a.confirming h
   pub ending : Ends tools a.ending h
 
--- lockout after one more line stands for it too
+-- lockout after one more line represents it too
 abbrev pub LocksOn : Lockout → Lockout → ℕ → Line → Who → Type 0
 LocksOn old new number l who =
     (tools : Tools) (names : List Bytes) (h : List Line) → FindKeys tools → number ≡ length h + 1 → IsSpeaker who names (declared_in h) l

@@ -30,7 +30,8 @@ confirmed_at Nwk header content = None
 unfoldable pub confirmed : Term → Option Eui
 confirmed t = confirmed_at t.layer t.header.items t.content.items
 
--- What the lines made of a link row of the centre: it isn't verified, it was made so, or that is stored by a commit behind.
+-- What the lines made of a link row of the centre: it isn't verified, it was made so, or that is stored by a commit
+-- after it.
 pub data RowState : Type 0 where
   Absent : RowState
   Made : RowState
@@ -58,7 +59,7 @@ with_attribute attribute.Verified s = made s
 with_attribute attribute.Unverified s = Absent
 with_attribute attribute.Provisional s = Absent
 
--- What one line of a centre's does to its row of a partner and a key, behind lines that declare these nodes.
+-- What one line of a centre's does to its row of a partner and a key, after lines that declare these nodes.
 abbrev pub row_becomes : ℕ → Bytes → List Station → RowState → Line → RowState
 row_becomes partner key known s (line.Row event node p k a) =
     if is_centres known node.bytes && is_row partner key p.0 k.0 then with_attribute a s else s

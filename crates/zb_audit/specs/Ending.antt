@@ -67,7 +67,7 @@ ends_from tools h (l ∷ m ∷ ls) = ends_from tools (h ++ l ∷ []) (m ∷ ls)
 unfoldable pub ends_well : Tools → List Line → Bool
 ends_well tools lines = ends_from tools [] lines
 
--- The numbers of the lines that end it badly: of end lines before the last line, and of the last line where it isn't an
--- end line that sums up. Where there is no line, 1.
+-- The numbers of the lines that end it badly: of end lines before the last line, and of the last line where it isn't
+-- an end line that sums up. Where there is no line, 1.
 unfoldable pub ill_ended : Tools → List Line → List ℕ
 ill_ended tools lines = failing is_no_end (front lines) ++ (if ends_well tools lines then [] else max (length lines) 1 ∷ [])

@@ -15,8 +15,8 @@ use Rattle.zb_model.specs.Tools.{Tools}
 use Rattle.zb_audit_counters.specs.Counting.{first_uncounted}
 use Rattle.zb_trace.specs.declared.line.Line.{Line}
 
--- Where what was accepted came from earlier terms and outsiders forged with no more than they may know, removed devices are
--- locked out: else the first line with which lockout fails is bad.
+-- Where what was accepted came from earlier terms and outsiders forged with no more than they may know, removed
+-- devices are locked out: else the first line with which lockout fails is bad.
 unfoldable pub unlocked : Tools → List Line → Option ℕ
 unlocked tools lines = if ideal tools lines && private tools lines then first_unlocked tools lines else None
 

@@ -73,7 +73,7 @@ row_cmp = row_ord.cmp-value.it
 abbrev pub verified : Confirming → ℕ → Bytes → Option ℕ
 verified c partner key = get row_cmp c.verified (record { partner = record { 0 = partner }; key = record { 0 = key } })
 
--- a verified row is stored where a commit is behind it
+-- a verified row is stored where a commit is after it
 abbrev pub row_state : ℕ → Option ℕ → RowState
 row_state committed None = Absent
 row_state committed (Some made) = if nat_lt made committed then Kept else Made

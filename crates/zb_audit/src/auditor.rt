@@ -23,7 +23,7 @@ use zb_audit_words::EndWords;
 use zb_base::NoMemory;
 use zb_trace::Line;
 
-/// Holds what is known of a transcript after the lines so far, and no line.
+/// What is known of a transcript after the lines so far, and no line.
 #[derive(Drop)]
 pub struct Auditor {
     /// The number of the last line.
@@ -160,7 +160,7 @@ fn carry_on(
     Ok(())
 }
 
-/// Answers the sooner of two bad lines, of which the first is of a smaller clause.
+/// Returns the sooner of two bad lines, of which the first is of a smaller clause.
 fn sooner(line: Option<u32>, clause: u8, other: Option<BadLine>) -> Option<BadLine>
     ensures { result ≡ sooner_of (by clause line) other }
 {
@@ -174,7 +174,7 @@ fn sooner(line: Option<u32>, clause: u8, other: Option<BadLine>) -> Option<BadLi
 /// Judges the lines of a transcript.
 ///
 /// # Errors
-/// `Broken` with the first bad line and the first clause that it breaks; or want of memory.
+/// `Broken` with the first bad line and the first clause that it breaks; or out of memory.
 pub fn audit(alloc: Global, lines: &[Line]) -> Result<Verdict, AuditFault>
     ensures answer { IsAnswer real lines.now result }
     ensures claims { IfOk result (λ verdict. Keeps real verdict lines.now) }

@@ -160,7 +160,7 @@ impl Confirming {
         self.first = first_bad(self.first, stands, number);
     }
 
-    /// Tells whether a term confirms no key, or one that the centre, who sealed it, has stored as verified.
+    /// Returns whether a term confirms no key, or one that the centre, who sealed it, has stored as verified.
     fn stands(&self, term: &Term, is_centre: bool) -> bool
         ensures { result ≡ stands_in self.now is_centre term.now.base.0 (confirmed_by term.now) }
     {
@@ -180,7 +180,7 @@ impl Confirming {
     }
 }
 
-/// Answers the device whose key a term confirms: the content is a Confirm-Key of status 00 (05-3474-21, 4.4.10.8),
+/// Returns the device whose key a term confirms: the content is a Confirm-Key of status 00 (05-3474-21, 4.4.10.8),
 /// sealed as an APS command.
 #[tactic(auto, unfolding(crate::specs::Confirming::confirmed))]
 fn confirmed(term: &Term) -> Option<Eui>

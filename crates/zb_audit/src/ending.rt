@@ -71,7 +71,7 @@ impl Ending {
         Ok(())
     }
 
-    /// Tells whether a line is an end line that sums up the lines so far.
+    /// Returns whether a line is an end line that sums up the lines so far.
     fn fits(&self, line: &Line, ideal: bool, private: bool) -> bool
         ensures { result ≡ fits self.now ideal private line.now }
     {
@@ -127,7 +127,7 @@ impl Ending {
         }
     }
 
-    /// Answers the number of the first line that is an end line before the last line, or the last line where it isn't
+    /// Returns the number of the first line that is an end line before the last line, or the last line where it isn't
     /// an end line that sums up; where there is no line, 1.
     pub fn end(&self) -> Option<u32>
         ensures { (tools : Tools) (h : List AnyLine) → Ends tools self.now h → result ≡ head (ill_ended tools h) }

@@ -6,8 +6,8 @@ pub struct Verdict {
     pub seals: u32,
     /// How many terms were accepted.
     pub accepts: u32,
-    /// Whether all that was accepted came from earlier terms and outsiders forged with no more than they may know: then
-    /// removed devices are locked out.
+    /// Whether all that was accepted came from earlier terms and outsiders forged with no more than they may know:
+    /// then removed devices are locked out.
     pub locked: bool,
 }
 

@@ -74,7 +74,7 @@ impl Nonces {
     }
 }
 
-/// Answers the sealing key and the nonce of a term.
+/// Returns the sealing key and the nonce of a term.
 fn stamp_of(term: &Term) -> Stamp
     ensures { result ≡ standing.stamp_of term.now }
 {

@@ -94,7 +94,7 @@ impl Taking {
     }
 }
 
-/// Answers the channel on which a node accepts a term.
+/// Returns the channel on which a node accepts a term.
 fn channel_of(place: usize, term: &Term) -> Channel
     ensures { result ≡ standing.channel_of place term.now }
 {

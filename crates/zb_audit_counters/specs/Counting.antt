@@ -1,5 +1,5 @@
 -- Which lines of a transcript don't add up. Of a line's group, the lines of the same event around it, `before` are the
--- groups before it, `group` is the whole group, and `front` its lines before the line.
+-- groups before it, `group` is the whole group, and `prefix` its lines before the line.
 use Rattle.std.specs.Prelude.{ℕ, ◌+◌, min, Bool, true, false, not, if◌then◌else◌, ◌&&◌, ◌||◌, List, [], ◌∷◌, ◌++◌, length, nat_eq, nat_lt, nat_le, flat_map, bytes_eq, Option, Some, None}
 use Rattle.std.specs.List.{list_any, list_all}
 use Rattle.std.specs.Option.{option_map, is_some}
@@ -133,7 +133,7 @@ is_counted before group front (line.Start e n key value) = start_stands before g
 is_counted before group front (line.Active e n key) = active_stands before group n.bytes key.0
 is_counted before group front _ = true
 
--- The numbers of a group's lines that don't, from the line behind `front` on, which has this number.
+-- The numbers of a group's lines that don't, from the line after `prefix` on, which has this number.
 unfoldable pub uncounted_in : List (List Line) → List Line → List Line → ℕ → List Line → List ℕ
 uncounted_in before group front number [] = []
 uncounted_in before group front number (l ∷ ls) =

@@ -57,9 +57,9 @@ counter_in n l _ = None
 unfoldable pub declared : List Line → Bytes → Layer → ℕ
 declared h n l = unwrap_or (last (counter_in n l) h) 0
 
--- The stored limit of a layer, where `before` are the groups so far: that of the last `reserve` line, else the declared
--- counter. At NWK each key has its own limit: it is set by the key's `start` line, and by those `reserve` lines of the
--- layer before whose group the key was active.
+-- The stored limit of a layer, where `before` are the groups so far: that of the last `reserve` line, else the
+-- declared counter. At NWK each key has its own limit: it is set by the key's `start` line, and by those `reserve`
+-- lines of the layer before whose group the key was active.
 
 abbrev pub reserve_in : Bytes → Layer → Line → Option ℕ
 reserve_in n l (line.Reserve e m layer value) = if bytes_eq m.bytes n && same_layer layer l then Some value else None
@@ -71,7 +71,7 @@ limit_in n key was (line.Start e m k value) = if bytes_eq m.bytes n && bytes_eq 
 limit_in n key was (line.Reserve e m layer value) = if was && (bytes_eq m.bytes n && same_layer layer Nwk) then Some value else None
 limit_in n key was _ = None
 
--- the limit of a key by groups that stand behind the lines `h`
+-- the limit of a key by groups that stand after the lines `h`
 unfoldable pub limit_behind : List Line → Bytes → Bytes → List (List Line) → Option ℕ
 limit_behind h n key [] = None
 limit_behind h n key (group ∷ more) =
@@ -85,7 +85,7 @@ unfoldable pub limit : List (List Line) → Bytes → Layer → ℕ
 limit before n Nwk = limit_under before n (active (flat before) n)
 limit before n Aps = unwrap_or (last (reserve_in n Aps) (flat before)) (declared (flat before) n Aps)
 
--- The next counter of a layer: that behind the node's last seal at the layer, at NWK under the active key, after the
+-- The next counter of a layer: that after the node's last seal at the layer, at NWK under the active key, after the
 -- last boot; without such a seal the stored limit.
 
 abbrev pub boots : Bytes → Line → Bool
@@ -105,7 +105,7 @@ abbrev pub sealed_in : Bytes → Layer → Option Bytes → Line → Option ℕ
 sealed_in n l key (line.Seal e m t) = if bytes_eq m.bytes n && is_sealed_at l key t then Some t.counter else None
 sealed_in n l key _ = None
 
--- what comes behind a counter, or the limit where there is none
+-- what comes after a counter, or the limit where there is none
 abbrev pub behind : ℕ → Option ℕ → ℕ
 behind limit None = limit
 behind limit (Some counter) = counter + 1

@@ -1,5 +1,5 @@
--- Which lines a recount stands for: what it keeps of each node are the readings of the lines before the group and of all
--- lines so far, and the lines that it noted are those of the group that don't add up, or wait for its end.
+-- Which lines a recount represents: what it keeps of each node are the readings of the lines before the group and of
+-- all lines so far, and the lines that it noted are those of the group that don't add up, or wait for its end.
 use Rattle.std.specs.Prelude.{◌≡◌, ℕ, ◌+◌, ◌≤◌, Bool, true, false, if◌then◌else◌, ◌&&◌, ◌||◌, List, [], ◌∷◌, ◌++◌, cond, length, get_or, nat_eq, Option, Some, None, IfSome}
 use Rattle.std.specs.BTreeMap.{BTreeMap, get}
 use Rattle.std.specs.List.{list_any, list_all, AllByRecursion}
@@ -30,7 +30,7 @@ use Rattle.zb_audit_counters.specs.declared.recount.Recount.{Recount}
 use Rattle.zb_audit_counters.specs.declared.versioned.Versioned.{Versioned}
 use Rattle.zb_trace.specs.declared.line.Line.{Line}
 
--- A value, seen by `f`, was `old` before the group and is `new` now. It was set in no line behind the first `count`.
+-- A value, seen by `f`, was `old` before the group and is `new` now. It was set in no line after the first `count`.
 abbrev pub IsRead : {T A : Type 0} → (T → A) → ℕ → ℕ → Versioned T → A → A → Type 0
 IsRead f count g v old new = (v.group ≤ count) × (f (before_of g v) ≡ old) × (f v.latest ≡ new)
 
@@ -123,7 +123,8 @@ pub record IsRun (event : Option ℕ) (front : List Line) : Type 0 where
   pub alike : AllByRecursion (λ (l : Line). event_of l ≡ event) front
   pub alone : event ≡ None → length front ≤ 1
 
--- What a recount keeps of these groups before and these lines of the group, none of the groups having a line that doesn't add up.
+-- What a recount keeps of these groups before and these lines of the group, none of the groups having a line that
+-- doesn't add up.
 pub record IsOfGroups (names : List Bytes) (r : Recount) (before : List (List Line)) (front : List Line) : Type 0 where
   pub group : r.group ≡ length (flat before) + 1
   pub past : first_of (uncounted_from [] 1 before) ≡ None
@@ -140,7 +141,8 @@ pub record IsUnderWay (names : List Bytes) (r : Recount) (lines : List Line) (be
   pub run : IsRun r.event front
   pub kept : IsOfGroups names r before front
 
--- The recount stands for these lines. Once a line of a group that has ended doesn't add up it is the first, whatever follows.
+-- The recount represents these lines. Once a line of a group that has ended doesn't add up it is the first, whatever
+-- follows.
 abbrev pub RecountsTo : Option ℕ → List Bytes → Recount → List Line → Type 0
 RecountsTo None names r lines = (before : List (List Line)) × (front : List Line) × IsUnderWay names r lines before front
 RecountsTo (Some number) names r lines = (rest : List Line) → first_uncounted (lines ++ rest) ≡ Some number

@@ -1,4 +1,4 @@
--- What the program keeps of a transcript, and which lines it stands for.
+-- What the program keeps of a transcript, and which lines it represents.
 use Rattle.std.specs.Prelude.{◌≡◌, ℕ, min, max, Bool, true, false, not, if◌then◌else◌, ◌&&◌, ◌||◌, List, [], ◌∷◌, nat_eq, nat_lt, bytes_eq, Option, Some, None, unwrap_or}
 use Rattle.std.specs.BTreeMap.{BTreeMap, get}
 use Rattle.std.specs.Cmp.Lexicographic.{slice_cmp}
@@ -56,7 +56,7 @@ next_by o g boot declared = behind (limit_by o g declared) (since boot (before_o
 abbrev pub is_spent_by : Outgoing → ℕ → ℕ → ℕ → Bool
 is_spent_by o g boot declared = nat_eq (next_by o g boot declared) (limit_by o g declared)
 
--- whether a seal takes the next counter, and stands behind a reserve where that is the limit
+-- whether a seal takes the next counter, and stands after a reserve where that is the limit
 abbrev pub seals_by : Outgoing → ℕ → ℕ → ℕ → ℕ → Bool → Bool
 seals_by o g boot declared counter reserved =
     nat_eq counter (next_by o g boot declared) && (not (is_spent_by o g boot declared) || reserved)

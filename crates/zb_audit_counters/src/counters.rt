@@ -25,7 +25,7 @@ use zb_base::{Key, Layer};
 use zb_seal::Term;
 use zb_trace::Line;
 
-/// Holds what is known of the counters of one node.
+/// What is known of the counters of one node.
 #[derive(Drop)]
 pub struct Counters {
     /// The active network key: that of the last active line, else of the last given one.
@@ -63,7 +63,7 @@ impl Counters {
         }
     }
 
-    /// The moment of a line at NWK.
+    /// Returns the moment of a line at NWK.
     fn at_nwk(&self, group: u32) -> Moment
         ensures { result
             ≡ record {
@@ -79,7 +79,7 @@ impl Counters {
         }
     }
 
-    /// The moment of a line at APS.
+    /// Returns the moment of a line at APS.
     fn at_aps(&self, group: u32) -> Moment
         ensures { result
             ≡ record {
@@ -95,7 +95,7 @@ impl Counters {
         }
     }
 
-    /// The next NWK counter before a group.
+    /// Returns the next NWK counter before a group.
     fn next_nwk(&self, group: u32) -> u64
         ensures { result ≡ next_under group self.now (before_of group self.now.active) }
     {
@@ -106,7 +106,7 @@ impl Counters {
         }
     }
 
-    /// Tells whether a key was active before a group.
+    /// Returns whether a key was active before a group.
     fn is_active(&self, group: u32, key: Key) -> bool
         ensures { result ≡ is_key (active_by group self.now) key.0 }
     {
@@ -134,7 +134,7 @@ impl Counters {
         self.booted.set(group, number);
     }
 
-    /// A network key is given at the start.
+    /// Returns a network key is given at the start.
     pub fn give(&mut self, group: u32, key: Key) -> Result<(), AllocError>
         ensures { OnOk result ((number sequence : ℕ) (m : ArrayString)
             → Hears group number m.bytes (line.GivenNet m key sequence) self.old self.new) }
@@ -148,7 +148,7 @@ impl Counters {
         Ok(())
     }
 
-    /// A network key becomes active.
+    /// Returns a network key becomes active.
     pub fn activate(&mut self, group: u32, key: Key) -> Result<Judgement, AllocError>
         ensures judged { IfOk result (λ judgement. judgement ≡ active_judged group self.old key) }
         ensures heard { OnOk result ((number e : ℕ) (m : ArrayString)
@@ -163,7 +163,7 @@ impl Counters {
         Ok(waits_unless(Need::Start(key), stands))
     }
 
-    /// A network key starts. `declared` tells whether a line declares the node.
+    /// Returns a network key starts. `declared` tells whether a line declares the node.
     pub fn start(
         &mut self,
         group: u32,
@@ -186,7 +186,7 @@ impl Counters {
         Ok(waits_if(Need::Active(key), stands))
     }
 
-    /// A limit is reserved. `block` is the node's outgoing block, where a line declares the node.
+    /// Returns a limit is reserved. `block` is the node's outgoing block, where a line declares the node.
     pub fn reserve(
         &mut self,
         group: u32,
@@ -265,7 +265,7 @@ impl Counters {
         self.aps.reserved = group;
     }
 
-    /// A term is sealed. `declared` tells whether a line declares the node.
+    /// Returns a term is sealed. `declared` tells whether a line declares the node.
     pub fn seal(&mut self, group: u32, term: &Term, declared: bool) -> Result<Judgement, AllocError>
         ensures judged { IfOk result (λ judgement.
             judgement ≡ seal_judged group self.old term.now.layer term.now.base term.now.counter declared) }
@@ -321,7 +321,7 @@ impl Counters {
         stands_if(stands)
     }
 
-    /// A frame is accepted.
+    /// Returns a frame is accepted.
     pub fn accept(
         &mut self,
         group: u32,
@@ -339,7 +339,7 @@ impl Counters {
         Ok(waits_unless(Need::Floor(sender), stands))
     }
 
-    /// A floor is stored. `block` is the node's incoming block, where a line declares the node.
+    /// Returns a floor is stored. `block` is the node's incoming block, where a line declares the node.
     pub fn store_floor(
         &mut self,
         group: u32,

@@ -18,7 +18,7 @@ pub struct Sender {
     pub eui: Eui,
 }
 
-/// Holds what is known of a sender that a node hears.
+/// What is known of a sender that a node hears.
 #[derive(Clone, Copy)]
 pub struct Floor {
     /// The stored floor.
@@ -59,7 +59,7 @@ impl Floor {
         }
     }
 
-    /// Tells whether a floor line fits each frame that its group accepts.
+    /// Returns whether a floor line fits each frame that its group accepts.
     pub fn fits(&self, group: u32, value: u32, block: u32) -> bool
         ensures { result ≡ fits_all group (before_of group self.now.stored) value block self.now }
     {
@@ -69,7 +69,7 @@ impl Floor {
                 && fits_one(floor, value, block, self.greatest))
     }
 
-    /// Tells whether a floor line is called for: a frame is accepted, or the floor rises in an event that was cut.
+    /// Returns whether a floor line is called for: a frame is accepted, or the floor rises in an event that was cut.
     pub fn is_called_for(&self, group: u32, cut: bool, value: u32) -> bool
         ensures { result ≡ calls cut group (before_of group self.now.stored) value self.now }
     {

@@ -5,7 +5,7 @@ ghost use Rattle.zb_audit_counters.specs.Standing.{fresh_key};
 use crate::outgoing::Outgoing;
 use crate::versioned::Versioned;
 
-/// Holds what is known of a network key of a node.
+/// What is known of a network key of a node.
 #[derive(Clone, Copy)]
 pub struct KeyCounters {
     /// Its outgoing counter.

@@ -4,7 +4,7 @@ ghost use Rattle.zb_audit_counters.specs.Standing.{fresh_layer};
 
 use crate::versioned::Versioned;
 
-/// Holds what is known of a node at one layer, beside its outgoing counters.
+/// What is known of a node at one layer, beside its outgoing counters.
 #[derive(Clone, Copy)]
 pub struct LayerCounters {
     /// The outgoing counter that was declared for the start.

@@ -6,7 +6,7 @@ ghost use Rattle.zb_audit_counters.specs.Standing.{counts};
 
 use zb_trace::Line;
 
-/// Tells whether a line's event is that of the group.
+/// Returns whether a line's event is that of the group.
 pub fn continues(group: Option<u32>, event: Option<u32>) -> bool
     ensures { result ≡ declared.same_event group event }
 {
@@ -16,7 +16,7 @@ pub fn continues(group: Option<u32>, event: Option<u32>) -> bool
     }
 }
 
-/// Tells whether an event is cut short at this line, or was before.
+/// Returns whether an event is cut short at this line, or was before.
 pub fn is_cut(before: bool, line: &Line) -> bool
     ensures { result ≡ (before || counting.cuts line.now) }
 {
@@ -27,7 +27,7 @@ pub fn is_cut(before: bool, line: &Line) -> bool
     }
 }
 
-/// Tells whether a line says something of its node's counters.
+/// Returns whether a line says something of its node's counters.
 pub fn counts(line: &Line) -> bool
     ensures { result ≡ counts line.now }
 {

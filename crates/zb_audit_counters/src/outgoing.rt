@@ -21,7 +21,7 @@ pub struct Sealed {
     pub boot: u32,
 }
 
-/// Holds what is known of an outgoing counter.
+/// What is known of an outgoing counter.
 #[derive(Clone, Copy)]
 pub struct Outgoing {
     /// The stored limit, where a line set it.
@@ -52,7 +52,7 @@ impl Outgoing {
         }
     }
 
-    /// Answers the stored limit before a group.
+    /// Returns the stored limit before a group.
     fn limit(&self, at: Moment) -> u64
         ensures value { result ≡ limit_by self.now at.group at.declared }
         ensures in_range { result ≤ 4294967296 }
@@ -63,7 +63,7 @@ impl Outgoing {
         }
     }
 
-    /// Answers the next counter before a group.
+    /// Returns the next counter before a group.
     pub fn next(&self, at: Moment) -> u64
         ensures value { result ≡ next_by self.now at.group at.boot at.declared }
         ensures in_range { result ≤ 4294967296 }
@@ -83,7 +83,7 @@ impl Outgoing {
         }
     }
 
-    /// Tells whether a seal takes the next counter, behind a reserve where that is the limit.
+    /// Returns whether a seal takes the next counter, after a reserve where that is the limit.
     pub fn seals(&self, at: Moment, counter: u32, reserved: bool) -> bool
         ensures { result ≡ seals_by self.now at.group at.boot at.declared counter reserved }
     {
@@ -91,7 +91,7 @@ impl Outgoing {
         u64::from(counter) == next && (next != self.limit(at) || reserved)
     }
 
-    /// Tells whether a reserve is a block ahead, where the next counter is the limit.
+    /// Returns whether a reserve is a block ahead, where the next counter is the limit.
     pub fn reserves(&self, at: Moment, value: u32, block: u32) -> bool
         ensures { result ≡ reserves_by self.now at.group at.boot at.declared value block }
     {
@@ -126,7 +126,7 @@ fn one_more(counter: u32) -> u64
     u64::from(counter) + 1
 }
 
-/// Answers the limit or floor that is a block ahead of a counter.
+/// Returns the limit or floor that is a block ahead of a counter.
 pub fn ahead(counter: u64, block: u32) -> u64
     requires { counter ≤ 4294967296 }
     ensures { result ≡ ahead counter block }
@@ -134,7 +134,7 @@ pub fn ahead(counter: u64, block: u32) -> u64
     (counter + u64::from(block)).min(GREATEST)
 }
 
-/// Answers the counter at which a key starts where the next one is this.
+/// Returns the counter at which a key starts where the next one is this.
 pub fn start_value(next: u64) -> u64
     ensures { result ≡ start_value next }
 {

@@ -21,7 +21,7 @@ use zb_audit_names::{Who, event};
 use zb_base::NoMemory;
 use zb_trace::Line;
 
-/// Holds what is known of the counters of a transcript after the lines so far. A recount keeps no line: per node, per
+/// What is known of the counters of a transcript after the lines so far. A recount keeps no line: per node, per
 /// network key of a node and per sender that a node hears it keeps a few numbers.
 #[derive(Drop)]
 pub struct Recount {
@@ -81,7 +81,7 @@ impl Recount {
         Ok(())
     }
 
-    /// Answers the number of the first line that doesn't add up, once all lines are read.
+    /// Returns the number of the first line that doesn't add up, once all lines are read.
     pub fn end(&self) -> Option<u32>
         ensures { (names : List Bytes) (h : List AnyLine) → Recounts names self.now h → result ≡ first_uncounted h }
     {
@@ -150,7 +150,7 @@ impl Recount {
         Ok(())
     }
 
-    /// Notes what is known of a line. Behind the first one that doesn't add up no line can be the first.
+    /// Notes what is known of a line. After the first one that doesn't add up no line can be the first.
     fn note(&mut self, number: u32, place: usize, judgement: Judgement) -> Result<(), AllocError>
         ensures rest { OnOk result (self.new ≡ record self.old { waits = self.new.waits; bad = self.new.bad }) }
         ensures bad { OnOk result (self.new.bad ≡ with_bad number judgement self.old.bad) }

@@ -2,7 +2,7 @@
 ghost use Rattle.std.specs.Prelude.{◌≡◌};
 ghost use Rattle.zb_audit_counters.specs.Standing.{before_of, set_in};
 
-/// Holds a value as it was before the group in which it was last set, and as it is now.
+/// A value as it was before the group in which it was last set, and as it is now.
 #[derive(Clone, Copy)]
 pub struct Versioned<T> {
     /// What it was before that group.
@@ -25,7 +25,7 @@ impl<T: Copy> Versioned<T> {
         }
     }
 
-    /// Answers the value before a group, where no later group has set it.
+    /// Returns the value before a group, where no later group has set it.
     pub fn before(&self, group: u32) -> T
         ensures { result ≡ before_of group self.now }
     {

@@ -70,7 +70,7 @@ alike_items : (bags : Bags Term LateSeal) (term o : Term) → is_eq (term_cmp te
 alike_items bags term o is =
     ap items_of (lookup_alike (is_at (term_cmp o)) (is_at (term_cmp term)) (λ x. ap is_eq (sym (term_laws.total-law.congr term o x (equal (term_cmp term o) is)))) bags.bags.entries)
 
--- The first seals of a term are kept, behind which none is late.
+-- The first seals of a term are kept, after which none is late.
 module _ (w : Windows) (old new : Evidence) (term : Term) (count : ℕ) (forged : new.forged ≡ old.forged)
     (kept : (test : LateSeal → Bool) (o : Term) → is_eq (term_cmp term o) ≡ true → list_any test (items_at term_cmp new.sealed o) ≡ list_any test (take count (items_at term_cmp old.sealed term)))
     (others : (test : LateSeal → Bool) (o : Term) → is_eq (term_cmp term o) ≡ false → list_any test (items_at term_cmp new.sealed o) ≡ list_any test (items_at term_cmp old.sealed o))

@@ -7,7 +7,7 @@ use Rattle.zb_audit_lockout.specs.Before.{all_but_last, before_group}
 use Rattle.zb_audit_lockout.specs.Standing.{last_event}
 use Rattle.zb_trace.specs.declared.line.Line.{Line}
 
--- a line behind groups: it joins the last of them, or is one of its own
+-- a line after groups: it joins the last of them, or is one of its own
 abbrev joined : Bool → List (List Line) → Line → List (List Line)
 joined b [] l = (l ∷ []) ∷ []
 joined b (g ∷ []) l = if b then (g ++ l ∷ []) ∷ [] else g ∷ (l ∷ []) ∷ []
@@ -52,7 +52,7 @@ onto_joined b m l x run runs =
     ∙ (put_joined (same_event (event_of m) (event_of x)) b m l x run runs refl
     ∙ ap (λ (gs : List (List Line)). joined b gs l) (sym (onto_run m x run runs)))
 
--- the same, behind a line that was put before groups
+-- the same, after a line that was put before groups
 onto_put : (e b : Bool) (m l x y : Line) (run : List Line) (runs : List (List Line)) → onto m (joined b (put e x y run runs) l) ≡ joined b (onto m (put e x y run runs)) l
 onto_put true b m l x y run runs = onto_joined b m l x (y ∷ run) runs
 onto_put false b m l x y run runs = onto_joined b m l x [] ((y ∷ run) ∷ runs)

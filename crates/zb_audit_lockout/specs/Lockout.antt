@@ -26,8 +26,8 @@ abbrev pub drawn_in : Line → List Bytes
 drawn_in (line.Draw event key) = key.0 ∷ []
 drawn_in _ = []
 
--- No key that is drawn after the removal comes out for the device, by what it ever held and the well-known key. What it
--- installs itself is among what it ever held.
+-- No key that is drawn after the removal comes out for the device, by what it ever held and the well-known key. What
+-- it installs itself is among what it ever held.
 unfoldable pub keeps_out : Tools → List Line → List Line → ℕ → Bool
 keeps_out tools h between d =
     not (list_any (holds (exposed tools (h ++ between) (well_known ∷ ever (h ++ between) d))) (flat_map drawn_in between))
@@ -41,8 +41,9 @@ abbrev pub is_aps : Layer → Bool
 is_aps layer.Aps = true
 is_aps layer.Nwk = false
 
--- A node that has no live network key that outsiders may know, before the group of the line, accepts at NWK no term that the
--- device sealed after its removal, and none that was forged. `h` are the lines up to the removal, `since` those after it.
+-- A node that has no live network key that outsiders may know, before the group of the line, accepts at NWK no term
+-- that the device sealed after its removal, and none that was forged. `h` are the lines up to the removal, `since`
+-- those after it.
 unfoldable pub refuses_line : Tools → ℕ → List Line → List Line → Line → Bool
 refuses_line tools d h since (line.Accept event node t) =
     is_aps t.layer

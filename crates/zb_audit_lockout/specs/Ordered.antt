@@ -16,7 +16,7 @@ abbrev pub is_number : ℕ → Option ℕ → Bool
 is_number n None = false
 is_number n (Some m) = nat_eq n m
 
--- the order has each device behind its number, and nothing else
+-- the order has each device after its number, and nothing else
 abbrev pub IsInOrder : BTreeMap Eui ℕ → BTreeSet Opening → Type 0
 IsInOrder numbers order = (n d : ℕ) → contains opening_cmp order (record { number = n; device = record { 0 = d } })
     ≡ is_number n (get eui_cmp numbers (record { 0 = d }))

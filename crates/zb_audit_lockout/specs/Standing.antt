@@ -174,7 +174,7 @@ pub record IsEvidence (e : Evidence) (h : List Line) : Type 0 where
 abbrev pub goes_on : Tools → List Line → ℕ → List Line → Line → Bool
 goes_on tools a d b l = keeps_out tools a (b ++ l ∷ []) d && refuses_line tools d a b l
 
--- After a line: the parts stand for the lines with it, and the answer is whether lockout holds with it.
+-- After a line: the parts represent the lines with it, and the answer is whether lockout holds with it.
 pub record IsJudged (tools : Tools) (new : Lockout) (h : List Line) (l : Line) (stays : Bool) : Type 0 where
   pub reach : IsReach tools new.reach (h ++ l ∷ [])
   pub evidence : IsEvidence new.evidence (h ++ l ∷ [])
@@ -202,7 +202,7 @@ pub record IsHeld (tools : Tools) (names : List Bytes) (s : Lockout) (h : List L
   pub safe : IsSafe s.reach
   pub locked : locked tools h ≡ true
 
--- The value stands for these lines, whose names are among those of the list.
+-- The value represents these lines, whose names are among those of the list.
 pub record Stands (tools : Tools) (names : List Bytes) (s : Lockout) (h : List Line) : Type 0 where
   pub first : s.first ≡ first_unlocked tools h
   pub held : s.first ≡ None → IsHeld tools names s h

@@ -80,7 +80,7 @@ impl<O: Ord + Drop, E: Drop> Bags<O, E> {
         Ok(())
     }
 
-    /// Answers the items of an owner.
+    /// Returns the items of an owner.
     pub fn at(&self, owner: &O) -> &[E]
         ensures { result.now ≡ items_at O.cmp self.now owner.now }
     {

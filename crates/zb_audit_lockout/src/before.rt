@@ -12,7 +12,7 @@ use zb_base::Key;
 use zb_trace_watch::exposure::Exposure;
 use zb_trace_watch::holdings::Holdings;
 
-/// Holds the keys that outsiders may know, and each node's live network keys.
+/// The keys that outsiders may know, and each node's live network keys.
 #[derive(Drop)]
 pub struct Before {
     /// What outsiders may know.
@@ -60,7 +60,7 @@ impl Before {
         }
     }
 
-    /// Tells whether the node at a place has a live network key that outsiders may know.
+    /// Returns whether the node at a place has a live network key that outsiders may know.
     pub fn holds_known(&self, place: usize) -> bool
         ensures { result ≡ knows self.now place }
     {

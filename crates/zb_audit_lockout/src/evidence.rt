@@ -16,7 +16,7 @@ use zb_base::Eui;
 use zb_seal::Term;
 use zb_trace_watch::terms::Terms;
 
-/// Is the seal of a removed device.
+/// The seal of a removed device.
 #[derive(Clone, Copy)]
 pub struct LateSeal {
     /// The device.
@@ -34,7 +34,7 @@ impl LateSeal {
     }
 }
 
-/// Holds the terms that no node is to accept that has no key known outside.
+/// The terms that no node is to accept that has no key known outside.
 #[derive(Drop)]
 pub struct Evidence {
     /// The terms that outsiders forged.
@@ -112,8 +112,8 @@ impl Evidence {
         self.sealed.add(alloc, term.clone()?, seal)
     }
 
-    /// Tells whether a term is foul: a removed device sealed it since its removal, or a device is removed and the term
-    /// was forged. It forgets some seals of devices that were admitted since.
+    /// Returns whether a term is foul: a removed device sealed it since its removal, or a device is removed and the
+    /// term was forged. It forgets some seals of devices that were admitted since.
     pub fn is_foul(&mut self, windows: &Windows, term: &Term) -> Result<bool, AllocError>
         ensures foul { IfOk result (λ foul. foul ≡ is_foul windows.now self.old term.now) }
         ensures forgets { OnOk result (Forgets windows.now self.old self.new) }
@@ -129,7 +129,7 @@ impl Evidence {
         windows.any_open(windows.last) && self.forged.has(term)
     }
 
-    // Whether a removed device sealed the term. The seals behind the last of these can't become late any more.
+    // Whether a removed device sealed the term. The seals after the last of these can't become late any more.
     fn is_late(&mut self, windows: &Windows, term: &Term) -> Result<bool, AllocError>
         ensures late { IfOk result (λ late. late ≡ some_late windows.now (seals_of self.old term.now)) }
         ensures forgets { OnOk result (Forgets windows.now self.old self.new) }
@@ -140,7 +140,7 @@ impl Evidence {
     }
 }
 
-/// Answers how many seals there are up to the last one of a device that is still removed.
+/// Returns how many seals there are up to the last one of a device that is still removed.
 fn up_to_open(windows: &Windows, seals: &[LateSeal]) -> usize
     ensures any { nat_lt 0 result ≡ some_late windows.now seals.now }
     ensures behind { some_late windows.now (drop result seals.now) ≡ false }

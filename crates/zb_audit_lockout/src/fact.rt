@@ -1,7 +1,7 @@
 //! What lines say of keys.
 use zb_base::{Eui, Key};
 
-/// Is what one line says of a key, or of a device.
+/// What one line says of a key, or of a device.
 #[derive(Clone, Copy)]
 pub enum Fact {
     /// The device came to hold the key.

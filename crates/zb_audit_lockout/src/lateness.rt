@@ -25,7 +25,7 @@ impl Lateness {
         }
     }
 
-    /// Answers the number of a key.
+    /// Returns the number of a key.
     pub fn of(&self, key: &Key) -> u32
         ensures { result ≡ late_of self.now key.now.0 }
     {
@@ -35,7 +35,7 @@ impl Lateness {
         }
     }
 
-    /// Raises a key to a number, and answers whether its number was smaller.
+    /// Raises a key to a number, and returns whether its number was smaller.
     fn raise_one(&mut self, key: Key, number: u32) -> Result<bool, AllocError>
         ensures rises { IfOk result (λ rises. rises ≡ nat_lt (late_of self.old key.0) number) }
         ensures numbers { OnOk result ((k : List ℕ) → late_of self.new k

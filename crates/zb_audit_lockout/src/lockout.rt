@@ -25,15 +25,15 @@ use zb_carried_keys::carried;
 use zb_seal::Term;
 use zb_trace::Line;
 
-/// Holds what is needed of the lines so far to tell where lockout first fails.
+/// What is needed of the lines so far to tell where lockout first fails.
 ///
-/// It keeps no line. What it keeps stands in ordered maps and sets, and a line takes a few look-ups. Nothing is rebuilt
-/// when a device is removed or admitted, and no lines are gone over again: each key has one number, the greatest number
-/// of a removal behind which a key was drawn to which it leads, since terms carry keys under it. So a removed device
-/// comes by a key that was drawn since exactly where a key that it ever held has a number that isn't below that of its
-/// removal.
+/// It keeps no line. What it keeps stands in ordered maps and sets, and a line takes a few look-ups. Nothing is
+/// rebuilt when a device is removed or admitted, and no lines are gone over again: each key has one number, the
+/// greatest number of a removal after which a key was drawn to which it leads, since terms carry keys under it. So a
+/// removed device comes by a key that was drawn since exactly where a key that it ever held has a number that isn't
+/// below that of its removal.
 ///
-/// - A key is raised at most once for each removal behind which a key is drawn to which it leads. That costs a step for
+/// - A key is raised at most once for each removal after which a key is drawn to which it leads. That costs a step for
 ///   each base key under which it was carried, and one for each device that held it; all removed devices hold the
 ///   well-known key.
 /// - What the lines of a group say of keys waits until the group ends. Then it is taken in once, as a watch over a
@@ -71,7 +71,7 @@ impl Lockout {
         })
     }
 
-    /// Answers the number of the first line with which lockout fails, if there is one.
+    /// Returns the number of the first line with which lockout fails, if there is one.
     pub fn first_unlocked(&self) -> Option<u32>
         ensures { (tools : Tools) (names : List Bytes) (h : List AnyLine) → Stands tools names self.now h
             → result ≡ of_lines.first_unlocked tools h }
@@ -252,7 +252,7 @@ impl Lockout {
     }
 }
 
-/// The number, unless lockout stays.
+/// Returns the number, unless lockout stays.
 fn unless(stays: bool, number: u32) -> Option<u32>
     ensures { result ≡ (if stays then None else Some number) }
 {

@@ -9,7 +9,7 @@ use std::collections::{BTreeMap, BTreeSet};
 use std::marker::Model;
 use zb_base::Eui;
 
-/// Is a device behind its number, so that the least number comes first.
+/// A device after its number, so that the least number comes first.
 #[derive(Clone, Copy, Drop, PartialEq, Eq, PartialOrd, Ord)]
 pub struct Opening {
     /// The number.
@@ -18,7 +18,7 @@ pub struct Opening {
     pub device: Eui,
 }
 
-/// Holds a number for each of some devices, and finds the least one without a walk.
+/// A number for each of some devices, and finds the least one without a walk.
 ///
 /// A contract sees it as the list of the devices with their numbers.
 #[derive(Drop)]
@@ -51,7 +51,7 @@ impl Opened {
         }
     }
 
-    /// Answers the number of a device.
+    /// Returns the number of a device.
     pub fn number(&self, device: &Eui) -> Option<u32>
         ensures { result ≡ number_in self.now device.now.0 }
     {
@@ -90,7 +90,7 @@ impl Opened {
         }
     }
 
-    /// Tells whether a device has a number that is at most that one.
+    /// Returns whether a device has a number that is at most that one.
     pub fn any_by(&self, number: u32) -> bool
         ensures { result ≡ some_by self.now number (keys_of self.now) }
     {

@@ -20,7 +20,7 @@ use zb_base::{Eui, Key};
 use zb_carried_keys::carried;
 use zb_trace::Line;
 
-/// Holds what stood before the group of the last line, and what the lines of that group state.
+/// What stood before the group of the last line, and what the lines of that group state.
 #[derive(Drop)]
 pub struct Past {
     /// The event of the last line, if it is of one.
@@ -175,7 +175,7 @@ fn learn_all(alloc: Global, before: &mut Before, facts: &[Fact]) -> Result<(), A
     Ok(())
 }
 
-/// Answers the address of a node, where it was declared.
+/// Returns the address of a node, where it was declared.
 pub fn eui_of(node: Option<Node>) -> Option<Eui>
     ensures { result ≡ eui_of_node node }
 {
@@ -185,7 +185,7 @@ pub fn eui_of(node: Option<Node>) -> Option<Eui>
     }
 }
 
-/// Answers the partner of a row, where the row is the centre's.
+/// Returns the partner of a row, where the row is the centre's.
 pub fn partner_at(is_centre: bool, partner: Eui) -> Option<Eui>
     ensures { result ≡ partner_of is_centre partner }
 {

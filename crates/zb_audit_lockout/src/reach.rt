@@ -23,7 +23,7 @@ pub struct Reach {
     pub carriers: Holdings<Key>,
     /// Who ever held each key.
     pub holders: Bags<Key, Eui>,
-    /// For each key, the greatest number of a removal behind which a key was drawn to which it leads.
+    /// For each key, the greatest number of a removal after which a key was drawn to which it leads.
     pub late: Lateness,
 }
 
@@ -44,7 +44,7 @@ impl Reach {
         }
     }
 
-    /// Notes that a key was drawn, and answers whether drawn keys stay out of the reach of removed devices.
+    /// Notes that a key was drawn, and returns whether drawn keys stay out of the reach of removed devices.
     pub fn draw(&mut self, alloc: Global, key: Key) -> Result<bool, AllocError>
         ensures raises { OnOk result (RaisesOne self.old self.new key self.old.windows.last) }
         ensures tells { IfOk result (λ stays. Tells self.old self.new stays) }
@@ -53,7 +53,7 @@ impl Reach {
         self.raise(alloc, key, last)
     }
 
-    /// Notes that a term under a base key carries a key, and answers whether drawn keys stay out of reach.
+    /// Notes that a term under a base key carries a key, and returns whether drawn keys stay out of reach.
     pub fn carry(&mut self, alloc: Global, base: Key, key: Key) -> Result<bool, AllocError>
         ensures carries { OnOk result (Carries self.old self.new base key) }
         ensures tells { IfOk result (λ stays. Tells self.old self.new stays) }
@@ -63,7 +63,7 @@ impl Reach {
         self.raise(alloc, base, number)
     }
 
-    /// Notes that a device, if there is one, came to hold a key, and answers whether drawn keys stay out of reach.
+    /// Notes that a device, if there is one, came to hold a key, and returns whether drawn keys stay out of reach.
     pub fn hold(&mut self, alloc: Global, device: Option<Eui>, key: Key) -> Result<bool, AllocError>
         ensures holds { OnOk result (Holds self.old self.new (λ d k. is_node device d && bytes_eq k key.0)) }
         ensures tells { IfOk result (λ stays. Tells self.old self.new stays) }
@@ -83,7 +83,7 @@ impl Reach {
         Ok(!self.windows.is_open(&device, number))
     }
 
-    /// Notes that two devices, where there are two, came to hold a key, and answers whether drawn keys stay out of
+    /// Notes that two devices, where there are two, came to hold a key, and returns whether drawn keys stay out of
     /// reach.
     pub fn hold_both(
         &mut self,

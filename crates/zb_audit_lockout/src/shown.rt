@@ -38,7 +38,7 @@ impl Shown {
         }
     }
 
-    /// Answers a key that is noted at a place, if there is one.
+    /// Returns a key that is noted at a place, if there is one.
     pub fn first(&self, place: usize) -> Option<&Key> {
         match self.keys.sets.get(&place) {
             Some(keys) => keys.keys.first(),

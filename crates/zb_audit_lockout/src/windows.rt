@@ -8,7 +8,7 @@ use crate::opened::Opened;
 use std::alloc::{AllocError, Global};
 use zb_base::Eui;
 
-/// Holds the removed devices, each with the number of the line that removed it first since it was last admitted.
+/// The removed devices, each with the number of the line that removed it first since it was last admitted.
 #[derive(Drop)]
 pub struct Windows {
     /// The number of the line that removed each device.
@@ -48,7 +48,7 @@ impl Windows {
         self.removals.remove(device);
     }
 
-    /// Tells whether a device is removed by a line of at most that number.
+    /// Returns whether a device is removed by a line of at most that number.
     pub fn is_open(&self, device: &Eui, number: u32) -> bool
         ensures { result ≡ opened_by (open_at self.now device.now.0) number }
     {
@@ -58,7 +58,7 @@ impl Windows {
         }
     }
 
-    /// Tells whether any device is removed by a line of at most that number.
+    /// Returns whether any device is removed by a line of at most that number.
     pub fn any_open(&self, number: u32) -> bool
         ensures { result ≡ some_open self.now number (keys_of self.now.removals) }
     {
@@ -66,7 +66,7 @@ impl Windows {
     }
 }
 
-/// Tells whether one of the devices is removed by a line of at most that number.
+/// Returns whether one of the devices is removed by a line of at most that number.
 pub fn any_among(windows: &Windows, devices: &[Eui], number: u32) -> bool
     ensures { result ≡ some_open windows.now number devices.now }
 {

@@ -59,7 +59,7 @@ unfolding place_in
 place_kept [] later a i f = cc
 place_kept (other ∷ names) later a i f = kept_head (bytes_eq other a) (place_in names a) (place_in (names ++ later) a) i (place_kept names later a) f
 
--- A name that is new comes to stand behind all others, and no other name does.
+-- A name that is new comes to stand after all others, and no other name does.
 end_head : (x : Bool) (p q : Option ℕ) (n : ℕ) (y : Bool) → (p ≡ None → q ≡ (if y then Some n else None))
     → (if x then Some 0 else option_map (λ (n : ℕ). n + 1) p) ≡ None → (if x then Some 0 else option_map (λ (n : ℕ). n + 1) q) ≡ (if y then Some (suc n) else None)
 end_head true p q n y more f = cc

@@ -20,8 +20,8 @@ terms_in _ = []
 unfoldable pub terms_of : List Line → List Term
 terms_of h = flat_map terms_in h
 
--- The keys that come out for somebody who holds the start: in each round those that a term carries whose base key is among
--- them. There are as many rounds as lines.
+-- The keys that come out for somebody who holds the start: in each round those that a term carries whose base key is
+-- among them. There are as many rounds as lines.
 unfoldable pub exposed : Tools → List Line → List Bytes → List Bytes
 exposed tools h from = rounds (length h) tools (terms_of h) from
 
@@ -30,8 +30,8 @@ abbrev pub along : {A : Type 0} → (List Station → Line → List A) → List 
 along says known [] = []
 along says known (l ∷ ls) = says known l ++ along says (declares known l) ls
 
--- The keys that a device ever held: those of its own given, install and row lines, of the centre's row lines with it, and of
--- its pairs.
+-- The keys that a device ever held: those of its own given, install and row lines, of the centre's row lines with it,
+-- and of its pairs.
 abbrev pub held_by : ℕ → List Station → Line → List Bytes
 held_by d known (line.GivenNet node key sequence) = if is_of known d node.bytes then key.0 ∷ [] else []
 held_by d known (line.GivenLink node partner key) = if is_of known d node.bytes then key.0 ∷ [] else []
@@ -104,8 +104,8 @@ is_joiner (Some s) = is_member s.role
 unfoldable pub joins : List Station → Bytes → Bool
 joins known n = is_joiner (station_named known n)
 
--- Ideal: an accepted term was sealed or forged before; a key that a router or device took in is its code's, or came in an
--- earlier term under one of its keys. The second matters where a stop cut the acceptance off.
+-- Ideal: an accepted term was sealed or forged before; a key that a router or device took in is its code's, or came in
+-- an earlier term under one of its keys. The second matters where a stop cut the acceptance off.
 unfoldable pub ideal_line : Tools → List Line → Line → Bool
 ideal_line tools h (line.Accept event node t) = list_any (same_term (model_term t)) (terms_of h)
 ideal_line tools h (line.Install event node key sequence) = not (joins (declared_in h) node.bytes) || came_by tools h node.bytes key.0

@@ -15,7 +15,7 @@ use std::collections::BTreeMap;
 use zb_base::{Name, NoMemory, Role};
 use zb_trace::Line;
 
-/// Holds the names of a transcript so far. A name is looked up once a line; all else goes by its place.
+/// The names of a transcript so far. A name is looked up once a line; all else goes by its place.
 #[derive(Drop)]
 pub struct Directory {
     /// Who each name is.
@@ -48,7 +48,7 @@ impl Directory {
         Ok(who)
     }
 
-    /// Answers who the node of a line is.
+    /// Returns who the node of a line is.
     fn speaker(&mut self, line: &Line) -> Result<Who, NoMemory>
         ensures stands { OnOk result ((names : List Bytes) (known : List Station) → Stands self.old names known
             → Stands self.new (named_by names line.now) known) }
@@ -61,7 +61,7 @@ impl Directory {
         }
     }
 
-    /// Answers who a name is. A name that is new gets the next place.
+    /// Returns who a name is. A name that is new gets the next place.
     fn who(&mut self, name: &Name) -> Result<Who, NoMemory>
         ensures stands { OnOk result ((names : List Bytes) (known : List Station) → Stands self.old names known
             → Stands self.new (with_name names name.now.bytes) known) }

@@ -8,7 +8,7 @@ ghost use Rattle.zb_audit_names.specs.Naming as naming;
 use zb_base::Name;
 use zb_trace::Line;
 
-/// Answers the name of the node that a line speaks of, if any. The sender of a frame isn't meant.
+/// Returns the name of the node that a line speaks of, if any. The sender of a frame isn't meant.
 #[tactic(auto, unfolding(crate::specs::Naming::speaker))]
 pub fn speaker(line: &Line) -> Option<Name>
     ensures { option_map (λ (name : ArrayString). name.bytes) result ≡ naming.speaker line.now }
@@ -50,7 +50,7 @@ pub fn speaker(line: &Line) -> Option<Name>
     }
 }
 
-/// Answers the number of a line's event: 0 at the start, none of the end line.
+/// Returns the number of a line's event: 0 at the start, none of the end line.
 #[tactic(auto, unfolding(crate::specs::Groups::event_of))]
 pub fn event(line: &Line) -> Option<u32>
     ensures { result ≡ event_of line.now }

@@ -1,4 +1,4 @@
--- Words that stand for some lines stand for one more, where each part takes in what the line adds to its readings.
+-- Words that represent some lines represent one more, where each part takes in what the line adds to its readings.
 use Rattle.std.proofs.Common.{◌≡◌, ℕ, List, [], ◌∷◌, ◌++◌, Bool, true, false, ◌||◌, ◌&&◌, Option, Some, None, ◌⊎◌, inl, inr, refl, ap, sym, ◌∙◌, bytes_eq, nat_eq}
 use Rattle.std.specs.List.{list_any, flat_map}
 use Rattle.std.specs.Prelude.{if◌then◌else◌}

@@ -1,4 +1,4 @@
--- What the two words stand for: a list of transcript lines, read by names.
+-- What the two words represent: a list of transcript lines, read by names.
 use Rattle.std.specs.Prelude.{◌≡◌, ℕ, List, [], ◌∷◌, ◌++◌, false, Bool, true, nat_eq, Option, Some, None, flat_map}
 use Rattle.std.specs.List.{list_any}
 use Rattle.std.specs.Option.{option_map}
@@ -22,7 +22,7 @@ use Rattle.zb_trace_watch.specs.Sets.{has, is_carried, node_has}
 use Rattle.zb_trace_watch.specs.Standing.{FindKeys, carries, is_that}
 use Rattle.zb_trace_watch.specs.Terms.{has_term}
 
--- The words stand for these lines, nodes by the places of their names among these.
+-- The words represent these lines, nodes by the places of their names among these.
 pub record Stands (tools : Tools) (names : List Bytes) (w : EndWords) (h : List Line) : Type 0 where
   -- the terms of seal and forge lines, and the keys that they carry, under which
   pub terms : (t : Term) → has_term w.origins.terms t ≡ list_any (same_term (model_term t)) (terms_of h)
@@ -44,7 +44,7 @@ pub record Stands (tools : Tools) (names : List Bytes) (w : EndWords) (h : List 
   pub ideal : w.origins.ideal ≡ ideal tools h
   pub based : w.exposure.based ≡ each_line (based_line tools) [] h
 
--- A line more: the words after it stand for it too.
+-- A line more: the words after it represent it too.
 abbrev pub Follows : Tools → List Bytes → Who → List Line → Line → EndWords → EndWords → Type 0
 Follows tools names who h l old new = FindKeys tools → IsSpeaker who names (declared_in h) l → Stands tools names old h → Stands tools names new (h ++ l ∷ [])
 

@@ -14,7 +14,7 @@ use zb_seal::Term;
 use zb_trace_watch::holdings::Holdings;
 use zb_trace_watch::terms::Terms;
 
-/// Holds the terms so far, and whether all that was accepted or taken in came from earlier ones. A node goes by its
+/// The terms so far, and whether all that was accepted or taken in came from earlier ones. A node goes by its
 /// place among all names.
 #[derive(Drop)]
 pub struct Origins {

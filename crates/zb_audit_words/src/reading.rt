@@ -23,7 +23,7 @@ use zb_trace::Line;
 use zb_trace_watch::exposure::Exposure;
 use zb_trace_watch::passing::Passing;
 
-/// Holds what is known of a transcript after the lines so far, and no line.
+/// What is known of a transcript after the lines so far, and no line.
 ///
 /// It keeps ordered maps and sets, so that a look-up costs logarithmic work. A line takes a fixed number of them, and
 /// those of two tasks. Where a key came from is asked the first time that a router or device takes that key in; over n
@@ -51,7 +51,7 @@ impl EndWords {
         })
     }
 
-    /// Tells whether all that was accepted or taken in came from earlier terms.
+    /// Returns whether all that was accepted or taken in came from earlier terms.
     pub fn ideal(&self) -> bool
         ensures { (tools : Tools) (names : List Bytes) (h : List AnyLine) → Stands tools names self.now h
             → result ≡ ideal_of tools h }
@@ -59,7 +59,7 @@ impl EndWords {
         self.origins.ideal
     }
 
-    /// Tells whether outsiders forged only under keys that they may know, and passed on no key of the network.
+    /// Returns whether outsiders forged only under keys that they may know, and passed on no key of the network.
     pub fn private(&self) -> bool
         ensures { (tools : Tools) (names : List Bytes) (h : List AnyLine) → Stands tools names self.now h
             → result ≡ private_of tools h }
@@ -208,7 +208,7 @@ impl EndWords {
     }
 }
 
-/// Answers the address of a node, where it was declared.
+/// Returns the address of a node, where it was declared.
 fn address(who: Who) -> Option<Eui>
     ensures { option_map (λ (e : AnyEui). e.0) result ≡ address_of who }
 {
@@ -218,7 +218,7 @@ fn address(who: Who) -> Option<Eui>
     }
 }
 
-/// Tells whether a node was declared as a router or device.
+/// Returns whether a node was declared as a router or device.
 fn joins(who: Who) -> bool
     ensures { result ≡ is_joining who }
 {
@@ -228,7 +228,7 @@ fn joins(who: Who) -> bool
     }
 }
 
-/// Answers the partner of a node's link row where the node is the centre.
+/// Returns the partner of a node's link row where the node is the centre.
 fn centres_partner(who: Who, partner: Eui) -> Option<Eui>
     ensures { result ≡ (if who.is_centre then Some partner else None) }
 {

@@ -1,5 +1,6 @@
--- The backup of a centre's tables: one JSON object, whose members and their values say all that its record says. Keys and
--- EUIs are texts of upper-case hexadecimal digits, the first digits for the most significant byte; numbers are whole.
+-- The backup of a centre's tables: one JSON object, whose members and their values say all that its record says. Keys
+-- and EUIs are texts of upper-case hexadecimal digits, the first digits for the most significant byte; numbers are
+-- whole.
 use Rattle.std.specs.Prelude.{ℕ, Bool, true, false, List, map, codes, Option, Some, None}
 use Rattle.std.specs.List.{position}
 use Rattle.hex.specs.Hex.{encode_upper}
@@ -30,7 +31,8 @@ rows_value value rows = array (items_of (map value rows))
 unfoldable pub floor_object : SenderFloor → Data
 floor_object f = object (member (codes "floor") (whole f.stored) (member (codes "sender") (eui_value f.sender) no_members))
 
--- a network key: the floors under it, its outgoing limit, whether it is live, its sequence number, whether it was started
+-- a network key: the floors under it, its outgoing limit, whether it is live, its sequence number, whether it was
+-- started
 unfoldable pub net_object : NetKey → Data
 net_object r = object
     (member (codes "floors") (rows_value floor_object r.floors)
@@ -40,8 +42,8 @@ net_object r = object
     (member (codes "sequence") (whole r.sequence)
     (member (codes "started") (boolean r.started) no_members))))))
 
--- A link key: its attribute (0 provisional, 1 unverified, 2 verified), whether it is from an install code, the floor under
--- it, whether it is live, its partner, and whether that was told of the newest network key.
+-- A link key: its attribute (0 provisional, 1 unverified, 2 verified), whether it is from an install code, the floor
+-- under it, whether it is live, its partner, and whether that was told of the newest network key.
 unfoldable pub link_object : LinkKey → Data
 link_object r = object
     (member (codes "attribute") (whole (attribute_byte r.attribute))
@@ -70,8 +72,8 @@ abbrev pub roll_text : Bool → List ℕ
 roll_text true = codes "sending"
 roll_text false = codes "idle"
 
--- The tables: beside their rows the active network key, the outgoing APS limit, the outgoing NWK counter of the start, the
--- rollover, and the version of the record, which is 3.
+-- The tables: beside their rows the active network key, the outgoing APS limit, the outgoing NWK counter of the start,
+-- the rollover, and the version of the record, which is 3.
 unfoldable pub backup_of : NodeState → Data
 backup_of s = object
     (member (codes "active") (active_value s.active s.nets)

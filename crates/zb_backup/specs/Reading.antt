@@ -42,8 +42,8 @@ pair_fits p = is_eui p.first && (is_eui p.second && is_key p.key)
 unfoldable pub has_widths : NodeState → Bool
 has_widths s = is_counter s.declared && (is_counter s.aps_limit && (list_all net_fits s.nets && (list_all link_fits s.links && list_all pair_fits s.pairs)))
 
--- The tables of a centre as a boot makes them: they keep the rules for records, no floors of dropped network keys, and values
--- within their widths; counters go on from their limits.
+-- The tables of a centre as a boot makes them: they keep the rules for records, no floors of dropped network keys, and
+-- values within their widths; counters go on from their limits.
 pub record IsOfCentre (s : NodeState) : Type 0 where
   pub role : s.role ≡ Centre
   pub rules : keeps_rules s ≡ true
@@ -53,8 +53,8 @@ pub record IsOfCentre (s : NodeState) : Type 0 where
 
 -- ---- a text and its tables
 
--- A text in UTF-8 that reads as the backup object of these tables. Of a member that stands twice the last one counts; the
--- order of members and white space are free.
+-- A text in UTF-8 that reads as the backup object of these tables. Of a member that stands twice the last one counts;
+-- the order of members and white space are free.
 pub record IsBackup (text : List ℕ) (s : NodeState) : Type 0 where
   pub utf8 : IsUtf8 text
   pub reads : read text ≡ Some (backup_of s)

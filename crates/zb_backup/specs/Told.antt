@@ -1,5 +1,5 @@
--- The tables that the members of a JSON object tell, whatever else stands in it. A counter goes on from its limit, and a
--- floor is the stored one.
+-- The tables that the members of a JSON object tell, whatever else stands in it. A counter goes on from its limit, and
+-- a floor is the stored one.
 use Rattle.std.specs.Prelude.{ℕ, Bool, true, false, if◌then◌else◌, nat_lt, List, [], ◌∷◌, ◌++◌, length, codes, bytes_eq, Option, Some, None, option_map}
 use Rattle.serde_json.specs.Data.{Data, null, boolean, number, string, array, object, Items, no_items, item}
 use Rattle.serde_json.specs.Find.{get, as_array, as_bool, as_number, as_str, as_u64}
@@ -37,7 +37,7 @@ key_at name d = text_at name d >>= key_of
 unfoldable pub eui_at : List ℕ → Data → Option ℕ
 eui_at name d = text_at name d >>= eui_of
 
--- the rows of a list, behind those done: at most so many
+-- the rows of a list, after those done: at most so many
 abbrev pub told_rows : {X : Type 0} → ℕ → (Data → Option X) → List X → Items → Option (List X)
 told_rows limit told done no_items = Some done
 told_rows limit told done (item d more) = if nat_lt (length done) limit then told d >>= (λ x. told_rows limit told (done ++ x ∷ []) more) else None

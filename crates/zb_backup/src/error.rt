@@ -4,7 +4,7 @@ ghost use Rattle.zb_backup.specs.declared.error.BackupError.TheVariants.{NoMemor
 
 use std::alloc::{AllocError, AllocFailed};
 
-/// Says why a text gives no tables.
+/// Why a text gives no tables.
 #[derive(Clone, Copy, Debug, PartialEq, Eq)]
 pub enum BackupError {
     /// The text is no backup.

@@ -7,17 +7,17 @@ ghost use Rattle.zb_backup.specs.Reading.{floor_fits, is_byte, is_counter, is_eu
 use zb_base::{Eui, Key};
 use zb_keys::{LinkRow, Pair, SenderFloor};
 
-/// Says that a number of 32 bits is a counter.
+/// States that a number of 32 bits is a counter.
 pub(crate) fn hold_counter(number: u32)
     ensures { is_counter number ≡ true }
 {}
 
-/// Says that a number of 8 bits is a byte.
+/// States that a number of 8 bits is a byte.
 pub(crate) fn hold_byte(number: u8)
     ensures { is_byte number ≡ true }
 {}
 
-/// Says that an EUI has 64 bits.
+/// States that an EUI has 64 bits.
 fn hold_eui(eui: Eui)
     ensures { is_eui eui.0 ≡ true }
 {}
@@ -28,14 +28,14 @@ fn hold_bytes(bytes: &[u8])
     ensures { list_all is_byte bytes.now ≡ true }
 {}
 
-/// Says that a key has 16 bytes.
+/// States that a key has 16 bytes.
 pub(crate) fn hold_key(key: Key)
     ensures { is_key key.0 ≡ true }
 {
     hold_bytes(&key.0);
 }
 
-/// Says that the floor of a sender is within its widths.
+/// States that the floor of a sender is within its widths.
 pub(crate) fn hold_floor(floor: SenderFloor)
     ensures { floor_fits (heard_floor floor) ≡ true }
 {
@@ -43,7 +43,7 @@ pub(crate) fn hold_floor(floor: SenderFloor)
     hold_counter(floor.stored);
 }
 
-/// Says that a link key is within its widths.
+/// States that a link key is within its widths.
 pub(crate) fn hold_link(row: LinkRow)
     ensures { link_fits (link_key row) ≡ true }
 {
@@ -52,7 +52,7 @@ pub(crate) fn hold_link(row: LinkRow)
     hold_counter(row.floor.stored);
 }
 
-/// Says that a key of two devices is within its widths.
+/// States that a key of two devices is within its widths.
 pub(crate) fn hold_pair(pair: Pair)
     ensures { pair_fits (pair_key pair) ≡ true }
 {

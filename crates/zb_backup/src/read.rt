@@ -22,14 +22,14 @@ use zb_base::{OrMemory, Role};
 use zb_keys::{NetRow, Tables};
 use zb_record::{RECORD_ROOM, write_record};
 
-/// How many network keys are in use.
+/// Returns how many network keys are in use.
 fn live_count(rows: &[NetRow]) -> usize
     ensures { result ≡ length (filter (λ r. (net_key r).live) rows.now) }
 {
     rows.iter().filter(|row| row.live).count()
 }
 
-/// Whether rows have room in a record.
+/// Returns whether rows have room in a record.
 fn has_room(parts: &Parts) -> bool
     ensures { result ≡ has_room parts.now }
 {
@@ -39,7 +39,7 @@ fn has_room(parts: &Parts) -> bool
         && parts.pairs.len() <= 256
 }
 
-/// The tables of a record.
+/// Returns the tables of a record.
 fn tables_of(alloc: Global, bytes: &[u8]) -> Result<Tables, BackupError>
     ensures { IsOfRecord result (record_read bytes.now) }
 {
@@ -77,7 +77,7 @@ fn made(alloc: Global, parts: &Parts) -> Result<Tables, BackupError>
     made_in(alloc, parts, room.as_mut_slice())
 }
 
-/// Whether a value is the backup of a centre's tables.
+/// Returns whether a value is the backup of a centre's tables.
 fn is_backup_of(alloc: Global, value: &Value, tables: &Tables) -> Result<bool, BackupError>
     requires { depth (view value.now) ≤ max_depth }
     ensures same { IfOk result (λ is. is ≡ true → view value.now ≡ backup_of tables.now) }
@@ -97,7 +97,7 @@ fn is_backup_of(alloc: Global, value: &Value, tables: &Tables) -> Result<bool, B
     Ok(is)
 }
 
-/// Whether bytes are the same.
+/// Returns whether bytes are the same.
 fn same_bytes(bytes: &[u8], other: &[u8]) -> bool
     ensures { result ≡ bytes_eq bytes.now other.now }
 {
@@ -121,7 +121,7 @@ fn tables_in(alloc: Global, value: &Value) -> Result<Tables, BackupError>
     }
 }
 
-/// Why a text is no value.
+/// Returns why a text is no value.
 fn refusal(error: Error) -> BackupError
     ensures { IsRefusal result error }
 {
@@ -135,7 +135,8 @@ fn refusal(error: Error) -> BackupError
 ///
 /// The order of members and white space are free, and of a member that stands twice the last one counts.
 ///
-/// Errors: `Form` where the text is no backup: no JSON, a member missing or too many, a value of another form, or rows
+/// # Errors
+/// `Form` where the text is no backup: no JSON, a member missing or too many, a value of another form, or rows
 /// that no record of a centre has. `NoMemory` where memory is short.
 #[tactic(auto, unfolding(crate::specs::Reading::backup_in))]
 pub fn read_backup(alloc: Global, text: &[u8]) -> Result<Tables, BackupError>

@@ -16,7 +16,7 @@ use zb_keys::{LinkRow, NetRow, Pair, SenderFloor};
 use zb_record::net_row::Senders;
 use zb_text::fields;
 
-/// The text of a member.
+/// Returns the text of a member.
 #[tactic(auto, unfolding(crate::specs::Told::text_at))]
 fn text_at<'a>(object: &'a Value, name: &str) -> Option<&'a str>
     ensures { option_map (λ s. s.now) result ≡ text_at name.now (view object.now) }
@@ -25,7 +25,7 @@ fn text_at<'a>(object: &'a Value, name: &str) -> Option<&'a str>
     member.as_str()
 }
 
-/// The truth value of a member.
+/// Returns the truth value of a member.
 #[tactic(auto, unfolding(crate::specs::Told::flag_at))]
 fn flag_at(object: &Value, name: &str) -> Option<bool>
     ensures { result ≡ flag_at name.now (view object.now) }
@@ -34,7 +34,7 @@ fn flag_at(object: &Value, name: &str) -> Option<bool>
     member.as_bool()
 }
 
-/// A whole number of at most `limit`.
+/// Returns a whole number of at most `limit`.
 pub(crate) fn whole_in(limit: u32, value: &Value) -> Option<u32>
     ensures value { result ≡ whole_in limit (view value.now) }
     ensures fits { IfSome result (λ n. n ≤ limit) }
@@ -47,7 +47,7 @@ pub(crate) fn whole_in(limit: u32, value: &Value) -> Option<u32>
     }
 }
 
-/// The number of a member, at most `limit`.
+/// Returns the number of a member, at most `limit`.
 #[tactic(auto, unfolding(crate::specs::Told::number_at))]
 pub(crate) fn number_at(object: &Value, name: &str, limit: u32) -> Option<u32>
     ensures value { result ≡ number_at limit name.now (view object.now) }
@@ -58,7 +58,7 @@ pub(crate) fn number_at(object: &Value, name: &str, limit: u32) -> Option<u32>
     Some(number)
 }
 
-/// The number of a member that fits a byte.
+/// Returns the number of a member that fits a byte.
 fn byte_at(object: &Value, name: &str) -> Option<u8>
     ensures { result ≡ number_at 255 name.now (view object.now) }
 {
@@ -66,7 +66,7 @@ fn byte_at(object: &Value, name: &str) -> Option<u8>
     Some(number as u8)
 }
 
-/// The key of a member.
+/// Returns the key of a member.
 #[tactic(auto, unfolding(crate::specs::Told::key_at))]
 fn key_at(object: &Value, name: &str) -> Option<Key>
     ensures { Shows (λ key. key.0) result (key_at name.now (view object.now)) }
@@ -76,7 +76,7 @@ fn key_at(object: &Value, name: &str) -> Option<Key>
     Some(key)
 }
 
-/// The EUI of a member.
+/// Returns the EUI of a member.
 #[tactic(auto, unfolding(crate::specs::Told::eui_at))]
 fn eui_at(object: &Value, name: &str) -> Option<Eui>
     ensures { Shows (λ eui. eui.0) result (eui_at name.now (view object.now)) }
@@ -86,7 +86,7 @@ fn eui_at(object: &Value, name: &str) -> Option<Eui>
     Some(eui)
 }
 
-/// The attribute of a number.
+/// Returns the attribute of a number.
 fn attribute_of(number: u32) -> Option<Attribute>
     ensures { result ≡ attribute_of number }
 {
@@ -98,7 +98,7 @@ fn attribute_of(number: u32) -> Option<Attribute>
     }
 }
 
-/// The attribute of a member.
+/// Returns the attribute of a member.
 #[tactic(auto, unfolding(crate::specs::Told::attribute_at))]
 fn attribute_at(object: &Value, name: &str) -> Option<Attribute>
     ensures { Shows model_attribute result (attribute_at name.now (view object.now)) }
@@ -108,7 +108,7 @@ fn attribute_at(object: &Value, name: &str) -> Option<Attribute>
     Some(attribute)
 }
 
-/// The rollover of a member.
+/// Returns the rollover of a member.
 #[tactic(auto, unfolding(crate::specs::Told::roll_at))]
 pub(crate) fn roll_at(object: &Value, name: &str) -> Option<Rollover>
     ensures { Shows is_sending result (roll_at name.now (view object.now)) }
@@ -118,7 +118,7 @@ pub(crate) fn roll_at(object: &Value, name: &str) -> Option<Rollover>
     Some(rolling)
 }
 
-/// The rollover of a word.
+/// Returns the rollover of a word.
 fn roll_of(word: &str) -> Option<Rollover>
     ensures { Shows is_sending result (roll_of word.now) }
 {
@@ -131,7 +131,7 @@ fn roll_of(word: &str) -> Option<Rollover>
     }
 }
 
-/// The floor of a sender.
+/// Returns the floor of a sender.
 #[tactic(auto, unfolding(crate::specs::Told::floor_told))]
 fn floor_told(object: &Value) -> Option<SenderFloor>
     ensures { Shows heard_floor result (floor_told (view object.now)) }
@@ -145,7 +145,7 @@ fn floor_told(object: &Value) -> Option<SenderFloor>
     })
 }
 
-/// The items of a list that is a member.
+/// Returns the items of a list that is a member.
 #[tactic(auto, unfolding(crate::specs::Told::list_at))]
 pub(crate) fn list_at<'a>(object: &'a Value, name: &str) -> Option<&'a [Value]>
     ensures { option_map (λ v. items_view v.now) result ≡ list_at name.now (view object.now) }
@@ -155,7 +155,7 @@ pub(crate) fn list_at<'a>(object: &'a Value, name: &str) -> Option<&'a [Value]>
     Some(list.as_slice())
 }
 
-/// The floors of a list, at most 64.
+/// Returns the floors of a list, at most 64.
 fn floors_of(list: &[Value]) -> Option<Senders>
     ensures { Shows (λ v. map heard_floor v.items) result
         (told_rows most_senders floor_told [] (items_view list.now)) }
@@ -171,7 +171,7 @@ fn floors_of(list: &[Value]) -> Option<Senders>
     Some(floors)
 }
 
-/// The floors of a member.
+/// Returns the floors of a member.
 #[tactic(auto, unfolding(crate::specs::Told::rows_at))]
 fn floors_at(object: &Value, name: &str) -> Option<Senders>
     ensures { Shows (λ v. map heard_floor v.items) result
@@ -182,7 +182,7 @@ fn floors_at(object: &Value, name: &str) -> Option<Senders>
     Some(floors)
 }
 
-/// A network key.
+/// Returns a network key.
 #[tactic(auto, unfolding(crate::specs::Told::net_told))]
 pub(crate) fn net_told(object: &Value) -> Option<NetRow>
     ensures { Shows net_key result (net_told (view object.now)) }
@@ -204,7 +204,7 @@ pub(crate) fn net_told(object: &Value) -> Option<NetRow>
     })
 }
 
-/// A link key.
+/// Returns a link key.
 #[tactic(auto, unfolding(crate::specs::Told::link_told))]
 pub(crate) fn link_told(object: &Value) -> Option<LinkRow>
     ensures { Shows link_key result (link_told (view object.now)) }
@@ -230,7 +230,7 @@ pub(crate) fn link_told(object: &Value) -> Option<LinkRow>
     })
 }
 
-/// A key of two devices.
+/// Returns a key of two devices.
 #[tactic(auto, unfolding(crate::specs::Told::pair_told))]
 pub(crate) fn pair_told(object: &Value) -> Option<Pair>
     ensures { Shows pair_key result (pair_told (view object.now)) }

@@ -18,7 +18,7 @@ use zb_base::{Key, Role, State};
 use zb_keys::{LinkRow, NetRow, Pair};
 use zb_record::Heading;
 
-/// Holds what an object tells.
+/// What an object tells.
 #[derive(Drop)]
 pub(crate) struct Parts {
     pub(crate) heading: Heading,
@@ -37,7 +37,7 @@ fn or_form<T: Drop>(found: Option<T>) -> Result<T, BackupError>
     }
 }
 
-/// The network keys of a list, at most 256.
+/// Returns the network keys of a list, at most 256.
 fn nets_of(alloc: Global, list: &[Value]) -> Result<Vec<NetRow>, BackupError>
     ensures { Tells (λ v. map net_key v.items) result (told_rows most_nets net_told [] (items_view list.now)) }
 {
@@ -52,7 +52,7 @@ fn nets_of(alloc: Global, list: &[Value]) -> Result<Vec<NetRow>, BackupError>
     Ok(rows)
 }
 
-/// The network keys of a member.
+/// Returns the network keys of a member.
 #[tactic(auto, unfolding(crate::specs::Told::rows_at))]
 fn nets_at(alloc: Global, object: &Value, name: &str) -> Result<Vec<NetRow>, BackupError>
     ensures { Tells (λ v. map net_key v.items) result (rows_at most_nets net_told name.now (view object.now)) }
@@ -63,7 +63,7 @@ fn nets_at(alloc: Global, object: &Value, name: &str) -> Result<Vec<NetRow>, Bac
     }
 }
 
-/// The link keys of a list, at most 1,024.
+/// Returns the link keys of a list, at most 1,024.
 fn links_of(alloc: Global, list: &[Value]) -> Result<Vec<LinkRow>, BackupError>
     ensures { Tells (λ v. map link_key v.items) result
         (told_rows (most_links Centre) link_told [] (items_view list.now)) }
@@ -79,7 +79,7 @@ fn links_of(alloc: Global, list: &[Value]) -> Result<Vec<LinkRow>, BackupError>
     Ok(rows)
 }
 
-/// The link keys of a member.
+/// Returns the link keys of a member.
 #[tactic(auto, unfolding(crate::specs::Told::rows_at))]
 fn links_at(alloc: Global, object: &Value, name: &str) -> Result<Vec<LinkRow>, BackupError>
     ensures { Tells (λ v. map link_key v.items) result
@@ -91,7 +91,7 @@ fn links_at(alloc: Global, object: &Value, name: &str) -> Result<Vec<LinkRow>, B
     }
 }
 
-/// The keys of pairs of devices of a list, at most 256.
+/// Returns the keys of pairs of devices of a list, at most 256.
 fn pairs_of(alloc: Global, list: &[Value]) -> Result<Vec<Pair>, BackupError>
     ensures { Tells (λ v. map pair_key v.items) result (told_rows most_pairs pair_told [] (items_view list.now)) }
 {
@@ -106,7 +106,7 @@ fn pairs_of(alloc: Global, list: &[Value]) -> Result<Vec<Pair>, BackupError>
     Ok(rows)
 }
 
-/// The keys of pairs of devices of a member.
+/// Returns the keys of pairs of devices of a member.
 #[tactic(auto, unfolding(crate::specs::Told::rows_at))]
 fn pairs_at(alloc: Global, object: &Value, name: &str) -> Result<Vec<Pair>, BackupError>
     ensures { Tells (λ v. map pair_key v.items) result (rows_at most_pairs pair_told name.now (view object.now)) }
@@ -117,7 +117,7 @@ fn pairs_at(alloc: Global, object: &Value, name: &str) -> Result<Vec<Pair>, Back
     }
 }
 
-/// The key of the row at a place, where there is one.
+/// Returns the key of the row at a place, where there is one.
 fn key_of(rows: &[NetRow], place: u32) -> Option<Key>
     ensures { Shows (λ key. key.0) result (key_of place (map net_key rows.now)) }
 {
@@ -127,7 +127,7 @@ fn key_of(rows: &[NetRow], place: u32) -> Option<Key>
     }
 }
 
-/// The active network key, or none where its place is null.
+/// Returns the active network key, or none where its place is null.
 #[tactic(auto, unfolding(crate::specs::Told::active_at))]
 fn active_at(rows: &[NetRow], object: &Value, name: &str) -> Option<Option<Key>>
     ensures { Shows active_bytes result (active_at (map net_key rows.now) name.now (view object.now)) }
@@ -141,7 +141,7 @@ fn active_at(rows: &[NetRow], object: &Value, name: &str) -> Option<Option<Key>>
     Some(Some(key))
 }
 
-/// What an object tells.
+/// Returns what an object tells.
 #[tactic(auto, unfolding(crate::specs::Told::state_told))]
 pub(crate) fn told(alloc: Global, object: &Value) -> Result<Parts, BackupError>
     ensures { Tells told_state result (state_told (view object.now)) }

@@ -21,21 +21,21 @@ use std::alloc::{AllocError, Global};
 use zb_base::{Attribute, Eui, Key, Layer, NoMemory, Rollover};
 use zb_keys::{LinkRow, NetRow, Pair, SenderFloor, Tables};
 
-/// The digits of a key.
+/// Returns the digits of a key.
 fn key_text(alloc: Global, key: &Key) -> Result<String, AllocError>
     ensures { IfOk result (λ s. string_bytes s ≡ encode_upper key.now.0) }
 {
     hex::encode_upper(alloc, key.0)
 }
 
-/// The digits of an EUI, most significant first.
+/// Returns the digits of an EUI, most significant first.
 fn eui_digits(alloc: Global, eui: Eui) -> Result<String, AllocError>
     ensures { IfOk result (λ s. string_bytes s ≡ eui_text eui.0) }
 {
     hex::encode_upper(alloc, eui.0.to_be_bytes())
 }
 
-/// The floor of a sender.
+/// Returns the floor of a sender.
 #[tactic(auto, unfolding(crate::specs::Format::floor_object))]
 fn floor_value(alloc: Global, floor: &SenderFloor) -> Result<Value, AllocError>
     ensures value { IfOk result (λ v. view v ≡ floor_object (heard_floor floor.now)) }
@@ -46,7 +46,7 @@ fn floor_value(alloc: Global, floor: &SenderFloor) -> Result<Value, AllocError>
     json!(in alloc; {"floor": floor.stored, "sender": sender})
 }
 
-/// The floors under a network key.
+/// Returns the floors under a network key.
 fn floors_value(alloc: Global, floors: &[SenderFloor]) -> Result<Value, AllocError>
     ensures value { IfOk result (λ v. view v ≡ rows_value floor_object (map heard_floor floors.now)) }
     ensures fits { IfOk result (λ v. list_all floor_fits (map heard_floor floors.now) ≡ true) }
@@ -58,7 +58,7 @@ fn floors_value(alloc: Global, floors: &[SenderFloor]) -> Result<Value, AllocErr
     Ok(Value::Array(list))
 }
 
-/// A network key.
+/// Returns a network key.
 #[tactic(auto, unfolding(crate::specs::Format::net_object))]
 fn net_value(alloc: Global, row: &NetRow) -> Result<Value, AllocError>
     ensures value { IfOk result (λ v. view v ≡ net_object (net_key row.now)) }
@@ -79,7 +79,7 @@ fn net_value(alloc: Global, row: &NetRow) -> Result<Value, AllocError>
     })
 }
 
-/// The network keys.
+/// Returns the network keys.
 fn nets_value(alloc: Global, rows: &[NetRow]) -> Result<Value, AllocError>
     ensures value { IfOk result (λ v. view v ≡ rows_value net_object (map net_key rows.now)) }
     ensures fits { IfOk result (λ v. list_all net_fits (map net_key rows.now) ≡ true) }
@@ -91,7 +91,7 @@ fn nets_value(alloc: Global, rows: &[NetRow]) -> Result<Value, AllocError>
     Ok(Value::Array(list))
 }
 
-/// The number of an attribute.
+/// Returns the number of an attribute.
 fn attribute_number(attribute: Attribute) -> u8
     ensures { result ≡ attribute_byte (model_attribute attribute) }
 {
@@ -102,7 +102,7 @@ fn attribute_number(attribute: Attribute) -> u8
     }
 }
 
-/// A link key.
+/// Returns a link key.
 #[tactic(auto, unfolding(crate::specs::Format::link_object))]
 fn link_value(alloc: Global, row: &LinkRow) -> Result<Value, AllocError>
     ensures value { IfOk result (λ v. view v ≡ link_object (link_key row.now)) }
@@ -122,7 +122,7 @@ fn link_value(alloc: Global, row: &LinkRow) -> Result<Value, AllocError>
     })
 }
 
-/// The link keys.
+/// Returns the link keys.
 fn links_value(alloc: Global, rows: &[LinkRow]) -> Result<Value, AllocError>
     ensures value { IfOk result (λ v. view v ≡ rows_value link_object (map link_key rows.now)) }
     ensures fits { IfOk result (λ v. list_all link_fits (map link_key rows.now) ≡ true) }
@@ -134,7 +134,7 @@ fn links_value(alloc: Global, rows: &[LinkRow]) -> Result<Value, AllocError>
     Ok(Value::Array(list))
 }
 
-/// A key of two devices.
+/// Returns a key of two devices.
 #[tactic(auto, unfolding(crate::specs::Format::pair_object))]
 fn pair_value(alloc: Global, pair: &Pair) -> Result<Value, AllocError>
     ensures value { IfOk result (λ v. view v ≡ pair_object (pair_key pair.now)) }
@@ -147,7 +147,7 @@ fn pair_value(alloc: Global, pair: &Pair) -> Result<Value, AllocError>
     json!(in alloc; {"first": first, "key": key, "second": second})
 }
 
-/// The keys of pairs of devices.
+/// Returns the keys of pairs of devices.
 fn pairs_value(alloc: Global, rows: &[Pair]) -> Result<Value, AllocError>
     ensures value { IfOk result (λ v. view v ≡ rows_value pair_object (map pair_key rows.now)) }
     ensures fits { IfOk result (λ v. list_all pair_fits (map pair_key rows.now) ≡ true) }
@@ -159,21 +159,21 @@ fn pairs_value(alloc: Global, rows: &[Pair]) -> Result<Value, AllocError>
     Ok(Value::Array(list))
 }
 
-/// The place of a network key among rows.
+/// Returns the place of a network key among rows.
 fn place_among(rows: &[NetRow], key: &Key) -> Option<usize>
     ensures { result ≡ position (λ r. same_key (net_key r).key key.now.0) rows.now }
 {
     rows.iter().position(|row| row.key == *key)
 }
 
-/// The place of a network key.
+/// Returns the place of a network key.
 fn place_of(rows: &[NetRow], key: &Key) -> Option<usize>
     ensures { result ≡ position (λ r. same_key r.key key.now.0) (map net_key rows.now) }
 {
     place_among(rows, key)
 }
 
-/// The place of the active network key, or null.
+/// Returns the place of the active network key, or null.
 #[tactic(auto, unfolding(crate::specs::Format::active_value))]
 fn active_value(active: Option<Key>, rows: &[NetRow]) -> Value
     ensures { view result ≡ active_value (active_bytes active) (map net_key rows.now) }
@@ -187,7 +187,7 @@ fn active_value(active: Option<Key>, rows: &[NetRow]) -> Value
     }
 }
 
-/// The word for a rollover.
+/// Returns the word for a rollover.
 fn roll_word(rolling: Rollover) -> &'static str
     ensures { result.now ≡ roll_text (is_sending rolling) }
 {
@@ -197,7 +197,7 @@ fn roll_word(rolling: Rollover) -> &'static str
     }
 }
 
-/// The outgoing APS limit.
+/// Returns the outgoing APS limit.
 #[tactic(auto, unfolding(zb_model::specs::State::stored_limit))]
 fn aps_limit(tables: &Tables) -> u32
     ensures { result ≡ tables.now.aps_limit }
@@ -205,7 +205,7 @@ fn aps_limit(tables: &Tables) -> u32
     tables.outgoing(Layer::Aps, 0).limit
 }
 
-/// The backup of tables as a value.
+/// Returns the backup of tables as a value.
 #[tactic(auto, unfolding(crate::specs::Format::backup_of, crate::specs::Reading::has_widths))]
 pub(crate) fn backup_value(alloc: Global, tables: &Tables) -> Result<Value, AllocError>
     ensures value { IfOk result (λ v. view v ≡ backup_of tables.now) }
@@ -233,7 +233,8 @@ pub(crate) fn backup_value(alloc: Global, tables: &Tables) -> Result<Value, Allo
 /// It says what the record of a centre's tables says, so that of a centre reads as its tables after a boot. Counters
 /// and floors that stand in memory alone aren't in it.
 ///
-/// Errors: `NoMemory` where memory is short.
+/// # Errors
+/// `NoMemory` where memory is short.
 pub fn write_backup(alloc: Global, tables: &Tables) -> Result<Vec<u8>, NoMemory>
     ensures text { IfOk result (λ v. v.items ≡ backup_text tables.now) }
     ensures again { IfOk result (λ v. tables.now.role ≡ Centre → backup_in v.items ≡ Some (after_boot tables.now)) }

@@ -21,7 +21,7 @@ pub record HasCause {T E : Type 0} (before now : ℕ) (result : Result T E) : Ty
   pub unrisen : OnOk result (Unrisen before now)
   pub failed : OnErr result (Rose before now)
 
--- known bytes grow by some front of the piece
+-- known bytes grow by some prefix of the piece
 abbrev pub AppendsFront : Option (List ℕ) → Option (List ℕ) → List ℕ → Type 0
 AppendsFront old new piece = (n : ℕ) × Appends old new (take n piece)
 

@@ -1,4 +1,4 @@
-//! The two faults that no caller can rule out: an outside object that failed, and want of memory.
+//! The two faults that no caller can rule out: an outside object that failed, and out of memory.
 ghost use Rattle.std.specs.Prelude.{◌≡◌};
 ghost use Rattle.zb_base.specs.declared.fault.OrMemory.TheVariants.{NoMemory as lacks};
 

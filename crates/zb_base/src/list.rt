@@ -25,14 +25,14 @@ impl<T> List<T> {
         List { items }
     }
 
-    /// Answers the items, in their order.
+    /// Returns the items, in their order.
     pub fn as_slice(&self) -> &[T]
         ensures { result.now ≡ self.now }
     {
         self.items.as_slice()
     }
 
-    /// Answers the vector of the list's items.
+    /// Returns the vector of the list's items.
     pub fn into_vec(self) -> Vec<T>
         ensures { result.items ≡ self }
     {

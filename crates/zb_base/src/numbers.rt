@@ -2,14 +2,14 @@
 ghost use Rattle.std.specs.Prelude.{◌≡◌, ◌+◌, length, min, take};
 ghost use Rattle.zb_base.specs.Outside.{has_number as has};
 
-/// Answers whether the numbers have this one.
+/// Returns whether the numbers have this one.
 pub(crate) fn has_number(numbers: &[u32], number: u64) -> bool
     ensures { result ≡ has numbers.now number }
 {
     numbers.iter().any(|&listed| u64::from(listed) == number)
 }
 
-/// Copies as much of `rest` into the front of `buf` as there is room for, and answers how many bytes.
+/// Copies as much of `rest` into the prefix of `buf` as there is room for, and returns how many bytes.
 pub(crate) fn fill(buf: &mut [u8], rest: &[u8]) -> usize
     ensures count { result ≡ min (length buf.old) (length rest.now) }
     ensures front { take result buf.new ≡ take result rest.now }

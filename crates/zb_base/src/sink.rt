@@ -22,7 +22,8 @@ pub trait Sink {
 
     /// Appends the whole piece.
     ///
-    /// Errors: `Failed` only where the count of faults rose; then a prefix of the piece was appended.
+    /// # Errors
+    /// `Failed` only where the count of faults rose; then a prefix of the piece was appended.
     fn write(&mut self, piece: &[u8]) -> Result<(), Failed>
         ensures whole { OnOk result (Appends (taken self.old) (taken self.new) piece.now) }
         ensures front { OnErr result (AppendsFront (taken self.old) (taken self.new) piece.now) }
@@ -72,7 +73,7 @@ impl MemSink {
         })
     }
 
-    /// Answers the bytes that the sink took so far.
+    /// Returns the bytes that the sink took so far.
     pub fn taken(&self) -> &[u8]
         ensures { result.now ≡ self.now.taken }
     {
@@ -159,7 +160,8 @@ impl<W> StdSink<W> {
 impl<W: Write> StdSink<W> {
     /// Hands on what the writer still holds back.
     ///
-    /// Errors: `Failed` only where the count of faults rose.
+    /// # Errors
+    /// `Failed` only where the count of faults rose.
     pub fn flush(&mut self) -> Result<(), Failed>
         ensures { self.new ≡ (if is_err result then risen self.old 1 else self.old) }
     {

@@ -20,11 +20,12 @@ pub trait Source {
     // How many of its calls failed. The count of an adapter stops at 2^64 - 1.
     ghost faults: { Self → ℕ };
 
-    /// Puts the next bytes into the front of `buf` and answers how many.
+    /// Puts the next bytes into the prefix of `buf` and answers how many.
     ///
     /// 0 into a buffer that isn't empty is the end of the input.
     ///
-    /// Errors: `Failed` only where the count of faults rose; the rest stays as it was.
+    /// # Errors
+    /// `Failed` only where the count of faults rose; the rest stays as it was.
     fn read(&mut self, buf: &mut [u8]) -> Result<usize, Failed>
         ensures bound { ReadsAtMost result buf.new }
         ensures bytes { ReadConsumes (rest self.old) (rest self.new) result buf.new }

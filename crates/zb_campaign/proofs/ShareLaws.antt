@@ -38,7 +38,7 @@ range_both first (suc a) b =
     let from : first + suc a ≡ first + 1 + a = omega arith in
     rw more rw from (ap (λ xs. first ∷ xs) (range_both (first + 1) a b))
 
--- the runs of two shares, the second behind the first
+-- the runs of two shares, the second after the first
 endings_both : (start first a b : ℕ) → endings start first (a + b) ≡ then_all (endings start first a) (endings start (first + a) b)
 unfolding endings
 endings_both start first a b =
@@ -54,7 +54,7 @@ joined_more (Err e) more = refl
 abbrev pub wanted_of : ℕ → List Share → List (Result (List Line) SchedError)
 wanted_of start shares = map (λ (share : Share). endings start share.first share.count) shares
 
--- The shares put one behind the other are all runs.
+-- The shares put one after the other are all runs.
 pub joined_shares : (start size number first left : ℕ) (shares : List Share) → AreShares size number first left shares
     → joined (wanted_of start shares) ≡ endings start first left
 joined_shares start size number first left [] none = sym (ap (λ n. endings start first n) none ∙ no_runs start first)

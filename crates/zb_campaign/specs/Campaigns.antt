@@ -1,4 +1,5 @@
--- Campaigns: made schedules of consecutive start values, each played, and what the runs come to (this project's profile).
+-- Campaigns: made schedules of consecutive start values, each played, and what the runs come to (this project's
+-- profile).
 use Rattle.std.specs.Prelude.{ℕ, ◌+◌, ◌%◌, List, [], ◌∷◌, ◌++◌, length, map, sum_by, codes, decimal, Result, Ok, Err}
 use Rattle.std.specs.List.{range_with_len}
 use Rattle.zb_gen.specs.Made.{made_schedule}
@@ -20,7 +21,8 @@ abbrev pub if_made : Result Schedule SchedError → Result Line SchedError
 if_made (Ok p) = Ok (ending p)
 if_made (Err e) = Err e
 
--- The last line of the transcript of run i, from 0, or the clash of its schedule. It has 1 + i mod 8 routers and devices.
+-- The last line of the transcript of run i, from 0, or the clash of its schedule. It has 1 + i mod 8 routers and
+-- devices.
 unfoldable pub ending_of_run : ℕ → ℕ → Result Line SchedError
 ending_of_run start i = if_made (made_schedule (start + i) (1 + i % 8))
 
@@ -35,7 +37,7 @@ all_of [] = Ok []
 all_of (Ok x ∷ more) = behind (x ∷ []) (all_of more)
 all_of (Err e ∷ more) = Err e
 
--- the same of lists, put one behind the other
+-- the same of lists, put one after the other
 abbrev pub joined : {A E : Type 0} → List (Result (List A) E) → Result (List A) E
 joined [] = Ok []
 joined (Ok xs ∷ more) = behind xs (joined more)
@@ -47,7 +49,8 @@ endings start first count = all_of (map (λ i. ending_of_run start i) (range_wit
 
 -- ---- the text
 
--- `I end EVENTS SEALS ACCEPTS REFUSALS IDEAL PRIVATE`: the number of the run, and the words of its last line. That names no node.
+-- `I end EVENTS SEALS ACCEPTS REFUSALS IDEAL PRIVATE`: the number of the run, and the words of its last line. That
+-- names no node.
 unfoldable pub run_line : ℕ → Line → Bytes
 run_line i last = decimal i ++ then (line_text [] last)
 
@@ -85,6 +88,7 @@ abbrev pub told : Result (List Line) SchedError → Result Bytes SchedError
 told (Ok lasts) = Ok (campaign_text lasts)
 told (Err e) = Err e
 
--- What a campaign of so many runs writes, or the clash of the first run that has one. No jobs and no gates stand in it.
+-- What a campaign of so many runs writes, or the clash of the first run that has one. No jobs and no gates stand in
+-- it.
 unfoldable pub campaigned : ℕ → ℕ → Result Bytes SchedError
 campaigned count start = told (endings start 0 count)

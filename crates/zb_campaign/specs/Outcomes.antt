@@ -12,12 +12,13 @@ abbrev pub IsWritten : Result Bytes SchedError → Option Bytes → Option Bytes
 IsWritten (Ok text) before after = Appends before after text
 IsWritten (Err e) before after = ⊥
 
--- There is no clash, and a front of the text was written.
+-- There is no clash, and a prefix of the text was written.
 abbrev pub IsBegun : Result Bytes SchedError → Option Bytes → Option Bytes → Type 0
 IsBegun (Ok text) before after = AppendsFront before after text
 IsBegun (Err e) before after = ⊥
 
--- At Ok the campaign was written; where the sink failed, a front of it; at a clash, and where memory was wanting, nothing.
+-- At Ok the campaign was written; where the sink failed, a prefix of it; at a clash, and where memory was wanting,
+-- nothing.
 abbrev pub Campaigns : Result Bytes SchedError → Option Bytes → Option Bytes → ℕ → ℕ → Result (Unit {0}) CampaignFault → Type 0
 Campaigns wanted before after old new (Ok done) = IsWritten wanted before after
 Campaigns wanted before after old new (Err Write) = Rose old new × IsBegun wanted before after

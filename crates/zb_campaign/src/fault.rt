@@ -10,7 +10,7 @@ use zb_base::{Failed, NoMemory};
 use zb_gen::GenFault;
 use zb_sched::SchedCause;
 
-/// Says why a campaign isn't written to its end.
+/// Why a campaign isn't written to its end.
 #[derive(Clone, Copy, Debug, PartialEq, Eq)]
 pub enum CampaignFault {
     /// The sink failed: its count of faults rose.

@@ -62,7 +62,7 @@ fn put_total(out: &mut Vec<u8>, count: u32, total: &Total) -> Result<(), AllocEr
     Ok(())
 }
 
-// Prints a count in decimal digits behind a space.
+// Prints a count in decimal digits after a space.
 fn add_count(out: &mut Vec<u8>, count: u64) -> Result<(), AllocError>
     ensures { OnOk result (out.new.items ≡ out.old.items ++ then (decimal count)) }
 {

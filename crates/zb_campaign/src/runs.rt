@@ -15,7 +15,7 @@ use zb_parallel::Share;
 use zb_player::{Summary, play_unread};
 use zb_sched::Schedule;
 
-/// Plays the runs of a share one after the other, and answers what they come to.
+/// Plays the runs of a share one after the other, and returns what they come to.
 ///
 /// Each uses the disks of the one before it. Errors: `Clash` at the first run whose schedule clashes; `NoMemory`.
 pub(crate) fn play_share(
@@ -34,7 +34,8 @@ pub(crate) fn play_share(
     Ok(ends)
 }
 
-/// Plays the run of that number, from 0, on used disks, which are then those that it left and those that it didn't use.
+/// Plays the run of that number, from 0, on used disks, which are then those that it left and those that it didn't
+/// use.
 fn play_run(
     alloc: Global,
     start: u32,

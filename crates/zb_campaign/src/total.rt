@@ -5,7 +5,7 @@ ghost use Rattle.zb_player.specs.Runs.{last_line};
 
 use zb_player::Summary;
 
-/// Holds the counts of several runs, added up.
+/// The counts of several runs, added up.
 #[derive(Clone, Copy, Debug, PartialEq, Eq)]
 pub(crate) struct Total {
     /// How many terms were sealed.

@@ -26,8 +26,8 @@ use zb_player::Summary;
 ///
 /// # Errors
 ///
-/// `Clash` where the schedule of a run clashes: the first line to do so of the first such run. Nothing is written then.
-/// `Write` where the sink failed, which then has a front of the lines; `NoMemory`, and nothing is written.
+/// `Clash` where the schedule of a run clashes: the first line to do so of the first such run. Nothing is written
+/// then. `Write` where the sink failed, which then has a prefix of the lines; `NoMemory`, and nothing is written.
 pub fn campaign<T: Threads + Sync, G: Gate, W: Sink>(
     rt: &T,
     alloc: Global,
@@ -43,7 +43,7 @@ pub fn campaign<T: Threads + Sync, G: Gate, W: Sink>(
     ensures ends { Campaigns (campaigned count start) (W.taken out.old) (W.taken out.new) (W.faults out.old)
         (W.faults out.new) result }
     ensures later { W.faults out.old ≤ W.faults out.new }
-    // No fault of the sink is told as another one.
+    // No fault of the sink is reported as another one.
     ensures unrisen { result ≢ Err CampaignFault.Write → Unrisen (W.faults out.old) (W.faults out.new) }
 {
     let shares = shares(alloc, count, jobs)?;
@@ -53,7 +53,7 @@ pub fn campaign<T: Threads + Sync, G: Gate, W: Sink>(
     Ok(())
 }
 
-/// Plays the runs of all shares, each share in a thread of its own, and answers what they come to.
+/// Plays the runs of all shares, each share in a thread of its own, and returns what they come to.
 fn play_all<T: Threads + Sync, G: Gate>(
     rt: &T,
     alloc: Global,
@@ -81,7 +81,7 @@ fn play_all<T: Threads + Sync, G: Gate>(
     gather(alloc, played.as_slice())
 }
 
-/// Puts what consecutive shares came to one behind the other. The first fault among them counts.
+/// Puts what consecutive shares came to one after the other. The first fault among them counts.
 fn gather(
     alloc: Global,
     played: &[Result<Vec<Summary>, CampaignFault>],

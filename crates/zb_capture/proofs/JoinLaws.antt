@@ -1,4 +1,4 @@
--- Lines give behind others what they give by themselves, where that fits.
+-- Lines give after others what they give by themselves, where that fits.
 use Rattle.std.proofs.Common.{◌≡◌, ℕ, ◌+◌, ◌<◌, ◌≤◌, List, [], ◌∷◌, ◌++◌, length, refl, ap, sym, ◌∙◌, subst, arith, length-append, append_assoc, append-nil, Bool, true, false, not, ◌&&◌, ◌||◌, nat_lt, bytes_eq, codes, if◌then◌else◌, Option, Some, None, Result, Ok, Err}
 use Rattle.std.specs.List.{list_all, list_any}
 use Rattle.std.proofs.lemmas.Bool.Decides.{nat_tests}
@@ -19,7 +19,7 @@ use Rattle.zb_capture.specs.declared.fault.CaptureCause.TheVariants.{Syntax, Bad
 under : (n most : ℕ) → n < most → nat_lt n most ≡ true
 under n most less = grind (arith, nat_tests)
 
--- What `step` makes of `d` it makes of `d` behind `c`, where what comes of it fits behind `c`; and then `d` fits too.
+-- What `step` makes of `d` it makes of `d` after `c`, where what comes of it fits after `c`; and then `d` fits too.
 abbrev Behind : (Capture → Result Capture CaptureCause) → Capture → Capture → Capture → Type 0
 Behind step c d e = (step (both c d) ≡ Ok (both c e)) × Fit c d
 
@@ -193,7 +193,7 @@ carried n m c d e (line ∷ piece) rest ok fit =
 behind_nothing : (c : Capture) → both c empty ≡ c
 behind_nothing c = rw (append-nil c.keys, append-nil c.addrs, append-nil c.frames) refl
 
--- a piece that was read from nothing, behind other lines
+-- a piece that was read from nothing, after other lines
 pub lead_behind : (r new more : Reading) (piece : List (List ℕ)) → Lead no_lines piece more → Fit r.capture more.capture
     → new.lines ≡ r.lines + more.lines → new.capture ≡ both r.capture more.capture → Lead r piece new
 lead_behind r new more piece lead fit count is =

@@ -42,7 +42,7 @@ leads r s t first more lead next = record {
   count = omega (arith, lead.count, next.count, length-append first more);
 }
 
--- a bad line, whatever stands behind it
+-- a bad line, whatever stands after it
 bad_line : (n : ℕ) (first more : List (List ℕ)) (fault : CaptureError) (r : Result Capture CaptureCause)
     → at_line n r (λ next. with_lines (n + 1) next first) ≡ Err fault
     → ((next : Capture) → with_lines (n + 1) next first ≡ Err fault → with_lines (n + 1) next (first ++ more) ≡ Err fault)

@@ -12,7 +12,7 @@ use Rattle.zb_capture.specs.declared.pieces.Piece.{Piece}
 use Rattle.zb_text.specs.Words.{parts, nothing}
 use Rattle.zb_text.proofs.Cuts.{parts_are_some}
 
--- parts of which the last begins behind the byte
+-- parts of which the last begins after the byte
 parts_on : (b : Bool) (x : ℕ) (ps qs : List (List ℕ)) → nothing ps ≡ None
     → cond b ([] ∷ (ps ++ qs)) (onto_first x (ps ++ qs)) ≡ cond b ([] ∷ ps) (onto_first x ps) ++ qs
 parts_on true x ps qs some = refl
@@ -41,7 +41,7 @@ two_pieces front back =
     lines_behind front back
     ∙ ap (λ zs. zs ++ lines back) (sym (append-nil (map strip_carriage_return (parts 10 front))) ∙ sym (lines_behind front []))
 
--- the text up to a line feed, and behind it
+-- the text up to a line feed, and after it
 split_at : (n : ℕ) (text : List ℕ) → n < length text → get_or text n 0 ≡ 10
     → (text ≡ take n text ++ 10 ∷ drop (suc n) text) × (take (suc n) text ≡ take n text ++ 10 ∷ [])
 split_at n [] within is = absurd (omega (arith, within))
@@ -109,7 +109,7 @@ all_read (p ∷ ps) [] read = absurd read
 all_read (p ∷ ps) (f ∷ fs) read =
     let rest = all_read ps fs read.1 in (rw (read.0.0, rest.0) refl, (read.0.1, rest.1))
 
--- a text that goes on behind its last line feed
+-- a text that goes on after its last line feed
 pub lines_before : (n : ℕ) (text more : List ℕ) → n < length text → get_or text n 0 ≡ 10
     → lines (text ++ more) ≡ lines (take (suc n) text) ++ lines (drop (suc n) text ++ more)
 lines_before n text more within is =

@@ -10,7 +10,8 @@ use Rattle.zb_capture.specs.declared.fault.CaptureError.{CaptureError}
 abbrev pub capture_of : Draft → Capture
 capture_of draft = record { keys = draft.keys.items; addrs = draft.addrs; frames = draft.frames }
 
--- A step led to `new`, or to its fault, where `next` is what it has to lead to; it says nothing where memory is wanting.
+-- A step led to `new`, or to its fault, where `next` is what it has to lead to; it says nothing where memory is
+-- wanting.
 abbrev pub Steps : Result (Unit {0}) (OrMemory CaptureCause) → Capture → Result Capture CaptureCause → Type 0
 Steps (Ok done) new next = next ≡ Ok new
 Steps (Err (error.Fault cause)) new next = next ≡ Err cause

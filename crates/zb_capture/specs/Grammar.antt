@@ -22,7 +22,7 @@ infixl 10 ◌>>=◌
 abbrev pub ◌>>=◌ : {A B : Type 0} → Option A → (A → Option B) → Option B
 step >>= next = option_and_then next step
 
--- What the words of a line give, behind its first word
+-- What the words of a line give, after its first word
 
 -- KEY
 unfoldable pub key_in : List (List ℕ) → Option Key

@@ -26,7 +26,7 @@ pub record AreCut (text : List ℕ) (parts : List (List ℕ)) : Type 0 where
 abbrev pub IsFound : Found → Type 0
 IsFound found = IsReadAlone found.read found.text.now
 
--- two captures, the second one behind the first
+-- two captures, the second one after the first
 abbrev pub both : Capture → Capture → Capture
 both c d = record { keys = c.keys ++ d.keys; addrs = c.addrs ++ d.addrs; frames = c.frames ++ d.frames }
 

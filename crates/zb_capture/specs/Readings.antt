@@ -15,7 +15,7 @@ pub record Reading : Type 0 where
 abbrev pub no_lines : Reading
 no_lines = record { lines = 0; capture = empty }
 
--- what further lines give behind those that were read
+-- what further lines give after those that were read
 abbrev pub with_more : Reading → List (List ℕ) → Result Capture CaptureError
 with_more r more = with_lines (r.lines + 1) r.capture more
 
@@ -24,7 +24,7 @@ pub record Lead (old : Reading) (more : List (List ℕ)) (new : Reading) : Type 
   pub gives : with_more old more ≡ Ok new.capture
   pub count : new.lines ≡ old.lines + length more
 
--- A text was read behind the lines before it, or has a fault; it says nothing where memory is wanting.
+-- A text was read after the lines before it, or has a fault; it says nothing where memory is wanting.
 abbrev pub AreRead : Result (Unit {0}) (OrMemory CaptureError) → Reading → Reading → List ℕ → Type 0
 AreRead (Ok done) old new text = Lead old (lines text) new
 AreRead (Err (error.Fault fault)) old new text = with_more old (lines text) ≡ Err fault

@@ -45,7 +45,7 @@ impl Addresses {
         }
     }
 
-    /// Adds an address if its network address is new, and answers whether it is.
+    /// Adds an address if its network address is new, and returns whether it is.
     pub fn add(&mut self, addr: (Short, Eui)) -> Result<bool, NoMemory>
         ensures new { IfOk result (λ new. new ≡ not (list_any (has_short addr.0) self.old)) }
         ensures adds { IfOk result (λ new. self.new ≡ (if new then self.old ++ addr ∷ [] else self.old)) }
@@ -58,7 +58,7 @@ impl Addresses {
         Ok(new)
     }
 
-    /// Whether no network address of others is one of these.
+    /// Returns whether no network address of others is one of these.
     pub fn are_apart(&self, others: &Addresses) -> bool
         ensures { result ≡ list_all (is_new self.now) others.now }
     {
@@ -71,7 +71,7 @@ impl Addresses {
         !self.shorts.contains(&addr.0)
     }
 
-    /// Adds others behind these.
+    /// Adds others after these.
     pub fn add_all(&mut self, others: Addresses) -> Result<(), NoMemory>
         ensures { OnOk result (self.new ≡ self.old ++ others) }
     {
@@ -91,7 +91,7 @@ impl Addresses {
         Ok(())
     }
 
-    /// Gives the list of the addresses.
+    /// Returns the list of the addresses.
     pub fn into_list(self) -> List<(Short, Eui)>
         ensures { result ≡ self }
     {

@@ -6,7 +6,7 @@ use crate::frames::Frames;
 use std::alloc::Global;
 use zb_base::{Eui, Key, List, NoMemory, Short};
 
-/// Holds what is known of a network, and the frames that were caught in it.
+/// What is known of a network, and the frames that were caught in it.
 ///
 /// It has at most 256 keys and 100,000 frames: this is `IsCapture` of `specs/Grammar.antt`.
 #[derive(Debug, Drop)]

@@ -11,7 +11,7 @@ use std::alloc::Global;
 use zb_base::{Key, List, NoMemory, OrMemory};
 use zb_text::words::Words;
 
-/// Holds the keys, addresses and frames of the lines so far.
+/// The keys, addresses and frames of the lines so far.
 #[derive(Drop)]
 pub(crate) struct Draft {
     /// The keys, those of install codes among them.
@@ -52,7 +52,7 @@ impl Draft {
         })
     }
 
-    /// Gives the capture of all lines.
+    /// Returns the capture of all lines.
     pub fn into_capture(self) -> Capture
         ensures { result ≡ capture_of self }
     {
@@ -68,7 +68,7 @@ impl Draft {
         }
     }
 
-    /// Whether what other lines give fits behind this.
+    /// Returns whether what other lines give fits after this.
     pub fn fits(&self, more: &Draft) -> bool
         requires own { IsCapture (capture_of self.now) }
         requires other { IsCapture (capture_of more.now) }
@@ -77,7 +77,7 @@ impl Draft {
         self.has_room_for(more) && self.addrs.are_apart(&more.addrs)
     }
 
-    /// Whether both together keep the limits of a capture.
+    /// Returns whether both together keep the limits of a capture.
     fn has_room_for(&self, more: &Draft) -> bool
         requires own { IsCapture (capture_of self.now) }
         requires other { IsCapture (capture_of more.now) }
@@ -86,7 +86,7 @@ impl Draft {
         more.keys.len() <= 256 - self.keys.len() && more.frames.len() <= 100_000 - self.frames.len()
     }
 
-    /// Puts what other lines give behind this.
+    /// Puts what other lines give after this.
     pub fn with(self, more: Draft) -> Result<Draft, NoMemory>
         requires { Fit (capture_of self) (capture_of more) }
         ensures { IfOk result (λ draft. capture_of draft ≡ both (capture_of self) (capture_of more)) }

@@ -2,7 +2,7 @@
 use std::error::Error;
 use std::fmt;
 
-/// Says what is wrong with a line, in the order in which it is tried.
+/// What is wrong with a line, in the order in which it is tried.
 #[derive(Clone, Copy, Debug, PartialEq, Eq)]
 pub enum CaptureCause {
     /// It is none of the lines of a capture.

@@ -1,4 +1,4 @@
-//! The words of each line of a capture, behind its first word.
+//! The words of each line of a capture, after its first word.
 ghost use Rattle.std.specs.Prelude.{◌≡◌};
 ghost use Rattle.std.specs.List.{list_all};
 ghost use Rattle.std.specs.Char.{is_ascii_hexdigit};

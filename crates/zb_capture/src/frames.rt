@@ -10,7 +10,7 @@ use zb_base::{Frame, NoMemory};
 
 /// Keeps the frames of a capture, in the order in which they were caught.
 ///
-/// They stay in the runs in which they were read, so none is copied where runs are put behind each other. A contract
+/// They stay in the runs in which they were read, so none is copied where runs are put after each other. A contract
 /// sees them as one list.
 #[derive(Debug, Drop)]
 pub struct Frames {
@@ -59,7 +59,7 @@ impl Frames {
         })
     }
 
-    /// Answers how many frames there are.
+    /// Returns how many frames there are.
     ///
     /// Requires at most 100,000 frames.
     pub fn len(&self) -> usize
@@ -69,7 +69,7 @@ impl Frames {
         self.count + self.last.len()
     }
 
-    /// Gives the frames from a place on, counted from 0, to the end of the run in which that place is.
+    /// Returns the frames from a place on, counted from 0, to the end of the run in which that place is.
     ///
     /// Requires a place of one of the frames.
     pub fn from(&self, place: usize) -> FrameRun<'_>
@@ -80,7 +80,7 @@ impl Frames {
         run_from(self.runs.as_slice(), &self.last, place)
     }
 
-    /// Puts a frame behind these; changes nothing where there is no memory.
+    /// Puts a frame after these; changes nothing where there is no memory.
     ///
     /// Requires fewer than 100,000 frames.
     pub fn push(&mut self, frame: &Frame) -> Result<(), NoMemory>
@@ -92,7 +92,7 @@ impl Frames {
         Ok(())
     }
 
-    /// Puts further frames behind these.
+    /// Puts further frames after these.
     ///
     /// Requires at most 100,000 frames in all.
     pub fn append(&mut self, more: Frames) -> Result<(), NoMemory>
@@ -114,7 +114,8 @@ impl Frames {
     }
 }
 
-/// The frames of runs, and of a last one behind them, from a place on to the end of the run in which that place is.
+/// Returns the frames of runs, and of a last one after them, from a place on to the end of the run in which that place
+/// is.
 fn run_from<'a>(runs: &'a [Run], last: &'a Run, place: usize) -> FrameRun<'a>
     requires { place < length (all_runs runs.now ++ last.now) }
     ensures some { 0 < length result }

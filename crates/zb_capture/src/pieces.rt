@@ -10,14 +10,14 @@ use std::alloc::Global;
 use std::thread::{Threads, map_vec};
 use zb_base::{NoMemory, OrMemory};
 
-/// Is the work of one job: consecutive lines of a text.
+/// The work of one job: consecutive lines of a text.
 #[derive(Drop)]
 pub(crate) struct Piece<'a> {
     /// The lines.
     pub text: &'a [u8],
 }
 
-/// Holds what the lines of a piece give by themselves.
+/// What the lines of a piece give by themselves.
 #[derive(Drop)]
 pub(crate) struct Found<'a> {
     /// The lines.
@@ -61,7 +61,7 @@ fn read_piece<'a>(alloc: Global, piece: Piece<'a>) -> Found<'a>
     Found { text, read }
 }
 
-/// Cuts a text into consecutive pieces behind line feeds, at most as many as there are jobs. Each but the last has at
+/// Cuts a text into consecutive pieces after line feeds, at most as many as there are jobs. Each but the last has at
 /// least as many bytes as there are for a job.
 fn cut<'a>(alloc: Global, text: &'a [u8], jobs: u32) -> Result<Vec<Piece<'a>>, NoMemory>
     requires text { length text.now < 2 ^ 32 - 1 }
@@ -79,7 +79,7 @@ fn cut<'a>(alloc: Global, text: &'a [u8], jobs: u32) -> Result<Vec<Piece<'a>>, N
     Ok(pieces)
 }
 
-/// Answers how many bytes the whole lines of a text have. What stands behind them may go on.
+/// Returns how many bytes the whole lines of a text have. What stands after them may go on.
 pub fn whole_lines(text: &[u8]) -> usize
     ensures within { result ≤ length text.now }
     ensures all { list_any (λ byte. byte == 10) (drop result text.now) ≡ false }

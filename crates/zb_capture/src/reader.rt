@@ -68,7 +68,7 @@ impl CaptureReader {
         Ok(reader)
     }
 
-    /// Reads the lines of a text by so many jobs, behind those before.
+    /// Reads the lines of a text by so many jobs, after those before.
     ///
     /// Requires a job, and that all lines have their numbers in 32 bits.
     ///
@@ -98,7 +98,7 @@ impl CaptureReader {
         Ok(())
     }
 
-    /// Reads the lines of a text, behind those before.
+    /// Reads the lines of a text, after those before.
     ///
     /// Requires that all lines have their numbers in 32 bits.
     ///
@@ -121,9 +121,9 @@ impl CaptureReader {
         Ok(())
     }
 
-    /// Takes the lines of a text, behind those before, where `alone` is what they give by themselves.
+    /// Takes the lines of a text, after those before, where `alone` is what they give by themselves.
     ///
-    /// Where they give no capture then, or one that doesn't fit behind the lines before, they are read one by one.
+    /// Where they give no capture then, or one that doesn't fit after the lines before, they are read one by one.
     /// Requires that `alone` is of this text, and that all lines have their numbers in 32 bits.
     ///
     /// # Errors
@@ -148,7 +148,7 @@ impl CaptureReader {
 
     /// Takes the lines of a text, of which `more` is what they give by themselves.
     ///
-    /// Where that doesn't fit behind the lines before, they are read one by one.
+    /// Where that doesn't fit after the lines before, they are read one by one.
     fn take_lines(
         &mut self,
         alloc: Global,
@@ -170,7 +170,7 @@ impl CaptureReader {
         Ok(())
     }
 
-    /// Gives the capture of all lines.
+    /// Returns the capture of all lines.
     pub fn into_capture(self) -> Capture
         ensures exact { result ≡ self.capture }
         ensures valid { IsCapture result }
@@ -179,7 +179,7 @@ impl CaptureReader {
     }
 }
 
-/// Gives a fault of a line its number.
+/// Returns a fault of a line its number.
 fn at_line(line: u32, fault: OrMemory<CaptureCause>) -> OrMemory<CaptureError>
     ensures { result ≡ numbered line fault }
 {

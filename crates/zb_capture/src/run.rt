@@ -8,7 +8,7 @@ use std::marker::Model;
 use zb_base::{Frame, NoMemory};
 use zb_cursor::frame_from;
 
-/// Keeps frames that follow each other: their bytes, one frame behind the other, and where each frame ends.
+/// Keeps frames that follow each other: their bytes, one frame after the other, and where each frame ends.
 ///
 /// So a frame takes hardly more memory than it has bytes. A contract sees them as the list of the frames.
 #[derive(Debug, Drop)]
@@ -52,7 +52,7 @@ impl Run {
         })
     }
 
-    /// Answers how many frames there are.
+    /// Returns how many frames there are.
     #[tactic(auto, using(crate::proofs::RunLaws::frame_count))]
     pub fn len(&self) -> usize
         ensures { result ≡ length self.now }
@@ -60,7 +60,7 @@ impl Run {
         self.ends.len()
     }
 
-    /// Puts a frame behind these.
+    /// Puts a frame after these.
     pub fn push(&mut self, frame: &Frame) -> Result<(), NoMemory>
         requires { length self.old < 100000 }
         ensures added { OnOk result (self.new ≡ self.old ++ frame.now ∷ []) }
@@ -73,7 +73,7 @@ impl Run {
         Ok(())
     }
 
-    /// Gives the frames from a place on, counted from 0.
+    /// Returns the frames from a place on, counted from 0.
     #[tactic(auto, using(crate::proofs::RunLaws::frame_count))]
     pub fn from(&self, place: usize) -> FrameRun<'_>
         requires { place < length self.now }
@@ -94,7 +94,7 @@ fn run_from<'a>(bytes: &'a [u8], ends: &'a [u32], place: usize) -> FrameRun<'a>
     FrameRun { bytes, start, ends }
 }
 
-/// Answers where the frame at a place starts, of which the first starts at `start`.
+/// Returns where the frame at a place starts, of which the first starts at `start`.
 fn start_of(start: u32, ends: &[u32], place: usize) -> u32
     requires { place < length ends.now }
     ensures { result ≡ get_or (start ∷ ends.now) place 0 }
@@ -130,7 +130,7 @@ impl<'a> FrameRun<'a> {
     ghost use Rattle.std.specs.Prelude.{◌≡◌, ◌<◌, ℕ, length, get_or};
     ghost use Rattle.arrayvec.specs.ArrayVec.{ArrayVec};
 
-    /// Answers how many frames there are.
+    /// Returns how many frames there are.
     #[tactic(auto, using(crate::proofs::RunLaws::frame_count))]
     pub fn len(&self) -> usize
         ensures { result ≡ length self.now }
@@ -138,7 +138,7 @@ impl<'a> FrameRun<'a> {
         self.ends.len()
     }
 
-    /// Gives the frame at a place, counted from 0.
+    /// Returns the frame at a place, counted from 0.
     ///
     /// Requires a place of one of the frames.
     #[tactic(auto, using(crate::proofs::RunLaws::frame_count))]
@@ -160,7 +160,7 @@ fn frame_at(bytes: &[u8], start: u32, ends: &[u32], place: usize) -> Frame
     frame_from(part(bytes, from, ends[place] as usize))
 }
 
-/// Gives the bytes from one place to another.
+/// Returns the bytes from one place to another.
 fn part(bytes: &[u8], start: usize, end: usize) -> &[u8]
     requires { (start ≤ end) × (end ≤ length bytes.now) }
     ensures { result.now ≡ take (end - start) (drop start bytes.now) }

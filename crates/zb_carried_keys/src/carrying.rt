@@ -9,7 +9,7 @@ use zb_base::{Key, Layer};
 use zb_cmd::{Command, read_command};
 use zb_seal::Term;
 
-/// Answers the key that a term carries, if any (05-3474-21, 4.4.10.1).
+/// Returns the key that a term carries, if any (05-3474-21, 4.4.10.1).
 ///
 /// It is that of a Transport-Key which is the content of the term: sealed at the application support layer as a
 /// command, or standing in clear in a network frame.
@@ -29,7 +29,7 @@ pub fn carried(term: &Term) -> Option<Key>
     }
 }
 
-/// Tells whether a header is that of an APS command.
+/// Returns whether a header is that of an APS command.
 fn is_command_header(header: &[u8]) -> bool
     ensures { result ≡ is_command_header header.now }
 {
@@ -39,14 +39,14 @@ fn is_command_header(header: &[u8]) -> bool
     }
 }
 
-/// Tells whether an APS or NWK frame control is that of a command: its two low bits are 1.
+/// Returns whether an APS or NWK frame control is that of a command: its two low bits are 1.
 pub fn is_command(control: u16) -> bool
     ensures { result ≡ is_command control }
 {
     control % 4 == 1
 }
 
-/// Answers the key in a whole APS command without APS security.
+/// Returns the key in a whole APS command without APS security.
 fn key_in_clear(bytes: &[u8]) -> Option<Key>
     ensures { result ≡ clear_key (frame_of bytes.now) }
 {
@@ -62,14 +62,14 @@ fn key_in_clear(bytes: &[u8]) -> Option<Key>
     }
 }
 
-/// Tells whether a frame is an APS command without APS security.
+/// Returns whether a frame is an APS command without APS security.
 fn is_clear_command(frame: &ApsFrame) -> bool
     ensures { result ≡ is_clear_command frame.now }
 {
     frame.aux.is_none() && is_command(u16::from(frame.header.control))
 }
 
-/// Answers the key in a Transport-Key, of any of its three types.
+/// Returns the key in a Transport-Key, of any of its three types.
 fn transported(bytes: &[u8]) -> Option<Key>
     requires { length bytes.now ≤ 127 }
     ensures { result ≡ key_in (command_of bytes.now) }

@@ -19,7 +19,7 @@ abbrev pub first_block : (nonce associated message : List ℕ) → ℕ → List 
 first_block nonce associated message size =
     flags associated size ∷ nonce ++ to_be_bytes w16 (length message)
 
--- RFC 3610, 2.2: the authenticated data behind its length, or nothing where it is empty.
+-- RFC 3610, 2.2: the authenticated data after its length, or nothing where it is empty.
 abbrev pub with_length : List ℕ → List ℕ
 with_length [] = []
 with_length (x ∷ xs) = to_be_bytes w16 (length (x ∷ xs)) ++ x ∷ xs

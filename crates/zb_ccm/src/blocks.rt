@@ -7,7 +7,7 @@ ghost use Rattle.zb_aes.specs.Columns.{state_bytes};
 
 use zb_aes::State;
 
-/// Answers the first 16 bytes of a text, filled up with zeros, as a block.
+/// Returns the first 16 bytes of a text, filled up with zeros, as a block.
 pub fn block_of(bytes: &[u8]) -> State
     ensures { state_bytes result ≡ take 16 (bytes.now ++ replicate 16 0) }
 {
@@ -17,7 +17,7 @@ pub fn block_of(bytes: &[u8]) -> State
     }
 }
 
-/// Answers the first 16 bytes of a text, filled up with zeros.
+/// Returns the first 16 bytes of a text, filled up with zeros.
 pub fn filled(bytes: &[u8]) -> [u8; 16]
     ensures { result ≡ take 16 (bytes.now ++ replicate 16 0) }
 {

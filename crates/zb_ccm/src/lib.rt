@@ -24,7 +24,7 @@ use zb_base::Key;
 #[derive(Clone, Copy, Debug, PartialEq, Eq)]
 pub struct BadMic;
 
-/// Replaces `message` by its cipher text, and answers its MIC of 4 bytes.
+/// Replaces `message` by its cipher text, and returns its MIC of 4 bytes.
 ///
 /// Requires fewer than 65,280 bytes of message and of authenticated data each.
 pub fn seal(key: &Key, nonce: &[u8; 13], associated: &[u8], message: &mut [u8]) -> [u8; 4]
@@ -36,7 +36,7 @@ pub fn seal(key: &Key, nonce: &[u8; 13], associated: &[u8], message: &mut [u8]) 
     seal_with(&Cipher::new(&key.0), nonce, associated, message)
 }
 
-/// Replaces `message` by its cipher text, and answers its MIC of 8 bytes, as in RFC 3610.
+/// Replaces `message` by its cipher text, and returns its MIC of 8 bytes, as in RFC 3610.
 ///
 /// Requires fewer than 65,280 bytes of message and of authenticated data each.
 pub fn seal8(key: &Key, nonce: &[u8; 13], associated: &[u8], message: &mut [u8]) -> [u8; 8]
@@ -52,7 +52,8 @@ pub fn seal8(key: &Key, nonce: &[u8; 13], associated: &[u8], message: &mut [u8])
 ///
 /// Requires fewer than 65,280 bytes of text and of authenticated data each.
 ///
-/// Errors: `BadMic` where `mic` isn't the MIC of that message; `text` then stays as it was.
+/// # Errors
+/// `BadMic` where `mic` isn't the MIC of that message; `text` then stays as it was.
 pub fn open(
     key: &Key,
     nonce: &[u8; 13],

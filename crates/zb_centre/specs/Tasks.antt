@@ -1,4 +1,4 @@
--- The task of the policy that an event of the trust centre stands for.
+-- The task of the policy that an event of the trust centre represents.
 use Rattle.std.specs.Prelude.{◌≡◌, option_map}
 use Rattle.zb_base.specs.declared.key.Key.{Key}
 use Rattle.zb_centre.specs.declared.event.CentreEvent.{CentreEvent}

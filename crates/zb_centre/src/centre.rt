@@ -99,7 +99,7 @@ impl Core for Centre {
 }
 
 impl Centre {
-    /// Answers what the centre has: its network, tables and base keys.
+    /// Returns what the centre has: its network, tables and base keys.
     pub fn node(&self) -> &NodeCore
         ensures { result.now ≡ self.now }
     {

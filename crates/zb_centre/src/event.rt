@@ -2,7 +2,7 @@
 use zb_base::{Eui, Frame, Key, Short};
 use zb_send::Payload;
 
-/// Says what happens to the trust centre.
+/// What happens to the trust centre.
 #[derive(Drop)]
 pub enum CentreEvent {
     /// A device is admitted by the link key of its install code.

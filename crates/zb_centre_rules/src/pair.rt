@@ -25,7 +25,7 @@ use zb_rules::{Effect, Heard, add, sending};
 use zb_send::{Body, Sending};
 use zb_setting::Network;
 
-/// Answers what sends the key of a pair to a device, sealed for load under its current row.
+/// Returns what sends the key of a pair to a device, sealed for load under its current row.
 ///
 /// `initiator`: 1 where the device asked for it.
 fn app_key_for(
@@ -100,7 +100,7 @@ pub fn share(
     }
 }
 
-/// Answers whether that row is a verified one.
+/// Returns whether that row is a verified one.
 fn is_verified(row: Option<&LinkRow>) -> bool
     ensures { result ≡ is_verified_row (option_map link_key (option_copied row.entry)) }
 {
@@ -173,7 +173,7 @@ fn answer_pair(
     }
 }
 
-/// Answers whether the command is a Request-Key of a key with a partner in the form in which it is taken.
+/// Returns whether the command is a Request-Key of a key with a partner in the form in which it is taken.
 fn is_app_request(network: &Network, tables: &Tables, heard: &Heard, partner: Eui) -> bool
     ensures { result ≡ is_app_request_form network.now tables.now (heard_of heard.now) partner.0 }
 {

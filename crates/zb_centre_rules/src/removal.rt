@@ -32,7 +32,7 @@ fn removed(tables: &Tables, device: Eui) -> Changes
     changes
 }
 
-/// Answers the Leave to a child of the centre, where a frame can be sealed.
+/// Returns the Leave to a child of the centre, where a frame can be sealed.
 fn leave(network: &Network, tables: &Tables, device: Eui) -> Option<Sending>
     ensures what { option_map sending_of result ≡ tell_leave network.now tables.now device.0 }
     ensures fits { CanBeSent result }
@@ -43,7 +43,7 @@ fn leave(network: &Network, tables: &Tables, device: Eui) -> Option<Sending>
     sending(network.short_of(device), true, Body::Leaving)
 }
 
-/// Answers the Remove-Device to the device's parent, where a frame can be sealed.
+/// Returns the Remove-Device to the device's parent, where a frame can be sealed.
 fn remove_by(
     network: &Network,
     tables: &Tables,

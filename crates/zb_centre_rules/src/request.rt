@@ -23,21 +23,21 @@ use zb_rules::{Effect, Heard, add, sending};
 use zb_send::{Body, Sending};
 use zb_setting::Network;
 
-/// Answers whether the row that opened a request is the sender's current one, sealed for data.
+/// Returns whether the row that opened a request is the sender's current one, sealed for data.
 pub(crate) fn is_under_current(tables: &Tables, heard: &Heard) -> bool
     ensures { result ≡ under_current tables.now (heard_of heard.now) }
 {
     heard.is_sealed_for(Label::Data) && heard.is_under(tables.current(heard.sender()))
 }
 
-/// Answers whether the command is a Request-Key of a link key in the form in which it is taken.
+/// Returns whether the command is a Request-Key of a link key in the form in which it is taken.
 fn is_request(network: &Network, tables: &Tables, heard: &Heard) -> bool
     ensures { result ≡ is_request_form network.now tables.now (heard_of heard.now) }
 {
     network.is_centre() && is_under_current(tables, heard)
 }
 
-/// Answers what sends a link key to a device, sealed for load under its current row.
+/// Returns what sends a link key to a device, sealed for load under its current row.
 fn link_key_for(network: &Network, device: Eui, key: &Key, row: &LinkRow) -> Option<Sending>
     ensures what { option_map sending_of result ≡ sends (short_of network.now device.0) true
         (Secret ForLoad (link_key row.now).key (TransportLink key.now.0 device.0 network.now.me.eui)) }
@@ -112,8 +112,8 @@ fn answer_request(
     }
 }
 
-/// Takes a Request-Key of a link key with the centre: the offered key is sent again, or a new one is drawn and offered,
-/// sealed for load under the current row.
+/// Takes a Request-Key of a link key with the centre: the offered key is sent again, or a new one is drawn and
+/// offered, sealed for load under the current row.
 ///
 /// # Errors
 /// Policy unless this is the centre, and the command is sealed for data under the sender's current row; rows full; no

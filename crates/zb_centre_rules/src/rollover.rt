@@ -24,7 +24,7 @@ use zb_rules::{Effect, add, sending};
 use zb_send::Body;
 use zb_setting::Network;
 
-/// Answers whether the centre gives a new network key to its devices.
+/// Returns whether the centre gives a new network key to its devices.
 fn is_sending(tables: &Tables) -> bool
     ensures { result ≡ tables.now.sending }
 {
@@ -136,8 +136,8 @@ fn rolled(tables: &Tables, net: &NetRow, key: &Key) -> Changes
 /// Draws a new network key, with the next sequence, which is to be sent to each device.
 ///
 /// # Errors
-/// No key without an active network key; wrong state while a key is given to devices; keys full where there are 256; no
-/// draw where the supply is empty.
+/// No key without an active network key; wrong state while a key is given to devices; keys full where there are 256;
+/// no draw where the supply is empty.
 #[tactic(auto, unfolding(zb_model::specs::OwnEvents::roll, zb_rules::specs::Chains::steps))]
 pub fn roll(tables: &Tables, draw: Option<Key>) -> Result<Effect, Refusal>
     ensures rule { decided result ≡ told (roll tables.now (option_map (λ k. k.0) draw)) }
@@ -168,7 +168,7 @@ pub fn roll(tables: &Tables, draw: Option<Key>) -> Result<Effect, Refusal>
     }
 }
 
-/// Sends a Switch-Key to all, in clear at APS, behind these changes.
+/// Sends a Switch-Key to all, in clear at APS, after these changes.
 fn switch_to(net: &NetRow, changes: Changes) -> Effect
     ensures changes { result.changes ≡ changes }
     ensures sending { option_map sending_of result.sending

@@ -15,7 +15,7 @@ use zb_rules::{Effect, Heard};
 use zb_send::Body;
 use zb_setting::Network;
 
-/// Answers whether the command is an Update-Device in the form in which it is taken.
+/// Returns whether the command is an Update-Device in the form in which it is taken.
 fn is_update(network: &Network, heard: &Heard, status: u8) -> bool
     ensures { result ≡ is_update_form network.now (heard_of heard.now) status }
 {

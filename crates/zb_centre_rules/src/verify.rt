@@ -27,7 +27,7 @@ use zb_rules::{Effect, Heard, add, add_drop, sending};
 use zb_send::{Body, Sending};
 use zb_setting::Network;
 
-/// Answers whether that node is the source of the NWK layer.
+/// Returns whether that node is the source of the NWK layer.
 fn names(heard: &Heard, device: Eui) -> bool
     ensures { result ≡ names_eui device.0 (heard_of heard.now).nwk_source }
 {
@@ -37,14 +37,14 @@ fn names(heard: &Heard, device: Eui) -> bool
     }
 }
 
-/// Answers whether the command is a Verify-Key in the form in which it is taken.
+/// Returns whether the command is a Verify-Key in the form in which it is taken.
 fn is_verify(network: &Network, heard: &Heard, kind: u8, device: Eui) -> bool
     ensures { result ≡ is_verify_form network.now (heard_of heard.now) kind device.0 }
 {
     network.is_centre() && heard.is_clear() && kind == 4 && names(heard, device)
 }
 
-/// Answers whether the hash is that of the row's key.
+/// Returns whether the hash is that of the row's key.
 #[tactic(auto, unfolding(zb_model_real::specs::Real::real))]
 fn is_proved(row: Option<&LinkRow>, hash: &[u8; 16]) -> bool
     ensures { result ≡ proves real hash.now (option_map link_key (option_copied row.entry)) }
@@ -55,7 +55,7 @@ fn is_proved(row: Option<&LinkRow>, hash: &[u8; 16]) -> bool
     }
 }
 
-/// Answers the current row of a device where it is verified.
+/// Returns the current row of a device where it is verified.
 fn verified_row<'a>(tables: &'a Tables, device: Eui) -> Option<&'a LinkRow>
     ensures { option_map link_key (option_copied result) ≡ verified_current tables.now device.0 }
 {
@@ -65,7 +65,7 @@ fn verified_row<'a>(tables: &'a Tables, device: Eui) -> Option<&'a LinkRow>
     }
 }
 
-/// Answers what confirms a key to a device, sealed for data under that key.
+/// Returns what confirms a key to a device, sealed for data under that key.
 fn confirmation(network: &Network, device: Eui, key: &Key) -> Option<Sending>
     ensures what { option_map sending_of result ≡ sends (short_of network.now device.0) true
         (Secret ForData key.now.0 (ConfirmKey 0 4 device.0)) }

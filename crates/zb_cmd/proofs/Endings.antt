@@ -24,7 +24,7 @@ use Rattle.zb_cmd.proofs.ReadAgain.{regroup2, regroup3, regroup4, inner_front, c
 not_inner : (xs : List ℕ) → length xs < 19 → is_inner xs ≡ true → ⊥
 not_inner xs lt inner = let plain = rw (lt-leb _ _ lt) at inner in cc
 
--- what is at the front of an inner frame stays where bytes follow
+-- what is at the start of an inner frame stays where bytes follow
 pub inner_grows : (xs rest : List ℕ) → is_inner xs ≡ true → is_inner (xs ++ rest) ≡ true
 inner_grows xs rest inner =
     elim (cases_lt (length xs) 19) [
@@ -77,7 +77,7 @@ pub data CommandEnd (bytes : List ℕ) : Type 0 where
   CommandWrong : (e : CmdError) → ((cut : CmdError) (more : List ℕ) → command_at cut (bytes ++ more) ≡ Err e) → HasFault bytes e → CommandEnd bytes
   CommandRead : (c : Command) (rest : List ℕ) → ((cut : CmdError) → command_at cut bytes ≡ Ok (c, rest)) → BeginsWith bytes c rest → IsSmall c → (rest ≡ []) ⊎ TakesAll c → CommandEnd bytes
 
--- what the fields behind a front spell
+-- what the fields after a prefix spell
 record Text (front text : List ℕ) (c : Command) : Type 0 where
   parts : front ++ text ≡ command c
   in_range : InRange c
@@ -98,7 +98,7 @@ of_ends front read same ends rest fits =
           CommandRead c end (λ cut. same cut rest ∙ read_now read cut rest end c (reads cut)) (record { in_range = spelt.in_range; shaped = spelt.shaped; parts = whole }) spelt.small (inr spelt.takes)
     ]
 
--- bytes that are cut in front of a field that can be spelled
+-- bytes that are cut before a field that can be spelled
 of_text : (bytes : List ℕ) → ((cut : CmdError) → command_at cut bytes ≡ Err cut) → (c : Command) (more : List ℕ) → InRange c → IsCommand c → bytes ++ more ≡ command c → CommandEnd bytes
 of_text bytes short c more fits is parts =
     CommandCut short (record { no_command = no_command bytes short; goes_on = inl (more, c, record { in_range = fits; shaped = is; parts = parts ∙ sym (append-nil (command c)) }) })

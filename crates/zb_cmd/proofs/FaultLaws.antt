@@ -100,7 +100,7 @@ ends_there (Tunnel destination inner) rest takes = inl takes
 ends_there (Verify kind source hash) rest takes = tt
 ends_there (Confirm status kind destination) rest takes = tt
 
--- two bytes at the front that are known
+-- two bytes at the start that are known
 pair : (a b c d : ℕ) (tail : List ℕ) → a ≡ c → b ≡ d → c ∷ d ∷ tail ≡ a ∷ b ∷ tail
 pair a b c d tail p q = rw (p, q) refl
 

@@ -37,7 +37,7 @@ inner_front xs =
           rw (n, take_all (length xs) xs (omega arith)) refl
     ]
 
--- what is read of a Tunnel's inner frame is all of it, where it has 118 bytes or nothing stands behind it
+-- what is read of a Tunnel's inner frame is all of it, where it has 118 bytes or nothing stands after it
 pub inner_again : (cut : CmdError) (xs rest : List ℕ) → is_inner xs ≡ true → (length xs ≡ 118) ⊎ ((rest ≡ []) × (length xs ≤ 118)) → inner_at cut (xs ++ rest) ≡ Ok (record { items = xs }, rest)
 unfolding inner_at
 inner_again cut xs rest inner (inl full) =

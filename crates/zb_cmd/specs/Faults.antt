@@ -27,7 +27,8 @@ pub record LacksNonce (bytes : List ℕ) (destination : Eui) (inner : List ℕ) 
   pub judged : 3 ≤ length inner
   pub plain : bit (slice_index inner 2) 5 ≡ false
 
--- The bytes ran out: no command stands at their front, and longer bytes that begin so can be one, or they are a Tunnel without the extended nonce.
+-- The bytes ran out: no command stands at their prefix, and longer bytes that begin so can be one, or they are a
+-- Tunnel without the extended nonce.
 pub record IsCut (bytes : List ℕ) : Type 0 where
   pub no_command : (c : Command) (rest : List ℕ) → ¬ BeginsWith bytes c rest
   pub goes_on : CanGoOn bytes ⊎ ((destination : Eui) × (inner : List ℕ) × LacksNonce bytes destination inner)

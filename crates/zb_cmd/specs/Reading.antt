@@ -97,7 +97,7 @@ confirm_at = do
   destination ← eui_at
   give (Confirm status kind destination)
 
--- what stands behind the identifier
+-- what stands after the identifier
 unfoldable pub body_of : ℕ → Reading CmdError Command
 body_of id cut bytes =
     if id == 5 then transport_at cut bytes
@@ -115,7 +115,8 @@ command_at = do
   id ← byte_at
   body_of id
 
--- What a reader of the fields behind `front` returned, and what it left of the bytes: all that reading says, and of a command that it is spelled so.
+-- What a reader of the fields after `prefix` returned, and what it left of the bytes: all that reading says, and of a
+-- command that it is spelled so.
 pub record IsRead (reading : Reading CmdError Command) (front : List ℕ) (cut : CmdError) (old new : List ℕ) (result : Result Command CmdError) : Type 0 where
   pub exact : Gives result new (reading cut old)
   pub spelled : IfOk result (λ c. front ++ old ≡ command c ++ new)

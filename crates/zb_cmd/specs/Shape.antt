@@ -6,8 +6,8 @@ use Rattle.zb_cmd.specs.declared.command.Command.TheVariants.{TransportNetwork, 
 use Rattle.zb_cmd.specs.declared.leave.Leave.{Leave}
 use Rattle.zb_cmd.specs.Spelling.{command, leave}
 
--- The frame in a Tunnel has an APS header of 2 bytes, an auxiliary header of 13 with the extended nonce (bit 5 of its control byte) and a code of 4.
--- No other place of it is judged.
+-- The frame in a Tunnel has an APS header of 2 bytes, an auxiliary header of 13 with the extended nonce (bit 5 of its
+-- control byte) and a code of 4. No other place of it is judged.
 abbrev pub is_inner : List ℕ → Bool
 is_inner xs = nat_le 19 (length xs) && bit (slice_index xs 2) 5
 

@@ -165,7 +165,7 @@ fn read_confirm(reader: &mut Reader<CmdError>) -> Result<Command, CmdError>
     })
 }
 
-/// Reads what stands behind the identifier.
+/// Reads what stands after the identifier.
 #[tactic(auto, unfolding(crate::specs::Reading::body_of))]
 fn read_body(reader: &mut Reader<CmdError>, id: u8) -> Result<Command, CmdError>
     ensures read { IsRead (body_of id) (id ∷ []) reader.old.cut reader.old.rest.now reader.new.rest.now result }

@@ -22,7 +22,7 @@ pub enum CmdError {
         /// The number of all bytes.
         at: u32,
     },
-    /// Bytes stand behind the command.
+    /// Bytes stand after the command.
     Trailing {
         /// How many they are.
         count: u32,

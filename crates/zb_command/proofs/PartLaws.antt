@@ -55,7 +55,7 @@ takes_more old mid new before now more limit grown next within = (
   omega (arith, ap (length {A = ℕ}) grown.2, length-append before grown.0, length-append grown.0 more, within),
 )
 
--- So many bytes came of an input. Its lines up to `part` were read, and what comes behind gives the rest.
+-- So many bytes came of an input. Its lines up to `part` were read, and what comes after gives the rest.
 pub record IsComing (old now : Option (List ℕ)) (reading : Reading) (part : List ℕ) (all : ℕ) : Type 0 where
   pub taken : List ℕ
   pub from : Consumes old now taken
@@ -232,7 +232,7 @@ grown_whole : (part first rest taken back left : List ℕ) → part ≡ first ++
 grown_whole part first rest taken back left whole came =
     ap (λ zs. first ++ zs) came ∙ sym (append_assoc first rest taken) ∙ ap (λ zs. zs ++ taken) (sym whole)
 
--- a text behind another is cut behind its whole lines
+-- a text after another is cut after its whole lines
 cut_twice : (part first rest taken back left : List ℕ) → part ≡ first ++ rest
     → ((more : List ℕ) → lines (part ++ more) ≡ lines first ++ lines (rest ++ more)) → back ++ left ≡ rest ++ taken
     → ((more : List ℕ) → lines ((back ++ left) ++ more) ≡ lines back ++ lines (left ++ more)) → (more : List ℕ)
@@ -258,7 +258,7 @@ room_of_both : (read : Result (Unit {0}) (OrMemory CaptureError)) (n m k l a b :
 room_of_both (Ok done) n m k l a b few is = omega (arith, few, is)
 room_of_both (Err e) n m k l a b few is = tt
 
--- The whole lines of what came were read, and those of what came behind.
+-- The whole lines of what came were read, and those of what came after it.
 pub round_read : (read : Result (Unit {0}) (OrMemory CaptureError)) (old new : Option (List ℕ)) (before after : Incoming) (reading next : Reading)
     (first rest back left : List ℕ) → before.part.items ≡ first ++ rest
     → ((more : List ℕ) → lines (before.part.items ++ more) ≡ lines first ++ lines (rest ++ more)) → Grows old new rest (back ++ left)

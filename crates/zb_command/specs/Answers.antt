@@ -73,14 +73,15 @@ abbrev pub sniff_answer : Result Extraction PcapError → Answer
 sniff_answer (Ok e) = Writes (sniff_output e)
 sniff_answer (Err e) = Refuses e.place (pcap_cause e.cause)
 
--- ---- `campaign`: the lines of made schedules that were played, or where the first of them clashes; the number of jobs doesn't matter
+-- ---- `campaign`: the lines of made schedules that were played, or where the first of them clashes; the number of
+-- jobs doesn't matter
 
 abbrev pub campaign_answer : Result Bytes SchedError → Answer
 campaign_answer (Ok output) = Writes output
 campaign_answer (Err e) = Refuses e.line (schedule_cause e.cause)
 
--- What is wanted of a command, by the bytes that a source has to come. None where the command reads them and the source doesn't
--- tell them; and for `audit` and `admin`, of which Auditing and Serving say how they end.
+-- What is wanted of a command, by the bytes that a source has to come. None where the command reads them and the
+-- source doesn't tell them; and for `audit` and `admin`, of which Auditing and Serving say how they end.
 abbrev pub wanted : Invocation → Option Bytes → Option Answer
 wanted Playing rest = option_map (λ input. within_limit input (play_answer (schedule_in input))) rest
 wanted (Installing code) rest = Some (install_answer (code_of_text code))

@@ -24,7 +24,7 @@ pub record IsTranscript (bytes : Bytes) (lines : List Line) : Type 0 where
   pub proper : AllProper lines
   pub text : bytes ≡ texts lines
 
--- So many lines were taken off the bytes, this rest is left, and the auditor stands for these lines.
+-- So many lines were taken off the bytes, this rest is left, and the auditor represents these lines.
 pub record IsAudited (bytes rest : Bytes) (count : ℕ) (a : Auditor) : Type 0 where
   pub lines : List Line
   pub proper : AllProper lines

@@ -5,11 +5,12 @@ use Rattle.zb_base.specs.declared.key.Key.{Key}
 use Rattle.zb_text.specs.Numbers.{number_of}
 use Rattle.zb_command.specs.KeyWords.{all_keys, keys_in}
 
--- `play` plays the schedule on its input; `install CODE` writes the link key of an install code; `make N` writes the made
--- schedule for N routers and devices; `inspect JOBS` writes the report on the capture on its input, worked out by so many jobs;
--- `sniff JOBS KEY ..` does that for the frames of the capture file on its input, under at most 256 keys; `campaign COUNT START JOBS` plays
--- that many made schedules from the start value START on, by so many jobs, and writes what they come to; `audit` judges the transcript on its
--- input; `admin PATH` carries out the script on its input on the store in the file of that path
+-- `play` plays the schedule on its input; `install CODE` writes the link key of an install code; `make N` writes the
+-- made schedule for N routers and devices; `inspect JOBS` writes the report on the capture on its input, worked out by
+-- so many jobs; `sniff JOBS KEY ..` does that for the frames of the capture file on its input, under at most 256 keys;
+-- `campaign COUNT START JOBS` plays that many made schedules from the start value START on, by so many jobs, and
+-- writes what they come to; `audit` judges the transcript on its input; `admin PATH` carries out the script on its
+-- input on the store in the file of that path
 pub data Invocation : Type 0 where
   Playing : Invocation
   Installing : (code : Bytes) → Invocation

@@ -8,7 +8,8 @@ use Rattle.zb_command.specs.Outcomes.{Ends}
 use Rattle.zb_command.specs.Serving.{ServesOut}
 use Rattle.zb_command.specs.declared.status.Status.{Status}
 
--- By the bytes that the source had to come, where these are known, what the sink took before and after, and its count of faults.
+-- By the bytes that the source had to come, where these are known, what the sink took before and after, and its count
+-- of faults.
 abbrev pub Finishes : Invocation → Status → Option Bytes → Option Bytes → Option Bytes → ℕ → ℕ → Type 0
 Finishes Playing status rest before after old new = Ends status (wanted Playing rest) before after old new
 Finishes (Installing code) status rest before after old new = Ends status (wanted (Installing code) rest) before after old new

@@ -16,7 +16,7 @@ use Rattle.zb_command.specs.declared.input.InputFault.TheVariants as input
 use Rattle.zb_command.specs.declared.capture.CaptureFault.{CaptureFault}
 use Rattle.zb_command.specs.declared.capture.CaptureFault.TheVariants as fault
 
--- what a source gave stands behind the bytes before
+-- what a source gave stands after the bytes before
 abbrev pub Grows : Option (List ℕ) → Option (List ℕ) → List ℕ → List ℕ → Type 0
 Grows old new before after = (taken : List ℕ) × Consumes old new taken × (after ≡ before ++ taken)
 
@@ -38,7 +38,7 @@ pub record IsReadOn (result : Result (Unit {0}) InputFault) (old new : Option (L
 abbrev pub IsPastAll : Option (List ℕ) → Option (List ℕ) → ℕ → Type 0
 IsPastAll old new count = (taken : List ℕ) × Consumes old new taken × (16777216 < count + length taken)
 
--- Bytes came behind others, and `true` is answered where there are as many as were asked for.
+-- Bytes came after others, and `true` is answered where there are as many as were asked for.
 pub record IsFilled (result : Result Bool InputFault) (old new : Option (List ℕ)) (before after : Incoming) (size faults faults_after : ℕ) : Type 0 where
   pub grown : OnOk result (Grows old new before.part.items after.part.items)
   pub count : OnOk result (after.count + length before.part.items ≡ before.count + length after.part.items)
@@ -50,7 +50,8 @@ pub record IsFilled (result : Result Bool InputFault) (old new : Option (List �
   pub unrisen : result ≢ Err input.Read → Unrisen faults faults_after
   pub too_long : result ≡ Err input.TooLong → IsPastAll old new before.count
 
--- Bytes came behind others, what stands behind the whole lines of all these was split off, and these lines were read by themselves.
+-- Bytes came after others, what stands after the whole lines of all these was split off, and these lines were read by
+-- themselves.
 pub record IsTaken (result : Result Taken InputFault) (old new : Option (List ℕ)) (before after : Incoming) (faults faults_after : ℕ) : Type 0 where
   pub grown : IfOk result (λ taken. Grows old new before.part.items (after.part.items ++ taken.rest.part.items))
   pub count : IfOk result (λ taken. taken.rest.count + length before.part.items ≡ before.count + length (after.part.items ++ taken.rest.part.items))
@@ -63,19 +64,19 @@ pub record IsTaken (result : Result Taken InputFault) (old new : Option (List �
   pub unrisen : result ≢ Err input.Read → Unrisen faults faults_after
   pub too_long : result ≡ Err input.TooLong → IsPastAll old new before.count
 
--- Lines of what came were read: whatever comes behind that gives the same behind what is left.
+-- Lines of what came were read: whatever comes after that gives the same after what is left.
 abbrev pub AreLinesRead : Result (Unit {0}) (OrMemory CaptureError) → Reading → Reading → List ℕ → List ℕ → Type 0
 AreLinesRead (Ok done) old new before after = (more : List ℕ) → with_more old (lines (before ++ more)) ≡ with_more new (lines (after ++ more))
 AreLinesRead (Err (error.Fault fault)) old new before after = (more : List ℕ) → with_more old (lines (before ++ more)) ≡ Err fault
 AreLinesRead (Err error.NoMemory) old new before after = Unit {0}
 
--- Lines were read behind those before them, or have a fault; it says nothing where memory is wanting.
+-- Lines were read after those before them, or have a fault; it says nothing where memory is wanting.
 abbrev pub AreLines : Result (Unit {0}) (OrMemory CaptureError) → Reading → Reading → List (List ℕ) → Type 0
 AreLines (Ok done) old new more = Lead old more new
 AreLines (Err (error.Fault fault)) old new more = with_more old more ≡ Err fault
 AreLines (Err error.NoMemory) old new more = Unit {0}
 
--- Bytes came behind others, lines of all these were read, and what is left may go on.
+-- Bytes came after others, lines of all these were read, and what is left may go on.
 pub record IsRead (read : Result (Unit {0}) (OrMemory CaptureError)) (old new : Option (List ℕ)) (before after : Incoming) (reading next : Reading) : Type 0 where
   pub all : List ℕ
   pub grown : Grows old new before.part.items all

@@ -1,4 +1,4 @@
--- The key words of `sniff`: the 32 digits of a key, or the digits of an install code, which stands for its link key.
+-- The key words of `sniff`: the 32 digits of a key, or the digits of an install code, which represents its link key.
 use Rattle.std.specs.Prelude.{nat_lt, List, [], ◌∷◌, length, is_some, Bool, if◌then◌else◌, Option, Some, None, Result, Ok, Err}
 use Rattle.std.specs.List.{list_all}
 use Rattle.zb_base.specs.declared.key.Key.{Key}
@@ -15,7 +15,7 @@ abbrev pub key_or : Option Bytes → Option Key → Option Key
 key_or None other = other
 key_or (Some key) other = Some (record { 0 = key })
 
--- the key that a word stands for; a word has at most 36 characters
+-- the key that a word represents; a word has at most 36 characters
 unfoldable pub key_word : Bytes → Option Key
 key_word word = if nat_lt 36 (length word) then None else key_or (key_of word) (code_given (code_of_text word))
 
@@ -23,11 +23,11 @@ abbrev pub key_before : Option Key → List Key → List Key
 key_before None keys = keys
 key_before (Some key) keys = key ∷ keys
 
--- the keys that words stand for, in order
+-- the keys that words represent, in order
 abbrev pub keys_in : List Bytes → List Key
 keys_in [] = []
 keys_in (word ∷ more) = key_before (key_word word) (keys_in more)
 
--- whether each word stands for a key
+-- whether each word represents a key
 abbrev pub all_keys : List Bytes → Bool
 all_keys words = list_all (λ word. is_some (key_word word)) words

@@ -22,12 +22,12 @@ IsWritten (Writes output) before after = Appends before after output
 IsWritten (Refuses line cause) before after = ⊥
 IsWritten Exceeds before after = ⊥
 
--- A front of the answer's output was written.
+-- A prefix of the answer's output was written.
 abbrev pub IsBegun : Answer → Option Bytes → Option Bytes → Type 0
 IsBegun answer before after = AppendsFront before after (output_of answer)
 
--- How a command ends whose answer is wanted, where that is known: what the sink took before and after, and its count of
--- faults.
+-- How a command ends whose answer is wanted, where that is known: what the sink took before and after, and its count
+-- of faults.
 abbrev pub Ends : Status → Option Answer → Option Bytes → Option Bytes → ℕ → ℕ → Type 0
 Ends status.Ok wanted before after old new = IfSome wanted (λ answer. IsWritten answer before after)
 Ends status.Usage wanted before after old new = ⊥
@@ -53,7 +53,7 @@ ReadsToEnd (Campaigning count start jobs) left = Unit {0}
 ReadsToEnd Auditing left = IsAtEnd left
 ReadsToEnd Serving left = IsAtEnd left
 
--- What the statuses say of the bytes written: nothing was, or a front of the output.
+-- What the statuses say of the bytes written: nothing was, or a prefix of the output.
 abbrev pub WritesNothing : Status → Option Bytes → Option Bytes → Type 0
 WritesNothing status.Ok before after = Unit {0}
 WritesNothing status.Usage before after = Keeps before after
@@ -73,8 +73,8 @@ WritesFront status.WriteFault answer before after = IsBegun answer before after
 WritesFront status.NoMemory answer before after = IsBegun answer before after
 WritesFront s answer before after = Unit {0}
 
--- The input is a schedule, and the text of its transcript was written. Everything holds of that transcript that the laws over
--- runs say, and it is the only list of lines that the schedule gives.
+-- The input is a schedule, and the text of its transcript was written. Everything holds of that transcript that the
+-- laws over runs say, and it is the only list of lines that the schedule gives.
 pub record Played (input : Bytes) (before after : Option Bytes) : Type 0 where
   pub schedule : sched.Schedule
   pub reads : schedule_in input ≡ Ok schedule

@@ -48,7 +48,7 @@ pub(crate) fn serve_input<R: Source, W: Sink, D: Disk>(
     }
 }
 
-/// Answers the status of a script that was served so far.
+/// Returns the status of a script that was served so far.
 fn ended(served: Result<(), AdminFault>) -> Status
     ensures { result ≡ served_status served }
 {

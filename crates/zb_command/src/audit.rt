@@ -14,7 +14,7 @@ use zb_base::{NoMemory, Sink, Source};
 use zb_text::page::{add_number, end_line, hand_out, put};
 use zb_trace_read::take_line;
 
-/// Says why a text isn't that of a sound transcript.
+/// Why a text isn't that of a sound transcript.
 #[derive(Clone, Copy, Debug, PartialEq, Eq)]
 pub(crate) enum TextFault {
     /// A line is no text of a line.

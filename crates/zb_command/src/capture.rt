@@ -23,7 +23,7 @@ const FRONT: usize = 2_097_152;
 /// How many bytes one job takes in meanwhile. It reads their lines too, so they are fewer.
 const BACK: usize = 1_572_864;
 
-/// Says why the input gives no capture.
+/// Why the input gives no capture.
 #[derive(Clone, Copy, Debug, PartialEq, Eq)]
 pub(crate) enum CaptureFault {
     /// It isn't known whole.
@@ -127,7 +127,7 @@ fn read_by_several<T: Threads + Sync, R: Source>(
     Ok(reader.into_capture())
 }
 
-/// Does a round of two jobs or more. What stands behind the whole lines is left.
+/// Does a round of two jobs or more. What stands after the whole lines is left.
 ///
 /// While all but one of the jobs read the whole lines of what came, that one takes in what comes next and reads its
 /// whole lines.
@@ -161,7 +161,7 @@ fn read_round<T: Threads + Sync, R: Source>(
     Ok(read)
 }
 
-/// Reads the lines of a text by so many jobs, and meanwhile takes in what comes behind, and reads its whole lines by
+/// Reads the lines of a text by so many jobs, and meanwhile takes in what comes after it, and reads its whole lines by
 /// themselves.
 fn read_both<T: Threads + Sync, R: Source>(
     rt: &T,
@@ -214,7 +214,7 @@ fn read_first<T: Threads + Sync>(
     Ok(reader)
 }
 
-/// Takes the lines of two texts, behind those before, where it is known what each text gives by itself.
+/// Takes the lines of two texts, after those before, where it is known what each text gives by itself.
 fn add_both(
     alloc: Global,
     reader: &mut CaptureReader,

@@ -7,7 +7,7 @@ ghost use Rattle.zb_command.specs.Words.{invocation, Fits};
 use crate::keys::are_keys;
 use zb_text::numbers::number;
 
-/// Is a command of the program.
+/// A command of the program.
 #[derive(Drop)]
 pub(crate) enum Command<'a> {
     /// Plays the schedule on the input, and writes its transcript.
@@ -27,11 +27,11 @@ pub(crate) enum Command<'a> {
         /// How many jobs there are.
         jobs: u32,
     },
-    /// Writes the report on the capture file on the input, under the keys that the words stand for.
+    /// Writes the report on the capture file on the input, under the keys that the words represent.
     Sniff {
         /// How many jobs there are.
         jobs: u32,
-        /// The words that stand for keys.
+        /// The words that represent keys.
         words: &'a [String],
     },
     /// Writes what so many made schedules come to, played by so many jobs.

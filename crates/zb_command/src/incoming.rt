@@ -7,7 +7,7 @@ use std::alloc::{AllocError, Global};
 use zb_base::{OrMemory, Source};
 use zb_capture::{CaptureError, CaptureReader, whole_lines};
 
-/// Holds the bytes that came of an input.
+/// The bytes that came of an input.
 #[derive(Drop)]
 pub(crate) struct Incoming {
     /// How many there are.
@@ -16,12 +16,12 @@ pub(crate) struct Incoming {
     pub part: Vec<u8>,
 }
 
-/// Holds what was taken in of an input.
+/// What was taken in of an input.
 #[derive(Drop)]
 pub(crate) struct Taken {
     /// What the whole lines give by themselves.
     pub alone: Result<CaptureReader, OrMemory<CaptureError>>,
-    /// What stands behind them.
+    /// What stands after them.
     pub rest: Incoming,
 }
 
@@ -41,7 +41,7 @@ impl Incoming {
         }
     }
 
-    /// Reads on until so many bytes more have come, and answers whether they have: if not, the input is at its end.
+    /// Reads on until so many bytes more have come, and returns whether they have: if not, the input is at its end.
     pub fn fill<R: Source>(&mut self, input: &mut R, size: usize) -> Result<bool, InputFault>
         requires count { self.old.count ≤ 16777216 }
         requires size { 1 ≤ size }
@@ -60,7 +60,7 @@ impl Incoming {
         Ok(after == limit)
     }
 
-    /// Reads the whole lines of what came. What stands behind them stays, since it may go on.
+    /// Reads the whole lines of what came. What stands after them stays, since it may go on.
     pub fn read_whole_lines(
         &mut self,
         alloc: Global,
@@ -81,7 +81,7 @@ impl Incoming {
         Ok(())
     }
 
-    /// Splits off what stands behind the whole lines, since it may go on.
+    /// Splits off what stands after the whole lines, since it may go on.
     pub fn split(&mut self) -> Result<Incoming, AllocError>
         ensures count { IfOk result (λ rest. rest.count ≡ self.old.count) }
         ensures parts { IfOk result (λ rest. self.old.part.items ≡ self.new.part.items ++ rest.part.items) }
@@ -106,7 +106,7 @@ impl Incoming {
         Ok(())
     }
 
-    /// Reads on as `fill` does, splits off what stands behind the whole lines, and reads these by themselves.
+    /// Reads on as `fill` does, splits off what stands after the whole lines, and reads these by themselves.
     pub fn take<R: Source>(
         &mut self,
         alloc: Global,
@@ -127,7 +127,7 @@ impl Incoming {
         })
     }
 
-    /// Says why the input is no capture, of which lines have a fault. Nothing is said of them before its end.
+    /// Returns why the input is no capture, of which lines have a fault. Nothing is said of them before its end.
     pub fn refuse<R: Source>(
         &mut self,
         input: &mut R,

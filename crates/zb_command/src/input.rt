@@ -11,7 +11,7 @@ use zb_base::Source;
 /// How many bytes the longest input of a command has.
 pub(crate) const LONGEST: u32 = 16_777_216;
 
-/// Says why the input isn't known whole.
+/// Why the input isn't known whole.
 #[derive(Clone, Copy, Debug, PartialEq, Eq)]
 pub(crate) enum InputFault {
     /// The source failed.
@@ -30,7 +30,7 @@ impl From<AllocError> for InputFault {
     }
 }
 
-/// Reads on behind bytes that came before, to the end of the input or until there are so many.
+/// Reads on after bytes that came before, to the end of the input or until there are so many.
 pub(crate) fn read_on<R: Source>(
     input: &mut R,
     bytes: &mut Vec<u8>,

@@ -1,4 +1,4 @@
-//! The words of the command line that stand for keys.
+//! The words of the command line that represent keys.
 ghost use Rattle.std.specs.Prelude.{◌≡◌, ◌≤◌, length, map, string_bytes, vec_len, IfOk};
 ghost use Rattle.zb_command.specs.KeyWords.{all_keys, key_word as key_of_word, keys_in};
 
@@ -7,7 +7,7 @@ use zb_base::Key;
 use zb_install::InstallCode;
 use zb_text::fields;
 
-/// Reads the key that a word stands for: its 32 digits, or an install code, which stands for its link key.
+/// Reads the key that a word represents: its 32 digits, or an install code, which represents its link key.
 #[tactic(auto, unfolding(crate::specs::KeyWords::key_word))]
 fn key_word(word: &str) -> Option<Key>
     ensures { result ≡ key_of_word word.now }
@@ -24,7 +24,7 @@ fn key_word(word: &str) -> Option<Key>
     }
 }
 
-/// Answers whether each word stands for a key.
+/// Returns whether each word represents a key.
 pub(crate) fn are_keys(words: &[String]) -> bool
     ensures { result ≡ all_keys (map string_bytes words.now) }
 {
@@ -36,7 +36,7 @@ pub(crate) fn are_keys(words: &[String]) -> bool
     true
 }
 
-/// Reads the keys that words stand for, in order.
+/// Reads the keys that words represent, in order.
 pub(crate) fn read_keys(alloc: Global, words: &[String]) -> Result<Vec<Key>, AllocError>
     ensures value { IfOk result (λ v. v.items ≡ keys_in (map string_bytes words.now)) }
     ensures few { IfOk result (λ v. vec_len v ≤ length words.now) }

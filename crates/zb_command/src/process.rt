@@ -19,8 +19,8 @@ const HELD_BACK: usize = 65_536;
 
 /// Runs the command that the words of the process are, over its standard input and output.
 ///
-/// Where it didn't end well it says so on standard output. What standard output holds back is handed on at the end, and
-/// fails as a write does. Of `admin` it holds back nothing.
+/// Where it didn't end well it says so on standard output. What standard output holds back is handed on at the end,
+/// and fails as a write does. Of `admin` it holds back nothing.
 pub fn run_process<H: Env + Input + Print + Files + AllocGlobal + Threads + Sync + Drop>(
     rt: &H,
 ) -> Status {
@@ -41,7 +41,7 @@ pub fn run_process<H: Env + Input + Print + Files + AllocGlobal + Threads + Sync
     status
 }
 
-/// Answers how many bytes of output are held back: none of `admin`, whose lines go out as their commands are stored.
+/// Returns how many bytes of output are held back: none of `admin`, whose lines go out as their commands are stored.
 fn room_for(words: &[String]) -> usize {
     match words {
         [word, ..] => {
@@ -55,7 +55,7 @@ fn room_for(words: &[String]) -> usize {
     }
 }
 
-/// Says how a run ended before it wrote anything, and holds nothing back.
+/// Returns how a run ended before it wrote anything, and holds nothing back.
 fn end_at_once<H: Print>(rt: &H, status: Status) -> Status {
     match tell(&status, &mut StdSink::new(io::writer(rt))) {
         Ok(()) => status,
@@ -76,7 +76,7 @@ fn run_words<H: Input + Files + AllocGlobal + Threads + Sync + Drop, W: Write>(
     run(rt, rt.alloc(), words, &mut input, output, &mut store)
 }
 
-/// Answers the status where the words can't be had. A word that isn't UTF-8 is none of a command.
+/// Returns the status where the words can't be had. A word that isn't UTF-8 is none of a command.
 fn without_words(error: &io::Error) -> Status {
     if error.kind() == io::ErrorKind::InvalidData {
         Status::Usage
@@ -85,7 +85,7 @@ fn without_words(error: &io::Error) -> Status {
     }
 }
 
-/// Answers the path of the store: the second word, or an empty path.
+/// Returns the path of the store: the second word, or an empty path.
 fn path_in(words: &[String]) -> &str {
     match words {
         [_, path, ..] => path.as_str(),
@@ -93,7 +93,7 @@ fn path_in(words: &[String]) -> &str {
     }
 }
 
-/// Gives the words after the program's name.
+/// Returns the words after the program's name.
 fn words_after_name<H: Env + AllocGlobal>(rt: &H) -> io::Result<Vec<String>> {
     let mut words = Vec::new(rt.alloc());
     for word in env::args(rt)?.skip(1) {

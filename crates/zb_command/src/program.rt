@@ -66,7 +66,7 @@ pub fn run<T: Threads + Sync, R: Source, W: Sink, D: Disk>(
     // The cause of each other answer.
     ensures read_fault { result ≡ Status.ReadFault → Rose (R.faults input.old) (R.faults input.new) }
     ensures write_fault { result ≡ Status.WriteFault → Rose (W.faults output.old) (W.faults output.new) }
-    // A fault of the source or of the sink is told as nothing else.
+    // A fault of the source or of the sink is reported as nothing else.
     ensures no_read_fault { result ≢ Status.ReadFault → Unrisen (R.faults input.old) (R.faults input.new) }
     ensures no_write_fault { result ≢ Status.WriteFault → Unrisen (W.faults output.old) (W.faults output.new) }
     ensures refused { (job : Invocation) (line : ℕ) (cause : Cause) → invocation_of (map string_bytes words.now) ≡ Some job
@@ -80,7 +80,7 @@ pub fn run<T: Threads + Sync, R: Source, W: Sink, D: Disk>(
     ensures front { (job : Invocation) → invocation_of (map string_bytes words.now) ≡ Some job
         → IfSome (wanted job (R.rest input.old))
         (λ answer. WritesFront result answer (W.taken output.old) (W.taken output.new)) }
-    // Where neither the source nor the sink fails, only the status of the answer comes, or want of memory.
+    // Where neither the source nor the sink fails, only the status of the answer comes, or out of memory.
     ensures complete { (job : Invocation) (answer : Answer) → invocation_of (map string_bytes words.now) ≡ Some job → wanted job
         (R.rest input.old) ≡ Some answer
         → (Rose (R.faults input.old) (R.faults input.new) → ⊥) → (Rose (W.faults output.old) (W.faults output.new) → ⊥)

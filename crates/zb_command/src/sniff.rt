@@ -22,7 +22,7 @@ use zb_parallel::NoGate;
 use zb_pcap::{Counts, Extraction, extract};
 use zb_text::page::{add_number, end_line, hand_out, put};
 
-/// Writes the report on the capture file on the input, under the keys that the words stand for, and the counts of its
+/// Writes the report on the capture file on the input, under the keys that the words represent, and the counts of its
 /// packets.
 pub(crate) fn sniff_input<T: Threads + Sync, R: Source, W: Sink>(
     rt: &T,

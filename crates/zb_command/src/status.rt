@@ -13,7 +13,7 @@ use zb_pcap::PcapCause;
 use zb_sched::SchedCause;
 use zb_script::ScriptCause;
 
-/// Says how a run ended. Its number is the status of the process.
+/// How a run ended. Its number is the status of the process.
 #[derive(Clone, Copy, Debug, PartialEq, Eq)]
 pub enum Status {
     /// The whole output was written, and the input of a command that has one was read to its end.
@@ -58,10 +58,10 @@ pub enum Status {
     Worn,
 }
 
-/// Says why an input or a word is refused.
+/// Why an input or a word is refused.
 #[derive(Clone, Copy, Debug, PartialEq, Eq)]
 pub enum Cause {
-    /// The line is of no form that the command takes, or a declaration behind an event.
+    /// The line is of no form that the command takes, or a declaration after an event.
     Syntax,
     /// A name, EUI or short address is taken, or a declaration stands twice for one node.
     DuplicateNode,
@@ -204,7 +204,7 @@ impl Status {
     ghost use Rattle.std.specs.Prelude.{◌≡◌};
     ghost use Rattle.zb_command.specs.Statuses.{number_of, text_of};
 
-    /// Answers the status of the process.
+    /// Returns the status of the process.
     pub fn number(&self) -> u8
         ensures { result ≡ number_of self.now }
     {
@@ -224,7 +224,7 @@ impl Status {
         }
     }
 
-    /// Says how the run ended, for standard output, without a line feed. Nothing is said of `Ok` and `WriteFault`.
+    /// Returns how the run ended, for standard output, without a line feed. Nothing is said of `Ok` and `WriteFault`.
     pub fn text(&self) -> ArrayString<64>
         ensures { result.bytes ≡ text_of self.now }
     {
@@ -267,7 +267,7 @@ impl Cause {
     ghost use Rattle.arrayvec.specs.ArrayString.{array_string_len};
     ghost use Rattle.zb_command.specs.Statuses.{cause_text};
 
-    /// Adds the cause's word and its details, each behind a space.
+    /// Adds the cause's word and its details, each after a space.
     #[tactic(auto, using(std::proofs::Common::append_assoc))]
     fn add_to(&self, text: &mut ArrayString<64>)
         requires { array_string_len text.old ≤ 20 }
@@ -317,7 +317,7 @@ fn word(words: &str) -> ArrayString<64>
     text
 }
 
-/// Adds a word behind a space.
+/// Adds a word after a space.
 #[tactic(auto, using(std::proofs::Common::append_assoc))]
 fn add_word(text: &mut ArrayString<64>, word: &str)
     requires { array_string_len text.old + length word.now ≤ 60 }
@@ -328,7 +328,7 @@ fn add_word(text: &mut ArrayString<64>, word: &str)
     text.push_str(word);
 }
 
-/// Adds a number in decimal digits behind a space.
+/// Adds a number in decimal digits after a space.
 fn add_number(text: &mut ArrayString<64>, number: u32)
     requires { array_string_len text.old ≤ 50 }
     ensures bytes { text.new.bytes ≡ text.old.bytes ++ then (decimal number) }
@@ -338,7 +338,7 @@ fn add_number(text: &mut ArrayString<64>, number: u32)
     add_word(text, digits.format(number));
 }
 
-/// Adds a number in four hexadecimal digits behind a space.
+/// Adds a number in four hexadecimal digits after a space.
 #[tactic(auto, using(std::proofs::Common::append_assoc), unfolding(hex::specs::Hex::encode_with))]
 fn add_digits(text: &mut ArrayString<64>, number: u16)
     requires { array_string_len text.old ≤ 50 }

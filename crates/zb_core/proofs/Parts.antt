@@ -1,5 +1,5 @@
--- A plan that is the policy's answer can be carried out step by step: what it accepts has counters below the greatest, and
--- what it seals has the next ones.
+-- A plan that is the policy's answer can be carried out step by step: what it accepts has counters below the greatest,
+-- and what it seals has the next ones.
 use Rattle.std.proofs.Common.{◌≡◌, ◌<◌, List, ◌++◌, Option, Some, None, refl, sym, ap, ◌∙◌, subst, append-nil}
 use Rattle.std.specs.List.{AllByRecursion}
 use Rattle.zb_core.specs.Carrying.{IsBelowLast, after_aps, after_heard, after_plan, one}

@@ -1,5 +1,5 @@
--- The steps in which a plan is carried out: its changes, what it accepted at NWK and at APS, what it sealed at APS and at
--- NWK.
+-- The steps in which a plan is carried out: its changes, what it accepted at NWK and at APS, what it sealed at APS and
+-- at NWK.
 use Rattle.std.specs.Prelude.{◌<◌, List, Option, Some, None, option_map, option_to_list, ⊤}
 use Rattle.zb_core.specs.CorePlans.{CorePlan}
 use Rattle.zb_model.specs.Answer.{accepted_all, sealed_all}

@@ -11,7 +11,7 @@ ghost use Rattle.zb_record.specs.Ranges.{InRange};
 ghost use Rattle.zb_stored_tables.specs.Cores.{CoreValue};
 ghost use Rattle.zb_stored_tables.specs.Stored.{IsKept, IsStorable};
 
-/// Says that a plan which is the policy's answer leads to what tables show of the state after that answer.
+/// States that a plan which is the policy's answer leads to what tables show of the state after that answer.
 pub fn an_answer_leads_to_the_state_that_the_policy_says()
     ensures { (c d : CoreValue) (p : CorePlan) (task : Task) → IsAnswer p (answer real c.setting c.tables task)
         → IsCoreAfter c p d
@@ -21,7 +21,7 @@ pub fn an_answer_leads_to_the_state_that_the_policy_says()
         } }
 {}
 
-/// Says that a plan which is the policy's answer can be stored.
+/// States that a plan which is the policy's answer can be stored.
 ///
 /// The tables are kept and of the node's role, the plan's values can be spelled, and an incoming block is 1 or more.
 pub fn an_answer_can_be_stored()

@@ -46,11 +46,12 @@ impl Model for NodeCore {
 }
 
 impl NodeCore {
-    /// Makes what a node of that role has when it boots on a record and the payloads behind it.
+    /// Makes what a node of that role has when it boots on a record and the payloads after it.
     ///
     /// Requires a configuration of a node of that role, and no more bytes than a store has of them.
     ///
-    /// Errors: `BadRecord` at the place of the first fault, at 1 where the record is of another role. `NoMemory` where
+    /// # Errors
+    /// `BadRecord` at the place of the first fault, at 1 where the record is of another role. `NoMemory` where
     /// memory is short.
     pub fn restore(
         alloc: Global,
@@ -77,26 +78,26 @@ impl NodeCore {
         })
     }
 
-    /// Answers what the node knows of its network.
+    /// Returns what the node knows of its network.
     pub fn network(&self) -> &Network
         ensures { result.now ≡ self.now.setting }
     {
         &self.network
     }
 
-    /// Answers the node's tables.
+    /// Returns the node's tables.
     pub fn tables(&self) -> &Tables
         ensures { result.now ≡ self.now.tables }
     {
         self.tables.tables()
     }
 
-    /// Answers the base keys that were used last.
+    /// Returns the base keys that were used last.
     pub fn memo(&self) -> &KeyMemo {
         &self.memo
     }
 
-    /// Says that a plan which is the policy's answer to some task can be stored; does nothing.
+    /// States that a plan which is the policy's answer to some task can be stored; does nothing.
     pub fn keep(&self, plan: &Plan<Outcome<Term, Refusal>>)
         ensures { (task : Task) → IsAnswer plan.now (answer real self.now.setting self.now.tables task)
             → IsStorable self.now.setting.me.role self.now.tables plan.now.changes.items }
@@ -120,7 +121,7 @@ impl NodeCore {
         remember(&mut self.memo, &plan.out.sealed_nwk);
     }
 
-    /// Writes the record of the node's tables, and answers its length.
+    /// Writes the record of the node's tables, and returns its length.
     ///
     /// Requires `RECORD_ROOM` bytes of room.
     pub fn record(&self, into: &mut [u8]) -> u32

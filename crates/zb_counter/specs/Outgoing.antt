@@ -1,4 +1,5 @@
--- Outgoing frame counters, taken from blocks that were reserved on the disk (05-3474-21, sections 4.3.1.1 and 4.4.1.1).
+-- Outgoing frame counters, taken from blocks that were reserved on the disk (05-3474-21, sections 4.3.1.1 and
+-- 4.4.1.1).
 use Rattle.std.specs.Prelude.{ℕ, ◌+◌, ◌==◌, min, if◌then◌else◌}
 use Rattle.zb_counter.specs.declared.sending.Outgoing.{Outgoing}
 use Rattle.zb_counter.specs.declared.sending.Draw.{Draw}

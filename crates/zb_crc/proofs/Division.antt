@@ -90,7 +90,7 @@ even_step register bit n rest h g ne =
     ∙ ap (λ b. divided n (if b then added (added rest (bits_from 16 (register / 2))) divisor
     else added rest (bits_from 16 (register / 2)))) test
 
--- The whole message, byte after byte: what is left to divide behind some of its bytes.
+-- The whole message, byte after byte: what is left to divide after some of its bytes.
 abbrev pub left : List ℕ → ℕ → ℕ → List ℕ
 left bytes i register = divided (8 * (length bytes - i)) (added (message_bits (drop i bytes) ++ replicate 16 0) (bits_from 16 register))
 

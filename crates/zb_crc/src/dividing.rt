@@ -13,7 +13,7 @@ fn after_byte(register: u16, byte: u8) -> u16
     (register >> 8) ^ REMAINDERS[low as usize]
 }
 
-/// Divides the bytes of a message, and answers the remainder.
+/// Divides the bytes of a message, and returns the remainder.
 ///
 /// The lowest bit of the number is that of the highest power. The division begins with the bits of `start` added to
 /// the highest powers.

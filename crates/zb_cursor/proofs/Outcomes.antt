@@ -59,7 +59,7 @@ IsBytes-append [] ys h k i = k i
 IsBytes-append (x ∷ xs) ys h k zero = h 0
 IsBytes-append (x ∷ xs) ys h k (suc i) = IsBytes-append xs ys (λ j. h (suc j)) k i
 
--- ---- one reading behind another
+-- ---- one reading after another
 
 pub give_outcome : {E A : Type 0} (Spelt : List ℕ → A → Type 0) (Wrong : List ℕ → E → Type 0) (x : A) (bytes : List ℕ) → Spelt [] x → Outcome (give x) Spelt Wrong bytes
 give_outcome Spelt Wrong x bytes spelt = IsRead x [] bytes refl spelt (λ cut more. refl)

@@ -1,4 +1,4 @@
--- Pieces that are put one behind the other.
+-- Pieces that are put one after the other.
 use Rattle.std.proofs.Common.{◌≡◌, ℕ, ◌+◌, ◌≤◌, List, ◌++◌, length, ap, append_assoc, arith, length-append}
 
 -- the piece stands at the end, and all of it fits

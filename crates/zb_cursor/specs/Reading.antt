@@ -1,11 +1,11 @@
--- Reading fields from the front of bytes. A reading is handed the fault that a missing byte gives.
+-- Reading fields from the start of bytes. A reading is handed the fault that a missing byte gives.
 use Rattle.std.specs.Prelude.{◌≡◌, ℕ, zero, suc, ◌-◌, Bool, true, false, List, [], ◌∷◌, length, take, drop, Option, Some, None, Result, Ok, Err, nat_lt, if◌then◌else◌}
 use Rattle.std.specs.Int.{Width, w16, w64, byte_len, from_le_bytes}
 use Rattle.zb_base.specs.declared.address.Eui.{Eui}
 use Rattle.zb_base.specs.declared.address.Short.{Short}
 use Rattle.zb_base.specs.declared.key.Key.{Key}
 
--- the field at the front and the bytes behind it, or a fault
+-- the field at the start and the bytes after it, or a fault
 abbrev pub Reading : Type 0 → Type 0 → Type 0
 Reading E A = E → List ℕ → Result (A × List ℕ) E
 
@@ -39,7 +39,7 @@ byte_at cut (b ∷ rest) = Ok (b, rest)
 abbrev pub all_at : {E : Type 0} → Reading E (List ℕ)
 all_at cut bytes = Ok (bytes, [])
 
--- all bytes that are left: a body, and behind it a message integrity code of 4 bytes
+-- all bytes that are left: a body, and after it a message integrity code of 4 bytes
 unfoldable pub body_and_mic_at : {E : Type 0} → Reading E (List ℕ × List ℕ)
 body_and_mic_at cut bytes = if nat_lt (length bytes) 4 then Err cut else Ok ((take (length bytes - 4) bytes, drop (length bytes - 4) bytes), [])
 

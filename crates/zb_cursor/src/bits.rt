@@ -2,7 +2,7 @@
 ghost use Rattle.std.specs.Prelude.{◌≡◌, ◌<◌};
 ghost use Rattle.zb_cursor.specs.Spelling.{bit};
 
-/// Answers whether the bit at `place` is 1, counted from the lowest, which is 0.
+/// Returns whether the bit at `place` is 1, counted from the lowest, which is 0.
 pub fn has_bit(number: u16, place: u32) -> bool
     requires { place < 16 }
     ensures { result ≡ bit number place }

@@ -1,4 +1,4 @@
-//! Fields of bytes both ways: a `Reader` that takes fields from the front of bytes, and writing at the end of a
+//! Fields of bytes both ways: a `Reader` that takes fields from the start of bytes, and writing at the end of a
 //! frame of 127 bytes.
 //!
 //! Numbers stand least significant byte first.

@@ -1,4 +1,4 @@
-//! Reading fields from the front of bytes: a `Reader` stands at a place and moves on field by field.
+//! Reading fields from the start of bytes: a `Reader` stands at a place and moves on field by field.
 ghost use Rattle.std.specs.Prelude.{◌≡◌, [], ◌+◌, ◌*◌, ◌<◌, ◌≤◌, ◌^◌, ◌++◌, length, IfOk, OnOk, OnErr, IfSome, is_some};
 ghost use Rattle.std.specs.Int.{w16, w32, w64};
 ghost use Rattle.zb_cursor.specs.Spelling.{byte, number, short, eui, key, optional};
@@ -9,11 +9,12 @@ use crate::writing::frame_from;
 use arrayvec::ArrayVec;
 use zb_base::{Eui, Frame, Key, Short};
 
-/// A place in bytes that are read field by field from the front.
+/// A place in bytes that are read field by field from the start.
 ///
-/// Each method answers the next field and moves behind it.
+/// Each method answers the next field and moves after it.
 ///
-/// Errors: `cut` where the bytes run out; the place then stays as it was, but for `shorts`.
+/// # Errors
+/// `cut` where the bytes run out; the place then stays as it was, but for `shorts`.
 #[derive(Drop)]
 pub struct Reader<'a, E> {
     /// The bytes that are still to be read.
@@ -71,7 +72,7 @@ impl<'a, E: Copy + Drop> Reader<'a, E> {
         rest
     }
 
-    /// Reads all bytes that are left as a body and the message integrity code of 4 bytes behind it.
+    /// Reads all bytes that are left as a body and the message integrity code of 4 bytes after it.
     ///
     /// Requires at most 127 bytes to be left.
     #[tactic(auto, unfolding(crate::specs::Reading::body_and_mic_at))]
@@ -250,7 +251,8 @@ impl<'a, E: Copy + Drop> Reader<'a, E> {
     ///
     /// Requires that the array has room for all that the bytes to come can hold.
     ///
-    /// Errors: `cut` where the bytes run out; the reader then stands behind the last address that is whole.
+    /// # Errors
+    /// `cut` where the bytes run out; the reader then stands after the last address that is whole.
     pub fn shorts<const N: usize>(&mut self, count: u8) -> Result<ArrayVec<Short, N>, E>
         requires { length self.old.rest.now ≤ 2 * N + 1 }
         ensures exact { GivesBy (λ v. v.items) result self.new.rest.now

@@ -29,7 +29,8 @@ impl Error for TooLong {}
 
 /// Puts the bytes at the end of the frame.
 ///
-/// Errors: `TooLong` where they don't fit; the frame then stays as it was.
+/// # Errors
+/// `TooLong` where they don't fit; the frame then stays as it was.
 pub fn put(out: &mut Frame, piece: &[u8]) -> Result<(), TooLong>
     ensures appends { Appends out.old.items piece.now out.new.items result }
     ensures stays { OnErr result (out.new.items ≡ out.old.items) }
@@ -54,7 +55,8 @@ pub fn frame_from(bytes: &[u8]) -> Frame
 
 /// Puts one byte at the end of the frame.
 ///
-/// Errors: `TooLong` where it doesn't fit.
+/// # Errors
+/// `TooLong` where it doesn't fit.
 pub fn put_byte(out: &mut Frame, value: u8) -> Result<(), TooLong>
     ensures { Appends out.old.items (byte value) out.new.items result }
 {
@@ -64,7 +66,8 @@ pub fn put_byte(out: &mut Frame, value: u8) -> Result<(), TooLong>
 
 /// Puts a number of 2 bytes at the end of the frame.
 ///
-/// Errors: `TooLong` where it doesn't fit.
+/// # Errors
+/// `TooLong` where it doesn't fit.
 pub fn put_number16(out: &mut Frame, value: u16) -> Result<(), TooLong>
     ensures { Appends out.old.items (number w16 value) out.new.items result }
 {
@@ -74,7 +77,8 @@ pub fn put_number16(out: &mut Frame, value: u16) -> Result<(), TooLong>
 
 /// Puts a number of 4 bytes at the end of the frame.
 ///
-/// Errors: `TooLong` where it doesn't fit.
+/// # Errors
+/// `TooLong` where it doesn't fit.
 pub fn put_number32(out: &mut Frame, value: u32) -> Result<(), TooLong>
     ensures { Appends out.old.items (number w32 value) out.new.items result }
 {
@@ -84,7 +88,8 @@ pub fn put_number32(out: &mut Frame, value: u32) -> Result<(), TooLong>
 
 /// Puts a number of 8 bytes at the end of the frame.
 ///
-/// Errors: `TooLong` where it doesn't fit.
+/// # Errors
+/// `TooLong` where it doesn't fit.
 pub fn put_number64(out: &mut Frame, value: u64) -> Result<(), TooLong>
     ensures { Appends out.old.items (number w64 value) out.new.items result }
 {
@@ -94,7 +99,8 @@ pub fn put_number64(out: &mut Frame, value: u64) -> Result<(), TooLong>
 
 /// Puts a short address at the end of the frame.
 ///
-/// Errors: `TooLong` where it doesn't fit.
+/// # Errors
+/// `TooLong` where it doesn't fit.
 pub fn put_short(out: &mut Frame, value: Short) -> Result<(), TooLong>
     ensures { Appends out.old.items (short value) out.new.items result }
 {
@@ -104,7 +110,8 @@ pub fn put_short(out: &mut Frame, value: Short) -> Result<(), TooLong>
 
 /// Puts an IEEE address at the end of the frame.
 ///
-/// Errors: `TooLong` where it doesn't fit.
+/// # Errors
+/// `TooLong` where it doesn't fit.
 pub fn put_eui(out: &mut Frame, value: Eui) -> Result<(), TooLong>
     ensures { Appends out.old.items (eui value) out.new.items result }
 {
@@ -114,7 +121,8 @@ pub fn put_eui(out: &mut Frame, value: Eui) -> Result<(), TooLong>
 
 /// Puts a key at the end of the frame, in the order of its bytes.
 ///
-/// Errors: `TooLong` where it doesn't fit.
+/// # Errors
+/// `TooLong` where it doesn't fit.
 pub fn put_key(out: &mut Frame, value: &Key) -> Result<(), TooLong>
     ensures { Appends out.old.items (key value.now) out.new.items result }
 {
@@ -124,7 +132,8 @@ pub fn put_key(out: &mut Frame, value: &Key) -> Result<(), TooLong>
 
 /// Puts a byte at the end of the frame, where there is one.
 ///
-/// Errors: `TooLong` where it doesn't fit.
+/// # Errors
+/// `TooLong` where it doesn't fit.
 pub fn put_optional_byte(out: &mut Frame, value: Option<u8>) -> Result<(), TooLong>
     ensures { Appends out.old.items (optional byte value) out.new.items result }
 {
@@ -137,7 +146,8 @@ pub fn put_optional_byte(out: &mut Frame, value: Option<u8>) -> Result<(), TooLo
 
 /// Puts a number of 2 bytes at the end of the frame, where there is one.
 ///
-/// Errors: `TooLong` where it doesn't fit.
+/// # Errors
+/// `TooLong` where it doesn't fit.
 pub fn put_optional_number16(out: &mut Frame, value: Option<u16>) -> Result<(), TooLong>
     ensures { Appends out.old.items (optional (number w16) value) out.new.items result }
 {
@@ -150,7 +160,8 @@ pub fn put_optional_number16(out: &mut Frame, value: Option<u16>) -> Result<(), 
 
 /// Puts an IEEE address at the end of the frame, where there is one.
 ///
-/// Errors: `TooLong` where it doesn't fit.
+/// # Errors
+/// `TooLong` where it doesn't fit.
 pub fn put_optional_eui(out: &mut Frame, value: Option<Eui>) -> Result<(), TooLong>
     ensures { Appends out.old.items (optional eui value) out.new.items result }
 {
@@ -163,7 +174,8 @@ pub fn put_optional_eui(out: &mut Frame, value: Option<Eui>) -> Result<(), TooLo
 
 /// Puts the addresses at the end of the frame, one after the other.
 ///
-/// Errors: `TooLong` where they don't all fit; some of them may then stand.
+/// # Errors
+/// `TooLong` where they don't all fit; some of them may then stand.
 pub fn put_shorts(out: &mut Frame, shorts: &[Short]) -> Result<(), TooLong>
     ensures { Appends out.old.items (flat_map short shorts.now) out.new.items result }
 {

@@ -23,7 +23,7 @@ use zb_rules::{Effect, Heard};
 use zb_seal::Term;
 use zb_setting::Network;
 
-/// Answers why content that is no Leave isn't taken: it is another command, or none.
+/// Returns why content that is no Leave isn't taken: it is another command, or none.
 fn no_leave(fault: CmdError) -> Refusal
     ensures reason { reason result ≡ no_leave (leave_shown (Err fault)) }
     ensures place { place_of result ≡ Nwk }
@@ -75,7 +75,7 @@ fn take_known(
     }
 }
 
-/// Answers why bytes that are no command aren't taken: they are another one, or none.
+/// Returns why bytes that are no command aren't taken: they are another one, or none.
 fn no_command(fault: CmdError) -> Refusal
     ensures reason { reason result ≡ no_command (command_shown (Err fault)) }
     ensures place { place_of result ≡ Aps }

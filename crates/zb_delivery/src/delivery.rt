@@ -55,7 +55,7 @@ fn decide_carried(
     }
 }
 
-/// Plans what a frame leads to whose NWK layer passed, and behind which what was accepted there stands in `plan`.
+/// Plans what a frame leads to whose NWK layer passed, and after which what was accepted there stands in `plan`.
 fn plan_carried(
     network: &Network,
     tables: &Tables,
@@ -85,7 +85,7 @@ fn plan_carried(
 
 /// Writes the plan of what a delivered frame leads to. `draw`: the next key of the centre's supply.
 ///
-/// The frame is judged, then its command is taken by the rule of the node's role. Where it is refused behind an
+/// The frame is judged, then its command is taken by the rule of the node's role. Where it is refused after an
 /// acceptance, that and its floor stay. A node that isn't the centre never draws. A key that the memo lacks is
 /// expanded.
 pub fn plan_received(

@@ -1,5 +1,5 @@
 //! What a delivered frame leads to: it is judged, its command is taken by the rule of the node's role, and the plan is
-//! made behind what was accepted.
+//! made after what was accepted.
 #![tactic(auto)]
 
 mod command;

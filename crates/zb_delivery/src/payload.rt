@@ -26,7 +26,7 @@ use zb_rules::{Effect, Heard};
 use zb_seal::{KeyMemo, Term, label_of};
 use zb_setting::Network;
 
-/// Answers the source of a term, if there is one.
+/// Returns the source of a term, if there is one.
 fn source_of(term: &Option<Term>) -> Option<Eui>
     ensures { option_map (λ e. e.0) result ≡ option_map (λ t. t.source) (option_map model_term term.now) }
 {
@@ -36,14 +36,14 @@ fn source_of(term: &Option<Term>) -> Option<Eui>
     }
 }
 
-/// Answers whether an APS frame has a command.
+/// Returns whether an APS frame has a command.
 fn has_command(part: &ApsFrame) -> bool
     ensures { result ≡ (aps_frame_shown part.now).is_command }
 {
     is_command(u16::from(part.header.control))
 }
 
-/// Answers the payload of a frame: what its term opens to, or what stands there in clear.
+/// Returns the payload of a frame: what its term opens to, or what stands there in clear.
 fn payload_of<'a>(frame: &'a NwkFrame, nwk: &'a Option<Term>) -> &'a [u8]
     ensures { result.now ≡ payload_of (nwk_frame_shown frame.now) (option_map model_term nwk.now) }
 {
@@ -113,7 +113,7 @@ fn take_sealed(
     }
 }
 
-/// Decides an APS frame that isn't secured, behind what the NWK layer accepted. Nothing is accepted at APS.
+/// Decides an APS frame that isn't secured, after what the NWK layer accepted. Nothing is accepted at APS.
 ///
 /// # Errors
 /// Those of its command.
@@ -133,7 +133,7 @@ fn decide_clear(
     take_clear(network, tables, nwk, draw, part)
 }
 
-/// Decides an APS frame that was sealed, behind what the NWK layer accepted. What it opened to is accepted at APS.
+/// Decides an APS frame that was sealed, after what the NWK layer accepted. What it opened to is accepted at APS.
 ///
 /// # Errors
 /// Those of its command.
@@ -158,7 +158,7 @@ fn decide_sealed(
     effect
 }
 
-/// Answers a refusal of the APS layer: nothing is accepted there.
+/// Returns a refusal of the APS layer: nothing is accepted there.
 ///
 /// # Errors
 /// The refusal.
@@ -170,7 +170,7 @@ fn refuse(refusal: Refusal, aps: &mut Option<Term>) -> Result<Effect, Refusal>
     Err(refusal)
 }
 
-/// Judges a sealed APS part and decides what it leads to, behind what the NWK layer accepted.
+/// Judges a sealed APS part and decides what it leads to, after what the NWK layer accepted.
 ///
 /// Requires the part that is read from the payload.
 ///
@@ -209,7 +209,7 @@ fn decide_secured(
     }
 }
 
-/// Decides an APS frame, behind what the NWK layer accepted.
+/// Decides an APS frame, after what the NWK layer accepted.
 ///
 /// Requires the frame that is read from the payload; where the NWK layer accepted nothing, it is secured.
 fn decide_part(
@@ -239,7 +239,7 @@ fn decide_part(
     }
 }
 
-/// Decides the payload of a frame, behind what the NWK layer accepted.
+/// Decides the payload of a frame, after what the NWK layer accepted.
 ///
 /// Where that accepted nothing, the payload is a command that is sealed for transport.
 pub(crate) fn decide_payload(

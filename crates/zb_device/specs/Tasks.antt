@@ -1,10 +1,10 @@
--- The tasks of the policy that an event of a device or router stands for.
+-- The tasks of the policy that an event of a device or router represents.
 use Rattle.std.specs.Prelude.{◌≡◌, None, Option}
 use Rattle.zb_device.specs.declared.event.DeviceEvent.{DeviceEvent}
 use Rattle.zb_device.specs.declared.event.DeviceEvent.TheVariants.{Knock, Rejoin, Deliver, Timer, Say, Ask, Tell}
 use Rattle.zb_model.specs.Data.{Bytes, Task, SayTo, TellTo, DoKnock, DoRejoin, DoTimer, AskFor, Received}
 
--- one task, but for a delivery: since only the centre draws, it stands for the delivery with any draw
+-- one task, but for a delivery: since only the centre draws, it represents the delivery with any draw
 abbrev pub IsTaskOf : DeviceEvent → Task → Type 0
 IsTaskOf Knock task = task ≡ DoKnock
 IsTaskOf Rejoin task = task ≡ DoRejoin

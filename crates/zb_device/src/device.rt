@@ -99,7 +99,7 @@ impl Core for Device {
 }
 
 impl Device {
-    /// Answers what the device has: its network, tables and base keys.
+    /// Returns what the device has: its network, tables and base keys.
     pub fn node(&self) -> &NodeCore
         ensures { result.now ≡ self.now }
     {

@@ -2,7 +2,7 @@
 use zb_base::{Eui, Frame, Short};
 use zb_send::Payload;
 
-/// Says what happens to a device.
+/// What happens to a device.
 #[derive(Drop)]
 pub enum DeviceEvent {
     /// It asks to be let into the network.

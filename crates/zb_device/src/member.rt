@@ -25,7 +25,7 @@ use zb_seal::{KeyMemo, Term};
 use zb_send::Payload;
 use zb_setting::Network;
 
-/// Answers the same data once more.
+/// Returns the same data once more.
 fn copied(bytes: &Payload) -> Payload
     ensures { result.items ≡ bytes.now.items }
 {

@@ -38,7 +38,7 @@ cleared_others xs start end k order within blank =
 
 -- ---- a write
 
--- what reads at a place of the front, behind which all is 00
+-- what reads at a place of the prefix, after which all is 00
 front_reads : (xs : List ℕ) (n k : ℕ) → ((j : ℕ) → n ≤ j → get_or xs j 0 ≡ 0) → get_or (take n xs) k 0 ≡ get_or xs k 0
 front_reads xs n k behind = elim (cases_lt k n) [
   | inl within ↦ get_or-take n xs k 0 within

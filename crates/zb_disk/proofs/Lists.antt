@@ -33,7 +33,7 @@ get_or-spread xs n k filling = elim (cases_lt k (length xs)) [
   ]
 ]
 
--- a front of a list that was filled up
+-- a prefix of a list that was filled up
 spread_front : (old : List ℕ) (start n : ℕ) → take start (spread old (start + n) 0) ≡ take start (spread old start 0)
 spread_front old start n = elim (cases_lt start (length old)) [
   | inl within ↦ take-append-le start old (replicate (start + n - length old) 0) (omega arith) ∙ sym (take-append-le start old (replicate (start - length old) 0) (omega arith))

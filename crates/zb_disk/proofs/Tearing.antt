@@ -218,7 +218,7 @@ torn_from_here p (b ∷ bytes) [] (suc n) none =
 torn_from_here p (b ∷ bytes) (true ∷ written) (suc n) none = absurd (false≢true (sym (none 0 (omega arith))))
 torn_from_here p (b ∷ bytes) (false ∷ written) (suc n) none = ap (λ (l : List ℕ). b ∷ l) (torn_from_here p bytes written n (λ k low. none (suc k) (omega arith)))
 
--- what is torn behind the window's end stands
+-- what is torn after the window's end stands
 pub tear_part : (p : List ℕ) (phase : ℕ) (bytes : List ℕ) (w rest : List Bool) → length w ≤ length bytes → ((k : ℕ) → get_or rest k false ≡ false)
     → tear p phase bytes (w ++ rest) ≡ tear p phase (take (length w) bytes) w ++ drop (length w) bytes
 tear_part p phase bytes [] rest within none = none_torn p phase bytes rest none
@@ -240,7 +240,7 @@ torn_window p bytes base w within =
     ∙ torn_from_here p bytes all base (λ k low.
     ap (λ (l : List Bool). get_or l k false) (append_assoc front w (replicate m false)) ∙ get_or_append_left front (w ++ replicate m false) false k (omega (arith, length-replicate base false)) ∙ get_or-replicate base k false false low)
 
--- behind the last flag
+-- after the last flag
 pub torn_at_last : (p : List ℕ) (phase : ℕ) (bytes new : List ℕ) (written : List Bool) (i : ℕ) (whole : List ℕ) → length bytes ≤ i → length new ≤ i
     → take i new ++ tear p phase (drop i bytes) (drop i written) ≡ whole → new ≡ whole
 torn_at_last p phase bytes new written i whole late late_new so_far =

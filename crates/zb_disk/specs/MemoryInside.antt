@@ -34,7 +34,7 @@ pub record IsMemDisk (d : Inside) : Type 0 where
   pub within : d.len ≤ vec_len d.bytes
   pub size : vec_len d.bytes ≤ 131072
   pub grown : d.grown ≤ d.len
-  -- behind what is read, and beyond what was written, all is 00
+  -- after what is read, and beyond what was written, all is 00
   pub behind : (k : ℕ) → d.len ≤ k → get_or d.bytes.items k 0 ≡ 0
   pub beyond : (k : ℕ) → IsBeyond d.extent k → get_or d.bytes.items k 0 ≡ 0
   pub room : 131072 ≤ vec_capacity d.bytes

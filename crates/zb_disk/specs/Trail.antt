@@ -52,7 +52,7 @@ trail_view t = record {
 abbrev pub fresh_trail : List ℕ → ℕ → ℕ → Trail
 fresh_trail bytes calls room = record { start = bytes; steps = []; calls_room = calls; bytes_room = room; taken = 0; calls = 0; faults = 0 }
 
--- the steps that a log and the bytes of all its writes stand for, the oldest first
+-- the steps that a log and the bytes of all its writes represent, the oldest first
 abbrev pub steps_of : List Logged → List ℕ → List Step
 steps_of [] pool = []
 steps_of (Wrote at len ∷ log) pool = writes at (take len pool) ∷ steps_of log (drop len pool)

@@ -26,7 +26,8 @@ pub record View : Type 1 where
   pub off : ℕ → Bool
   -- whether it refuses the write or sync of that number from now on, the next one being 0
   pub refuses : ℕ → Bool
-  -- the bytes that a stop leaves, over and over, in each run that was written and not synced; none where such runs stand as written
+  -- the bytes that a stop leaves, over and over, in each run that was written and not synced; none where such runs
+  -- stand as written
   pub torn : List ℕ
   -- the moment, a number that never falls
   pub moment : ℕ
@@ -41,7 +42,8 @@ window bytes at n = take n (drop at bytes ++ replicate n 0)
 abbrev pub overwrite : List ℕ → ℕ → List ℕ → List ℕ
 overwrite old at bytes = take at (old ++ replicate (at - length old) 0) ++ bytes ++ drop (at + length bytes) old
 
--- a write of n bytes at a place that a crash may tear: any bytes in the range and past the old end, and no other change
+-- a write of n bytes at a place that a crash may tear: any bytes in the range and past the old end, and no other
+-- change
 pub record Torn (at n : ℕ) (old new : List ℕ) : Type 0 where
   pub before : (m : ℕ) → m ≤ at → m ≤ length old → take m new ≡ take m old
   pub after : (m : ℕ) → at + n ≤ m → drop m new ≡ drop m old

@@ -10,7 +10,8 @@ use zb_base::Failed;
 /// Since the last sync each written range, and the part past the old end, may hold any bytes after a crash. All other
 /// bytes stand.
 ///
-/// Errors: each method answers `Failed` only where the count of faults rose.
+/// # Errors
+/// Each method answers `Failed` only where the count of faults rose.
 pub trait Disk {
     /// What this kind of disk tells of itself.
     ghost tells: { Telling };
@@ -18,7 +19,7 @@ pub trait Disk {
     /// The disk at this moment.
     ghost state: { Self → View };
 
-    /// Answers the size in bytes.
+    /// Returns the size in bytes.
     fn size(&mut self) -> Result<u64, Failed>
         ensures size { IfOk result (λ n. IsTrue tells.content → n ≡ length (state self.old).seen) }
         ensures read { IsRead tells (state self.old) (state self.new) result };
@@ -29,8 +30,8 @@ pub trait Disk {
             → buf.new ≡ window (state self.old).seen at (length buf.old)) }
         ensures read { IsRead tells (state self.old) (state self.new) result };
 
-    /// Writes a range, and lengthens the disk where needed. A failed write leaves its range open to any bytes. Requires
-    /// that the range ends within 131,072 bytes.
+    /// Writes a range, and lengthens the disk where needed. A failed write leaves its range open to any bytes.
+    /// Requires that the range ends within 131,072 bytes.
     fn write(&mut self, at: u64, bytes: &[u8]) -> Result<(), Failed>
         requires { at + length bytes.now ≤ 131072 }
         ensures { IsWrite tells at bytes.now (state self.old) (state self.new) result };

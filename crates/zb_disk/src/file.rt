@@ -27,7 +27,8 @@ pub struct FileDisk<'a, T: Files + AllocGlobal + Drop> {
 impl<'a, T: Files + AllocGlobal + Drop> FileDisk<'a, T> {
     /// Makes a disk over the file at this path; opens nothing.
     ///
-    /// Errors: `NoMemory`, for the path.
+    /// # Errors
+    /// `NoMemory`, for the path.
     pub fn new(rt: &'a T, path: &str) -> Result<FileDisk<'a, T>, NoMemory>
         ensures calls { IfOk result (λ d. d.calls ≡ 0) }
         ensures faults { IfOk result (λ d. d.faults ≡ 0) }

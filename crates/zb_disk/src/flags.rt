@@ -77,7 +77,7 @@ fn widen(written: &mut Vec<bool>, more: usize)
     written.rotate_right(more);
 }
 
-// Moves the window of flags so that it doesn't begin behind a place, and answers where it begins.
+// Moves the window of flags so that it doesn't begin after a place, and answers where it begins.
 fn open(written: &mut Vec<bool>, base: usize, start: usize) -> usize
     requires { base + length written.old.items ≤ vec_capacity written.old }
     ensures begins { result ≤ start }
@@ -97,7 +97,7 @@ fn open(written: &mut Vec<bool>, base: usize, start: usize) -> usize
     base
 }
 
-/// Puts the flags of a run into the window, and answers where the window begins.
+/// Puts the flags of a run into the window, and returns where the window begins.
 pub(crate) fn add(written: &mut Vec<bool>, base: usize, start: usize, end: usize) -> usize
     requires order { start ≤ end }
     requires room { end ≤ vec_capacity written.old }

@@ -17,10 +17,10 @@ use zb_base::{Failed, NoMemory};
 /// The bytes of a disk.
 const SIZE: usize = 131_072;
 
-/// Where the second half of a disk begins. A store writes at the front of each half.
+/// Where the second half of a disk begins. A store writes at the start of each half.
 const MIDDLE: usize = 65_536;
 
-/// Says which calls a disk in memory is going to refuse.
+/// Which calls a disk in memory is going to refuse.
 #[derive(Clone, Copy, Debug, PartialEq, Eq)]
 pub enum Arming {
     /// Refuses none.
@@ -100,7 +100,7 @@ impl Extent {
 /// a refused call leaves all as it was, and which calls it will refuse. It tells nothing of past moments.
 #[derive(Drop)]
 pub struct MemDisk {
-    // What is read, as many bytes as `len` says, and 00 behind it.
+    // What is read, as many bytes as `len` says, and 00 after it.
     bytes: Vec<u8>,
     len: usize,
     // How far the bytes were written. Where the disk is made new, no more of them than that is cleared.
@@ -134,7 +134,8 @@ impl Model for MemDisk {
 impl MemDisk {
     /// Makes a disk of these bytes, which are its one image. Nothing is armed. Requires at most 131,072 bytes.
     ///
-    /// Errors: `NoMemory`.
+    /// # Errors
+    /// `NoMemory`.
     pub fn new(alloc: Global, bytes: &[u8]) -> Result<MemDisk, NoMemory>
         requires { length bytes.now ≤ 131072 }
         ensures { IfOk result (λ d. d ≡ fresh bytes.now) }
@@ -179,14 +180,14 @@ impl MemDisk {
         self.faults = 0;
     }
 
-    /// Answers the bytes that the disk reads.
+    /// Returns the bytes that the disk reads.
     pub fn bytes(&self) -> &[u8]
         ensures { result.now ≡ self.now.bytes }
     {
         &self.bytes[..self.len]
     }
 
-    /// Answers whether a stop has fired and the power isn't back.
+    /// Returns whether a stop has fired and the power isn't back.
     pub fn is_off(&self) -> bool
         ensures { result ≡ is_stopped self.now.arming }
     {

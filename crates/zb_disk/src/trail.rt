@@ -52,7 +52,8 @@ impl TrailDisk {
     /// Makes a disk of these bytes, with room for so many calls and so many written bytes. Requires at most 131,072
     /// bytes.
     ///
-    /// Errors: `NoMemory`.
+    /// # Errors
+    /// `NoMemory`.
     pub fn new(alloc: Global, bytes: &[u8], calls: u32, room: u32) -> Result<TrailDisk, NoMemory>
         requires { length bytes.now ≤ 131072 }
         ensures { IfOk result (λ d. d ≡ fresh_trail bytes.now calls room) }
@@ -71,7 +72,7 @@ impl TrailDisk {
         })
     }
 
-    /// Answers the bytes that the disk reads.
+    /// Returns the bytes that the disk reads.
     pub fn bytes(&self) -> &[u8]
         ensures { result.now ≡ replayed self.now.start self.now.steps }
     {

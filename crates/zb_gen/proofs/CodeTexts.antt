@@ -74,7 +74,7 @@ keys_more start n keys more key are long is e =
     subst (λ (ks : List Key). AreKeysOf start ks) (sym e)
     (λ i other lt. key_by_place start n keys key are long is i other (cases_lt i (length keys)) (omega (arith, lt, length-append keys (key ∷ []))))
 
--- a key and its CRC, one behind the other
+-- a key and its CRC, one after the other
 pub put_together : (key none one two slice sum : List ℕ) (number : ℕ) → none ≡ [] → one ≡ none ++ key → two ≡ one ++ sum → slice ≡ two → sum ≡ to_le_bytes w16 number → number ≡ crc key
     → slice ≡ key ++ to_le_bytes w16 (crc key)
 put_together key none one two slice sum number a b d e f g =

@@ -32,7 +32,7 @@ pub takes : (r : Result Unit GenFault) (p t : Progress) (text : List ℕ) (sente
 takes r p t text sentence means comes =
     subst (λ (x : Result Progress SchedError). Comes r t x) (sym (go_on_ok (after_text p text) ∙ of_text p text sentence means)) comes
 
--- ---- lines behind others
+-- ---- lines after others
 
 both_by : (r : Result Progress SchedError) (xs ys : List (List ℕ)) → ((q : Progress) → after_texts q (xs ++ ys) ≡ go_on (after_texts q xs) (λ t. after_texts t ys))
     → go_on r (λ q. after_texts q (xs ++ ys)) ≡ go_on (go_on r (λ q. after_texts q xs)) (λ t. after_texts t ys)
@@ -43,7 +43,7 @@ pub after_both : (xs ys : List (List ℕ)) (p : Progress) → after_texts p (xs 
 after_both [] ys p = refl
 after_both (x ∷ xs) ys p = both_by (after_text p x) xs ys (after_both xs ys)
 
--- what a call answered of lines behind others that were taken
+-- what a call answered of lines after others that were taken
 pub then_comes : (r : Result Unit GenFault) (p q t : Progress) (xs ys : List (List ℕ)) → after_texts p xs ≡ Ok q → Comes r t (after_texts q ys)
     → Comes r t (after_texts p (xs ++ ys))
 then_comes r p q t xs ys first comes =

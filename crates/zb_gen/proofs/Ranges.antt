@@ -2,7 +2,7 @@
 use Rattle.std.proofs.Common.{◌≡◌, ℕ, ◌+◌, zero, suc, List, [], ◌∷◌, ◌++◌, refl, arith, ap}
 use Rattle.std.specs.List.{range_with_len}
 
--- a range is its front and the range behind that
+-- a range is its prefix and the range after that
 pub range_split : (k m a : ℕ) → range_with_len a (k + m) ≡ range_with_len a k ++ range_with_len (a + k) m
 range_split zero m a =
     let all : 0 + m ≡ m = omega arith in let same : a + 0 ≡ a = omega arith in rw (all, same) refl

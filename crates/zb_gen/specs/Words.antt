@@ -1,5 +1,5 @@
--- The words of the generator: ChaCha with 8 rounds (4 double rounds), whose key is the start value in its first 4 bytes,
--- low byte first, and 28 zeros, on stream 0.
+-- The words of the generator: ChaCha with 8 rounds (4 double rounds), whose key is the start value in its first 4
+-- bytes, low byte first, and 28 zeros, on stream 0.
 use Rattle.std.specs.Prelude.{ℕ, ◌+◌, List, [], ◌∷◌, ◌++◌}
 use Rattle.std.specs.Int.{w32, to_le_bytes}
 use Rattle.rand_chacha.specs.ChaCha.{ChaCha, word_at}

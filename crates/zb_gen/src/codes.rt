@@ -13,7 +13,7 @@ use std::marker::Model;
 use zb_base::Key;
 use zb_install::{InstallCode, crc};
 
-/// Holds the install codes of the nodes but the centre, without their CRCs.
+/// The install codes of the nodes but the centre, without their CRCs.
 #[derive(Drop)]
 pub struct Codes {
     start: u32,
@@ -46,7 +46,7 @@ impl Codes {
         Ok(Codes { start, keys })
     }
 
-    /// Answers the code of a node, from 1.
+    /// Returns the code of a node, from 1.
     pub fn code(&self, i: u32) -> InstallCode
         requires { (1 ≤ i) × (i ≤ self.now.count) }
         ensures { result ≡ code_bytes self.now.start i }
@@ -55,7 +55,7 @@ impl Codes {
     }
 }
 
-/// Makes the install code of a key by putting its CRC behind it.
+/// Makes the install code of a key by putting its CRC after it.
 fn install_code(key: &Key) -> InstallCode
     ensures { result ≡ key.now.0 ++ to_le_bytes w16 (crc key.now.0) }
 {

@@ -13,7 +13,7 @@ use zb_base::OrMemory;
 use zb_sched::{Draft, SchedCause, Schedule};
 use zb_sched_line::Line;
 
-/// Says why there is no made schedule.
+/// Why there is no made schedule.
 #[derive(Clone, Copy, Debug, PartialEq, Eq)]
 pub enum GenFault {
     /// Two of the keys are equal, or one is the well-known key: the first line that is no schedule's, and why.
@@ -66,7 +66,7 @@ impl Maker {
     /// Takes a line. Requires that fewer than 30,000 were taken before it.
     ///
     /// # Errors
-    /// The number of the line and why it may not stand there; or want of memory.
+    /// The number of the line and why it may not stand there; or out of memory.
     pub fn take(&mut self, line: Line) -> Result<(), GenFault>
         requires { self.old.line ≤ 30000 }
         ensures line { Comes result self.new (after_sentence self.old (sentence_of line)) }
@@ -87,7 +87,7 @@ impl Maker {
     /// Makes the schedule of the lines that were taken.
     ///
     /// # Errors
-    /// That no node is the centre, a fault behind the last line; or want of memory.
+    /// That no node is the centre, a fault after the last line; or out of memory.
     pub fn finish(self, alloc: Global) -> Result<Schedule, GenFault>
         ensures { Makes result (reads self.line self.seen []) }
     {

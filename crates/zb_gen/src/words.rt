@@ -42,7 +42,7 @@ impl Words {
         }
     }
 
-    /// Answers the start value.
+    /// Returns the start value.
     pub fn start(&self) -> u32
         ensures { result ≡ self.now.start }
     {

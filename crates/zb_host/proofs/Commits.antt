@@ -73,7 +73,7 @@ next_later false s content payload newest later = later refl
 pub entry_later : {C : Type 0} (host : Hosted C) (s : Standing) → (host.whole ≡ false → get_or s.content 0 0 ≢ 1) → writes_whole host ≡ false → get_or s.content 0 0 ≢ 1
 entry_later host s later whole = later (or_parts host.whole (is_full host.store) whole).0
 
--- the images of a store stand for the cores of a host
+-- the images of a store represent the cores of a host
 pub commit_moments : (restored : Restoring) (old new : View) (s next : Standing) (w content : List ℕ) → Gives restored s w → Gives restored next content
     → LeavesOnly old new (IsWholeEither s next) → LeavesOnly old new (StandsForEither restored w content)
 commit_moments restored old new s next w content before after leaves = weakened old new (IsWholeEither s next) (StandsForEither restored w content) each leaves

@@ -37,7 +37,7 @@ all_but_one booted es v w is = record { first = es; others = event w false ∷ [
 none_yet : (booted : List ℕ) → IsAfterFirst booted [] booted
 none_yet booted = record { first = []; others = []; all = refl; record_is = refl; none_out = tt }
 
--- what an image stands for while a node lives on from a boot
+-- what an image represents while a node lives on from a boot
 abbrev Left : Restoring → List ℕ → List Event → List ℕ → Type 0
 Left restored booted es c = (w : List ℕ) × StandsFor restored w c × IsAfterFirst booted es w
 

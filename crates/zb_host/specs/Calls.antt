@@ -37,10 +37,10 @@ pub record IsHandled {C D O : Type 0} (words : Words C D) (before : Hosted C) (o
   -- a crash at any moment leaves the old record's core or the new one's
   pub moments : (s : Standing) → IsCurrent words.restored words.recorded s before (words.state old) → IsTrue words.tells.content
       → LeavesOnly (words.state old) (words.state new) (StandsForEither words.restored (words.recorded before.core) (words.recorded after.core))
-  -- what goes out goes out where every image stands for the new, with its changes in one commit
+  -- what goes out goes out where every image represents the new, with its changes in one commit
   pub kept : IfOk result (λ r. r.0.items ≢ [] → (s : Standing) → IsCurrent words.restored words.recorded s before (words.state old) → IsTrue words.tells.content
       → IsCurrent words.restored words.recorded (next_standing (writes_whole before) s (words.recorded after.core) (words.payload r.0.items)) after (words.state new))
-  -- and without changes where every image stands for the same as before
+  -- and without changes where every image represents the same as before
   pub idle_kept : IfOk result (λ r. r.0.items ≡ [] → (s : Standing) → IsCurrent words.restored words.recorded s before (words.state old)
       → IsCurrent words.restored words.recorded s after (words.state new))
   -- after a fault it is down
@@ -48,13 +48,13 @@ pub record IsHandled {C D O : Type 0} (words : Words C D) (before : Hosted C) (o
 
 -- a call of `boot`
 pub record IsBooted {C D : Type 0} (words : Words C D) (old : D) (result : Result (Hosted C) HostFault) (new : D) : Type 0 where
-  -- its core is that of the record and the entries that the disk as it reads stands for
+  -- its core is that of the record and the entries that the disk as it reads represents
   pub answer : IfOk result (λ h. IsTrue words.tells.content → (s : Standing) × (stands (words.state old).seen ≡ Some s)
       × Gives words.restored s (words.recorded h.core) × (h.store ≡ Some (place_of s)) × (h.whole ≡ (get_or s.content 0 0 == 1)))
-  -- and every image stands for them
+  -- and every image represents them
   pub ready : IfOk result (λ h. AllWhole (words.state old) → IsTrue words.tells.content → (s : Standing) → stands (words.state old).seen ≡ Some s
       → IsCurrent words.restored words.recorded s h (words.state new))
-  -- each image at each moment stands for what one at entry stood for
+  -- each image at each moment represents what one at entry stood for
   pub moments : AllWhole (words.state old) → IsTrue words.tells.content → LeavesOnly (words.state old) (words.state new) (WasThere (words.state old))
   -- when each fault comes
   pub faults : IfErr result (IsBootFault words.tells words.restored (words.state old) (words.state new))

@@ -24,7 +24,7 @@ IsHandleFault whole store old new NoRecord = ⊥
 IsHandleFault whole store old new (BadRecord at) = ⊥
 IsHandleFault whole store old new Worn = (whole ≡ true) × ((p : Place) × (store ≡ Some p) × (p.generation ≡ 18446744073709551615))
 
--- of `boot`: the disk, want of memory, where the count of faults stands, no open slot, or what stands gives no core
+-- of `boot`: the disk, out of memory, where the count of faults stands, no open slot, or what stands gives no core
 abbrev pub IsBootFault : Telling → Restoring → View → View → HostFault → Type 0
 IsBootFault tells restored old new (Disk changes) = Rose old.faults new.faults × (changes.items ≡ [])
 IsBootFault tells restored old new NoMemory = Unrisen old.faults new.faults

@@ -20,15 +20,15 @@ Restoring = List ℕ → List ℕ → Restored
 abbrev pub Gives : Restoring → Standing → List ℕ → Type 0
 Gives restored s w = restored s.content (concat s.payloads) ≡ gives w
 
--- an image is whole and stands for the core of this record
+-- an image is whole and represents the core of this record
 abbrev pub StandsFor : Restoring → List ℕ → List ℕ → Type 0
 StandsFor restored w c = (s : Standing) × IsWhole s c × Gives restored s w
 
--- what the bytes stand for gives the core of this record, which a boot on them answers
+-- what the bytes represent gives the core of this record, which a boot on them answers
 abbrev pub AnswersOn : Restoring → List ℕ → List ℕ → Type 0
 AnswersOn restored bytes w = (s : Standing) × (stands bytes ≡ Some s) × Gives restored s w
 
--- an image stands for the core of the one record or of the other
+-- an image represents the core of the one record or of the other
 abbrev pub StandsForEither : Restoring → List ℕ → List ℕ → List ℕ → Type 0
 StandsForEither restored old new c = StandsFor restored old c ⊎ StandsFor restored new c
 

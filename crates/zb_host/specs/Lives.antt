@@ -25,14 +25,15 @@ IsCall words host old (boot result disk) = IsBooted words old result disk
 IsCall words (Some host) old (handle result after disk) = IsTrue (is_some host.store) × IsHandled words host old result after disk
 IsCall words None old (handle result after disk) = ⊥
 
--- A step: a call returns; or a crash cuts it short at a moment of it, and it never returns: then it is given as it would have
--- ended; or a crash comes between two calls. With a crash comes the disk that it leaves. The host is gone.
+-- A step: a call returns; or a crash cuts it short at a moment of it, and it never returns: then it is given as it
+-- would have ended; or a crash comes between two calls. With a crash comes the disk that it leaves. The host is gone.
 pub data Step (C D O : Type 0) : Type 0 where
   returns : Call C D O → Step C D O
   cut_short : Call C D O → D → Step C D O
   crash : D → Step C D O
 
--- what a crash at a moment of a call leaves is one of the images of that moment, and between two calls one of the images
+-- what a crash at a moment of a call leaves is one of the images of that moment, and between two calls one of the
+-- images
 abbrev pub AreSteps : {C D O : Type 0} → Words C D → Option (Hosted C) → D → List (Step C D O) → Type 0
 AreSteps words host disk [] = Unit {0}
 AreSteps words host disk (returns call ∷ steps) = IsCall words host disk call × AreSteps words (host_after call) (disk_after call) steps
@@ -63,7 +64,7 @@ pub record IsAfterFirst (before : List ℕ) (es : List Event) (booted : List ℕ
   pub record_is : booted ≡ record_after before first
   pub none_out : NoneOut others
 
--- a boot failed for the disk or for want of memory: the record isn't lost
+-- a boot failed for the disk or for out of memory: the record isn't lost
 abbrev pub IsSpared : HostFault → Type 0
 IsSpared (Disk changes) = Unit {0}
 IsSpared NoMemory = Unit {0}

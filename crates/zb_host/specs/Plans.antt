@@ -10,7 +10,7 @@ pub data Restored : Type 0 where
   gives : List ℕ → Restored
   bad : ℕ → Restored
 
--- of a core that is made: bad bytes, at their place, or want of memory, and no other fault
+-- of a core that is made: bad bytes, at their place, or out of memory, and no other fault
 abbrev pub IsRestoreFault : Restored → OrMemory KeyError → Type 0
 IsRestoreFault r (Fault (KeyOld place)) = ⊥
 IsRestoreFault r (Fault KeysFull) = ⊥

@@ -3,7 +3,7 @@ use std::error::Error;
 use std::fmt;
 use zb_node_types::Changes;
 
-/// Says why a host's call failed. After a failed `handle` the host is down, and the node boots again from its disk.
+/// Why a host's call failed. After a failed `handle` the host is down, and the node boots again from its disk.
 #[derive(Debug, Drop, PartialEq, Eq)]
 pub enum HostFault {
     /// The disk failed. What is committed shows at the next boot.
@@ -15,7 +15,7 @@ pub enum HostFault {
     NoMemory,
     /// No slot of the disk stands open. It comes from `boot` alone.
     NoRecord,
-    /// What stands is no record of such a node, or an entry behind it doesn't fit. It comes from `boot` alone.
+    /// What stands is no record of such a node, or an entry after it doesn't fit. It comes from `boot` alone.
     BadRecord {
         /// The place of the fault, in bytes from 0; in the entries it counts on from the record's length.
         at: u32,
@@ -24,7 +24,7 @@ pub enum HostFault {
     Worn,
 }
 
-/// Says why the changes of an event weren't stored. The host is down, and the node boots again from its disk.
+/// Why the changes of an event weren't stored. The host is down, and the node boots again from its disk.
 #[derive(Clone, Copy, Debug, PartialEq, Eq)]
 pub enum CommitFault {
     /// The disk failed. What is committed shows at the next boot.

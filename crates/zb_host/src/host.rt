@@ -45,12 +45,13 @@ impl<C: Core> Model for Host<C> {
 }
 
 impl<C: Core> Host<C> {
-    /// Handles an event, and answers its changes and what goes out once they are stored.
+    /// Handles an event, and returns its changes and what goes out once they are stored.
     ///
     /// They are stored by one entry, or by the whole record where no entry more fits. It takes no memory. Requires a
     /// host that is up. After a fault the host is down.
     ///
-    /// Errors: `Disk`, with the changes; `Worn`.
+    /// # Errors
+    /// `Disk`, with the changes; `Worn`.
     pub fn handle<D: Disk>(
         &mut self,
         disk: &mut D,
@@ -63,8 +64,8 @@ impl<C: Core> Host<C> {
             × C.is_after self.old.core p self.new.core × IfOk result (λ r. (r.0 ≡ p.changes) × (r.1 ≡ p.out))
             × IfErr result (λ e. (e ≡ HostFault.Disk p.changes) ⊎ (e ≡ HostFault.Worn)) }
 
-        // A crash at any moment leaves the old record's core or the new one's. What goes out goes out where every image
-        // stands for the new. After a fault the host is down.
+        // A crash at any moment leaves the old record's core or the new one's. What goes out goes out where every
+        // image represents the new. After a fault the host is down.
         ensures step { IsHandled (words_of D.tells D.state C.restored C.recorded C.payload)
             self.old disk.old result self.new disk.new }
         ensures through { IfOk result (λ r. r.0.items ≢ []
@@ -75,7 +76,7 @@ impl<C: Core> Host<C> {
         ensures idle_store { IfOk result (λ r. r.0.items ≡ [] → self.new.store ≡ self.old.store) }
         ensures idle_whole { IfOk result (λ r. r.0.items ≡ [] → self.new.whole ≡ self.old.whole) }
 
-        // Where the disk failed, it stopped at one of the calls, and an image in which the gate is open stands for the
+        // Where the disk failed, it stopped at one of the calls, and an image in which the gate is open represents the
         // new.
         ensures stopped { IfErr result (λ e. (changes : _) → e ≡ HostFault.Disk changes
             → (s : Standing) → IsCurrent C.restored C.recorded s self.old (D.state disk.old)
@@ -111,7 +112,8 @@ impl<C: Core> Host<C> {
     /// What stood in `plan` is gone. Requires a host that is up. After a fault the host is down, and `plan` has the
     /// changes that were to be stored.
     ///
-    /// Errors: `Disk`; `Worn`.
+    /// # Errors
+    /// `Disk`; `Worn`.
     pub fn handle_into<D: Disk>(
         &mut self,
         disk: &mut D,
@@ -124,8 +126,8 @@ impl<C: Core> Host<C> {
         ensures planned { C.is_plan self.old.core event.now plan.new }
         ensures after { C.is_after self.old.core plan.new self.new.core }
 
-        // A crash at any moment leaves the old record's core or the new one's. What goes out goes out where every image
-        // stands for the new. After a fault the host is down.
+        // A crash at any moment leaves the old record's core or the new one's. What goes out goes out where every
+        // image represents the new. After a fault the host is down.
         ensures step { IsHandled (words_of D.tells D.state C.restored C.recorded C.payload)
             self.old disk.old (handled result plan.new) self.new disk.new }
         ensures through { OnOk result (plan.new.changes.items ≢ []
@@ -136,7 +138,7 @@ impl<C: Core> Host<C> {
         ensures idle_store { OnOk result (plan.new.changes.items ≡ [] → self.new.store ≡ self.old.store) }
         ensures idle_whole { OnOk result (plan.new.changes.items ≡ [] → self.new.whole ≡ self.old.whole) }
 
-        // Where the disk failed, it stopped at one of the calls, and an image in which the gate is open stands for the
+        // Where the disk failed, it stopped at one of the calls, and an image in which the gate is open represents the
         // new.
         ensures stopped { IsErrOf result CommitFault.Disk
             → (s : Standing) → IsCurrent C.restored C.recorded s self.old (D.state disk.old)
@@ -188,13 +190,14 @@ impl<C: Core> Host<C> {
     /// It makes the device calls of `Store::open`: one, or three where the gates of both slots are open. Requires a
     /// configuration of a node of the core's role.
     ///
-    /// Errors: `Disk`; `NoMemory`; `NoRecord`; `BadRecord`, with the place of the fault.
+    /// # Errors
+    /// `Disk`; `NoMemory`; `NoRecord`; `BadRecord`, with the place of the fault.
     pub fn boot<D: Disk>(alloc: Global, config: &Config, disk: &mut D) -> Result<Host<C>, HostFault>
         requires config { IsConfig config.now }
         requires role { C.is_of_role config.now }
 
-        // Its core is that of the record and the entries that the disk as it reads stands for, and then every image
-        // stands for them. Each image at each moment stands for what one at entry stood for.
+        // Its core is that of the record and the entries that the disk as it reads represents, and then every image
+        // represents them. Each image at each moment represents what one at entry stood for.
         ensures step { IsBooted (words_of D.tells D.state C.restored C.recorded C.payload) disk.old result disk.new }
         ensures through { OnOk result (IsTrue D.tells.content
             → WentThrough D.tells (open_calls (D.state disk.old).seen) (D.state disk.old) (D.state disk.new)) }
@@ -232,7 +235,7 @@ impl<C: Core> Host<C> {
                 });
             }
             Err(StoreFault::NoRecord) => return Err(HostFault::NoRecord),
-            // It has no other fault but want of memory.
+            // It has no other fault but out of memory.
             Err(_) => return Err(HostFault::NoMemory),
         };
         match C::restore(alloc, config, &record, &payloads) {
@@ -248,14 +251,14 @@ impl<C: Core> Host<C> {
         }
     }
 
-    /// Answers whether the host is up: no fault has come.
+    /// Returns whether the host is up: no fault has come.
     pub fn is_up(&self) -> bool
         ensures { result ≡ is_some self.now.store }
     {
         self.store.is_some()
     }
 
-    /// Answers the core. Requires a host that is up.
+    /// Returns the core. Requires a host that is up.
     pub fn core(&self) -> &C
         requires { IsTrue (is_some self.now.store) }
         ensures { result.now ≡ self.now.core }

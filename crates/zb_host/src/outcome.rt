@@ -3,9 +3,9 @@ ghost use Rattle.std.specs.Prelude.{◌≡◌, None};
 
 use zb_base::Frame;
 
-/// Tells what an event of a node gives beside its changes, for terms `T` and refusals `R`.
+/// What an event of a node gives beside its changes, for terms `T` and refusals `R`.
 ///
-/// At most one term is accepted and sealed at each layer. Where something is refused behind an acceptance, both are
+/// At most one term is accepted and sealed at each layer. Where something is refused after an acceptance, both are
 /// there.
 #[derive(Debug, Drop, PartialEq, Eq)]
 pub struct Outcome<T, R> {

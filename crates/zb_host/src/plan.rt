@@ -10,7 +10,7 @@ use std::alloc::Global;
 use zb_base::{Config, OrMemory};
 use zb_node_types::{Changes, KeyError};
 
-/// Says what an event leads to: the changes of the stable state, and what goes out once they are stored.
+/// What an event leads to: the changes of the stable state, and what goes out once they are stored.
 ///
 /// It is large. So its place is made once, and plans are written there.
 #[derive(Debug, Drop)]
@@ -59,13 +59,13 @@ pub trait Core: Drop {
     /// How changes are spelled in an entry.
     ghost payload: { List change → List ℕ };
 
-    /// The record of the core that a record and the payloads behind it give.
+    /// The record of the core that a record and the payloads after it give.
     ghost restored: { List ℕ → List ℕ → Restored };
 
     /// The configurations of such a node: those in which it is of the core's role.
     ghost is_of_role: { configuration → Type 0 };
 
-    /// The core with which a node boots: that of a record and the payloads behind it, one after the other, in a
+    /// The core with which a node boots: that of a record and the payloads after it, one after the other, in a
     /// configuration. It says what of the core a record doesn't have: the next counters, and what it was configured
     /// with.
     ghost is_booted: { configuration → List ℕ → List ℕ → Self → Type 0 };
@@ -94,10 +94,11 @@ pub trait Core: Drop {
         ensures len { result ≡ length (payload changes.now.items) }
         ensures bytes { take result into.new ≡ payload changes.now.items };
 
-    /// Makes the core of a node from a record and the payloads behind it, one after the other. Requires a configuration
+    /// Makes the core of a node from a record and the payloads after it, one after the other. Requires a configuration
     /// of such a node, and no more bytes than a store has of them.
     ///
-    /// Errors: `BadRecord`, with the place of the fault; want of memory.
+    /// # Errors
+    /// `BadRecord`, with the place of the fault; out of memory.
     fn restore(
         alloc: Global,
         config: &Config,
@@ -116,7 +117,7 @@ pub trait Core: Drop {
     ghost short: { (c : Self) (e : Self.Event) (p : Plan Self.Out) → is_plan c e p
         → length (payload p.changes.items) ≤ payload_room };
 
-    /// An entry behind a record that isn't of the first version leads from the core to the one after the plan.
+    /// An entry after a record that isn't of the first version leads from the core to the one after the plan.
     ghost adds: { (c d : Self) (e : Self.Event) (p : Plan Self.Out) (r q : List ℕ) → is_plan c e p → is_after c p d
         → get_or r 0 0 ≢ 1 → restored r q ≡ gives (recorded c)
         → restored r (q ++ payload p.changes.items) ≡ gives (recorded d) };

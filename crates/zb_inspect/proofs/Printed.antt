@@ -116,13 +116,13 @@ take_behind : (xs ys rest : List ℕ) (n : ℕ) → (m : ℕ) × (take m (xs ++ 
 take_behind [] ys rest n = take_front ys rest n
 take_behind (x ∷ xs) ys rest n = let r = take_behind xs ys rest n in (suc r.0, ap (λ l. x ∷ l) r.1)
 
--- whole pieces and then a front of the next one are a front of all
+-- whole pieces and then a prefix of the next one are a prefix of all
 front_of : (a b c : Option (List ℕ)) (xs ys rest : List ℕ) → Appends a b xs → AppendsFront b c ys → AppendsFront a c (xs ++ (ys ++ rest))
 front_of a b c xs ys rest first second =
     let r = take_behind xs ys rest second.0 in
     (r.0, subst (Appends a c) (sym r.1) (Appends-trans a b c xs (take second.0 ys) first second.1))
 
--- a front of what comes first is a front of all; so is all of it and a front of the rest
+-- a prefix of what comes first is a prefix of all; so is all of it and a prefix of the rest
 pub front_first : (a b : Option (List ℕ)) (xs ys : List ℕ) → AppendsFront a b xs → AppendsFront a b (xs ++ ys)
 front_first a b xs ys first =
     let r = take_front xs ys first.0 in (r.0, subst (Appends a b) (sym r.1) first.1)

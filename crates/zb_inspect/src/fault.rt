@@ -7,7 +7,7 @@ use std::error::Error;
 use std::fmt;
 use zb_base::{Failed, NoMemory};
 
-/// Says why a report isn't written to its end.
+/// Why a report isn't written to its end.
 #[derive(Clone, Copy, Debug, PartialEq, Eq)]
 pub enum InspectFault {
     /// The sink failed: its count of faults rose.

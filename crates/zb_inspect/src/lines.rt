@@ -1,4 +1,4 @@
-//! The lines of a report behind those of the frames.
+//! The lines of a report after those of the frames.
 ghost use Rattle.std.specs.Prelude.{◌≡◌, ◌+◌, ◌-◌, ◌<◌, ◌^◌, ◌++◌, ◌∷◌, [], length, decimal, OnOk};
 ghost use Rattle.zb_text.specs.Words.{then};
 ghost use Rattle.zb_inspect.specs.Report.{found_text, key_line, keys_text, end_line as end_text, tail_text};

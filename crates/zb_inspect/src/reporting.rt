@@ -24,7 +24,7 @@ use zb_parallel::Gate;
 ///
 /// # Errors
 ///
-/// `Write` where the sink failed, which then has a front of the report; `NoMemory`.
+/// `Write` where the sink failed, which then has a prefix of the report; `NoMemory`.
 pub fn report<T: Threads + Sync, G: Gate, W: Sink>(
     rt: &T,
     alloc: Global,
@@ -38,7 +38,7 @@ pub fn report<T: Threads + Sync, G: Gate, W: Sink>(
     ensures ends { Reports capture.now (W.taken out.old) (W.taken out.new) (W.faults out.old)
         (W.faults out.new) result }
     ensures later { W.faults out.old ≤ W.faults out.new }
-    // No fault of the sink is told as want of memory.
+    // No fault of the sink is reported as out of memory.
     ensures unrisen { result ≢ Err InspectFault.Write → Unrisen (W.faults out.old) (W.faults out.new) }
 {
     let opened = open_all(rt, alloc, capture, jobs, gate)?;
@@ -96,7 +96,7 @@ fn print_piece(alloc: Global, piece: Piece) -> Result<Vec<u8>, NoMemory>
     Ok(page)
 }
 
-/// Gives the pages, where none lacked memory.
+/// Returns the pages, where none lacked memory.
 fn gather(alloc: Global, printed: Vec<Result<Vec<u8>, NoMemory>>) -> Result<Vec<Vec<u8>>, NoMemory>
     ensures { IfOk result (λ v. printed.items ≡ map (λ page. Ok page) v.items) }
 {

@@ -24,7 +24,7 @@ use Rattle.zb_inspect_frame.specs.declared.layer.Finding.TheVariants.{Malformed,
 use Rattle.zb_inspect_frame.specs.declared.shown.Below.{Below}
 use Rattle.zb_inspect_frame.specs.declared.shown.Shown.{Shown}
 
--- what others give under further keys is what they give, and one key in front of them changes nothing in that
+-- what others give under further keys is what they give, and one key before them changes nothing in that
 one_before : (s : Envelope) (source : Eui) (number m : ℕ) (key : Key) (fresh : List Key) (found : Option (List ℕ)) (more before : Finding)
     → more ≡ tried m fresh before → unsealed s source number key found more ≡ tried m fresh (unsealed s source number key found before)
 one_before s source number m key fresh None more before same = same
@@ -50,7 +50,7 @@ tried_further number keys fresh (Opened key term) = refl
 known_first : (known : ℕ) (keys : List Key) → known ≤ length keys → known ≡ 0 + length (take known keys)
 known_first known keys within = omega (arith, length-take known keys)
 
--- The same of the first keys of a list and of those behind them.
+-- The same of the first keys of a list and of those after them.
 pub found_further : (known : ℕ) (keys : List Key) (x : Finding) → known ≤ length keys
     → tried known (drop known keys) (tried 0 (take known keys) x) ≡ tried 0 keys x
 found_further known keys x within =
@@ -191,7 +191,8 @@ old_is : (f : List ℕ → Below) (o now : Option (List ℕ)) (old : Below) → 
 old_is f None now old e keeps p is = cc
 old_is f (Some q) now old e keeps p is = let kept : now ≡ Some q = keeps q refl in cc
 
--- The same, where `nwk` is what the NWK layer is found to be under all keys: what was known below it, and what is known then.
+-- The same, where `nwk` is what the NWK layer is found to be under all keys: what was known below it, and what is
+-- known then.
 
 pub below_before : (known : ℕ) (addrs : List (Short × Eui)) (keys : List Key) (bytes : List ℕ) (seen : Shown) (nwk : Finding) (old : Below)
     → seen ≡ frame_shown addrs (take known keys) bytes → nwk ≡ tried known (drop known keys) seen.nwk → seen.below ≡ Some old

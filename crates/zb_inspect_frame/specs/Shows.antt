@@ -32,7 +32,8 @@ abbrev pub eui_or : Option Eui → Option Eui → Option Eui
 eui_or (Some eui) other = Some eui
 eui_or None other = other
 
--- the source of an APS frame that names none: the IEEE address of the NWK source, where the frame has it, else the known one
+-- the source of an APS frame that names none: the IEEE address of the NWK source, where the frame has it, else the
+-- known one
 abbrev pub source_known : List (Short × Eui) → NwkHeader → Option Eui
 source_known addrs header = eui_or header.source_eui (addr_of header.source addrs)
 

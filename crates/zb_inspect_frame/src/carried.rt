@@ -7,7 +7,7 @@ use crate::shown::{Below, Shown};
 use zb_base::Key;
 use zb_carried_keys::carried;
 
-/// Holds the keys that the opened contents of a frame carry, from the innermost layer outwards.
+/// The keys that the opened contents of a frame carry, from the innermost layer outwards.
 #[derive(Clone, Copy, Debug, PartialEq, Eq)]
 pub struct Carried {
     /// The key in the APS frame in a Tunnel.
@@ -18,7 +18,7 @@ pub struct Carried {
     pub nwk: Option<Key>,
 }
 
-/// Gives the keys in those contents of a frame that a key of the ring opened.
+/// Returns the keys in those contents of a frame that a key of the ring opened.
 pub fn carried_keys(shown: &Shown) -> Carried
     ensures { result ≡ keys_carried shown.now }
 {

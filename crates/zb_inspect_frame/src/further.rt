@@ -43,7 +43,7 @@ pub fn show_more(
     }
 }
 
-/// Tries the keys behind the first `known` on a layer.
+/// Tries the keys after the first `known` on a layer.
 fn try_further(keys: &[SealingKeys], known: u32, finding: Finding) -> Finding
     requires within { known ≤ length keys.now }
     requires fits { length keys.now < 2 ^ 32 }

@@ -6,7 +6,7 @@ ghost use Rattle.zb_inspect_frame.specs.Layers.{looked, tried, opened_by, clear 
 use zb_base::{Eui, Frame};
 use zb_seal::{Envelope, OpenError, SealingKeys, Term};
 
-/// Says what is found at one layer of a frame.
+/// What is found at one layer of a frame.
 #[derive(Debug, Drop)]
 pub enum Finding {
     /// The bytes are no frame of the layer.
@@ -84,7 +84,8 @@ fn open_first(envelope: Envelope, source: Eui, number: u32, keys: &[SealingKeys]
     }
 }
 
-/// Gives the content of a layer, where it is known: `body` where the frame is not secured, else what it was opened to.
+/// Returns the content of a layer, where it is known: `body` where the frame is not secured, else what it was opened
+/// to.
 pub(crate) fn clear<'a>(finding: &'a Finding, body: &'a Frame) -> Option<&'a [u8]>
     ensures value { option_copied result ≡ clear_of finding.now body.now.items }
     ensures fits { IfSome result (λ content. length content.now ≤ 127) }
@@ -98,7 +99,7 @@ pub(crate) fn clear<'a>(finding: &'a Finding, body: &'a Frame) -> Option<&'a [u8
     }
 }
 
-/// Whether no key opened a secured layer.
+/// Returns whether no key opened a secured layer.
 pub(crate) fn is_closed(finding: &Finding) -> bool
     ensures { result ≡ closed finding.now }
 {

@@ -6,7 +6,7 @@ ghost use Rattle.zb_inspect_frame.specs.Settling.{is_settled as settled, is_unop
 use crate::layer::{Finding, is_closed};
 use crate::shown::{Below, Shown};
 
-/// Answers whether no layer of a frame is closed. Such a frame shows the same under any further keys.
+/// Returns whether no layer of a frame is closed. Such a frame shows the same under any further keys.
 pub fn is_settled(shown: &Shown) -> bool
     ensures value { result ≡ settled shown.now }
     ensures lasting { OnTrue result (ShowsNoMore shown.now) }
@@ -14,7 +14,7 @@ pub fn is_settled(shown: &Shown) -> bool
     !is_closed(&shown.nwk) && below_settled(&shown.below)
 }
 
-/// Answers whether no key opened the NWK layer of a frame. Such a frame shows what it shows under no keys.
+/// Returns whether no key opened the NWK layer of a frame. Such a frame shows what it shows under no keys.
 pub fn is_unopened(shown: &Shown) -> bool
     ensures value { result ≡ unopened shown.now }
     ensures nothing { OnTrue result (ShowsNothing shown.now) }

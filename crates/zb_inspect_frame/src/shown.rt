@@ -17,7 +17,7 @@ use zb_cmd::{Command, read_command};
 use zb_nwk::{NwkFrame, NwkHeader};
 use zb_seal::{Envelope, OpenError, SealingKeys, envelope_aps, envelope_nwk, look_aps};
 
-/// Holds what a NWK frame shows.
+/// What a NWK frame shows.
 #[derive(Debug, Drop)]
 pub struct Shown {
     /// The NWK layer.
@@ -26,7 +26,7 @@ pub struct Shown {
     pub below: Option<Below>,
 }
 
-/// Holds what the payload of a NWK data frame shows.
+/// What the payload of a NWK data frame shows.
 #[derive(Debug, Drop)]
 pub struct Below {
     /// The APS layer.
@@ -84,7 +84,7 @@ fn find_nwk(keys: &[SealingKeys], bytes: &[u8], frame: &NwkFrame) -> Finding
     try_keys(look(look_nwk(bytes, frame), None), 0, keys)
 }
 
-/// Gives the envelope of a NWK frame that was read.
+/// Returns the envelope of a NWK frame that was read.
 fn look_nwk(bytes: &[u8], frame: &NwkFrame) -> Result<Envelope, OpenError>
     requires { SpellsNwk bytes.now frame.now }
     ensures { result ≡ nwk_envelope frame.now frame.now.aux }
@@ -118,7 +118,7 @@ fn look_below(addrs: &Addresses<'_>, keys: &[SealingKeys], nwk: Finding, frame: 
     }
 }
 
-/// Gives the payload of a data frame, where it is known.
+/// Returns the payload of a data frame, where it is known.
 pub(crate) fn data_in<'a>(nwk: &'a Finding, frame: &'a NwkFrame) -> Option<&'a [u8]>
     ensures { option_copied result ≡ data_in nwk.now frame.now }
 {
@@ -129,7 +129,7 @@ pub(crate) fn data_in<'a>(nwk: &'a Finding, frame: &'a NwkFrame) -> Option<&'a [
     }
 }
 
-/// Gives the source of an APS frame that names none: the IEEE address of the NWK source, where it is known.
+/// Returns the source of an APS frame that names none: the IEEE address of the NWK source, where it is known.
 pub(crate) fn source_known(addrs: &Addresses<'_>, header: &NwkHeader) -> Option<Eui>
     ensures { result ≡ source_known addrs.now header.now }
 {
@@ -180,7 +180,7 @@ fn find_inner_aps(keys: &[SealingKeys], given: Option<Eui>, bytes: &[u8]) -> Fin
     try_keys(look(look_aps(bytes), given), 0, keys)
 }
 
-/// Gives the frame in a Tunnel, where a payload is an APS command that is one and is known in clear.
+/// Returns the frame in a Tunnel, where a payload is an APS command that is one and is known in clear.
 pub(crate) fn tunnelled_in(aps: &Finding, payload: &[u8]) -> Option<Frame>
     ensures { result ≡ tunnelled aps.now (reading.frame_of payload.now) }
 {
@@ -190,7 +190,7 @@ pub(crate) fn tunnelled_in(aps: &Finding, payload: &[u8]) -> Option<Frame>
     }
 }
 
-/// Gives the frame in a Tunnel, where an APS command is one and is known in clear.
+/// Returns the frame in a Tunnel, where an APS command is one and is known in clear.
 fn tunnelled(aps: &Finding, frame: &ApsFrame) -> Option<Frame>
     ensures { result ≡ tunnelled aps.now (Ok frame.now) }
 {
@@ -210,7 +210,7 @@ fn tunnel(content: &[u8]) -> Option<Frame>
     }
 }
 
-/// Gives the payload of an APS command, where it is known.
+/// Returns the payload of an APS command, where it is known.
 fn command_in<'a>(aps: &'a Finding, frame: &'a ApsFrame) -> Option<&'a [u8]>
     ensures value { option_copied result ≡ command_in aps.now frame.now }
     ensures fits { IfSome result (λ content. length content.now ≤ 127) }

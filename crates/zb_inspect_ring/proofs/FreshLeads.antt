@@ -1,4 +1,5 @@
--- What a look finds anew is learnt as all that is found: the keys of frames of which the lines are kept were learnt before.
+-- What a look finds anew is learnt as all that is found: the keys of frames of which the lines are kept were learnt
+-- before.
 use Rattle.std.proofs.Common.{◌≡◌, ℕ, ◌+◌, ◌≤◌, List, [], ◌∷◌, ◌++◌, length, take, refl, ap, sym, ◌∙◌, subst, append-nil, append_assoc, Bool, true, false, ◌&&◌, if◌then◌else◌, Some}
 use Rattle.std.specs.List.{AllByRecursion, list_all}
 use Rattle.std.proofs.lemmas.List.{map-append, length-map}

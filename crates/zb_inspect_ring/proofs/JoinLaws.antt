@@ -34,7 +34,7 @@ both_settled (x ∷ xs) ys e f = step (is_settled x) (list_all is_settled xs) (l
     step true b c e next = next e
     step false b c e next = cc
 
--- the frames of one block and those of the block behind it
+-- the frames of one block and those of the block after it
 pub frames_joined : (frames : List (ArrayVec ℕ)) (first n m : ℕ) → 1 ≤ first
     → frames_from frames first (n + m) ≡ frames_from frames first n ++ frames_from frames (first + n) m
 frames_joined frames first n m some =
@@ -81,7 +81,7 @@ joined_shown frames addrs keys front back joined j e f next within shown also =
     ∙ ap (λ n. frames_text front.first x ++ frames_text n y) (sym place) ∙ sym (shown_append front.first x y)
     ∙ ap (λ n. frames_text n (x ++ y)) (sym j.first)) (both_settled x y a.1 b.1))
 
--- a block that is put behind others, as it is or joined with the last one
+-- a block that is put after others, as it is or joined with the last one
 pub added_alone : (old new : List Block) (block : Block) → new ≡ old ++ block ∷ [] → IsAdded old block new
 added_alone old new block is = record {
   numbers = λ frame numbers. (let P : List Block → Type 0 = λ bs. Numbered frame bs in subst P (sym is) numbers);

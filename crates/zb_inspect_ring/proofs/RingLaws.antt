@@ -6,7 +6,7 @@ use Rattle.zb_inspect_ring.specs.Rings.{learnt, with_key, has_key, keys_of}
 use Rattle.zb_inspect_ring.specs.declared.ring.Lead.{Lead}
 use Rattle.zb_inspect_ring.specs.declared.ring.RingKey.{RingKey}
 
--- keys are only added behind those that are there
+-- keys are only added after those that are there
 one_more : (b : Bool) (ring : List RingKey) (k : RingKey) → (more : List RingKey) × ((if b then ring else ring ++ k ∷ []) ≡ ring ++ more)
 one_more true ring k = ([], sym (append-nil ring))
 one_more false ring k = (k ∷ [], refl)

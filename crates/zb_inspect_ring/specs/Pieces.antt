@@ -40,8 +40,8 @@ abbrev pub count_of : List Block → ℕ
 count_of [] = 0
 count_of (block ∷ more) = block.count + count_of more
 
--- Pieces, numbered from `number` on, that have the frames that are left: each has `size` of them, and the last what is left by then. Where
--- no frame is left there is no piece.
+-- Pieces, numbered from `number` on, that have the frames that are left: each has `size` of them, and the last what is
+-- left by then. Where no frame is left there is no piece.
 abbrev pub AreSized : ℕ → ℕ → ℕ → List Piece → Type 0
 AreSized size number left [] = left ≡ 0
 AreSized size number left (piece ∷ more) =
@@ -52,8 +52,9 @@ pub record IsWithin (frames : ℕ) (block : Block) : Type 0 where
   pub first : 1 ≤ block.first
   pub last : block.first + block.count ≤ frames + 1
 
--- What is kept of frames, the first of which has the number `first`, where `found` is what they show: nothing, where no key opened the NWK
--- layer of any of them; the lines of a report, where no layer of any of them is closed; or else all of it.
+-- What is kept of frames, the first of which has the number `first`, where `found` is what they show: nothing, where
+-- no key opened the NWK layer of any of them; the lines of a report, where no layer of any of them is closed; or else
+-- all of it.
 abbrev pub StandsFor : ℕ → List Shown → Seen → Type 0
 StandsFor first found Nothing = ⊥
 StandsFor first found Unopened = list_all is_unopened found ≡ true
@@ -126,7 +127,8 @@ pub record SameFrames (old new : Block) : Type 0 where
 abbrev pub IsNext : List (ArrayVec ℕ) → List (Short × Eui) → List Key → Block → Block → Type 0
 IsNext frames addrs keys old new = SameFrames old new × IsShown frames addrs keys new
 
--- A piece that was looked at under the keys, with the keys that were found. It has the same frames, in the same blocks or in others.
+-- A piece that was looked at under the keys, with the keys that were found. It has the same frames, in the same blocks
+-- or in others.
 pub record IsNextPiece (frames : List (ArrayVec ℕ)) (addrs : List (Short × Eui)) (keys : List Key) (old new : Piece) : Type 0 where
   pub number : new.number ≡ old.number
   pub numbers : (frame : ℕ) → Numbered frame old.blocks.items → Numbered frame new.blocks.items
@@ -178,7 +180,7 @@ pub record AreJoined (front back joined : Block) : Type 0 where
   pub kept : has_lines joined.seen ≡ true
   pub lines : lines_of joined.seen ≡ lines_of front.seen ++ lines_of back.seen
 
--- A block behind others, of which it may have become a part: what was shown of all of them still is.
+-- A block after others, of which it may have become a part: what was shown of all of them still is.
 pub record IsAdded (old : List Block) (block : Block) (new : List Block) : Type 0 where
   pub numbers : (frame : ℕ) → Numbered frame (old ++ block ∷ []) → Numbered frame new
   pub count : count_of new ≡ count_of (old ++ block ∷ [])

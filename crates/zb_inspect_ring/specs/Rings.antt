@@ -21,7 +21,7 @@ is_key key known = bytes_eq known.key.0 key.0
 abbrev pub has_key : List RingKey → Key → Bool
 has_key ring key = list_any (is_key key) ring
 
--- a key behind those of the ring, if it is new
+-- a key after those of the ring, if it is new
 abbrev pub with_key : List RingKey → Key → Option (ℕ × ℕ) → List RingKey
 with_key ring key found = if has_key ring key then ring else ring ++ record { key = key; found = found } ∷ []
 
@@ -64,13 +64,15 @@ unfoldable pub ring_after : Capture → ℕ → List RingKey
 ring_after c zero = given_from [] c.keys
 ring_after c (suc n) = after_round c (suc n) (ring_after c n)
 
--- The ring after a round that comes behind n others, if that adds no key, else after the next ones; at most `tries` rounds are tried.
+-- The ring after a round that comes after n others, if that adds no key, else after the next ones; at most `tries`
+-- rounds are tried.
 unfoldable pub ring_from : ℕ → Capture → ℕ → Ring
 ring_from zero c n = record { keys = ring_after c n; rounds = n }
 ring_from (suc tries) c n =
     if length (ring_after c (suc n)) == length (ring_after c n) then record { keys = ring_after c (suc n); rounds = suc n } else ring_from tries c (suc n)
 
--- The rounds end with the first that adds no key. They do: no ring has more keys than are given and three for each frame, and each other round adds one.
+-- The rounds end with the first that adds no key. They do: no ring has more keys than are given and three for each
+-- frame, and each other round adds one.
 abbrev pub ring_of : Capture → Ring
 ring_of c = ring_from (length c.keys + 3 * length c.frames + 1) c 0
 

@@ -19,7 +19,7 @@ use zb_inspect_frame::{
 };
 use zb_seal::SealingKeys;
 
-/// Says what is kept of the frames of a block.
+/// What is kept of the frames of a block.
 #[derive(Drop)]
 pub enum Seen {
     /// They weren't looked at yet.
@@ -32,7 +32,7 @@ pub enum Seen {
     Whole(Vec<Shown>),
 }
 
-/// Holds a few consecutive frames of a capture, and what they show under the keys that were tried on them.
+/// A few consecutive frames of a capture, and what they show under the keys that were tried on them.
 #[derive(Drop)]
 pub struct Block {
     /// The number of the first frame, from 1.
@@ -308,7 +308,7 @@ impl Block {
     ghost use Rattle.std.specs.Prelude.{◌≡◌, ◌++◌, IfOk};
     ghost use Rattle.zb_inspect_ring.specs.Pieces.{HasRoom, lines_of as kept_lines, seen_text};
 
-    /// Puts the lines of the frames behind a page. Where that is empty, lines that are kept become the page.
+    /// Puts the lines of the frames after a page. Where that is empty, lines that are kept become the page.
     ///
     /// Requires that the numbers of the frames are below 2^32.
     pub fn print(self, page: Vec<u8>) -> Result<Vec<u8>, AllocError>
@@ -326,7 +326,7 @@ impl Block {
         Ok(page)
     }
 
-    /// Gives the lines of the frames, where they are kept.
+    /// Returns the lines of the frames, where they are kept.
     pub(crate) fn lines(&self) -> &[u8]
         ensures { result.now ≡ kept_lines self.now.seen }
     {
@@ -339,7 +339,7 @@ impl Block {
     }
 }
 
-/// Puts lines behind a page, which they become where it is empty.
+/// Puts lines after a page, which they become where it is empty.
 fn put_behind(page: &mut Vec<u8>, lines: Vec<u8>) -> Result<(), AllocError>
     ensures { OnOk result (page.new.items ≡ page.old.items ++ lines.items) }
 {

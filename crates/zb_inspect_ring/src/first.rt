@@ -53,7 +53,7 @@ pub(crate) fn look_first(
     Ok(blocks)
 }
 
-/// Adds a block behind others. Where the lines of both are kept, it becomes a part of the last one.
+/// Adds a block after others. Where the lines of both are kept, it becomes a part of the last one.
 fn add_block(blocks: &mut Vec<Block>, block: Block) -> Result<(), AllocError>
     requires { count_of (blocks.old.items ++ block ∷ []) < 2 ^ 32 }
     ensures { OnOk result (IsAdded blocks.old.items block blocks.new.items) }
@@ -71,7 +71,7 @@ fn add_block(blocks: &mut Vec<Block>, block: Block) -> Result<(), AllocError>
     Ok(())
 }
 
-/// Answers whether the lines of both blocks are kept.
+/// Returns whether the lines of both blocks are kept.
 fn have_lines(first: &Block, second: &Block) -> bool
     ensures { result ≡ (lines_kept first.now.seen && lines_kept second.now.seen) }
 {

@@ -13,7 +13,7 @@ use zb_capture::Frames;
 use zb_inspect_frame::Addresses;
 use zb_seal::SealingKeys;
 
-/// Is the work of one job: consecutive blocks of the frames of a capture.
+/// The work of one job: consecutive blocks of the frames of a capture.
 #[derive(Drop)]
 pub struct Piece {
     /// The number of the piece, from 0.
@@ -124,7 +124,7 @@ fn look_again(
     })
 }
 
-/// Gives the first frame and the number of frames of a piece that wasn't looked at yet, which is one block.
+/// Returns the first frame and the number of frames of a piece that wasn't looked at yet, which is one block.
 fn unseen(blocks: &[Block]) -> Option<(u32, u32)>
     ensures { IfSome result (λ f. IsOneUnseen blocks.now f.0 f.1) }
 {

@@ -8,7 +8,7 @@ use std::marker::Model;
 use zb_base::{Key, List, NoMemory};
 use zb_seal::SealingKeys;
 
-/// Is a key of the ring.
+/// A key of the ring.
 #[derive(Clone, Copy, Debug, PartialEq, Eq)]
 pub struct RingKey {
     /// The key.
@@ -17,7 +17,7 @@ pub struct RingKey {
     pub found: Option<(u32, u32)>,
 }
 
-/// Holds the keys that are given or that the frames give.
+/// The keys that are given or that the frames give.
 #[derive(Debug, Drop)]
 pub struct Ring {
     /// The keys, in the order in which they became known.
@@ -26,7 +26,7 @@ pub struct Ring {
     pub rounds: u32,
 }
 
-/// Is a key that a frame carries.
+/// A key that a frame carries.
 #[derive(Clone, Copy, Debug, PartialEq, Eq)]
 pub struct Lead {
     /// The number of the frame, from 1.
@@ -35,7 +35,7 @@ pub struct Lead {
     pub key: Key,
 }
 
-/// Is the ring so far, each key with its sealing keys expanded.
+/// The ring so far, each key with its sealing keys expanded.
 ///
 /// A contract sees it as its keys.
 #[derive(Drop)]
@@ -76,7 +76,7 @@ impl KeyRing {
         }
     }
 
-    /// Answers whether the ring has the key.
+    /// Returns whether the ring has the key.
     fn has(&self, key: &Key) -> bool
         ensures { result ≡ has_key self.now key.now }
     {
@@ -105,21 +105,21 @@ impl KeyRing {
         })
     }
 
-    /// Gives the keys, each with its sealing keys.
+    /// Returns the keys, each with its sealing keys.
     pub fn sealing_keys(&self) -> &[SealingKeys]
         ensures { result.now ≡ keys_of self.now }
     {
         self.sealing_keys.as_slice()
     }
 
-    /// Answers how many keys the ring has.
+    /// Returns how many keys the ring has.
     pub fn len(&self) -> usize
         ensures { result ≡ length self.now }
     {
         self.keys.len()
     }
 
-    /// Gives the keys, and where they were found.
+    /// Returns the keys, and where they were found.
     pub fn into_keys(self) -> List<RingKey>
         ensures { result ≡ self }
     {

@@ -17,7 +17,7 @@ use zb_inspect_frame::Addresses;
 use zb_parallel::{Gate, IdleThread};
 use zb_seal::SealingKeys;
 
-/// Holds the ring of a capture, and what the frames of the capture show under it.
+/// The ring of a capture, and what the frames of the capture show under it.
 #[derive(Drop)]
 pub struct Opened {
     /// The ring.
@@ -28,8 +28,8 @@ pub struct Opened {
 
 /// Works out the ring of a capture, and what its frames show under it, by so many jobs.
 ///
-/// In each round only the layers that are still closed are tried, and only under the keys that are new. Frames of which
-/// no layer is closed are kept as the lines that they have in a report. Requires a job.
+/// In each round only the layers that are still closed are tried, and only under the keys that are new. Frames of
+/// which no layer is closed are kept as the lines that they have in a report. Requires a job.
 pub fn open_all<T: Threads + Sync, G: Gate>(
     rt: &T,
     alloc: Global,
@@ -120,7 +120,7 @@ fn look_at_all<T: Threads + Sync, G: Gate>(
     gather(alloc, looked)
 }
 
-/// Gives the pieces, where none lacked memory.
+/// Returns the pieces, where none lacked memory.
 fn gather(alloc: Global, looked: Vec<Result<Piece, NoMemory>>) -> Result<Vec<Piece>, NoMemory>
     ensures { IfOk result (λ v. looked.items ≡ map (λ p. Ok p) v.items) }
 {

@@ -1,5 +1,5 @@
--- Install codes: of 16 bytes by the Base Device Behavior, of 6, 8 and 12 bytes by this project's profile, each with its CRC
--- behind it.
+-- Install codes: of 16 bytes by the Base Device Behavior, of 6, 8 and 12 bytes by this project's profile, each with
+-- its CRC after it.
 use Rattle.std.specs.Prelude.{ℕ, ◌-◌, ◌%◌, ◌==◌, ◌||◌, not, Bool, List, [], Option, Some, None, Result, Ok, Err, if◌then◌else◌, length, take, drop}
 use Rattle.std.specs.Char.{is_ascii_hexdigit}
 use Rattle.std.specs.Int.{w16, from_le_bytes}

@@ -86,7 +86,8 @@ impl InstallCode {
     ///
     /// Requires fewer than 2^32 - 1 bytes of text.
     ///
-    /// Errors: a `CodeError`, the first of its kinds that holds.
+    /// # Errors
+    /// A `CodeError`, the first of its kinds that holds.
     pub fn from_hex(text: &str) -> Result<InstallCode, CodeError>
         requires { length text.now < 2 ^ 32 - 1 }
         ensures { result ≡ code_of_text text.now }
@@ -110,7 +111,8 @@ impl InstallCode {
     ///
     /// Requires fewer than 2^32 - 1 of them.
     ///
-    /// Errors: a `CodeError`, the first of its kinds that holds, but for `NotHex`.
+    /// # Errors
+    /// A `CodeError`, the first of its kinds that holds, but for `NotHex`.
     pub fn from_bytes(bytes: &[u8]) -> Result<InstallCode, CodeError>
         requires { length bytes.now < 2 ^ 32 - 1 }
         ensures { result ≡ code_of bytes.now }
@@ -131,14 +133,14 @@ impl InstallCode {
         })
     }
 
-    /// Answers code and CRC together, as they were taken.
+    /// Returns code and CRC together, as they were taken.
     pub fn bytes(&self) -> &[u8]
         ensures { result.now ≡ self.now }
     {
         self.bytes.as_slice()
     }
 
-    /// Answers the link key that the code gives: the hash of code and CRC together.
+    /// Returns the link key that the code gives: the hash of code and CRC together.
     pub fn link_key(&self) -> Key
         ensures { result.0 ≡ code_key self.now }
     {

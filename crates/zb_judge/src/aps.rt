@@ -29,7 +29,7 @@ pub struct Unsealed {
     pub row: LinkRow,
 }
 
-/// Answers the source of a sealed APS part: its own, or the declared node of the frame's network address.
+/// Returns the source of a sealed APS part: its own, or the declared node of the frame's network address.
 fn source_of(network: &Network, frame: &NwkFrame, aux: &ApsAux) -> Option<Eui>
     ensures { option_map (λ e. e.0) result ≡ aps_source network.now (nwk_frame_shown frame.now) (auxiliary aux.now) }
 {
@@ -39,14 +39,14 @@ fn source_of(network: &Network, frame: &NwkFrame, aux: &ApsAux) -> Option<Eui>
     }
 }
 
-/// Tells whether a row is in use and of a partner.
+/// Returns whether a row is in use and of a partner.
 fn is_candidate(row: &LinkRow, source: Eui) -> bool
     ensures { result ≡ is_live_of source.0 (link_key row.now) }
 {
     row.live && row.partner.0 == source.0
 }
 
-/// Tells whether the key of a row opens the frame. Requires the bytes that the frame was read from.
+/// Returns whether the key of a row opens the frame. Requires the bytes that the frame was read from.
 fn opens(memo: &KeyMemo, bytes: &[u8], frame: &ApsFrame, row: &LinkRow, source: Eui) -> bool
     requires read { frame_of bytes.now ≡ Ok frame.now }
     requires spells { Spells bytes.now frame.now }
@@ -55,14 +55,14 @@ fn opens(memo: &KeyMemo, bytes: &[u8], frame: &ApsFrame, row: &LinkRow, source: 
     open_aps(memo, bytes, frame, &row.key, source).is_some()
 }
 
-/// Answers the newest row of a partner that is in use.
+/// Returns the newest row of a partner that is in use.
 fn first_candidate<'a>(rows: &'a [LinkRow], source: Eui) -> Option<&'a LinkRow>
     ensures { option_copied result ≡ find (λ row. is_live_of source.0 (link_key row)) (reverse rows.now) }
 {
     rows.iter().rev().find(|row| is_candidate(row, source))
 }
 
-/// Answers the newest row of a partner that is in use and opens the frame.
+/// Returns the newest row of a partner that is in use and opens the frame.
 ///
 /// Requires the bytes that the frame was read from.
 fn first_opening<'a>(
@@ -81,7 +81,7 @@ fn first_opening<'a>(
         && opens(memo, bytes, frame, row, source))
 }
 
-/// Answers the newest row of a partner that is in use and opens the frame, else the newest that is in use.
+/// Returns the newest row of a partner that is in use and opens the frame, else the newest that is in use.
 ///
 /// Requires the bytes that the frame was read from.
 fn chosen<'a>(

@@ -22,7 +22,7 @@ use zb_rows::{floor_of, is_full_for, is_known, is_live, usable_of};
 use zb_seal::{KeyMemo, Term, label_of};
 use zb_setting::Network;
 
-/// Tells whether a label is that of a key-transport key.
+/// Returns whether a label is that of a key-transport key.
 fn is_transport(label: Label) -> bool
     ensures { result ≡ is_transport (model_label label) }
 {
@@ -34,7 +34,7 @@ fn is_transport(label: Label) -> bool
     }
 }
 
-/// Tells whether an APS frame is a command that is sealed under a key-transport key.
+/// Returns whether an APS frame is a command that is sealed under a key-transport key.
 fn is_for_transport(frame: &ApsFrame) -> bool
     ensures { result ≡ sealed_for_transport (Some (aps_frame_shown frame.now)) }
 {
@@ -45,7 +45,7 @@ fn is_for_transport(frame: &ApsFrame) -> bool
     }
 }
 
-/// Tells whether bytes are an APS command that is sealed under a key-transport key.
+/// Returns whether bytes are an APS command that is sealed under a key-transport key.
 #[tactic(auto, unfolding(crate::specs::Steps::real))]
 fn is_sealed_for_transport(bytes: &[u8]) -> bool
     ensures { result ≡ sealed_for_transport (real.read_aps bytes.now) }
@@ -56,7 +56,7 @@ fn is_sealed_for_transport(bytes: &[u8]) -> bool
     }
 }
 
-/// Tells whether a node in that state waits for the network key.
+/// Returns whether a node in that state waits for the network key.
 fn waits_for_key(state: State) -> bool
     ensures { result ≡ waits_for_key (model_state state) }
 {
@@ -71,7 +71,7 @@ fn waits_for_key(state: State) -> bool
     }
 }
 
-/// Tells whether an unsecured frame passes: it brings a router or device that waits for the network key a command
+/// Returns whether an unsecured frame passes: it brings a router or device that waits for the network key a command
 /// under a key-transport key.
 fn may_pass_unsecured(network: &Network, tables: &Tables, frame: &NwkFrame) -> bool
     ensures { result ≡ may_pass_unsecured real network.now tables.now (nwk_frame_shown frame.now) }
@@ -82,7 +82,7 @@ fn may_pass_unsecured(network: &Network, tables: &Tables, frame: &NwkFrame) -> b
         && is_sealed_for_transport(frame.body.as_slice())
 }
 
-/// Tells whether a sender is a device that was removed, which the centre knows.
+/// Returns whether a sender is a device that was removed, which the centre knows.
 fn was_removed(network: &Network, tables: &Tables, source: Eui) -> bool
     ensures { result ≡ (is_centre network.now.me.role
         && (is_known tables.now source.0 && not (is_live tables.now source.0))) }
@@ -96,8 +96,8 @@ fn was_removed(network: &Network, tables: &Tables, source: Eui) -> bool
 ///
 /// # Errors
 ///
-/// No key of that sequence, the greatest counter, a counter below the sender's floor, a wrong code, a sender that isn't
-/// declared or was removed, and no room for the sender's floor, in this order.
+/// No key of that sequence, the greatest counter, a counter below the sender's floor, a wrong code, a sender that
+/// isn't declared or was removed, and no room for the sender's floor, in this order.
 #[tactic(auto, unfolding(crate::specs::Steps::judge_net, crate::specs::Steps::need, crate::specs::Steps::reject))]
 fn judge_net(
     network: &Network,
@@ -183,7 +183,7 @@ fn read_frame(bytes: &[u8]) -> Option<NwkFrame>
     }
 }
 
-/// Judges the NWK layer of delivered bytes, and answers the frame that they are.
+/// Judges the NWK layer of delivered bytes, and returns the frame that they are.
 ///
 /// What is accepted, where the layer is secured, is written into `accepted`; after an error that means nothing. A key
 /// that the memo lacks is expanded.

@@ -1,4 +1,4 @@
--- Changes behind a record of version 1: which are made as ever.
+-- Changes after a record of version 1: which are made as ever.
 use Rattle.std.proofs.Common.{◌≡◌, ℕ, refl, ◌∙◌, Bool, true, false, ◌&&◌}
 use Rattle.std.specs.Prelude.{nat_le}
 use Rattle.zb_base.specs.declared.address.Eui.{Eui}

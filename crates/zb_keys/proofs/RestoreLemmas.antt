@@ -9,7 +9,7 @@ use Rattle.zb_record.specs.declared.record.Record.{Record}
 use Rattle.zb_record.specs.Records.{key_of, record_read, record_seen}
 use Rattle.zb_record.proofs.Sound.{read_kept}
 
--- the key of a row, and none behind the rows
+-- the key of a row, and none after the rows
 key_past_at : (rows : List NetRow) (place : ℕ) → length rows ≤ place → None ≡ key_of place (map net_key rows)
 key_past_at [] place le = refl
 key_past_at (r ∷ rs) zero le = absurd (omega (arith, le))

@@ -26,7 +26,7 @@ pub record IsNext (layer : Layer) (key : Bytes) (s : NodeState) (t : Term) : Typ
   pub counter_is : next_under layer key s ≡ Some t.counter
   pub below_last : t.counter < greatest_counter
 
--- the counter behind the next one, unless that is the greatest
+-- the counter after the next one, unless that is the greatest
 abbrev pub behind_next : Option ℕ → Option ℕ
 behind_next None = None
 behind_next (Some n) = if nat_lt n greatest_counter then Some (n + 1) else None

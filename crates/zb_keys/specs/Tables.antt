@@ -43,8 +43,8 @@ links_booted s = record s { links = map booted_link s.links }
 abbrev pub Forgets : NodeState → Type 0
 Forgets s = map shown_net s.nets ≡ s.nets
 
--- What holds of the contents of tables at all times: the rules for records, no floors of dropped network keys, and room
--- for all rows that there may be.
+-- What holds of the contents of tables at all times: the rules for records, no floors of dropped network keys, and
+-- room for all rows that there may be.
 pub record IsSound (a : Contents) : Type 0 where
   pub rules : keeps_rules (state_of a) ≡ true
   pub forgets : Forgets (state_of a)
@@ -60,7 +60,7 @@ pub record Becomes (now : NodeState) (old new : Contents) : Type 0 where
   pub links_room : vec_capacity old.links ≤ vec_capacity new.links
   pub pairs_room : vec_capacity old.pairs ≤ vec_capacity new.pairs
 
--- The contents are what a record stands for, with room for all rows that there may be.
+-- The contents are what a record represents, with room for all rows that there may be.
 pub record IsRestored (a : Contents) (r : Record) : Type 0 where
   pub state : state_of a ≡ record_seen r
   pub nets_room : most_nets ≤ vec_capacity a.nets

@@ -22,7 +22,7 @@ use zb_record::net_row::{
 use zb_record::pair_row::{drop_pairs, has_pair};
 use zb_record::{LinkRow, NetRow, Pair};
 
-/// Holds the stable state of a node, with the next counters and the floors in memory.
+/// The stable state of a node, with the next counters and the floors in memory.
 #[derive(Debug, Drop)]
 pub(crate) struct Contents {
     pub(crate) role: Role,
@@ -41,7 +41,7 @@ pub(crate) struct Contents {
 
 #[tactic(auto, unfolding(zb_model::specs::State::applied, zb_model::specs::State::shown))]
 impl Contents {
-    /// Answers the row of the active network key.
+    /// Returns the row of the active network key.
     pub(crate) fn active_row(&self) -> Option<&NetRow>
         ensures { option_map net_key (option_copied result) ≡ active_row (state_of self.now) }
     {
@@ -51,14 +51,14 @@ impl Contents {
         }
     }
 
-    /// Answers the newest network key in use.
+    /// Returns the newest network key in use.
     pub(crate) fn newest(&self) -> Option<&NetRow>
         ensures { option_map net_key (option_copied result) ≡ newest (state_of self.now) }
     {
         newest_live(self.nets.as_slice())
     }
 
-    /// Answers the outgoing counter of a layer.
+    /// Returns the outgoing counter of a layer.
     pub(crate) fn outgoing(&self, layer: Layer, block: u32) -> Outgoing
         ensures { result ≡ outgoing_of (model_layer layer) block (state_of self.now) }
     {
@@ -68,7 +68,7 @@ impl Contents {
         }
     }
 
-    /// Answers the outgoing NWK counter: that of the active key, or the declared one while none is active.
+    /// Returns the outgoing NWK counter: that of the active key, or the declared one while none is active.
     pub(crate) fn outgoing_nwk(&self, block: u32) -> Outgoing
         ensures { result ≡ outgoing_of Nwk block (state_of self.now) }
     {
@@ -86,7 +86,7 @@ impl Contents {
         }
     }
 
-    /// The outgoing counter of the application support layer.
+    /// Returns the outgoing counter of the application support layer.
     #[tactic(auto, unfolding(zb_model::specs::State::next_counter, zb_model::specs::State::stored_limit))]
     fn outgoing_aps(&self, block: u32) -> Outgoing
         ensures { result ≡ outgoing_of Aps block (state_of self.now) }
@@ -108,7 +108,7 @@ impl Contents {
         self.declared = start;
     }
 
-    /// Goes on behind a term that was sealed under a key of a layer with its next counter.
+    /// Goes on after a term that was sealed under a key of a layer with its next counter.
     pub(crate) fn seal(&mut self, layer: Layer, key: &Key)
         requires sound { IsSound self.old }
         ensures state { (t : Term) → IsNext (model_layer layer) key.now.0 (state_of self.old) t
@@ -121,7 +121,7 @@ impl Contents {
         }
     }
 
-    /// Goes on behind a term that was sealed under a network key.
+    /// Goes on after a term that was sealed under a network key.
     fn seal_nwk(&mut self, key: &Key)
         requires sound { IsSound self.old }
         ensures state { (t : Term) → IsNext Nwk key.now.0 (state_of self.old) t
@@ -134,7 +134,7 @@ impl Contents {
         }
     }
 
-    /// Answers the counter behind the next one of a network key, unless that is the greatest.
+    /// Returns the counter after the next one of a network key, unless that is the greatest.
     fn behind_next(&self, key: &Key) -> Option<u32>
         ensures { result ≡ behind_next (next_under Nwk key.now.0 (state_of self.now)) }
     {
@@ -144,7 +144,7 @@ impl Contents {
         }
     }
 
-    /// Goes on behind a term that was sealed at the application support layer.
+    /// Goes on after a term that was sealed at the application support layer.
     fn seal_aps(&mut self)
         requires sound { IsSound self.old }
         ensures state { (key : List ℕ) (t : Term) → IsNext Aps key (state_of self.old) t
@@ -414,14 +414,14 @@ impl Contents {
     }
 }
 
-/// Answers the newest of these network keys that is in use.
+/// Returns the newest of these network keys that is in use.
 fn newest_live(rows: &[NetRow]) -> Option<&NetRow>
     ensures { option_copied result ≡ last_where (λ r. (net_key r).live) rows.now }
 {
     rows.iter().rev().find(|row| row.live)
 }
 
-/// Answers the counter behind another one, unless that is the greatest.
+/// Returns the counter after another one, unless that is the greatest.
 fn behind(counter: u32) -> Option<u32>
     ensures { result ≡ behind_next (Some counter) }
 {

@@ -17,7 +17,7 @@ use zb_base::{Attribute, Eui, Key, NoMemory, Role, Rollover, State};
 use zb_record::link_row::link_room;
 use zb_record::{LinkRow, NetRow};
 
-/// Holds a network key with which a node begins.
+/// A network key with which a node begins.
 #[derive(Clone, Copy, Debug, PartialEq, Eq)]
 pub struct HeldNetwork {
     /// The key.
@@ -26,7 +26,7 @@ pub struct HeldNetwork {
     pub sequence: u8,
 }
 
-/// Holds the link key of an install code with which a node begins.
+/// The link key of an install code with which a node begins.
 #[derive(Clone, Copy, Debug, PartialEq, Eq)]
 pub struct HeldCode {
     /// With whom the key is shared.
@@ -35,7 +35,7 @@ pub struct HeldCode {
     pub key: Key,
 }
 
-/// Holds what a node is declared with.
+/// What a node is declared with.
 #[derive(Clone, Copy, Debug, PartialEq, Eq)]
 pub struct Declaration {
     /// The part that the node plays.
@@ -85,7 +85,7 @@ fn held_links(alloc: Global, role: Role, code: Option<HeldCode>) -> Result<Vec<L
     Ok(rows)
 }
 
-/// Answers the active key of a node that begins with one, or none.
+/// Returns the active key of a node that begins with one, or none.
 fn held_key(network: Option<HeldNetwork>) -> Option<Key>
     ensures { active_bytes result ≡ option_map (λ given. given.0) (network_of network) }
 {
@@ -95,7 +95,7 @@ fn held_key(network: Option<HeldNetwork>) -> Option<Key>
     }
 }
 
-/// Answers the state in which a node begins: a router or device that has a network key is joined.
+/// Returns the state in which a node begins: a router or device that has a network key is joined.
 fn held_state(role: Role, network: Option<HeldNetwork>) -> State
     ensures { model_state result ≡ held_state (model_role role) (network_of network) }
 {
@@ -105,7 +105,7 @@ fn held_state(role: Role, network: Option<HeldNetwork>) -> State
     }
 }
 
-/// Answers the state of a node that has a network key from the start.
+/// Returns the state of a node that has a network key from the start.
 fn joined_unless_centre(role: Role) -> State
     ensures { model_state result ≡ joined_unless_centre (model_role role) }
 {
@@ -121,7 +121,8 @@ impl Tables {
     ///
     /// They are those that a boot leaves on that record.
     ///
-    /// Errors: `NoMemory` where memory is short.
+    /// # Errors
+    /// `NoMemory` where memory is short.
     pub fn from_declaration(alloc: Global, declaration: &Declaration) -> Result<Tables, NoMemory>
         ensures state { IfOk result (λ t. t ≡ declared_state declaration.now) }
         ensures booted { IfOk result (λ t. after_boot t ≡ t) }
@@ -146,7 +147,7 @@ impl Tables {
     }
 }
 
-/// Says that the start lines of a schedule give each node the state of its declarations; does nothing.
+/// States that the start lines of a schedule give each node the state of its declarations; does nothing.
 ///
 /// No two nodes have one EUI. The link key of an install code is shared with the centre.
 #[tactic(auto, using(crate::proofs::DeclarationLemmas::start_gives))]

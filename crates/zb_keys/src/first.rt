@@ -1,4 +1,4 @@
-//! Changes behind a record of version 1, where all network keys have one NWK limit, and behind later ones.
+//! Changes after a record of version 1, where all network keys have one NWK limit, and after later ones.
 ghost use Rattle.std.specs.Prelude.{◌≡◌, ◌≤◌, true, length, vec_capacity};
 ghost use Rattle.zb_node_types.specs.Changes.{edit, model_layer};
 ghost use Rattle.zb_keys.specs.Tables.{state_of, Becomes, Forgets, IsSound};
@@ -13,7 +13,7 @@ use zb_record::net_row::limit_nets;
 use zb_record::{NetRow, Version};
 
 impl Contents {
-    /// Answers whether a change fits behind a record of a version.
+    /// Returns whether a change fits after a record of a version.
     #[tactic(auto, unfolding(zb_record::specs::Redoing::fits_behind))]
     pub(crate) fn fits_behind(&self, version: Version, change: &Change) -> bool
         requires { IsSound self.now }
@@ -26,8 +26,8 @@ impl Contents {
         }
     }
 
-    /// Whether a change fits behind a record of version 1: a NWK limit isn't below the one that all keys have, and
-    /// there is no start and no pair.
+    /// Returns whether a change fits after a record of version 1: a NWK limit isn't below the one that all keys have,
+    /// and there is no start and no pair.
     fn fits_first(&self, change: &Change) -> bool
         requires { IsSound self.now }
         ensures { result ≡ first_fits (edit change.now) (state_of self.now) }
@@ -44,7 +44,7 @@ impl Contents {
         }
     }
 
-    /// Whether a limit of a layer isn't below the one that stands.
+    /// Returns whether a limit of a layer isn't below the one that stands.
     #[tactic(auto, unfolding(zb_record::specs::Redoing::first_fits))]
     fn fits_limit(&self, layer: Layer, limit: u32) -> bool
         requires { IsSound self.now }
@@ -56,7 +56,7 @@ impl Contents {
         }
     }
 
-    /// Makes one change behind a record of a version.
+    /// Makes one change after a record of a version.
     pub(crate) fn change_behind(&mut self, version: Version, change: &Change)
         requires fits { fits_behind version (edit change.now) (state_of self.old) ≡ true }
         requires sound { IsSound self.old }
@@ -70,7 +70,7 @@ impl Contents {
         }
     }
 
-    /// Makes one change behind a record of version 1: a NWK limit becomes that of all keys, and a new key has it too.
+    /// Makes one change after a record of version 1: a NWK limit becomes that of all keys, and a new key has it too.
     fn change_first(&mut self, change: &Change)
         requires fits { first_fits (edit change.now) (state_of self.old) ≡ true }
         requires sound { IsSound self.old }
@@ -97,7 +97,7 @@ impl Contents {
         }
     }
 
-    /// Gives all network keys one limit, which is the declared start too.
+    /// Returns all network keys one limit, which is the declared start too.
     fn limit_all(&mut self, limit: u32)
         requires { Forgets (state_of self.old) }
         ensures { Becomes (shown (with_limit limit (state_of self.old))) self.old self.new }

@@ -21,7 +21,7 @@ use zb_record::pair_row::pair_row;
 use zb_record::{LinkRow, NetRow, SenderFloor};
 
 impl Contents {
-    /// Answers whether a change fits.
+    /// Returns whether a change fits.
     pub(crate) fn fits(&self, change: &Change) -> bool
         requires { IsSound self.now }
         ensures { result ≡ fits (edit change.now) (state_of self.now) }
@@ -29,7 +29,7 @@ impl Contents {
         self.may_change(change) && self.leaves_rules(change)
     }
 
-    /// Whether a change may be made: the rows that it names are there, and nothing is lowered.
+    /// Returns whether a change may be made: the rows that it names are there, and nothing is lowered.
     fn may_change(&self, change: &Change) -> bool
         ensures { result ≡ may_change (edit change.now) (state_of self.now) }
     {
@@ -66,7 +66,7 @@ impl Contents {
         }
     }
 
-    /// Whether the rules for records stand after a change that may be made.
+    /// Returns whether the rules for records stand after a change that may be made.
     #[tactic(auto, unfolding(law_change_fits::specs::Fitting::leaves_rules))]
     fn leaves_rules(&self, change: &Change) -> bool
         ensures { result ≡ leaves_rules (edit change.now) (state_of self.now) }
@@ -99,14 +99,14 @@ impl Contents {
         }
     }
 
-    /// Whether the node is the centre.
+    /// Returns whether the node is the centre.
     fn is_centre(&self) -> bool
         ensures { result ≡ is_centre (state_of self.now).role }
     {
         matches!(self.role, Role::Centre)
     }
 
-    /// The row of a network key.
+    /// Returns the row of a network key.
     #[tactic(auto, using(crate::proofs::FindLemmas::find_map))]
     pub(crate) fn net_row(&self, key: &Key) -> Option<&NetRow>
         ensures { option_map net_key (option_copied result) ≡ net_of key.now.0 (state_of self.now) }
@@ -114,14 +114,14 @@ impl Contents {
         key_row(self.nets.as_slice(), key)
     }
 
-    /// Whether a network key is in use.
+    /// Returns whether a network key is in use.
     fn has_live_net(&self, key: &Key) -> bool
         ensures { result ≡ live_net key.now.0 (state_of self.now) }
     {
         is_live_row(self.net_row(key))
     }
 
-    /// Whether a network key has a row.
+    /// Returns whether a network key has a row.
     #[tactic(auto, using(crate::proofs::Mapping::any_map))]
     fn has_net(&self, key: &Key) -> bool
         ensures { result ≡ list_any (λ r. same_key r.key key.now.0) (state_of self.now).nets }
@@ -129,7 +129,7 @@ impl Contents {
         has_key(self.nets.as_slice(), key)
     }
 
-    /// Whether a link key is in use.
+    /// Returns whether a link key is in use.
     #[tactic(auto, using(crate::proofs::Mapping::any_map))]
     fn has_live_link(&self, partner: Eui, key: &Key) -> bool
         ensures { result ≡ live_link partner.0 key.now.0 (state_of self.now) }
@@ -137,7 +137,7 @@ impl Contents {
         has_live_row(self.links.as_slice(), partner, key)
     }
 
-    /// Whether a limit isn't below the one that stands.
+    /// Returns whether a limit isn't below the one that stands.
     fn may_reserve(&self, layer: Layer, limit: u32) -> bool
         ensures { result ≡ may_change (Reserve (model_layer layer) limit) (state_of self.now) }
     {
@@ -147,7 +147,7 @@ impl Contents {
         }
     }
 
-    /// Whether there is an active network key.
+    /// Returns whether there is an active network key.
     fn has_active(&self) -> bool
         ensures { result ≡ is_some (active_row (state_of self.now)) }
     {
@@ -157,7 +157,7 @@ impl Contents {
         }
     }
 
-    /// Whether a floor isn't below the one that stands, under a key in use.
+    /// Returns whether a floor isn't below the one that stands, under a key in use.
     fn may_store(&self, layer: Layer, key: &Key, sender: Eui, value: u32) -> bool
         ensures { result ≡ may_change (Floor (model_layer layer) key.now.0 sender.0 value) (state_of self.now) }
     {
@@ -169,7 +169,7 @@ impl Contents {
         }
     }
 
-    /// The stored floor of a link key: 0 where there is no row.
+    /// Returns the stored floor of a link key: 0 where there is no row.
     #[tactic(auto, using(crate::proofs::FindLemmas::find_map))]
     fn link_stored(&self, partner: Eui, key: &Key) -> u32
         ensures { result ≡ link_stored (find (is_link partner.0 key.now.0) (state_of self.now).links) }
@@ -177,7 +177,7 @@ impl Contents {
         stored_of(link_row(self.links.as_slice(), partner, key))
     }
 
-    /// Whether a first counter isn't below the limit of its network key.
+    /// Returns whether a first counter isn't below the limit of its network key.
     fn may_start(&self, key: &Key, value: u32) -> bool
         ensures { result ≡ (list_any (λ r. same_key r.key key.now.0) (state_of self.now).nets
             && nat_le (net_limit (net_of key.now.0 (state_of self.now))) value) }
@@ -185,7 +185,7 @@ impl Contents {
         self.has_net(key) && limit_in(self.net_row(key)) <= value
     }
 
-    /// Whether two devices have no key.
+    /// Returns whether two devices have no key.
     #[tactic(auto, unfolding(zb_model::specs::State::pair_of), using(crate::proofs::FindLemmas::find_map))]
     fn is_unpaired(&self, first: Eui, second: Eui) -> bool
         ensures { result ≡ is_none (pair_of (state_of self.now) first.0 second.0) }
@@ -196,7 +196,7 @@ impl Contents {
         }
     }
 
-    /// Whether the node is the centre, and a device is live.
+    /// Returns whether the node is the centre, and a device is live.
     #[tactic(auto, unfolding(zb_model::specs::State::is_live), using(crate::proofs::Mapping::any_map))]
     fn has_device(&self, device: Eui) -> bool
         ensures { result ≡ (is_centre (state_of self.now).role && is_live (state_of self.now) device.0) }
@@ -204,7 +204,7 @@ impl Contents {
         self.is_centre() && has_live(self.links.as_slice(), device)
     }
 
-    /// Whether the node is the centre, and a device isn't live.
+    /// Returns whether the node is the centre, and a device isn't live.
     #[tactic(auto, unfolding(zb_model::specs::State::is_live), using(crate::proofs::Mapping::any_map))]
     fn lacks_device(&self, device: Eui) -> bool
         ensures { result ≡ (is_centre (state_of self.now).role && not (is_live (state_of self.now) device.0)) }
@@ -212,7 +212,7 @@ impl Contents {
         self.is_centre() && !has_live(self.links.as_slice(), device)
     }
 
-    /// Whether a floor has a place.
+    /// Returns whether a floor has a place.
     #[tactic(auto, unfolding(law_change_fits::specs::Fitting::leaves_rules))]
     fn has_floor_room(&self, layer: Layer, key: &Key, sender: Eui, value: u32) -> bool
         ensures { result ≡ leaves_rules (Floor (model_layer layer) key.now.0 sender.0 value) (state_of self.now) }
@@ -223,7 +223,7 @@ impl Contents {
         }
     }
 
-    /// Whether there is room for another network key, and less than two are in use.
+    /// Returns whether there is room for another network key, and less than two are in use.
     fn has_net_room(&self) -> bool
         ensures { result ≡ (nat_lt (length (state_of self.now).nets) most_nets
             && nat_lt (length (live_nets (state_of self.now))) 2) }
@@ -231,28 +231,28 @@ impl Contents {
         self.has_net_slot() && self.has_few_live()
     }
 
-    /// Whether there is room for another network key.
+    /// Returns whether there is room for another network key.
     fn has_net_slot(&self) -> bool
         ensures { result ≡ nat_lt (length (state_of self.now).nets) most_nets }
     {
         self.nets.as_slice().len() < 256
     }
 
-    /// Whether less than two network keys are in use.
+    /// Returns whether less than two network keys are in use.
     fn has_few_live(&self) -> bool
         ensures { result ≡ nat_lt (length (live_nets (state_of self.now))) 2 }
     {
         count_live(self.nets.as_slice()) < 2
     }
 
-    /// Whether a link key has a row or room for one, and no rival.
+    /// Returns whether a link key has a row or room for one, and no rival.
     fn has_link_room(&self, partner: Eui, key: &Key, attribute: Attribute) -> bool
         ensures { result ≡ move_leaves (Row partner.0 key.now.0 (model_attribute attribute)) (state_of self.now) }
     {
         self.may_hold(partner, key) && !self.has_rival(partner, key, attribute)
     }
 
-    /// Whether a link key has a row, in use or dropped.
+    /// Returns whether a link key has a row, in use or dropped.
     #[tactic(auto, using(crate::proofs::Mapping::any_map))]
     fn has_link(&self, partner: Eui, key: &Key) -> bool
         ensures { result ≡ has_link partner.0 key.now.0 (state_of self.now).links }
@@ -260,7 +260,7 @@ impl Contents {
         has_row(self.links.as_slice(), partner, key)
     }
 
-    /// Whether a link key has a row or room for one.
+    /// Returns whether a link key has a row or room for one.
     fn may_hold(&self, partner: Eui, key: &Key) -> bool
         ensures { result ≡ (has_link partner.0 key.now.0 (state_of self.now).links
             || (nat_lt (length (state_of self.now).links) (most_links (state_of self.now).role)
@@ -269,7 +269,7 @@ impl Contents {
         self.has_link(partner, key) || self.may_add_link(key)
     }
 
-    /// Whether there is room for another link key, which isn't used.
+    /// Returns whether there is room for another link key, which isn't used.
     fn may_add_link(&self, key: &Key) -> bool
         ensures { result ≡ (nat_lt (length (state_of self.now).links) (most_links (state_of self.now).role)
             && not (key_is_used key.now.0 (state_of self.now).links)) }
@@ -277,14 +277,14 @@ impl Contents {
         self.has_link_slot() && !self.uses_key(key)
     }
 
-    /// Whether there is room for another link key.
+    /// Returns whether there is room for another link key.
     fn has_link_slot(&self) -> bool
         ensures { result ≡ nat_lt (length (state_of self.now).links) (most_links (state_of self.now).role) }
     {
         self.links.as_slice().len() < link_room(self.role)
     }
 
-    /// Whether a link key has a row of whatever partner.
+    /// Returns whether a link key has a row of whatever partner.
     #[tactic(auto, using(crate::proofs::Mapping::any_map))]
     fn uses_key(&self, key: &Key) -> bool
         ensures { result ≡ key_is_used key.now.0 (state_of self.now).links }
@@ -292,7 +292,7 @@ impl Contents {
         uses_key(self.links.as_slice(), key)
     }
 
-    /// Whether a partner has another row in use that is offered where this one is to be, or else isn't.
+    /// Returns whether a partner has another row in use that is offered where this one is to be, or else isn't.
     #[tactic(auto, using(crate::proofs::Mapping::any_map))]
     fn has_rival(&self, partner: Eui, key: &Key, attribute: Attribute) -> bool
         ensures { result ≡ list_any (is_rival partner.0 key.now.0 (model_attribute attribute))
@@ -301,7 +301,7 @@ impl Contents {
         has_rival(self.links.as_slice(), partner, key, attribute)
     }
 
-    /// Whether there is room for another pair, whose first address is the smaller one.
+    /// Returns whether there is room for another pair, whose first address is the smaller one.
     fn has_pair_room(&self, first: Eui, second: Eui) -> bool
         ensures { result ≡ (is_centre (state_of self.now).role
             && (nat_lt (length (state_of self.now).pairs) most_pairs && nat_lt first.0 second.0)) }
@@ -309,14 +309,14 @@ impl Contents {
         self.is_centre() && self.pairs.as_slice().len() < 256 && first.0 < second.0
     }
 
-    /// Whether the node may have a state: the centre has the first one alone.
+    /// Returns whether the node may have a state: the centre has the first one alone.
     fn may_enter(&self, state: State) -> bool
         ensures { result ≡ (not (is_centre (state_of self.now).role) || is_fresh (model_state state)) }
     {
         !self.is_centre() || matches!(state, State::Fresh)
     }
 
-    /// Whether the node may have a rollover: it begins in the centre alone.
+    /// Returns whether the node may have a rollover: it begins in the centre alone.
     fn may_roll(&self, rollover: Rollover) -> bool
         ensures { result ≡ (not (is_sending rollover) || is_centre (state_of self.now).role) }
     {
@@ -324,7 +324,7 @@ impl Contents {
     }
 }
 
-/// How many network keys are in use.
+/// Returns how many network keys are in use.
 fn count_live(rows: &[NetRow]) -> usize
     ensures { result ≡ length (filter (λ r. (net_key r).live) rows.now) }
 {
@@ -337,7 +337,7 @@ fn count_live(rows: &[NetRow]) -> usize
     count
 }
 
-/// Whether that key is the active one.
+/// Returns whether that key is the active one.
 fn is_key(active: &Option<Key>, key: &Key) -> bool
     ensures { result ≡ is_active_key (active_bytes active.now) key.now.0 }
 {
@@ -347,7 +347,7 @@ fn is_key(active: &Option<Key>, key: &Key) -> bool
     }
 }
 
-/// Whether a network key that was looked for is in use.
+/// Returns whether a network key that was looked for is in use.
 fn is_live_row(row: Option<&NetRow>) -> bool
     ensures { result ≡ row_is_live (option_map net_key (option_copied row.entry)) }
 {
@@ -357,7 +357,7 @@ fn is_live_row(row: Option<&NetRow>) -> bool
     }
 }
 
-/// The stored floor of a sender under a network key that was looked for.
+/// Returns the stored floor of a sender under a network key that was looked for.
 fn stored_in(row: Option<&NetRow>, sender: Eui) -> u32
     ensures { result ≡ net_stored sender.0 (option_map net_key (option_copied row.entry)) }
 {
@@ -367,7 +367,7 @@ fn stored_in(row: Option<&NetRow>, sender: Eui) -> u32
     }
 }
 
-/// The limit of a network key that was looked for.
+/// Returns the limit of a network key that was looked for.
 fn limit_in(row: Option<&NetRow>) -> u32
     ensures { result ≡ net_limit (option_map net_key (option_copied row.entry)) }
 {
@@ -377,7 +377,7 @@ fn limit_in(row: Option<&NetRow>) -> u32
     }
 }
 
-/// Whether a sender has a floor under a network key that was looked for, or room for one that isn't 0.
+/// Returns whether a sender has a floor under a network key that was looked for, or room for one that isn't 0.
 fn has_room_in(row: Option<&NetRow>, sender: Eui, value: u32) -> bool
     ensures { result ≡ floor_has_room sender.0 value (option_map net_key (option_copied row.entry)) }
 {
@@ -387,7 +387,7 @@ fn has_room_in(row: Option<&NetRow>, sender: Eui, value: u32) -> bool
     }
 }
 
-/// Whether a sender has a floor under a network key, or room for one that isn't 0.
+/// Returns whether a sender has a floor under a network key, or room for one that isn't 0.
 #[tactic(auto, using(crate::proofs::Mapping::any_map))]
 fn has_floor_or_room(row: &NetRow, sender: Eui, value: u32) -> bool
     ensures { result ≡ floor_has_room sender.0 value (Some (net_key row.now)) }
@@ -395,28 +395,28 @@ fn has_floor_or_room(row: &NetRow, sender: Eui, value: u32) -> bool
     has_floor(row.floors.as_slice(), sender) || has_new_room(row, value)
 }
 
-/// Whether there is room for another floor under a network key, which isn't 0.
+/// Returns whether there is room for another floor under a network key, which isn't 0.
 fn has_new_room(row: &NetRow, value: u32) -> bool
     ensures { result ≡ (nat_lt 0 value && nat_lt (length (net_key row.now).floors) most_senders) }
 {
     0 < value && row.floors.as_slice().len() < 64
 }
 
-/// Whether a sender has a floor.
+/// Returns whether a sender has a floor.
 fn has_floor(floors: &[SenderFloor], sender: Eui) -> bool
     ensures { result ≡ list_any (λ f. nat_eq (heard_floor f).sender sender.0) floors.now }
 {
     floors.iter().any(|floor| floor.sender.0 == sender.0)
 }
 
-/// Whether a partner's link key is in use.
+/// Returns whether a partner's link key is in use.
 fn has_live_row(rows: &[LinkRow], partner: Eui, key: &Key) -> bool
     ensures { result ≡ list_any (λ r. is_link partner.0 key.now.0 (link_key r) && (link_key r).live) rows.now }
 {
     rows.iter().any(|row| row.partner.0 == partner.0 && row.key == *key && row.live)
 }
 
-/// The row of a partner's link key.
+/// Returns the row of a partner's link key.
 fn link_row<'a>(rows: &'a [LinkRow], partner: Eui, key: &Key) -> Option<&'a LinkRow>
     ensures { option_copied result ≡ find (λ r. is_link partner.0 key.now.0 (link_key r)) rows.now }
 {
@@ -424,7 +424,7 @@ fn link_row<'a>(rows: &'a [LinkRow], partner: Eui, key: &Key) -> Option<&'a Link
         .find(|row| row.partner.0 == partner.0 && row.key == *key)
 }
 
-/// The stored floor of a link key that was looked for.
+/// Returns the stored floor of a link key that was looked for.
 fn stored_of(row: Option<&LinkRow>) -> u32
     ensures { result ≡ link_stored (option_map link_key (option_copied row.entry)) }
 {
@@ -434,14 +434,14 @@ fn stored_of(row: Option<&LinkRow>) -> u32
     }
 }
 
-/// Whether a link key has a row of whatever partner.
+/// Returns whether a link key has a row of whatever partner.
 fn uses_key(rows: &[LinkRow], key: &Key) -> bool
     ensures { result ≡ list_any (λ r. same_key (link_key r).key key.now.0) rows.now }
 {
     rows.iter().any(|row| row.key == *key)
 }
 
-/// Whether a partner has another row in use that is offered where this one is to be, or else isn't.
+/// Returns whether a partner has another row in use that is offered where this one is to be, or else isn't.
 fn has_rival(rows: &[LinkRow], partner: Eui, key: &Key, attribute: Attribute) -> bool
     ensures { result ≡ list_any (λ r. is_rival partner.0 key.now.0 (model_attribute attribute) (link_key r)) rows.now }
 {
@@ -449,7 +449,7 @@ fn has_rival(rows: &[LinkRow], partner: Eui, key: &Key, attribute: Attribute) ->
         .any(|row| is_rival_of(row, partner, key, attribute))
 }
 
-/// Whether it is another row of the partner in use, which is offered where this one is to be, or else isn't.
+/// Returns whether it is another row of the partner in use, which is offered where this one is to be, or else isn't.
 fn is_rival_of(row: &LinkRow, partner: Eui, key: &Key, attribute: Attribute) -> bool
     ensures { result ≡ is_rival partner.0 key.now.0 (model_attribute attribute) (link_key row.now) }
 {

@@ -14,7 +14,7 @@ use zb_record::link_row::{current_row, offered_row};
 use zb_record::pair_row::pair_row;
 use zb_record::{LinkRow, NetRow, Pair, SenderFloor};
 
-/// Answers the floor of a sender under a network key: 0 and 0 where none was stored.
+/// Returns the floor of a sender under a network key: 0 and 0 where none was stored.
 #[tactic(auto, unfolding(zb_model::specs::State::sender_floor), using(crate::proofs::FindLemmas::find_map))]
 pub fn floor_of(row: &NetRow, sender: Eui) -> Floor
     ensures { result ≡ floor_of_row sender.0 (Some (net_key row.now)) }
@@ -28,7 +28,7 @@ pub fn floor_of(row: &NetRow, sender: Eui) -> Floor
     }
 }
 
-/// Answers the floor that was stored of a sender.
+/// Returns the floor that was stored of a sender.
 fn stored_floor<'a>(floors: &'a [SenderFloor], sender: Eui) -> Option<&'a SenderFloor>
     ensures { option_copied result ≡ find (λ f. nat_eq (heard_floor f).sender sender.0) floors.now }
 {
@@ -36,21 +36,21 @@ fn stored_floor<'a>(floors: &'a [SenderFloor], sender: Eui) -> Option<&'a Sender
 }
 
 impl Tables {
-    /// Answers the part that the node plays.
+    /// Returns the part that the node plays.
     pub fn role(&self) -> Role
         ensures { model_role result ≡ self.now.role }
     {
         self.contents.role
     }
 
-    /// Answers the network keys, in the order in which they came.
+    /// Returns the network keys, in the order in which they came.
     pub fn nets(&self) -> &[NetRow]
         ensures { map net_key result.now ≡ self.now.nets }
     {
         self.contents.nets.as_slice()
     }
 
-    /// Answers the link keys, in the order in which they came.
+    /// Returns the link keys, in the order in which they came.
     pub fn links(&self) -> &[LinkRow]
         ensures { map link_key result.now ≡ self.now.links }
     {
@@ -64,49 +64,49 @@ impl Tables {
         self.contents.pairs.as_slice()
     }
 
-    /// Answers the state of a router or device.
+    /// Returns the state of a router or device.
     pub fn state(&self) -> State
         ensures { model_state result ≡ self.now.state }
     {
         self.contents.state
     }
 
-    /// Answers whether the centre is giving a new network key to its devices.
+    /// Returns whether the centre is giving a new network key to its devices.
     pub fn rolling(&self) -> Rollover
         ensures { is_sending result ≡ self.now.sending }
     {
         self.contents.rolling
     }
 
-    /// Answers the outgoing NWK counter that was declared for the start.
+    /// Returns the outgoing NWK counter that was declared for the start.
     pub fn declared(&self) -> u32
         ensures { result ≡ self.now.declared }
     {
         self.contents.declared
     }
 
-    /// Answers the active network key.
+    /// Returns the active network key.
     pub fn active_key(&self) -> Option<Key>
         ensures { option_map (λ k. k.0) result ≡ self.now.active }
     {
         self.contents.active
     }
 
-    /// Answers the row of the active network key.
+    /// Returns the row of the active network key.
     pub fn active_row(&self) -> Option<&NetRow>
         ensures { option_map net_key (option_copied result) ≡ active_row self.now }
     {
         self.contents.active_row()
     }
 
-    /// Answers the newest network key in use.
+    /// Returns the newest network key in use.
     pub fn newest(&self) -> Option<&NetRow>
         ensures { option_map net_key (option_copied result) ≡ newest self.now }
     {
         self.contents.newest()
     }
 
-    /// Answers the current row of a partner: its link key in use that isn't only offered.
+    /// Returns the current row of a partner: its link key in use that isn't only offered.
     #[tactic(auto, unfolding(zb_model::specs::State::current), using(crate::proofs::FindLemmas::find_map))]
     pub fn current(&self, partner: Eui) -> Option<&LinkRow>
         ensures { option_map link_key (option_copied result) ≡ current self.now partner.0 }
@@ -114,7 +114,7 @@ impl Tables {
         current_row(self.contents.links.as_slice(), partner)
     }
 
-    /// Answers the offered row of a partner: its unverified link key in use.
+    /// Returns the offered row of a partner: its unverified link key in use.
     #[tactic(auto, unfolding(zb_model::specs::State::offered), using(crate::proofs::FindLemmas::find_map))]
     pub fn offered(&self, partner: Eui) -> Option<&LinkRow>
         ensures { option_map link_key (option_copied result) ≡ offered self.now partner.0 }
@@ -122,7 +122,7 @@ impl Tables {
         offered_row(self.contents.links.as_slice(), partner)
     }
 
-    /// Answers the outgoing counter of a layer, which is reserved in blocks of that size.
+    /// Returns the outgoing counter of a layer, which is reserved in blocks of that size.
     ///
     /// At NWK it is that of the active key.
     pub fn outgoing(&self, layer: Layer, block: u32) -> Outgoing
@@ -131,7 +131,7 @@ impl Tables {
         self.contents.outgoing(layer, block)
     }
 
-    /// Goes on behind a term that was sealed under a base key of a layer.
+    /// Goes on after a term that was sealed under a base key of a layer.
     ///
     /// Its counter is the next one: at NWK that of the key's row, whether it is the active one or not, at APS the
     /// node's own.
@@ -161,7 +161,7 @@ impl Tables {
         self.contents.declare(start);
     }
 
-    /// Answers the row of two devices.
+    /// Returns the row of two devices.
     #[tactic(auto, unfolding(zb_model::specs::State::pair_of), using(crate::proofs::FindLemmas::find_map))]
     pub fn pair_between(&self, a: Eui, b: Eui) -> Option<&Pair>
         ensures { option_map pair_key (option_copied result) ≡ pair_of self.now a.0 b.0 }

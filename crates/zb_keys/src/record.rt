@@ -9,7 +9,7 @@ use crate::contents::Contents;
 use zb_record::{Heading, write_record};
 
 impl Contents {
-    /// Answers what stands before the rows in the record.
+    /// Returns what stands before the rows in the record.
     fn heading(&self) -> Heading
         ensures { result ≡ heading_of self.now }
     {
@@ -42,7 +42,7 @@ impl Contents {
 }
 
 impl Tables {
-    /// Writes the record of the tables, and answers its length.
+    /// Writes the record of the tables, and returns its length.
     ///
     /// Requires room for `RECORD_ROOM` bytes. The greatest record has `GREATEST_RECORD`.
     pub fn record_bytes(&self, into: &mut [u8]) -> u32

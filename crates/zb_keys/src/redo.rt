@@ -11,7 +11,7 @@ use zb_node_types::KeyError;
 use zb_record::{Version, read_change};
 
 impl Contents {
-    /// Makes the change at the front again, behind a record of a version. A fault is told by the number of bytes from
+    /// Makes the change at the start again, after a record of a version. A fault is told by the number of bytes from
     /// the change's first one on.
     fn redo_change(&mut self, version: Version, reader: &mut Reader<usize>) -> Result<(), usize>
         requires { IsSound self.old }
@@ -62,7 +62,7 @@ impl Contents {
     }
 }
 
-/// The number of changes with which the next payload begins.
+/// Returns the number of changes with which the next payload begins.
 fn next_count(reader: &mut Reader<usize>) -> Option<u8>
     ensures some { IfSome result (λ count. reader.old.rest.now ≡ count ∷ reader.new.rest.now) }
     ensures none { IfNone result (reader.old.rest.now ≡ []) }
@@ -74,14 +74,15 @@ fn next_count(reader: &mut Reader<usize>) -> Option<u8>
 }
 
 impl Tables {
-    /// Makes the changes of journal entries again, behind a record of a version.
+    /// Makes the changes of journal entries again, after a record of a version.
     ///
-    /// `entries` is their payloads, one behind the other, as `change_bytes` wrote them. Behind a record of version 1
-    /// all network keys have one NWK limit, which is the declared start: a NWK reserve sets it, whether a key is active
-    /// or not, and a new key goes on from it, started.
+    /// `entries` is their payloads, one after the other, as `change_bytes` wrote them. After a record of version 1 all
+    /// network keys have one NWK limit, which is the declared start: a NWK reserve sets it, whether a key is active or
+    /// not, and a new key goes on from it, started.
     ///
-    /// Errors: `BadRecord` where a change isn't whole, is none or doesn't fit, at the place of its first byte, which is
-    /// its kind. Behind a record of version 1 a start and a pair are none. Then the changes before it are made.
+    /// # Errors
+    /// `BadRecord` where a change isn't whole, is none or doesn't fit, at the place of its first byte, which is
+    /// its kind. After a record of version 1 a start and a pair are none. Then the changes before it are made.
     pub fn redo(&mut self, version: Version, entries: &[u8]) -> Result<(), KeyError>
         ensures answer { result ≡ redo_answer (length entries.now) (redone version entries.now self.old).1 }
         ensures made { self.new ≡ (redone version entries.now self.old).0 }

@@ -25,7 +25,7 @@ use zb_record::{
     read_record,
 };
 
-/// The floors of a record, as they are after a boot.
+/// Returns the floors of a record, as they are after a boot.
 fn senders(records: &[SenderRecord]) -> Senders
     requires { length records.now ≤ 64 }
     ensures { map heard_floor result.items ≡ map sender_seen records.now }
@@ -41,7 +41,7 @@ fn senders(records: &[SenderRecord]) -> Senders
     floors
 }
 
-/// A network key of a record, as it is after a boot: its counter goes on from its limit.
+/// Returns a network key of a record, as it is after a boot: its counter goes on from its limit.
 fn net_row(source: &NetRecord) -> NetRow
     ensures { net_key result ≡ net_seen source.now }
 {
@@ -56,7 +56,7 @@ fn net_row(source: &NetRecord) -> NetRow
     }
 }
 
-/// The network keys of a record, with room for 256.
+/// Returns the network keys of a record, with room for 256.
 fn net_rows(alloc: Global, records: &[NetRecord]) -> Result<Vec<NetRow>, NoMemory>
     ensures rows { IfOk result (λ v. map net_key v.items ≡ map net_seen records.now) }
     ensures room { IfOk result (λ v. 256 ≤ vec_capacity v) }
@@ -68,7 +68,7 @@ fn net_rows(alloc: Global, records: &[NetRecord]) -> Result<Vec<NetRow>, NoMemor
     Ok(rows)
 }
 
-/// A link key of a record, as it is after a boot.
+/// Returns a link key of a record, as it is after a boot.
 fn link_row(source: &LinkRecord) -> LinkRow
     ensures { link_key result ≡ link_seen source.now }
 {
@@ -86,7 +86,7 @@ fn link_row(source: &LinkRecord) -> LinkRow
     }
 }
 
-/// The link keys of a record, with room for all that a node may hold.
+/// Returns the link keys of a record, with room for all that a node may hold.
 fn link_rows(alloc: Global, role: Role, records: &[LinkRecord]) -> Result<Vec<LinkRow>, NoMemory>
     ensures rows { IfOk result (λ v. map link_key v.items ≡ map link_seen records.now) }
     ensures room { IfOk result (λ v. most_links (model_role role) ≤ vec_capacity v) }
@@ -98,7 +98,7 @@ fn link_rows(alloc: Global, role: Role, records: &[LinkRecord]) -> Result<Vec<Li
     Ok(rows)
 }
 
-/// A key of two devices of a record.
+/// Returns a key of two devices of a record.
 fn pair_row(source: &PairRecord) -> Pair
     ensures { pair_key result ≡ pair_seen source.now }
 {
@@ -109,7 +109,7 @@ fn pair_row(source: &PairRecord) -> Pair
     }
 }
 
-/// The keys of pairs of devices of a record, with room for 256.
+/// Returns the keys of pairs of devices of a record, with room for 256.
 fn pair_rows(alloc: Global, records: &[PairRecord]) -> Result<Vec<Pair>, NoMemory>
     ensures rows { IfOk result (λ v. map pair_key v.items ≡ map pair_seen records.now) }
     ensures room { IfOk result (λ v. 256 ≤ vec_capacity v) }
@@ -121,7 +121,7 @@ fn pair_rows(alloc: Global, records: &[PairRecord]) -> Result<Vec<Pair>, NoMemor
     Ok(rows)
 }
 
-/// The key of the row at a place, where there is one.
+/// Returns the key of the row at a place, where there is one.
 fn key_at(rows: &[NetRow], place: u16) -> Option<Key>
     ensures { active_bytes result ≡ key_of place (map net_key rows.now) }
 {
@@ -131,7 +131,7 @@ fn key_at(rows: &[NetRow], place: u16) -> Option<Key>
     }
 }
 
-/// What a record stands for.
+/// Returns what a record represents.
 fn contents_of(alloc: Global, source: &Record) -> Result<Contents, NoMemory>
     ensures { IfOk result (λ a. IsRestored a source.now) }
 {
@@ -154,7 +154,7 @@ fn contents_of(alloc: Global, source: &Record) -> Result<Contents, NoMemory>
     })
 }
 
-/// The record of the bytes, or its fault as tables tell it.
+/// Returns the record of the bytes, or its fault as tables tell it.
 fn record_of(alloc: Global, bytes: &[u8]) -> Result<Record, OrMemory<KeyError>>
     ensures found { IfOk result (λ r. record_read bytes.now ≡ Ok (record_seen r)) }
     ensures fault { IfErr result (λ e. BadPlace e (length bytes.now) (record_read bytes.now)) }
@@ -169,11 +169,12 @@ fn record_of(alloc: Global, bytes: &[u8]) -> Result<Record, OrMemory<KeyError>>
 impl Tables {
     /// Reads the tables of a record of version 1, 2 or 3, as they are after a boot.
     ///
-    /// Counters go on from their limits, and the floors are the stored ones. The tables have the room of `new`. The one
-    /// NWK limit of a record of version 1 becomes that of each network key, which counts as started, and the declared
-    /// start.
+    /// Counters go on from their limits, and the floors are the stored ones. The tables have the room of `new`. The
+    /// one NWK limit of a record of version 1 becomes that of each network key, which counts as started, and the
+    /// declared start.
     ///
-    /// Errors: `BadRecord` where the bytes are no record, at the place of the first byte of the first field that isn't
+    /// # Errors
+    /// `BadRecord` where the bytes are no record, at the place of the first byte of the first field that isn't
     /// whole or breaks a rule, where a rule over several fields is broken by the last of them, or at the record's end
     /// where bytes follow it. `NoMemory` where memory is short.
     pub fn from_record(alloc: Global, bytes: &[u8]) -> Result<Tables, OrMemory<KeyError>>

@@ -6,7 +6,7 @@ use zb_base::{NoMemory, Role, Rollover, State};
 use zb_node_types::Changes;
 use zb_record::link_row::link_room;
 
-/// Holds what a node keeps: its network keys with their floors, its link keys and its counters.
+/// What a node keeps: its network keys with their floors, its link keys and its counters.
 ///
 /// At the centre it holds the keys of pairs of devices too. All room is taken when the tables are made.
 #[derive(Debug, Drop)]
@@ -38,7 +38,8 @@ impl Tables {
     /// They have room for 256 network keys with 64 floors each, 256 pairs, and 1,024 link keys in the centre or 64 in
     /// another node.
     ///
-    /// Errors: `NoMemory` where memory is short.
+    /// # Errors
+    /// `NoMemory` where memory is short.
     pub fn new(alloc: Global, role: Role) -> Result<Tables, NoMemory>
         ensures { IfOk result (λ t. t ≡ new_node (model_role role)) }
     {
@@ -60,7 +61,7 @@ impl Tables {
         Ok(Tables { contents })
     }
 
-    /// Says what holds of all tables; does nothing.
+    /// Returns what holds of all tables; does nothing.
     ///
     /// They keep the rules for records, and a dropped network key keeps no floors.
     pub fn keep_rules(&self)

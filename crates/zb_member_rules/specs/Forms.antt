@@ -9,12 +9,14 @@ abbrev pub is_net_key_form : Setting → Heard → ℕ → ℕ → Bool
 is_net_key_form c m destination source =
     is_member c && (labelled ForTransport m.label && (from_centre c m.sender && (nat_eq destination c.me.eui && from_centre c source)))
 
--- Transport-Key of a link key with the centre: NWK secured, sealed for load, from the centre, to the node, naming the centre
+-- Transport-Key of a link key with the centre: NWK secured, sealed for load, from the centre, to the node, naming the
+-- centre
 abbrev pub is_link_key_form : Setting → Heard → ℕ → ℕ → Bool
 is_link_key_form c m destination source =
     is_member c && (nwk_secured m && (labelled ForLoad m.label && (from_centre c m.sender && (nat_eq destination c.me.eui && from_centre c source))))
 
--- Transport-Key of a key with a partner: NWK secured, sealed for load, from the centre; the partner is neither of the two
+-- Transport-Key of a key with a partner: NWK secured, sealed for load, from the centre; the partner is neither of the
+-- two
 abbrev pub is_app_key_form : Setting → Heard → ℕ → Bool
 is_app_key_form c m partner =
     is_member c && (nwk_secured m && (labelled ForLoad m.label && (from_centre c m.sender && not (nat_eq partner c.me.eui || from_centre c partner))))

@@ -18,7 +18,7 @@ use zb_rows::{add_drop_partner, live_link};
 use zb_rules::{Effect, Heard, add, is_rejoining};
 use zb_setting::Network;
 
-/// Answers whether the command is a Transport-Key of a key with a partner in the form in which it is taken.
+/// Returns whether the command is a Transport-Key of a key with a partner in the form in which it is taken.
 fn is_app_key(network: &Network, heard: &Heard, partner: Eui) -> bool
     ensures { result ≡ is_app_key_form network.now (heard_of heard.now) partner.0 }
 {

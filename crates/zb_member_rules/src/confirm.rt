@@ -19,7 +19,7 @@ use zb_record::LinkRow;
 use zb_rules::{Effect, Heard, add, add_drop, is_rejoining};
 use zb_setting::Network;
 
-/// Answers whether the command is a Confirm-Key in the form in which it is taken.
+/// Returns whether the command is a Confirm-Key in the form in which it is taken.
 fn is_confirm(network: &Network, heard: &Heard, status: u8, kind: u8, destination: Eui) -> bool
     ensures { result ≡ is_confirm_form network.now (heard_of heard.now) status kind destination.0 }
 {

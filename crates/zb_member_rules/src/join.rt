@@ -17,7 +17,7 @@ use zb_rows::{add_drop_others, code_row};
 use zb_rules::{Effect, add};
 use zb_setting::Network;
 
-/// Answers whether a node in that state has joined.
+/// Returns whether a node in that state has joined.
 fn has_joined(state: State) -> bool
     ensures { result ≡ has_joined (model_state state) }
 {

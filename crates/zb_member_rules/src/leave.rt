@@ -12,7 +12,7 @@ use zb_rules::{Effect, add};
 use zb_seal::Term;
 use zb_setting::Network;
 
-/// Answers whether the options of a Leave ask the receiver itself to go: bit 6.
+/// Returns whether the options of a Leave ask the receiver itself to go: bit 6.
 fn asks_to_go(options: u8) -> bool
     ensures { result ≡ asks_to_go options }
 {

@@ -21,7 +21,7 @@ use zb_rows::{has_link, links_full, other_user};
 use zb_rules::{Effect, Heard, add, add_drop, is_rejoining};
 use zb_setting::Network;
 
-/// Answers whether the command is a Transport-Key of a link key with the centre in the form in which it is taken.
+/// Returns whether the command is a Transport-Key of a link key with the centre in the form in which it is taken.
 fn is_link_key(network: &Network, heard: &Heard, destination: Eui, source: Eui) -> bool
     ensures { result ≡ is_link_key_form network.now (heard_of heard.now) destination.0 source.0 }
 {
@@ -33,7 +33,7 @@ fn is_link_key(network: &Network, heard: &Heard, destination: Eui, source: Eui) 
         && network.from_centre(source)
 }
 
-/// Answers whether that row has the key.
+/// Returns whether that row has the key.
 pub(crate) fn has_key(row: Option<&LinkRow>, key: &Key) -> bool
     ensures { result ≡ has_key key.now.0 (option_map link_key (option_copied row.entry)) }
 {
@@ -43,7 +43,7 @@ pub(crate) fn has_key(row: Option<&LinkRow>, key: &Key) -> bool
     }
 }
 
-/// Answers why a link key gets no row: there is no room for one, or another partner has the key.
+/// Returns why a link key gets no row: there is no room for one, or another partner has the key.
 #[tactic(auto, unfolding(zb_model::specs::Commands::take_row, zb_rules::specs::Chains::steps))]
 pub(crate) fn row_refusal(tables: &Tables, partner: Eui, key: &Key) -> Option<Refusal>
     ensures rule { (moves : List Move)

@@ -20,7 +20,7 @@ use zb_rows::{activates, add_drop_old, dropped_place, has_net, live_of, nets_ful
 use zb_rules::{Effect, Heard, add};
 use zb_setting::Network;
 
-/// Answers whether the command is a Transport-Key of a network key in the form in which it is taken.
+/// Returns whether the command is a Transport-Key of a network key in the form in which it is taken.
 fn is_net_key(network: &Network, heard: &Heard, destination: Eui, source: Eui) -> bool
     ensures { result ≡ is_net_key_form network.now (heard_of heard.now) destination.0 source.0 }
 {
@@ -31,14 +31,14 @@ fn is_net_key(network: &Network, heard: &Heard, destination: Eui, source: Eui) -
         && network.from_centre(source)
 }
 
-/// Answers whether a node in that state waits for the network key.
+/// Returns whether a node in that state waits for the network key.
 fn waits_for_key(state: State) -> bool
     ensures { result ≡ waits_for_key (model_state state) }
 {
     matches!(state, State::Knocked | State::Rejoining)
 }
 
-/// Answers whether that row is a verified one.
+/// Returns whether that row is a verified one.
 fn is_verified(row: Option<&LinkRow>) -> bool
     ensures { result ≡ is_verified_row (option_map link_key (option_copied row.entry)) }
 {
@@ -48,7 +48,7 @@ fn is_verified(row: Option<&LinkRow>) -> bool
     }
 }
 
-/// Answers the state of a node that gets the network key, by the link rows of the centre.
+/// Returns the state of a node that gets the network key, by the link rows of the centre.
 fn joined_state(network: &Network, tables: &Tables) -> State
     ensures { model_state result ≡ joined_state network.now tables.now }
 {

@@ -21,7 +21,7 @@ use zb_rules::{Effect, Heard, is_rejoining};
 use zb_send::Body;
 use zb_setting::Network;
 
-/// Answers the status of an Update-Device: 1 for a join, 3 for a rejoin.
+/// Returns the status of an Update-Device: 1 for a join, 3 for a rejoin.
 fn child_status(rejoin: bool) -> u8
     ensures { result ≡ child_status rejoin }
 {
@@ -82,7 +82,7 @@ fn report_child(
     }
 }
 
-/// Tells the centre of a child that joins or rejoins: Update-Device, sealed under the current row of the centre, or
+/// Reports the centre of a child that joins or rejoins: Update-Device, sealed under the current row of the centre, or
 /// without APS security where there is none.
 ///
 /// # Errors
@@ -116,7 +116,7 @@ pub fn child_of_router(
     )
 }
 
-/// Answers whether the command is a Remove-Device in the form in which a router takes it.
+/// Returns whether the command is a Remove-Device in the form in which a router takes it.
 fn is_remove(network: &Network, heard: &Heard, target: Eui) -> bool
     ensures { result ≡ is_remove_form network.now (heard_of heard.now) target.0 }
 {

@@ -15,7 +15,7 @@ use zb_rules::{Effect, is_rejoining};
 use zb_send::{Body, Payload};
 use zb_setting::Network;
 
-/// Answers whether the centre has confirmed the node's link key.
+/// Returns whether the centre has confirmed the node's link key.
 fn is_confirmed(state: State) -> bool
     ensures { result ≡ in_confirmed (model_state state) }
 {
@@ -65,7 +65,7 @@ pub fn ask(network: &Network, tables: &Tables, partner: Eui) -> Result<Effect, R
     }
 }
 
-/// Says application data to a partner, sealed under the key shared with it.
+/// Reports application data to a partner, sealed under the key shared with it.
 ///
 /// # Errors
 /// No key without a usable active network key or a live row of the partner; wrong state in rejoining; a counter is

@@ -28,7 +28,7 @@ pub blocks_of-one : (xs : List ℕ) → length xs ≡ 16 → blocks_of xs ≡ xs
 unfolding blocks_of
 blocks_of-one xs h = ap blocks_of (sym (append-nil xs)) ∙ blocks_of-block xs [] h
 
--- The value after a block and what comes behind it.
+-- The value after a block and what comes after it.
 pub mixed_all-block : (value xs ys : List ℕ) → length xs ≡ 16
     → mixed_all value (blocks_of (xs ++ ys)) ≡ mixed_all (mixed value xs) (blocks_of ys)
 mixed_all-block value xs ys h = ap (mixed_all value) (blocks_of-block xs ys h)
@@ -36,7 +36,7 @@ mixed_all-block value xs ys h = ap (mixed_all value) (blocks_of-block xs ys h)
 pub mixed_all-one : (value xs : List ℕ) → length xs ≡ 16 → mixed_all value (blocks_of xs) ≡ mixed value xs
 mixed_all-one value xs h = ap (mixed_all value) (blocks_of-one xs h)
 
--- One block more of a message: what is left of it, and what stands behind it, give the result still.
+-- One block more of a message: what is left of it, and what stands after it, give the result still.
 pub mixed_more : (start bytes behind value block next : List ℕ) (i : ℕ) → 16 * i + 16 ≤ length bytes
     → mixed_all value (blocks_of (drop (16 * i) bytes ++ behind)) ≡ mixed_all start (blocks_of (bytes ++ behind))
     → block ≡ take 16 (drop (16 * i) bytes) → next ≡ mixed value block

@@ -8,7 +8,7 @@ use Rattle.std.specs.Int.{w16, to_be_bytes}
 use Rattle.zb_mmo.proofs.Cuts.{mixed_all-block, mixed_all-one}
 use Rattle.zb_mmo.specs.Hash.{blocks_of, mixed, mixed_all, zeros, padding}
 
--- Bytes over zeros, and the mark behind them.
+-- Bytes over zeros, and the mark after them.
 pub marked : (bytes : List ℕ) → length bytes < 16
     → set (bytes ++ drop (length bytes) (replicate 16 0)) (length bytes) 0x80
     ≡ bytes ++ 0x80 ∷ replicate (15 - length bytes) 0

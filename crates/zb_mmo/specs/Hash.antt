@@ -1,11 +1,12 @@
--- The block-cipher hash of 05-3474-21, annex B.6 (Matyas, Meyer and Oseas), with AES-128: for messages below 2^16 bits.
+-- The block-cipher hash of 05-3474-21, annex B.6 (Matyas, Meyer and Oseas), with AES-128: for messages below 2^16
+-- bits.
 use Rattle.std.specs.Prelude.{ℕ, List, ◌∷◌, ◌++◌, ◌+◌, ◌-◌, ◌*◌, ◌/◌, ◌%◌, length, take, drop, replicate, map}
 use Rattle.std.specs.Int.{w16, to_be_bytes}
 use Rattle.std.specs.List.{fold, range_with_len}
 use Rattle.zb_aes.specs.Block.{enciphered}
 use Rattle.zb_aes.specs.Bytes.{xored}
 
--- How many zeros stand behind the byte that begins the padding of `n` bytes: as many as make the length, before the two
+-- How many zeros stand after the byte that begins the padding of `n` bytes: as many as make the length, before the two
 -- bytes that end it, 14 more than a multiple of 16.
 abbrev pub zeros : ℕ → ℕ
 zeros n = (13 + 16 - n % 16) % 16

@@ -6,7 +6,7 @@ ghost use Rattle.zb_mmo.specs.Hash.{blocks_of, mixed, mixed_all, padding, zeros}
 
 use zb_aes::{Cipher, State, encrypt_under_zeros};
 
-/// Answers the value after the first block of a message, before which it is 16 zeros.
+/// Returns the value after the first block of a message, before which it is 16 zeros.
 pub fn begin(block: &[u8; 16]) -> [u8; 16]
     ensures { result ≡ mixed (replicate 16 0) block.now }
 {
@@ -14,7 +14,7 @@ pub fn begin(block: &[u8; 16]) -> [u8; 16]
     encrypt_under_zeros(block).plus(block).bytes()
 }
 
-/// Answers the value after a block.
+/// Returns the value after a block.
 pub fn mix(value: &[u8; 16], block: &[u8; 16]) -> [u8; 16]
     ensures { result ≡ mixed value.now block.now }
 {
@@ -56,7 +56,7 @@ fn padded_end(value: &[u8; 16], bytes: &[u8], bits: u16) -> [u8; 16]
     }
 }
 
-/// Answers the value after the end of a message and its padding.
+/// Returns the value after the end of a message and its padding.
 ///
 /// Requires that the `before` bytes that led to `value` are whole blocks, and at most 8,191 bytes in all.
 pub fn finished(value: [u8; 16], before: usize, bytes: &[u8]) -> [u8; 16]

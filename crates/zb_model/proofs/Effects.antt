@@ -181,7 +181,7 @@ torn_gate_of_a_boot = refl
 abbrev carrier : Bytes → Bytes → Term
 carrier base key = record { layer = Aps; base = base; label = ForTransport; source = 1; counter = 0; control = 0x35; header = 0x21 ∷ []; content = toy.spelled (TransportLink key 2 1) }
 
--- in the first round a term opens nothing whose base key comes out only behind it
+-- in the first round a term opens nothing whose base key comes out only after it
 two_rounds : exposed toy (Seal 1 1 (carrier (k 6) (k 7)) ∷ Forge 2 (carrier (k 5) (k 6)) ∷ []) (k 5 ∷ []) ≡ k 5 ∷ k 6 ∷ k 7 ∷ []
 unfolding toy exposed rounds a_round terms_of carried
 two_rounds = refl

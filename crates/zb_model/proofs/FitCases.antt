@@ -1,5 +1,5 @@
--- The rules that every stored state keeps, and what a change needs, computed: a state that keeps them all, and for each rule one
--- that breaks it.
+-- The rules that every stored state keeps, and what a change needs, computed: a state that keeps them all, and for
+-- each rule one that breaks it.
 use Rattle.std.specs.Prelude.{◌≡◌, ℕ, ◌+◌, zero, suc, Bool, true, false, List, [], ◌∷◌, map, Some, None, refl}
 use Rattle.zb_model.specs.Data.{Centre, Device, State, Joined, Provisional, Unverified, Verified, Nwk, Aps, Draw, DropNet, DropLink, Install, Active, Pair, Live, Removed, Told, Untold, Reserve, Floor, Start, Moved}
 use Rattle.zb_model.specs.State.{SenderFloor, NetKey, LinkKey, PairKey, NodeState, active_row, is_live, pair_of, stored_limit, sender_floor, applied}

@@ -1,5 +1,5 @@
--- Tools for computing the model: real frames and commands, and a toy cipher. It leaves the content as it is and takes four
--- bytes of the sealing key as its tag, so that frames open under their own key alone.
+-- Tools for computing the model: real frames and commands, and a toy cipher. It leaves the content as it is and takes
+-- four bytes of the sealing key as its tag, so that frames open under their own key alone.
 use Rattle.std.specs.Prelude.{ℕ, ◌+◌, ◌-◌, ◌*◌, ◌/◌, ◌%◌, Bool, true, false, not, if◌then◌else◌, ◌&&◌, ◌||◌, List, [], ◌∷◌, ◌++◌, length, get_or, take, drop, set, Option, Some, None, nat_eq, nat_lt, nat_le, codes}
 use Prim.Native.String.{String}
 use Rattle.zb_model.specs.Data.{Bytes, Label, ForData, ForNetwork, ForTransport, ForLoad, Layer, Nwk, Aps, Term, Command, TransportNet, TransportApp, TransportLink, UpdateDevice, RemoveDevice, RequestApp, RequestLink, SwitchKey, Tunnel, VerifyKey, ConfirmKey}
@@ -106,8 +106,8 @@ nwk_open bytes key =
     })
     else None
 
--- APS frames: a command, an acknowledgement without endpoints, or data with them; an extended header; an auxiliary header of 13
--- bytes, or of 5 without a source
+-- APS frames: a command, an acknowledgement without endpoints, or data with them; an extended header; an auxiliary
+-- header of 13 bytes, or of 5 without a source
 abbrev is_command : Bytes → Bool
 is_command bytes = nat_eq (byte_at 0 bytes % 4) 1
 

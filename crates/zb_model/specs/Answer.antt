@@ -1,5 +1,5 @@
--- The answer of one node to one event: the rule that holds, and then its counters. What it says is determined, so it is a
--- function; where only the policy is meant, the counters are a parameter (`Counting`).
+-- The answer of one node to one event: the rule that holds, and then its counters. What it says is determined, so it
+-- is a function; where only the policy is meant, the counters are a parameter (`Counting`).
 use Rattle.std.specs.Prelude.{ℕ, ◌+◌, min, Bool, true, false, not, if◌then◌else◌, ◌&&◌, ◌||◌, List, [], ◌∷◌, ◌++◌, filter, find, Option, Some, None, nat_eq, nat_le, flat_map, option_map, option_to_list, is_some}
 use Rattle.std.specs.List.{list_any}
 use Rattle.zb_model.specs.Data.{Bytes, Layer, Nwk, Aps, ForTransport, ForData, Term, Move, Active, Row, Became, Edit, Reserve, Floor, Start, Moved, Place, AtNwk, AtAps, AtEvent, Reason, Malformed, Policy, Tunnel, Task, Received}
@@ -79,8 +79,8 @@ unfoldable pub plan_of : Tools → Setting → NodeState → Task → Plan
 plan_of tools c s (Received bytes draw) = received_as tools c s draw (judge_nwk tools c s bytes)
 plan_of tools c s task = comes_to [] AtEvent (own tools c s task)
 
--- Which counters an answer takes: those of its frames; a limit that is reserved, at a layer; the floor stored for the term
--- accepted at a layer; the first counter of the key that becomes active.
+-- Which counters an answer takes: those of its frames; a limit that is reserved, at a layer; the floor stored for the
+-- term accepted at a layer; the first counter of the key that becomes active.
 pub record Counting : Type 0 where
   pub counter : Layer → ℕ
   pub reserve : Layer → Option ℕ
@@ -145,9 +145,9 @@ framed tools c to nwk false row part = plain_out c to part
 framed tools c to nwk true None part = nothing_out
 framed tools c to nwk true (Some row) part = secured_out tools c to nwk row part
 
--- A node never seals without a counter: at NWK it has an active row that isn't at its end, at APS its counter isn't. The
--- rules have refused before wherever this would not hold, so in no run it decides. A row that was never started may
--- seal: the reserve that comes first starts it.
+-- A node never seals without a counter: at NWK it has an active row that isn't at its end, at APS its counter isn't.
+-- The rules have refused before wherever this would not hold, so in no run it decides. A row that was never started
+-- may seal: the reserve that comes first starts it.
 unfoldable pub may_seal : NodeState → Option Sending → Bool
 may_seal s send =
     (not (seals_at Nwk send) || (is_some (active_row s) && not (spent Nwk s)))
@@ -177,7 +177,7 @@ row_is_started (Some r) = r.started
 abbrev pub is_started_key : NodeState → Bytes → Bool
 is_started_key s key = row_is_started (net_of key s)
 
--- the first counter of a key stands right behind the change that makes it active
+-- the first counter of a key stands right after the change that makes it active
 abbrev pub start_edit : Bytes → Option ℕ → List Edit
 start_edit key None = []
 start_edit key (Some value) = Start key value ∷ []
@@ -234,7 +234,8 @@ answer_by tools c s k p = let out = out_of tools c s k (sending_of p.outcome) in
 
 -- The counters that a node takes
 
--- A limit is reserved where the frame is sealed at the layer and the counter has reached its limit: a block of its own.
+-- A limit is reserved where the frame is sealed at the layer and the counter has reached its limit: a block of its
+-- own.
 unfoldable pub reserve_of : Setting → NodeState → Option Sending → Layer → Option ℕ
 reserve_of c s send layer =
     if seals_at layer send && (may_seal s send && nat_eq (next_counter layer s) (stored_limit layer s))
@@ -256,8 +257,8 @@ unfoldable pub floor_of : Setting → NodeState → List Term → Layer → Opti
 floor_of c s [] layer = None
 floor_of c s (t ∷ ts) layer = if same_layer t.layer layer then floor_for c s t else floor_of c s ts layer
 
--- A key that becomes active for the first time starts at 0 where the counter has passed half of its range, else where the
--- counter stands.
+-- A key that becomes active for the first time starts at 0 where the counter has passed half of its range, else where
+-- the counter stands.
 abbrev pub half : ℕ
 half = 2147483648
 

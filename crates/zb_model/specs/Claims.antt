@@ -1,5 +1,5 @@
--- What is claimed of whole runs, as relations between lines. Each is by recursion on the list of lines, with the lines before
--- where a claim speaks of them.
+-- What is claimed of whole runs, as relations between lines. Each is by recursion on the list of lines, with the lines
+-- before where a claim speaks of them.
 use Rattle.std.specs.Prelude.{ℕ, ◌≡◌, ◌<◌, ◌≤◌, ◌+◌, min, ◌⊎◌, Bool, true, false, if◌then◌else◌, List, [], ◌∷◌, ◌++◌, length, fold, filter, Option, Some, None, nat_eq, flat_map, ⊤}
 use Rattle.std.specs.List.{AllByRecursion, Any}
 use Rattle.zb_model.specs.Data.{Bytes, Nwk, Aps, Verified, Term, Draw, DropLink, Install, Row, Live, Removed, Moved, ConfirmKey}
@@ -104,8 +104,8 @@ LawfulFrom tools w h disks number (event ∷ events) rest =
     (g : Step) × (more : List Line) × (rest ≡ g.lines ++ more) × Answers tools w h disks number event g
     × LawfulFrom tools w (h ++ g.lines) g.disks (number + 1) events more
 
--- The lines are the start lines, then one group for each event in order, each an answer to the lines before it or cut by a
--- stop or failure, then the end line.
+-- The lines are the start lines, then one group for each event in order, each an answer to the lines before it or cut
+-- by a stop or failure, then the end line.
 abbrev pub Lawful : Tools → Schedule → List Line → Type 0
 Lawful tools w lines =
     (groups : List Line) × (lines ≡ (start w ++ groups) ++ end_line tools (length w.events) (start w ++ groups) ∷ [])
@@ -172,8 +172,8 @@ seals_of d _ = []
 abbrev pub HasTerm : List Term → Term → Type 0
 HasTerm terms t = Any (λ u. u ≡ t) terms
 
--- `h` are the lines up to the removal, `since` those after it and before this one. So a term counts that the device sealed between
--- its removal and this acceptance; what it seals later is on no air yet.
+-- `h` are the lines up to the removal, `since` those after it and before this one. So a term counts that the device
+-- sealed between its removal and this acceptance; what it seals later is on no air yet.
 abbrev pub RefusesLine : Tools → ℕ → List Line → List Line → Line → Type 0
 RefusesLine tools d h since (Accept e n t) =
     t.layer ≡ Nwk → HoldsNoneKnown tools (before_group e (h ++ since)) n
@@ -192,7 +192,7 @@ abbrev pub LockedFrom : Tools → List Line → List Line → Type 0
 LockedFrom tools h [] = ⊤
 LockedFrom tools h (l ∷ ls) = LockedLine tools h l ls × LockedFrom tools (h ++ l ∷ []) ls
 
--- A removed device that isn't admitted again obtains no key that is drawn later; and a node none of whose network keys is known
--- outside accepts at NWK neither what it seals later nor what is forged.
+-- A removed device that isn't admitted again obtains no key that is drawn later; and a node none of whose network keys
+-- is known outside accepts at NWK neither what it seals later nor what is forged.
 abbrev pub Locked : Tools → List Line → Type 0
 Locked tools lines = LockedFrom tools [] lines

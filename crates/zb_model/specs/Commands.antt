@@ -1,5 +1,5 @@
--- The commands that a node receives, one rule each: which node takes it, in which form (any other form is `policy`), what
--- it is refused for, and what it does. This project's profile of Zigbee 05-3474-21, 4.4.
+-- The commands that a node receives, one rule each: which node takes it, in which form (any other form is `policy`),
+-- what it is refused for, and what it does. This project's profile of Zigbee 05-3474-21, 4.4.
 use Rattle.std.specs.Prelude.{ℕ, ◌+◌, ◌%◌, ◌/◌, Bool, true, false, not, if◌then◌else◌, ◌&&◌, ◌||◌, List, [], ◌∷◌, ◌++◌, find, Option, Some, None, nat_eq, nat_lt, nat_le, is_some, is_none}
 use Rattle.zb_model.specs.Data.{Bytes, Nwk, State, Joined, Offered, Confirmed, Gone, Unverified, Verified, Label, ForData, ForNetwork, ForTransport, ForLoad, Term, Move, Draw, Install, Active, Row, Pair, Became, NoKey, NotMember, WrongState, KeyOld, KeysFull, RowsFull, KeyInUse, NoDraw, CounterSpent, WrongHash, Policy, Command, TransportNet, TransportApp, TransportLink, UpdateDevice, RemoveDevice, RequestApp, RequestLink, SwitchKey, Tunnel, VerifyKey, ConfirmKey}
 use Rattle.zb_model.specs.State.{NetKey, LinkKey, PairKey, NodeState, same_key, is_centre, is_verified, is_live_of, has_net, has_link, active_row, live_of, current, offered, is_live, other_user, pair_of, same_label}
@@ -228,8 +228,8 @@ take_app_request c s m draw partner =
     found_or (current s m.sender) Policy (λ row.
     answer_pair c s m.sender partner draw row (pair_of s m.sender partner)))))
 
--- Verify-Key: where the proof is of the offered key, that key takes the place of the current one; then, or where it is of
--- the verified current key, the device is told (Confirm-Key) under that key.
+-- Verify-Key: where the proof is of the offered key, that key takes the place of the current one; then, or where it is
+-- of the verified current key, the device is told (Confirm-Key) under that key.
 abbrev pub send_confirm : Setting → ℕ → Bytes → List Move → Outcome
 send_confirm c device key moves =
     Does moves (sends (short_of c device) true (Secret ForData key (ConfirmKey 0 4 device)))

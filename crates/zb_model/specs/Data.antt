@@ -6,8 +6,8 @@ use Rattle.std.specs.Prelude.{ℕ, List, Bool, Option}
 abbrev pub Bytes : Type 0
 Bytes = List ℕ
 
--- No node's EUI: the name of a node that a line names without having declared it. It decides nothing in a run, whose lines
--- name declared nodes.
+-- No node's EUI: the name of a node that a line names without having declared it. It decides nothing in a run, whose
+-- lines name declared nodes.
 abbrev pub nobody : ℕ
 nobody = 18446744073709551616
 

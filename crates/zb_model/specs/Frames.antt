@@ -1,5 +1,5 @@
--- The frames that a node sends, by their fields: headers with their auxiliary headers (05-3474-21, chapters 2 to 4), in
--- the values that this project's profile gives them. Fields are least significant byte first.
+-- The frames that a node sends, by their fields: headers with their auxiliary headers (05-3474-21, chapters 2 to 4),
+-- in the values that this project's profile gives them. Fields are least significant byte first.
 use Rattle.std.specs.Prelude.{ℕ, ◌%◌, if◌then◌else◌, [], ◌∷◌, ◌++◌, nat_le}
 use Rattle.zb_model.specs.Data.{Bytes, Label, ForData, ForNetwork, ForTransport, ForLoad, Nwk, Aps, Term}
 use Rattle.zb_model.specs.Record.{two_bytes, four_bytes, eight_bytes}
@@ -54,7 +54,7 @@ nwk_term control to from source key sequence counter content = record {
   content = content;
 }
 
--- A sealed APS frame: `front` is its header up to its APS counter, which is the low byte of the frame counter.
+-- A sealed APS frame: `prefix` is its header up to its APS counter, which is the low byte of the frame counter.
 abbrev pub aps_term : Bytes → Label → Bytes → ℕ → ℕ → Bytes → Term
 aps_term front label key source counter content = record {
   layer = Aps;
@@ -77,8 +77,8 @@ clear_command = 0x01
 abbrev pub clear_broadcast : ℕ
 clear_broadcast = 0x09
 
--- The header of application data up to its APS counter: control (delivery by broadcast from FFF8 up), endpoint 1, cluster 0,
--- profile 0104, source endpoint 1.
+-- The header of application data up to its APS counter: control (delivery by broadcast from FFF8 up), endpoint 1,
+-- cluster 0, profile 0104, source endpoint 1.
 abbrev pub data_front : ℕ → Bytes
 data_front control = control ∷ 0x01 ∷ 0x00 ∷ 0x00 ∷ 0x04 ∷ 0x01 ∷ 0x01 ∷ []
 

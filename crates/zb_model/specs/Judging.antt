@@ -29,8 +29,8 @@ hears c to = nat_eq to c.me.short || (nat_eq to 0xffff || (nat_eq to 0xfffd || (
     routes Device = false
     routes _ = true
 
--- An unsecured frame passes only as the carrier of a command that is sealed under a transport key, and only in a router or
--- device that waits for the network key.
+-- An unsecured frame passes only as the carrier of a command that is sealed under a transport key, and only in a
+-- router or device that waits for the network key.
 abbrev pub is_transport : Label → Bool
 is_transport Rattle.zb_model.specs.Data.Label.ForTransport = true
 is_transport _ = false

@@ -26,7 +26,7 @@ pub data Line : Type 0 where
   DownReset : (event : ℕ) (node : ℕ) → Line
   DownDisk : (event : ℕ) (node : ℕ) → Line
   Boot : (event : ℕ) (node : ℕ) → Line
-  -- the record that the node's disk stands for
+  -- the record that the node's disk represents
   Dump : (event : ℕ) (node : ℕ) (bytes : Bytes) → Line
   -- how many events, seal lines, accept lines and refuse lines; whether all that was accepted was sealed or forged
   -- before, and whether outsiders forged only with what outsiders know

@@ -22,9 +22,9 @@ pub record Node : Type 0 where
   pub start_nwk : ℕ
   pub start_aps : ℕ
 
--- An event. Those of one node: what it does itself, and what happens to it; `Deliver` names the frame by its number. The
--- others are the outside's: bytes that are put on the air, and frames that are forged under known keys: a NWK frame, one
--- with an APS command sealed in it, and an unsecured NWK frame with such a command.
+-- An event. Those of one node: what it does itself, and what happens to it; `Deliver` names the frame by its number.
+-- The others are the outside's: bytes that are put on the air, and frames that are forged under known keys: a NWK
+-- frame, one with an APS command sealed in it, and an unsecured NWK frame with such a command.
 pub data Event : Type 0 where
   Own : (node : ℕ) (task : Task) → Event
   RollOver : (node : ℕ) → Event
@@ -47,7 +47,8 @@ pub record Schedule : Type 0 where
 abbrev pub stations : Schedule → List Station
 stations w = map (λ (m : Node). m.station) w.nodes
 
--- The start lines: the nodes, then their network keys, link keys and stored limits, each kind in the order of the nodes.
+-- The start lines: the nodes, then their network keys, link keys and stored limits, each kind in the order of the
+-- nodes.
 
 abbrev pub net_line : ℕ → Option (Bytes × ℕ) → List Line
 net_line n None = []
@@ -95,8 +96,8 @@ disk_of disks n = state_or (find (λ (d : Disk). nat_eq d.owner n) disks)
 unfoldable pub with_disk : List Disk → ℕ → DiskState → List Disk
 with_disk disks n state = record { owner = n; state = state } ∷ filter (λ (d : Disk). not (nat_eq d.owner n)) disks
 
--- The device calls of a commit: an entry of the journal makes four, and each 33rd commit writes the whole record, in six.
--- A boot makes three where two slots stand open, else one.
+-- The device calls of a commit: an entry of the journal makes four, and each 33rd commit writes the whole record, in
+-- six. A boot makes three where two slots stand open, else one.
 pub data Calls : Type 0 where
   NoCalls : Calls
   EntryCalls : Calls
@@ -155,8 +156,8 @@ pub record Step : Type 0 where
   pub lines : List Line
   pub disks : List Disk
 
--- The lines of an answer, in their order: changes, commit, accepts, a refusal, seals, the frame. A group that is cut has the
--- first two alone.
+-- The lines of an answer, in their order: changes, commit, accepts, a refusal, seals, the frame. A group that is cut
+-- has the first two alone.
 
 abbrev pub change_lines : ℕ → ℕ → List Edit → List Line
 change_lines number n edits = map (Changed number n) edits
@@ -211,7 +212,8 @@ boot_step disks number n =
 abbrev pub refused_step : List Disk → ℕ → ℕ → Reason → Step
 refused_step disks number n reason = record { lines = Refuse number n AtEvent reason ∷ []; disks = disks }
 
--- A station in place of a node that isn't declared. It decides nothing in a run: a schedule's events are of declared nodes.
+-- A station in place of a node that isn't declared. It decides nothing in a run: a schedule's events are of declared
+-- nodes.
 abbrev pub no_station : Station
 no_station = record { name = []; eui = Rattle.zb_model.specs.Data.nobody; short = 0xffff; role = Rattle.zb_model.specs.Data.Role.Device; out_block = 0; in_block = 0 }
 

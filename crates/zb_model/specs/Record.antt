@@ -1,5 +1,5 @@
--- The bytes that a node's disk keeps: the record of a state, version 3, and the payload of a journal entry. Numbers and
--- EUIs are least significant byte first. Layout: this project's own.
+-- The bytes that a node's disk keeps: the record of a state, version 3, and the payload of a journal entry. Numbers
+-- and EUIs are least significant byte first. Layout: this project's own.
 use Rattle.std.specs.Prelude.{ℕ, ◌+◌, Bool, true, false, if◌then◌else◌, List, [], ◌∷◌, ◌++◌, filter, length, Option, Some, None, flat_map}
 use Rattle.std.specs.Int.{to_le_bytes, w16, w32, w64}
 use Rattle.zb_model.specs.Data.{Bytes, Role, Centre, Router, Device, Layer, Nwk, Aps, State, Fresh, Knocked, Joined, Offered, Confirmed, Rejoining, Gone, Attribute, Provisional, Unverified, Verified, Move, Draw, DropNet, DropLink, Install, Active, Row, Pair, Became, Live, Removed, Roll, Told, Untold, Edit, Reserve, Floor, Start, Moved}
@@ -73,7 +73,8 @@ abbrev pub pair_bytes : PairKey → Bytes
 pair_bytes p = eight_bytes p.first ++ (eight_bytes p.second ++ (p.key ++ 1 ∷ []))
 
 -- The record: version 3, role, state; the declared NWK start, the APS limit, the rollover; the network rows with their
--- number, the place of the active one, and the floors of the live ones; the link rows and the pairs with their numbers.
+-- number, the place of the active one, and the floors of the live ones; the link rows and the pairs with their
+-- numbers.
 unfoldable pub record_of : NodeState → Bytes
 record_of s =
     3 ∷ role_byte s.role ∷ state_byte s.state ∷ []

@@ -6,8 +6,8 @@ use Rattle.zb_model.specs.Data.{Bytes, Role, Router, Layer, Nwk, Aps, State, Kno
 use Rattle.zb_model.specs.State.{greatest_counter, NetKey, LinkKey, NodeState, same_key, is_centre, is_live_of, has_net, next_counter, live_nets, is_active_key}
 use Rattle.zb_model.specs.Fits.{most_nets, most_links, most_pairs}
 
--- What a node sends: application data, not sealed at APS; an APS command that isn't sealed, sealed under a link key, or
--- sealed inside a Tunnel to a device; application data under a key of two devices; a Leave; the frame of a Tunnel.
+-- What a node sends: application data, not sealed at APS; an APS command that isn't sealed, sealed under a link key,
+-- or sealed inside a Tunnel to a device; application data under a key of two devices; a Leave; the frame of a Tunnel.
 pub data Body : Type 0 where
   Saying : (bytes : Bytes) → Body
   Clear : (control : ℕ) (command : Command) → Body
@@ -66,8 +66,8 @@ station_of stations eui = find (λ (p : Station). nat_eq p.eui eui) stations
 unfoldable pub station_at : List Station → ℕ → Option Station
 station_at stations short = find (λ (p : Station). nat_eq p.short short) stations
 
--- The EUI or short address of a node that isn't declared, where a number must stand: no node has it. It decides nothing in a
--- run: each schedule has a centre, and what rules send is for declared nodes.
+-- The EUI or short address of a node that isn't declared, where a number must stand: no node has it. It decides
+-- nothing in a run: each schedule has a centre, and what rules send is for declared nodes.
 abbrev pub eui_or : ℕ → Option Station → ℕ
 eui_or other None = other
 eui_or other (Some p) = p.eui
@@ -134,8 +134,8 @@ links_full s = nat_le (most_links s.role) (length s.links)
 abbrev pub pairs_full : NodeState → Bool
 pairs_full s = nat_le most_pairs (length s.pairs)
 
--- The next key of the supply, unless a row of the node has it already. That test decides nothing in a run: no row of the
--- centre has a key that is still to be drawn.
+-- The next key of the supply, unless a row of the node has it already. That test decides nothing in a run: no row of
+-- the centre has a key that is still to be drawn.
 abbrev pub unless_held : NodeState → Option Bytes → Option Bytes
 unless_held s None = None
 unless_held s (Some key) = if has_net key s.nets || list_any (λ (r : LinkKey). same_key r.key key) s.links then None else Some key

@@ -34,8 +34,9 @@ abbrev pub CountsCalls : Event → Type 0
 CountsCalls (ArmFail n call) = 1 ≤ call
 CountsCalls _ = ⊤
 
--- Whether an event of a node's own is for its role: the centre's are `provision`, `remove`, `roll`, `switch`, `again` and
--- `share`, those of routers and devices `knock`, `rejoin`, `ask` and `tell`; `say`, `timer` and `child` are of both.
+-- Whether an event of a node's own is for its role: the centre's are `provision`, `remove`, `roll`, `switch`, `again`
+-- and `share`, those of routers and devices `knock`, `rejoin`, `ask` and `tell`; `say`, `timer` and `child` are of
+-- both.
 abbrev pub is_for_role : Bool → Task → Bool
 is_for_role centre (SayTo to bytes) = true
 is_for_role centre DoTimer = true

@@ -20,8 +20,8 @@ abbrev pub holds_some : List Bytes → Option Bytes → Bool
 holds_some keys None = false
 holds_some keys (Some key) = holds keys key
 
--- What a term carries: the key of a Transport-Key that is its content, sealed at APS as a command, or standing unsealed in a
--- NWK frame.
+-- What a term carries: the key of a Transport-Key that is its content, sealed at APS as a command, or standing
+-- unsealed in a NWK frame.
 
 abbrev pub key_in : Command → Option Bytes
 key_in (TransportNet key sequence destination source) = Some key
@@ -62,8 +62,8 @@ terms_in _ = []
 unfoldable pub terms_of : List Line → List Term
 terms_of h = flat_map terms_in h
 
--- The keys that come out for somebody who holds the start: in each round, those that a term carries whose base key is among
--- them. There are as many rounds as lines.
+-- The keys that come out for somebody who holds the start: in each round, those that a term carries whose base key is
+-- among them. There are as many rounds as lines.
 
 abbrev pub opened_by : Tools → List Bytes → Term → List Bytes
 opened_by tools keys t = if holds keys t.base then fold with_key keys (option_to_list (carried tools t)) else keys
@@ -78,8 +78,8 @@ rounds (Rattle.std.specs.Prelude.suc n) tools terms keys = rounds n tools terms 
 unfoldable pub exposed : Tools → List Line → List Bytes → List Bytes
 exposed tools h from = rounds (length h) tools (terms_of h) from
 
--- The keys that a node ever held: those of its given, install and row lines, of the centre's rows with it, and of its pairs.
--- Who the centre is, a line knows from the lines before it: it is the first node that they declare as one.
+-- The keys that a node ever held: those of its given, install and row lines, of the centre's rows with it, and of its
+-- pairs. Who the centre is, a line knows from the lines before it: it is the first node that they declare as one.
 
 abbrev pub is_the_centre : List Station → ℕ → Bool
 is_the_centre known n = is_eui (find (λ (p : Station). is_centre p.role) known)
@@ -100,7 +100,7 @@ ever_in known d (GivenLink n partner key) = if nat_eq n d then key ∷ [] else [
 ever_in known d (Changed e n (Moved move)) = ever_moved known d n move
 ever_in known d _ = []
 
--- behind lines that declare these nodes
+-- after lines that declare these nodes
 abbrev pub ever_from : List Station → ℕ → List Line → List Bytes
 ever_from known d [] = []
 ever_from known d (l ∷ ls) = ever_in known d l ++ ever_from (station_line known l) d ls
@@ -190,8 +190,8 @@ joins h n = joined (station_of (stations_of h) n)
         is_member Router = true
         is_member Device = true
 
--- An accepted term was sealed or forged before; a key that a router or device took in is its code's, or came in an earlier
--- term under one of its keys. The second matters where a stop cut the acceptance off.
+-- An accepted term was sealed or forged before; a key that a router or device took in is its code's, or came in an
+-- earlier term under one of its keys. The second matters where a stop cut the acceptance off.
 unfoldable pub ideal_line : Tools → List Line → Line → Bool
 ideal_line tools h (Accept e n t) = list_any (same_term t) (terms_of h)
 ideal_line tools h (Changed e n (Moved (Install key sequence))) = not (joins h n) || came_by tools h n key

@@ -1,5 +1,5 @@
--- What the policy takes from below, as one record: sealing and opening, hashing, and how frames and commands are read and
--- spelled. The rules use these as they are; no law looks inside.
+-- What the policy takes from below, as one record: sealing and opening, hashing, and how frames and commands are read
+-- and spelled. The rules use these as they are; no law looks inside.
 use Rattle.std.specs.Prelude.{ℕ, Bool, Option}
 use Rattle.zb_model.specs.Data.{Bytes, Label, ForData, ForNetwork, ForTransport, ForLoad, Term, Command}
 

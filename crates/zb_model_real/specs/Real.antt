@@ -1,5 +1,5 @@
--- What the model takes from below, filled: frames and commands as this program's crates read and spell them, sealing and opening
--- by CCM* over AES-128, the keyed hash of 05-3474-21, annex B.
+-- What the model takes from below, filled: frames and commands as this program's crates read and spell them, sealing
+-- and opening by CCM* over AES-128, the keyed hash of 05-3474-21, annex B.
 use Rattle.std.specs.Prelude.{[], ◌∷◌, Option, Some, None, Result, Ok, Err}
 use Rattle.zb_aps.specs.Reading as aps
 use Rattle.zb_cmd.specs.Reading.{command_of, leave_of}

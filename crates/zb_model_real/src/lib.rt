@@ -1,4 +1,4 @@
-//! The model's tools, filled by this program's crates: frames, commands, sealing. A law stands as the contract of a
+//! The model's tools, filled by this program's crates: frames, commands, sealing. A law is the contract of a
 //! function with an empty body.
 #![tactic(auto)]
 

@@ -90,7 +90,7 @@ pub enum Change {
     },
 }
 
-/// Holds the changes of one event, in the order in which they are made.
+/// The changes of one event, in the order in which they are made.
 ///
 /// An event makes at most 16.
 pub type Changes = ArrayVec<Change, 16>;

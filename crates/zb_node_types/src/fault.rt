@@ -3,7 +3,7 @@ use std::error::Error;
 use std::fmt;
 use zb_base::Eui;
 
-/// Says why a call on tables is refused.
+/// Why a call on tables is refused.
 #[derive(Clone, Copy, Debug, PartialEq, Eq)]
 pub enum KeyError {
     /// The network key was dropped before; its row stands at that place, from 0.

@@ -1,7 +1,7 @@
 //! Why an event of a node is refused.
 use zb_base::{Eui, Place};
 
-/// Says why an event is refused, and where.
+/// Why an event is refused, and where.
 ///
 /// The reasons stand in the order in which they are tried, but for `NoFrame`, which is tried right after `Down`.
 #[derive(Clone, Copy, Debug, PartialEq, Eq)]
@@ -50,7 +50,7 @@ impl Refusal {
     ghost use Rattle.std.specs.Prelude.{◌≡◌};
     ghost use Rattle.zb_node_types.specs.Changes.{place_of};
 
-    /// Answers where the event is refused.
+    /// Returns where the event is refused.
     pub fn place(&self) -> Place
         ensures { result ≡ place_of self.now }
     {

@@ -1,4 +1,5 @@
--- How the reading of a NWK frame ends on any bytes: they are cut and can go on, have a fault that stays, or are a frame.
+-- How the reading of a NWK frame ends on any bytes: they are cut and can go on, have a fault that stays, or are a
+-- frame.
 use Rattle.std.proofs.Common.{◌≡◌, ◌≢◌, ℕ, ◌-◌, ◌^◌, ◌<◌, ◌≤◌, Bool, true, false, eqb, List, [], ◌∷◌, ◌++◌, length, take, drop, Some, None, Ok, Err, refl, sym, ap, subst, ◌∙◌, append_assoc, arith, inl, inr, ◌⊎◌, length-append}
 use Rattle.std.specs.Prelude.{replicate}
 use Rattle.std.specs.Int.{w16, w32}
@@ -32,7 +33,7 @@ route_ends =
       record { number = rw s2.1 s0.1; index = s1.1; relays = s2.2 },
     ))))
 
--- what the fields behind a control word spell
+-- what the fields after a control word spell
 record FieldsText (control : ℕ) (text : List ℕ) (h : NwkHeader) : Type 0 where
   parts : number w16 control ++ text ≡ header h
   shaped : IsHeader h
@@ -173,7 +174,7 @@ join_short bytes hd rest au end more p q = rw (p, q) (simp (append_assoc, append
 join_whole : (bytes hd rest au end body mic : List ℕ) → bytes ≡ hd ++ rest → rest ≡ au ++ end → end ≡ body ++ mic → bytes ≡ hd ++ ((au ++ body) ++ mic)
 join_whole bytes hd rest au end body mic p q r = rw (p, q, r) (simp append_assoc)
 
--- behind any header there can be a content
+-- after any header there can be a content
 content_text : (h : NwkHeader) → IsHeader h → HeaderInRange h → (b : Bool) → bit h.control 9 ≡ b → CanGoOn (header h)
 content_text h shaped fits false e = ([], record { header = h; aux = None; body = record { items = [] }; mic = 0 ∷ 0 ∷ 0 ∷ 0 ∷ [] }, unsecured_frame (header h ++ []) h [] shaped fits e refl)
 content_text h shaped fits true e =

@@ -25,7 +25,7 @@ route_at = do
   relays ← times_at short_at number
   give (record { index = index; relays = record { items = relays } })
 
--- the fields behind the control word
+-- the fields after the control word
 unfoldable pub fields_at : ℕ → Reading NwkError NwkHeader
 fields_at control = do
   destination ← short_at
@@ -68,7 +68,7 @@ aux_at = do
   key_sequence ← byte_at
   give (record { control = control; counter = counter; source = source; key_sequence = key_sequence })
 
--- behind the header of a secured frame
+-- after the header of a secured frame
 unfoldable pub secured_at : NwkHeader → Reading NwkError NwkFrame
 secured_at header = do
   aux ← aux_at
@@ -89,11 +89,12 @@ frame_at = do
   header ← header_at
   content_at (bit header.control 9) header
 
--- the frame without what is left behind it, which is nothing
+-- the frame without what is left after it, which is nothing
 abbrev pub whole : Result (NwkFrame × List ℕ) NwkError → Result NwkFrame NwkError
 whole (Ok x) = Ok x.0
 whole (Err e) = Err e
 
--- The frame that all of the bytes are, or their first fault: more than 127 bytes, or what the first field gives that is not whole or not known.
+-- The frame that all of the bytes are, or their first fault: more than 127 bytes, or what the first field gives that
+-- is not whole or not known.
 unfoldable pub frame_of : List ℕ → Result NwkFrame NwkError
 frame_of bytes = if nat_lt 127 (length bytes) then Err TooLong else whole (frame_at (Short (length bytes)) bytes)

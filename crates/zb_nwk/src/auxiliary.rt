@@ -25,7 +25,7 @@ pub struct NwkAux {
 }
 
 impl NwkAux {
-    /// Tells whether the reader takes the control byte: the network key, with the extended nonce.
+    /// Returns whether the reader takes the control byte: the network key, with the extended nonce.
     pub fn shape_ok(&self) -> bool
         ensures { IsTrue result ↔ IsAuxControl self.now.control }
     {

@@ -4,7 +4,7 @@ use std::fmt;
 
 /// The first fault of bytes that are no NWK frame.
 ///
-/// `TooLong` comes before all others. Then the first counts that is met as the fields are walked from the front.
+/// `TooLong` comes before all others. Then the first counts that is met as the fields are walked from the start.
 #[derive(Clone, Copy, Debug, PartialEq, Eq)]
 pub enum NwkError {
     /// More than 127 bytes.

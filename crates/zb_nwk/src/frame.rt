@@ -31,7 +31,7 @@ pub struct NwkFrame {
 }
 
 impl NwkFrame {
-    /// Tells whether this value is a frame that the reader can answer.
+    /// Returns whether this value is a frame that the reader can answer.
     ///
     /// The reader takes the type, the version and the auxiliary control, the options agree with the control word, and
     /// the code is zero where there is no security.
@@ -47,7 +47,7 @@ impl NwkFrame {
     }
 }
 
-/// Reads what stands behind a header.
+/// Reads what stands after a header.
 #[tactic(auto, unfolding(crate::specs::Reading::secured_at, crate::specs::Reading::unsecured_at))]
 fn read_content(reader: &mut Reader<NwkError>, header: NwkHeader) -> Result<NwkFrame, NwkError>
     requires fits { length reader.old.rest.now ≤ 127 }

@@ -28,8 +28,9 @@ pub struct Route {
 /// The header of a NWK frame (05-3474-21, 3.3.1). The control word says which of the last four fields are there.
 #[derive(Debug, Drop, PartialEq, Eq)]
 pub struct NwkHeader {
-    /// The control word. Bits 0 and 1: frame type; 2 to 5: version; 6 and 7: discover route; 8: multicast; 9: security;
-    /// 10: source route; 11: destination IEEE; 12: source IEEE; 13: end device initiator; the others are free.
+    /// The control word. Bits 0 and 1: frame type; 2 to 5: version; 6 and 7: discover route; 8: multicast; 9:
+    /// security; 10: source route; 11: destination IEEE; 12: source IEEE; 13: end device initiator; the others are
+    /// free.
     pub control: u16,
     /// The network address that the frame goes to.
     pub destination: Short,
@@ -50,7 +51,7 @@ pub struct NwkHeader {
 }
 
 impl NwkHeader {
-    /// Tells whether the reader takes type and version, and the options are those of the control word.
+    /// Returns whether the reader takes type and version, and the options are those of the control word.
     pub fn shape_ok(&self) -> bool
         ensures { IsTrue result ↔ IsHeader self.now }
     {
@@ -120,7 +121,7 @@ fn read_optional_route(
     Ok(Some(route))
 }
 
-/// Reads the fields behind a control word.
+/// Reads the fields after a control word.
 #[tactic(auto, unfolding(crate::specs::Reading::fields_at))]
 fn read_fields(reader: &mut Reader<NwkError>, control: u16) -> Result<NwkHeader, NwkError>
     requires room { length reader.old.rest.now ≤ 125 }

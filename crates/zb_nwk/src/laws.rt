@@ -7,7 +7,7 @@ ghost use Rattle.zb_nwk.specs.Spelling.{frame};
 ghost use Rattle.zb_nwk.specs.Shape.{InRange, IsShaped, Spells};
 ghost use Rattle.zb_nwk.specs.Reading.{frame_of};
 
-/// Says what `read` and `write` are to each other.
+/// Returns what `read` and `write` are to each other.
 pub fn round_trips()
     ensures one_value { (bytes : List ℕ) (f g : NwkFrame) → Spells bytes f → Spells bytes g → f ≡ g }
     ensures one_spelling { (bytes other : List ℕ) (f : NwkFrame) → Spells bytes f → Spells other f

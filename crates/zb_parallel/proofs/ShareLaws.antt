@@ -8,7 +8,7 @@ pub some_size : (n size jobs : ℕ) → n ≤ size * jobs → 0 < n → 0 < size
 some_size n zero jobs most some = absurd (omega arith)
 some_size n (suc size) jobs most some = omega arith
 
--- what was cut off so far, whatever is cut off behind it
+-- what was cut off so far, whatever is cut off after it
 abbrev pub AreSharesSoFar : ℕ → ℕ → ℕ → ℕ → ℕ → List Share → Type 0
 AreSharesSoFar size total number first left shares =
     (more : List Share) → AreShares size number first left more → AreShares size 0 0 total (shares ++ more)

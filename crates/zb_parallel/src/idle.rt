@@ -2,11 +2,11 @@
 
 use std::thread::{JoinHandle, Threads, spawn};
 
-/// Is a thread that ends at once.
+/// A thread that ends at once.
 ///
 /// Where a thread that is busy starts another, Linux may keep both on one processor for some milliseconds, which is
 /// long beside the work on a capture. The second one that it starts runs on another processor at once. So several jobs
-/// begin behind an idle one.
+/// begin after an idle one.
 #[derive(Drop)]
 pub struct IdleThread {
     handle: Option<JoinHandle<()>>,

@@ -6,7 +6,7 @@ ghost use Rattle.zb_parallel.specs.Shares.{AreShares};
 use std::alloc::Global;
 use zb_base::NoMemory;
 
-/// Is the work of one job: so many consecutive items.
+/// The work of one job: so many consecutive items.
 #[derive(Clone, Copy, Debug, PartialEq, Eq)]
 pub struct Share {
     /// The number of the share, from 0.

@@ -13,7 +13,7 @@ use Rattle.zb_pcap.specs.declared.header.Form.{Form}
 use Rattle.zb_pcap.specs.declared.header.Order.{Order}
 use Rattle.zb_pcap.specs.declared.packets.Packet.{Packet}
 
--- the records that were read, in front of those that come
+-- the records that were read, before those that come
 abbrev pub prepended : List Record → Result (List Record) PcapError → Result (List Record) PcapError
 prepended xs (Ok ys) = Ok (xs ++ ys)
 prepended xs (Err e) = Err e

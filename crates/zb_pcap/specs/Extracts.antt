@@ -75,7 +75,7 @@ Answers view (Ok value) expected = expected ≡ Ok (view value)
 Answers view (Err (error.Fault fault)) expected = expected ≡ Err fault
 Answers view (Err error.NoMemory) expected = Unit {0}
 
--- A record that was taken off, and the bytes behind it, are those that are expected.
+-- A record that was taken off, and the bytes after it, are those that are expected.
 abbrev pub Takes : Option (Packet × Bor (List ℕ)) → Option (Record × List ℕ) → Type 0
 Takes None expected = expected ≡ None
 Takes (Some taken) expected = expected ≡ Some (record_in taken.0, taken.1.now)

@@ -52,7 +52,7 @@ header_of bytes = if nat_lt (length bytes) 24 then Err Magic else form_in bytes 
 abbrev pub Record : Type 0
 Record = List ℕ × Bool
 
--- seconds 4, fraction 4, kept length 4, whole length 4, and the kept bytes; what is behind a record that is whole
+-- seconds 4, fraction 4, kept length 4, whole length 4, and the kept bytes; what is after a record that is whole
 unfoldable pub record_of : Order → List ℕ → Option (Record × List ℕ)
 record_of order bytes =
     let kept = number32_at order bytes 8 in
@@ -76,7 +76,8 @@ abbrev pub with_record : ℕ → Option (Record × List ℕ) → (List ℕ → R
 with_record place None rest = Err (fault_at place Cut)
 with_record place (Some one) rest = behind one.0 (rest one.1)
 
--- The records, the first of which has the number `place`, at most `left` of them; or the first that isn't whole or is one too many.
+-- The records, the first of which has the number `place`, at most `left` of them; or the first that isn't whole or is
+-- one too many.
 unfoldable pub records : ℕ → ℕ → Order → List ℕ → Result (List Record) PcapError
 records left place order [] = Ok []
 records zero place order (byte ∷ more) = beyond place (record_of order (byte ∷ more))

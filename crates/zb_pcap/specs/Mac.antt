@@ -8,8 +8,8 @@ use Rattle.zb_pcap.specs.declared.mac.Mac.TheVariants.{Payload, BadCheck, Other}
 abbrev pub number16 : List ℕ → ℕ → ℕ
 number16 bytes at = slice_index bytes at + 256 * slice_index bytes (at + 1)
 
--- The control: bits 0 to 2 type, 3 security, 6 one network for both addresses, 10 and 11 the mode of the destination, 12 and 13 version, 14
--- and 15 the mode of the source
+-- The control: bits 0 to 2 type, 3 security, 6 one network for both addresses, 10 and 11 the mode of the destination,
+-- 12 and 13 version, 14 and 15 the mode of the source
 abbrev pub destination_mode : ℕ → ℕ
 destination_mode control = control / 1024 % 4
 
@@ -38,7 +38,7 @@ header_size control =
     3 + (network_size (destination_mode control) + address_size (destination_mode control))
     + (source_network_size control + address_size (source_mode control))
 
--- A packet has its check sequence behind it, low byte first, or has none
+-- A packet has its check sequence after it, low byte first, or has none
 abbrev pub body : Bool → List ℕ → List ℕ
 body check packet = if check then take (length packet - 2) packet else packet
 

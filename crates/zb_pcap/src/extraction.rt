@@ -24,7 +24,7 @@ pub struct Counts {
     pub other: u32,
 }
 
-/// Holds what a file gives.
+/// What a file gives.
 #[derive(Debug, Drop)]
 pub struct Extraction {
     /// The capture of its frames.
@@ -133,7 +133,7 @@ fn judge(check: bool, packet: &Packet<'_>) -> Mac
     }
 }
 
-/// Gives the frame of `len` bytes from `at` on.
+/// Returns the frame of `len` bytes from `at` on.
 fn frame_at(bytes: &[u8], at: u32, len: u32) -> Frame
     requires within { at + len ≤ length bytes.now }
     requires fits { len ≤ 127 }

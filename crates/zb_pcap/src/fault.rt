@@ -2,7 +2,7 @@
 use std::error::Error;
 use std::fmt;
 
-/// Says what is wrong with a file, in the order in which it is tried.
+/// What is wrong with a file, in the order in which it is tried.
 #[derive(Clone, Copy, Debug, PartialEq, Eq)]
 pub enum PcapCause {
     /// There are fewer than 24 bytes, or they don't begin as such a file does.

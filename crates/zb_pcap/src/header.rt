@@ -13,7 +13,7 @@ pub(crate) enum Order {
     Little,
 }
 
-/// Holds what a header says.
+/// What a header says.
 #[derive(Clone, Copy, Debug, PartialEq, Eq)]
 pub(crate) struct Form {
     /// The order of the bytes of its numbers, and of those of records.
@@ -59,7 +59,7 @@ fn order_of(magic: &[u8]) -> Option<Order>
     }
 }
 
-/// Whether the version is 2.4.
+/// Returns whether the version is 2.4.
 fn is_version(order: Order, bytes: &[u8]) -> bool
     requires { 24 ≤ length bytes.now }
     ensures { result ≡ (number16_at order bytes.now 4 == 2 && number16_at order bytes.now 6 == 4) }
@@ -67,7 +67,7 @@ fn is_version(order: Order, bytes: &[u8]) -> bool
     number16(order, bytes, 4) == 2 && number16(order, bytes, 6) == 4
 }
 
-/// Answers whether packets of a link type end with their check sequence, where the link type is known.
+/// Returns whether packets of a link type end with their check sequence, where the link type is known.
 fn link_of(link: u32) -> Option<bool>
     ensures { result ≡ link_in link }
 {

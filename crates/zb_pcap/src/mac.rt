@@ -4,7 +4,7 @@ ghost use Rattle.zb_pcap.specs.Mac.{number16 as number_at, is_plain_data as is_d
 
 use crate::check::fcs;
 
-/// Says what a packet is.
+/// What a packet is.
 #[derive(Clone, Copy, Debug, PartialEq, Eq)]
 pub enum Mac {
     /// A plain data frame, whose payload has `len` bytes from `at` on.
@@ -20,7 +20,7 @@ pub enum Mac {
     Other,
 }
 
-/// Tells what a packet is. `check` says that it ends with its check sequence, low byte first.
+/// Returns what a packet is. `check` says that it ends with its check sequence, low byte first.
 #[tactic(auto, unfolding(crate::specs::Mac::mac_of))]
 pub fn classify(packet: &[u8], check: bool) -> Mac
     ensures value { result ≡ mac_of check packet.now }
@@ -56,7 +56,7 @@ fn number16(bytes: &[u8], at: usize) -> u16
     bytes[at] as u16 + 256 * bytes[at + 1] as u16
 }
 
-/// Gives a packet without its check sequence.
+/// Returns a packet without its check sequence.
 fn body(packet: &[u8], check: bool) -> &[u8]
     ensures value { result.now ≡ body_of check packet.now }
     ensures shorter { length result.now ≤ length packet.now }

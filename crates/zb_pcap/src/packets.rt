@@ -8,7 +8,7 @@ use crate::header::{Order, number32};
 use std::alloc::Global;
 use zb_base::OrMemory;
 
-/// Holds the packet of a record.
+/// The packet of a record.
 #[derive(Clone, Copy, Debug, PartialEq, Eq)]
 pub(crate) struct Packet<'a> {
     /// Its bytes that are kept.
@@ -50,7 +50,7 @@ fn fault(place: u32, cause: PcapCause) -> OrMemory<PcapError>
     OrMemory::Fault(PcapError { place, cause })
 }
 
-/// Gives the packet of the first record, and the bytes behind that, where the record is whole.
+/// Returns the packet of the first record, and the bytes after that, where the record is whole.
 #[tactic(auto, unfolding(crate::specs::Files::record_of))]
 fn take_record<'a>(order: Order, bytes: &'a [u8]) -> Option<(Packet<'a>, &'a [u8])>
     ensures value { Takes result (record_of order bytes.now) }

@@ -33,7 +33,7 @@ abbrev pub StandsAt : model.Place → Result Effect Refusal → Type 0
 StandsAt place (Ok effect) = ⊤
 StandsAt place (Err refusal) = model_place (place_of refusal) ≡ place
 
--- the accepted terms are of the layers that they stand for
+-- the accepted terms are of the layers that they represent
 abbrev pub IsNwk : Option Term → Type 0
 IsNwk None = ⊤
 IsNwk (Some t) = t.layer ≡ Nwk

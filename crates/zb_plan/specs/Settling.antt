@@ -1,5 +1,5 @@
--- The changes of a rule as they are stored: those that change something, each key that becomes active for the first time with
--- its first counter behind it.
+-- The changes of a rule as they are stored: those that change something, each key that becomes active for the first
+-- time with its first counter after it.
 use Rattle.std.specs.Prelude.{ℕ, Bool, true, if◌then◌else◌, List, [], ◌∷◌, Option, Some, None, flat_map}
 use Rattle.zb_model.specs.Answer.{changes, start_edit}
 use Rattle.zb_model.specs.Data.{Bytes, Active, Edit, Moved}
@@ -10,7 +10,7 @@ abbrev pub is_change : NodeState → Edit → Bool
 is_change s (Moved move) = changes s move
 is_change s _ = true
 
--- the first counter that stands behind a key that becomes active
+-- the first counter that stands after a key that becomes active
 abbrev pub start_behind : Option ℕ → Edit → List Edit
 start_behind start (Moved (Active key)) = start_edit key start
 start_behind start _ = []

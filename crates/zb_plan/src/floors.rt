@@ -14,7 +14,7 @@ use zb_rules::add;
 use zb_seal::Term;
 use zb_setting::Network;
 
-/// Answers the stored floor of a term's sender under its key.
+/// Returns the stored floor of a term's sender under its key.
 #[tactic(auto, unfolding(zb_model::specs::Answer::stored_floor))]
 fn stored_floor(tables: &Tables, term: &Term) -> u32
     ensures { result ≡ stored_floor (model_term term.now) tables.now }
@@ -31,7 +31,8 @@ fn stored_floor(tables: &Tables, term: &Term) -> u32
     }
 }
 
-/// Answers the floor that is to be stored for a term: a block above its counter, where that isn't below the stored one.
+/// Returns the floor that is to be stored for a term: a block above its counter, where that isn't below the stored
+/// one.
 fn floor_for(network: &Network, tables: &Tables, term: &Term) -> Option<u32>
     ensures { result ≡ floor_for network.now tables.now (model_term term.now) }
 {

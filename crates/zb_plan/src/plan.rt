@@ -61,7 +61,7 @@ fn keep(
     add_floors(changes, network, tables, nwk, aps);
 }
 
-/// Plans a refusal, behind the terms that were accepted.
+/// Plans a refusal, after the terms that were accepted.
 fn plan_refusal(
     network: &Network,
     tables: &Tables,
@@ -87,7 +87,7 @@ fn plan_refusal(
     out.frame = None;
 }
 
-/// Plans an effect, behind the terms that were accepted.
+/// Plans an effect, after the terms that were accepted.
 fn plan_effect(
     network: &Network,
     tables: &Tables,
@@ -122,10 +122,10 @@ fn plan_effect(
     );
 }
 
-/// Plans an event, behind the terms that were accepted of its frame and stand in `plan`.
+/// Plans an event, after the terms that were accepted of its frame and stand in `plan`.
 ///
-/// Where it is refused, these and their floors stay, and nothing else changes. What else stood in `plan` is gone. A key
-/// that the memo lacks is expanded. Requires few changes, a frame that fits, and terms of their layers.
+/// Where it is refused, these and their floors stay, and nothing else changes. What else stood in `plan` is gone. A
+/// key that the memo lacks is expanded. Requires few changes, a frame that fits, and terms of their layers.
 pub fn plan_of(
     network: &Network,
     tables: &Tables,

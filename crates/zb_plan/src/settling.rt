@@ -11,7 +11,7 @@ use zb_node_types::{Change, Changes};
 use zb_rows::{first_counter, has_row_as, has_started, is_active_key};
 use zb_rules::add;
 
-/// Answers the byte of a state.
+/// Returns the byte of a state.
 fn state_byte(state: State) -> u8
     ensures { result ≡ state_byte (model_state state) }
 {
@@ -26,7 +26,7 @@ fn state_byte(state: State) -> u8
     }
 }
 
-/// Answers whether a change doesn't leave a thing as it is.
+/// Returns whether a change doesn't leave a thing as it is.
 #[tactic(auto, unfolding(zb_model::specs::Answer::changes))]
 fn is_change(tables: &Tables, change: &Change) -> bool
     ensures { result ≡ is_change tables.now (edit change.now) }
@@ -43,7 +43,7 @@ fn is_change(tables: &Tables, change: &Change) -> bool
     }
 }
 
-/// Answers the key that a change makes active.
+/// Returns the key that a change makes active.
 #[tactic(auto, unfolding(zb_model::specs::Answer::changes))]
 fn activates(tables: &Tables, change: &Change) -> Option<Key>
     ensures { option_map (λ k. k.0) result ≡ activates tables.now (edit change.now) }
@@ -60,7 +60,7 @@ fn activates(tables: &Tables, change: &Change) -> Option<Key>
     }
 }
 
-/// Answers the key that becomes active by these changes.
+/// Returns the key that becomes active by these changes.
 #[tactic(auto, unfolding(crate::specs::Settling::active_in))]
 pub(crate) fn activated(tables: &Tables, made: &[Change]) -> Option<Key>
     ensures { option_map (λ k. k.0) result ≡ active_in tables.now (edits made.now) }
@@ -74,7 +74,7 @@ pub(crate) fn activated(tables: &Tables, made: &[Change]) -> Option<Key>
     None
 }
 
-/// Answers the first counter of a key that becomes active: none where it was active before.
+/// Returns the first counter of a key that becomes active: none where it was active before.
 pub(crate) fn start_for(tables: &Tables, key: Option<Key>) -> Option<u32>
     ensures { result ≡ start_for tables.now (option_map (λ k. k.0) key) }
 {
@@ -118,7 +118,7 @@ fn add_start_behind(changes: &mut Changes, start: Option<u32>, change: &Change)
     }
 }
 
-/// Adds a change that changes something, and behind it the first counter of a key that becomes active.
+/// Adds a change that changes something, and after it the first counter of a key that becomes active.
 ///
 /// Requires room for two more.
 #[tactic(auto, unfolding(crate::specs::Settling::settled_edits))]

@@ -27,7 +27,7 @@ EventGoes number e now dnow new dnew =
 pub mapped_at : (events : List CodeEvent) (i : ℕ) (e : CodeEvent) → e ≡ get_or events i e → get_or (map event_of events) i (event_of e) ≡ event_of e
 mapped_at events i e is = get_or-map event_of events i e ∙ ap event_of (sym is)
 
--- the next event, behind those that were answered
+-- the next event, after those that were answered
 pub next : (p : sched.Schedule) (h : List Line) (ds : List Disk) (events : List CodeEvent) (i : ℕ) (e : CodeEvent) (now new : Run) (dnow dnew : List Medium) (before middle : Option (List ℕ))
     → i < length events → e ≡ get_or events i e → IsPlayed p (map event_of events) → Answered p h ds (map event_of events) i now dnow before middle
     → EventGoes (i + 1) (event_of e) now dnow new dnew

@@ -47,7 +47,7 @@ disks_take w f h ds number (e ∷ es) (suc i) d bound =
     (same_step w ((h ++ g.lines) ++ front) (h ++ (g.lines ++ front)) (disks_after w (h ++ g.lines) g.disks (number + 1) (map f (take i es)))
     (number + 1 + i) (number + suc i) (f (get_or es i d)) (append_assoc h g.lines front) later)
 
--- the lines of the first events are a front of those of all
+-- the lines of the first events are a prefix of those of all
 pub groups_rest : {E : Type 0} (w : Schedule) (f : E → Event) (h : List Line) (ds : List Disk) (number : ℕ) (es : List E) (i : ℕ)
     → ((rest : List Line) × (groups real w h ds number (map f es) ≡ groups real w h ds number (map f (take i es)) ++ rest))
 unfolding groups

@@ -41,7 +41,7 @@ take-behind : (xs ys rest : Bytes) (n : ℕ) → ((m : ℕ) × (take m (xs ++ (y
 take-behind [] ys rest n = take-front ys rest n
 take-behind (x ∷ xs) ys rest n = let r = take-behind xs ys rest n in (suc r.0, ap (λ l. x ∷ l) r.1)
 
--- a whole piece and then a front of the next one is a front of all
+-- a whole piece and then a prefix of the next one is a prefix of all
 pub front_of : (a b c : Option Bytes) (xs ys rest : Bytes) → Appends a b xs → AppendsFront b c ys → AppendsFront a c (xs ++ (ys ++ rest))
 front_of a b c xs ys rest first second =
     let r = take-behind xs ys rest second.0 in
@@ -131,7 +131,7 @@ one_more p h ds events i d now new dnow dnew before middle after bound so_far go
       page = still_for now.ledger.page new.ledger.page other.ledger.page (text_in p g.lines) middle after goes'.page empty so_far.page took;
     }
 
--- Where it ends early, a front of the text is written.
+-- Where it ends early, a prefix of the text is written.
 
 rest_of : (p : sched.Schedule) (h : List Line) (ds : List Disk) (events : List said.Event) (i : ℕ)
     → ((rest : List Line) × (lines_of p h ds events ≡ lines_of p h ds (take i events) ++ rest))
@@ -146,7 +146,7 @@ stopped p h ds events i now dnow before after so_far =
     (sym (text_append (stations (schedule_of p)) (lines_of p h ds (take i events)) r.0) ∙ ap (text_in p) (sym r.1))
     (front_at before after (text_in p (lines_of p h ds (take i events))) (text_in p r.0) so_far.taken)
 
--- a front of the lines of the next event is
+-- a prefix of the lines of the next event is
 pub cut : (p : sched.Schedule) (h : List Line) (ds : List Disk) (events : List said.Event) (i : ℕ) (d : said.Event) (now new : Run) (dnow dnew : List Medium)
     (before middle after : Option Bytes) → i < length events
     → Answered p h ds events i now dnow before middle

@@ -42,7 +42,8 @@ pub record IsPlayed (p : sched.Schedule) (events : List said.Event) : Type 0 whe
   pub schedule : IsSchedule p
   pub events_are : events ≡ p.events
 
--- So many of these events were answered: their lines were written where anyone reads them, and the run stands after them.
+-- So many of these events were answered: their lines were written where anyone reads them, and the run stands after
+-- them.
 pub record Answered (p : sched.Schedule) (h : List Line) (ds : List Disk) (events : List said.Event) (n : ℕ) (run : Run) (disks : List Medium) (before after : Option Bytes) : Type 0 where
   pub stands : RunStands p (h ++ lines_of p h ds (take n events)) (disks_after (schedule_of p) h ds 1 (acts_of p (take n events))) (n + 1) run disks
   pub taken : Appends before after (text_in p (lines_of p h ds (take n events)))
@@ -64,7 +65,7 @@ PrintsAll old disks events before after =
     (p : sched.Schedule) (h : List Line) (ds : List Disk) → IsPlayed p events → RunStands p h ds 1 old disks
     → AppendsFront before after (text_in p (lines_of p h ds events))
 
--- The text of the schedule's transcript was written, or a front of it.
+-- The text of the schedule's transcript was written, or a prefix of it.
 abbrev pub transcript_text : sched.Schedule → Bytes
 transcript_text p = text_in p (transcript real (schedule_of p))
 
@@ -81,15 +82,15 @@ last_line s = log.End s.events s.seals s.accepts s.refusals s.ideal s.private
 abbrev pub Sums : sched.Schedule → Summary → Type 0
 Sums p s = last_line s ≡ end_line real (length p.events) (run_lines real (schedule_of p))
 
--- The device calls of a disk are the six of the start, five for its first record and one for its first boot, and so many more as is
--- said for the EUI of its node.
+-- The device calls of a disk are the six of the start, five for its first record and one for its first boot, and so
+-- many more as is said for the EUI of its node.
 abbrev pub HaveMade : (ℕ → ℕ) → List Station → List Medium → Type 0
 HaveMade more [] [] = ⊤
 HaveMade more (q ∷ qs) (m ∷ ms) = (m.calls ≡ 6 + more q.eui) × HaveMade more qs ms
 HaveMade more _ _ = ⊥
 
--- The disks are those of nodes that stand as the lines of the whole run say, one a node, in their order. Behind the start each made the
--- device calls that the model counts for the events of its node.
+-- The disks are those of nodes that stand as the lines of the whole run say, one a node, in their order. After the
+-- start each made the device calls that the model counts for the events of its node.
 pub record Played (p : sched.Schedule) (disks : List Medium) : Type 0 where
   pub nodes : List NodeValue
   pub ds : List Disk

@@ -11,7 +11,7 @@ pub trait Bench {
     /// Whether it leaves each node its disk, now and later.
     ghost still: { Self → Bool };
 
-    /// Answers the disk that takes the place of the node's, or none where that one stays.
+    /// Returns the disk that takes the place of the node's, or none where that one stays.
     ///
     /// The event has the number `event`, from 1; the node is the one at the place `node`, from 0.
     fn swap(&mut self, event: u32, node: u8) -> Option<MemDisk>

@@ -23,7 +23,8 @@ use zb_sched::{Event, Schedule};
 /// Requires a schedule that a text gives, and no disks. The disks of the nodes are added to `disks`, in the order of
 /// the nodes. After a fault nothing is said of them.
 ///
-/// Errors: `Write` where the sink fails; `NoMemory`.
+/// # Errors
+/// `Write` where the sink fails; `NoMemory`.
 pub fn play<B: Bench, W: Sink>(
     alloc: Global,
     schedule: &Schedule,
@@ -34,8 +35,8 @@ pub fn play<B: Bench, W: Sink>(
     requires schedule { IsSchedule (sched.schedule_of schedule.now) }
     requires none { disks.old.items ≡ [] }
 
-    // Over the disks of the run itself, what is written is the model's transcript of the schedule, or a front of it;
-    // the summary is its last line; and each disk stands for the record that the transcript gives its node.
+    // Over the disks of the run itself, what is written is the model's transcript of the schedule, or a prefix of it;
+    // the summary is its last line; and each disk represents the record that the transcript gives its node.
     ensures whole { B.still bench.old ≡ true → OnOk result (IsWhole (sched.schedule_of schedule.now)
         (W.taken out.old) (W.taken out.new)) }
     ensures front { B.still bench.old ≡ true → OnErr result (IsFront (sched.schedule_of schedule.now)
@@ -43,7 +44,7 @@ pub fn play<B: Bench, W: Sink>(
     ensures summary { B.still bench.old ≡ true → IfOk result (Sums (sched.schedule_of schedule.now)) }
     ensures disks { B.still bench.old ≡ true → OnOk result (Played (sched.schedule_of schedule.now) disks.new.items) }
 
-    // Whatever the disks are, a fault has its cause, and no fault of the sink is told as want of memory.
+    // Whatever the disks are, a fault has its cause, and no fault of the sink is reported as out of memory.
     ensures later { W.faults out.old ≤ W.faults out.new }
     ensures cause { result ≡ Err PlayFault.Write → Rose (W.faults out.old) (W.faults out.new) }
     ensures unrisen { result ≢ Err PlayFault.Write → Unrisen (W.faults out.old) (W.faults out.new) }
@@ -53,7 +54,7 @@ pub fn play<B: Bench, W: Sink>(
     play_onto(alloc, schedule, page, &mut used, disks, bench, out)
 }
 
-/// Plays a schedule whose transcript nobody reads, on used disks, and answers the words of its last line.
+/// Plays a schedule whose transcript nobody reads, on used disks, and returns the words of its last line.
 ///
 /// Those that earlier runs left in `used` are taken from there and made new, as long as there are any. It is the run
 /// that `play` plays, and takes less time, since no line is printed and less memory is asked for.
@@ -61,7 +62,8 @@ pub fn play<B: Bench, W: Sink>(
 /// Requires a schedule that a text gives, and no disks. The disks of the nodes are added to `disks`, in the order of
 /// the nodes. After a fault nothing is said of them.
 ///
-/// Errors: `NoMemory`.
+/// # Errors
+/// `NoMemory`.
 pub fn play_unread(
     alloc: Global,
     schedule: &Schedule,

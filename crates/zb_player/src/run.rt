@@ -26,7 +26,7 @@ use zb_player_scribe::{Page, Scribe};
 use zb_player_start::{start_nodes, tell_start};
 use zb_sched::{Event, Schedule};
 
-/// Holds the nodes of a run, the supply of keys, and what is told.
+/// The nodes of a run, the supply of keys, and what is told.
 #[derive(Drop)]
 pub(crate) struct Run<'a> {
     pub nodes: Vec<Node>,
@@ -39,7 +39,8 @@ impl<'a> Run<'a> {
     /// Starts the run of a schedule. The start lines are put on the page, and the disks of its nodes are added to
     /// `disks`. They are made of used ones, as long as there are any.
     ///
-    /// Errors: `NoMemory`.
+    /// # Errors
+    /// `NoMemory`.
     pub fn start(
         alloc: Global,
         schedule: &'a Schedule,
@@ -75,9 +76,10 @@ impl<'a> Run<'a> {
         })
     }
 
-    /// Answers an event. A bench may put another disk under its node first.
+    /// Returns an event. A bench may put another disk under its node first.
     ///
-    /// Errors: `NoMemory`.
+    /// # Errors
+    /// `NoMemory`.
     pub fn answer<B: Bench>(
         &mut self,
         disks: &mut [MemDisk],

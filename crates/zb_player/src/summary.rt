@@ -12,7 +12,7 @@ use zb_player_scribe::Scribe;
 use zb_trace::Line;
 use zb_trace_model::end_line;
 
-/// Says what a run comes to: the words of the last line of its transcript.
+/// What a run comes to: the words of the last line of its transcript.
 #[derive(Clone, Copy, Debug, PartialEq, Eq)]
 pub struct Summary {
     /// How many events there are.

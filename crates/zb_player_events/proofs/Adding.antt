@@ -1,5 +1,5 @@
--- What it comes to that a ledger told lines: one group behind another, lines that put no frame on the air, and the lines
--- of the outside.
+-- What it comes to that a ledger told lines: one group after another, lines that put no frame on the air, and the
+-- lines of the outside.
 use Rattle.std.proofs.Common.{◌≡◌, ℕ, ◌+◌, List, [], ◌∷◌, ◌++◌, map, length, None, refl, ap, sym, subst, ◌∙◌, append_assoc}
 use Rattle.std.proofs.lemmas.List.Sums.{fold-append}
 use Rattle.std.proofs.lemmas.Option.{slice_get-map}
@@ -33,7 +33,7 @@ told_adds w h lines old new tells before = record {
   told = record { known = tells.nodes h before.known; kept = tells.kept h before.known before.kept };
 }
 
--- lines behind lines
+-- lines after lines
 pub adds_then : (w : Schedule) (h some more : List Line) (old between new : Ledger) → Adds w h some old between → Adds w (h ++ some) more between new → Adds w h (some ++ more) old new
 adds_then w h some more old between new first second = record {
   page = second.page ∙ ap (λ p. append_known p (text_of (stations w) more)) first.page ∙ append_twice old.page (text_of (stations w) some) (text_of (stations w) more)
@@ -61,7 +61,7 @@ forged_air : (h : List Line) (event : ℕ) (t : Term) → air (h ++ Forge event 
 unfolding air
 forged_air h event t = fold-append air_line [] h (Forge event t ∷ [])
 
--- lines behind that of a forged term: their frame has the number that it would have had before
+-- lines after that of a forged term: their frame has the number that it would have had before
 behind_forged : (w : Schedule) (h : List Line) (event : ℕ) (t : Term) (lines : List Bytes → List Line) (old between new : Ledger) → Adds w h (Forge event t ∷ []) old between
     → Adds w (h ++ Forge event t ∷ []) (lines (air (h ++ Forge event t ∷ []))) between new → Adds w h (Forge event t ∷ lines (air h)) old new
 behind_forged w h event t lines old between new first second =

@@ -28,7 +28,7 @@ more_by : (b : Bool) (x : Seat) (o found last : Option Seat) → o ≡ option_or
 more_by true x o found last e = refl
 more_by false x o found last e = e
 
--- the first of nodes with one more behind
+-- the first of nodes with one more after it
 pub first_more : (test : Station → Bool) (place : ℕ) (ps : List Station) (q : Station)
     → first_seat test place (ps ++ q ∷ []) ≡ option_or (first_seat test place ps) (if test q then Some (seat_at (place + length ps) q) else None)
 first_more test place [] q = ap (λ (k : ℕ). if test q then Some (seat_at k q) else None) (sym (add-zero place))

@@ -35,7 +35,7 @@ pub record IsTold (w : Schedule) (h : List Line) (k : Ledger) : Type 0 where
   pub known : stations_of h ≡ stations w
   pub kept : Kept h k.scribe
 
--- Further lines were told: their text is behind what stood on the page, where that is read.
+-- Further lines were told: their text is after what stood on the page, where that is read.
 pub record Adds (w : Schedule) (h lines : List Line) (old new : Ledger) : Type 0 where
   pub page : new.page ≡ append_known old.page (text_of (stations w) lines)
   pub told : IsTold w (h ++ lines) new

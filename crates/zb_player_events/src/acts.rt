@@ -17,7 +17,7 @@ use zb_player_node::Task;
 use zb_sched::Event;
 use zb_send::Payload;
 
-/// Says what an event is to its node, or that it is the outside's.
+/// What an event is to its node, or that it is the outside's.
 #[derive(Drop)]
 pub enum Act {
     /// An event of its own.
@@ -77,7 +77,7 @@ fn stop(calls: u8, torn: &ArrayVec<u8, 32>) -> Act
 }
 
 impl Seats {
-    /// Answers the seat of the node that an event is of, or none where it is the outside's.
+    /// Returns the seat of the node that an event is of, or none where it is the outside's.
     pub fn of_event(&self, event: &Event) -> Option<Seat>
         ensures { (known : List Station) → AreSeats self.now known
             → result ≡ seat_for known (event_of event.now) }
@@ -109,7 +109,7 @@ impl Seats {
         }
     }
 
-    /// Answers what an event is to its node.
+    /// Returns what an event is to its node.
     pub fn act_of(&self, event: &Event) -> Act
         ensures { (known : List Station) → AreSeats self.now known → HasNames known (event_of event.now)
             → (it : seat) → seat_for known (event_of event.now) ≡ Some it

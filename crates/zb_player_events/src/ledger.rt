@@ -39,7 +39,7 @@ pub struct Ledger {
 }
 
 impl Ledger {
-    /// Answers the next key of the supply.
+    /// Returns the next key of the supply.
     #[tactic(auto, using(crate::proofs::Adding::drawn))]
     pub fn draw(&self, draws: &[Key]) -> Option<Key>
         ensures { option_map (λ (k : key). k.0) result
@@ -48,9 +48,10 @@ impl Ledger {
         draws.get(self.scribe.used()).copied()
     }
 
-    /// Tells a line that declares no node.
+    /// Reports a line that declares no node.
     ///
-    /// Errors: `NoMemory`.
+    /// # Errors
+    /// `NoMemory`.
     pub fn tell(&mut self, line: &Line) -> Result<(), NoMemory>
         requires room { lines_told self.old < 4294967295 }
         ensures few { OnOk result (lines_told self.new ≤ lines_told self.old + 1) }
@@ -60,9 +61,10 @@ impl Ledger {
         self.scribe.tell(self.alloc, &mut self.page, line)
     }
 
-    /// Tells that an event of a node is refused.
+    /// States that an event of a node is refused.
     ///
-    /// Errors: `NoMemory`.
+    /// # Errors
+    /// `NoMemory`.
     pub fn refuse(&mut self, event: u32, node: Name, refusal: Refusal) -> Result<(), NoMemory>
         requires room { lines_told self.old < 4294967295 }
         ensures few { OnOk result (lines_told self.new ≤ lines_told self.old + 1) }
@@ -73,9 +75,10 @@ impl Ledger {
         self.tell(&refuse_line(event, node, refusal))
     }
 
-    /// Answers an event of a node, over its disk.
+    /// Returns an event of a node, over its disk.
     ///
-    /// Errors: `NoMemory`.
+    /// # Errors
+    /// `NoMemory`.
     pub fn answer_node(
         &mut self,
         draws: &[Key],

@@ -34,9 +34,10 @@ fn fallen_line(event: u32, node: Name, fall: Fall) -> Line
 }
 
 impl Ledger {
-    /// Answers an event of a node's own, over its disk.
+    /// Returns an event of a node's own, over its disk.
     ///
-    /// Errors: `NoMemory`.
+    /// # Errors
+    /// `NoMemory`.
     pub fn handle(
         &mut self,
         node: &mut Node,
@@ -87,9 +88,10 @@ impl Ledger {
         self.tell(&fallen_line(event, node, fall))
     }
 
-    /// Answers the arrival of a frame at a node. The frame is named by its number.
+    /// Returns the arrival of a frame at a node. The frame is named by its number.
     ///
-    /// Errors: `NoMemory`.
+    /// # Errors
+    /// `NoMemory`.
     pub fn deliver(
         &mut self,
         node: &mut Node,
@@ -153,9 +155,10 @@ impl Ledger {
         self.refuse(event, node.name(), refusal)
     }
 
-    /// Answers the loss of a node's power.
+    /// Returns the loss of a node's power.
     ///
-    /// Errors: `NoMemory`.
+    /// # Errors
+    /// `NoMemory`.
     pub fn reset(&mut self, node: &mut Node, disk: &mut MemDisk, event: u32) -> Result<(), NoMemory>
         requires room { HasRoom self.old }
         ensures few { OnOk result (lines_told self.new ≤ lines_told self.old + 24) }
@@ -173,9 +176,10 @@ impl Ledger {
         self.tell(&reset_line(event, name))
     }
 
-    /// Answers that a node gets power.
+    /// Returns that a node gets power.
     ///
-    /// Errors: `NoMemory`.
+    /// # Errors
+    /// `NoMemory`.
     pub fn boot(&mut self, node: &mut Node, disk: &mut MemDisk, event: u32) -> Result<(), NoMemory>
         requires room { HasRoom self.old }
         ensures few { OnOk result (lines_told self.new ≤ lines_told self.old + 24) }
@@ -197,9 +201,10 @@ impl Ledger {
         }
     }
 
-    /// Shows the record that a node's disk stands for.
+    /// Shows the record that a node's disk represents.
     ///
-    /// Errors: `NoMemory`.
+    /// # Errors
+    /// `NoMemory`.
     pub fn dump(&mut self, node: &Node, disk: &mut MemDisk, event: u32) -> Result<(), NoMemory>
         requires room { HasRoom self.old }
         ensures few { OnOk result (lines_told self.new ≤ lines_told self.old + 24) }

@@ -20,7 +20,7 @@ use zb_sched::Event;
 use zb_seal::Term;
 use zb_trace_model::{forge_line, inject_line, send_line};
 
-// The name that stands for an outsider.
+// The name that represents an outsider.
 fn nobody() -> Name
     ensures { result.bytes ≡ codes "-" }
 {
@@ -31,7 +31,7 @@ fn nobody() -> Name
 }
 
 impl Ledger {
-    /// Answers an event of the outside.
+    /// Returns an event of the outside.
     ///
     /// An event of a node is passed over. Errors: `NoMemory`.
     pub fn answer_outside(&mut self, event: u32, what: &Event) -> Result<(), NoMemory>

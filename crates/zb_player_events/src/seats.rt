@@ -14,7 +14,7 @@ use std::collections::HashMap;
 use zb_base::{Eui, Name, Role};
 use zb_sched::Node as Declared;
 
-/// Says where a node stands: its place in the order of the nodes, from 0, and its address.
+/// Where a node stands: its place in the order of the nodes, from 0, and its address.
 #[derive(Clone, Copy, PartialEq, Eq)]
 pub struct Seat {
     /// The place, from 0.
@@ -51,7 +51,7 @@ impl Seats {
         Ok(seats)
     }
 
-    // Adds a node behind the others.
+    // Adds a node after the others.
     fn add(&mut self, name: Name, role: Role, seat: Seat) -> Result<(), AllocError>
         ensures { OnOk result ((known : List Station) (p : Station) → p.name ≡ name.bytes → p.eui ≡ seat.eui.0
             → p.role ≡ model_role role → seat.place ≡ length known
@@ -62,7 +62,7 @@ impl Seats {
         Ok(())
     }
 
-    /// Answers the seat of the first node of that name.
+    /// Returns the seat of the first node of that name.
     pub fn named(&self, name: &Name) -> Option<Seat>
         ensures { (known : List Station) → AreSeats self.now known
             → result ≡ first_seat (has_name name.now.bytes) 0 known }
@@ -70,7 +70,7 @@ impl Seats {
         self.by_name.get(name).copied()
     }
 
-    /// Answers the address of the first node of that name, which is declared.
+    /// Returns the address of the first node of that name, which is declared.
     pub fn eui(&self, name: &Name) -> Eui
         ensures { (known : List Station) → AreSeats self.now known
             → is_some (first_seat (has_name name.now.bytes) 0 known) ≡ true → result.0 ≡ named known name.now.bytes }

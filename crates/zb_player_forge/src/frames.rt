@@ -23,7 +23,7 @@ const COMMAND: u16 = 0x0209;
 /// The NWK frame control of a data frame that isn't sealed.
 const CLEAR: u16 = 0x0008;
 
-/// Answers the NWK frame control of a forged content: a Leave is a command.
+/// Returns the NWK frame control of a forged content: a Leave is a command.
 ///
 /// Requires a content of at most 64 bytes.
 #[tactic(auto, using(crate::proofs::Controls::of_leave, crate::proofs::Controls::of_data))]
@@ -90,7 +90,7 @@ pub fn aps_command(label: Label, key: &Key, source: Eui, counter: u32, command: 
     }
 }
 
-/// Answers the bytes of a term on the air.
+/// Returns the bytes of a term on the air.
 ///
 /// Requires that they fit a frame.
 #[tactic(auto, using(zb_model_real::proofs::SameTerms::same_wire))]

@@ -38,22 +38,23 @@ use Rattle.zb_stored_tables.specs.Stored.{IsStorable}
 
 -- ---- of a node
 
--- A task that a node in this condition may have: it is of its role, and its answer asks for nothing that tables forget.
+-- A task that a node in this condition may have: it is of its role, and its answer asks for nothing that tables
+-- forget.
 pub record CanHave (x : Condition) (number : ℕ) (task : model.Task) : Type 0 where
   pub early : number < 2 ^ 32
   pub suits : suits x.setting.me.role task ≡ true
   pub shown : answer real x.setting (shown x.state) task ≡ answer real x.setting x.state task
 
--- An event was handled: nothing falls on it, it gave this answer, the node is in the condition after it, and so many device
--- calls were made.
+-- An event was handled: nothing falls on it, it gave this answer, the node is in the condition after it, and so many
+-- device calls were made.
 pub record WasAnswered (a : Answer) (x : Condition) (number : ℕ) (p : CorePlan) (old : Medium) (node : NodeValue) (m : Medium) : Type 0 where
   pub missed : falls x.disk.armed (calls_by x.commits a.edits) ≡ false
   pub answer_is : IsAnswer p a
   pub leaves : IsIn (after_whole a x) (number + 1) node m
   pub calls : m.calls ≡ calls_after old.calls (calls_by x.commits a.edits)
 
--- An event was cut: what was armed falls on its commit, its changes are stored where the model says that they stand, and the
--- device calls up to the refused one were made.
+-- An event was cut: what was armed falls on its commit, its changes are stored where the model says that they stand,
+-- and the device calls up to the refused one were made.
 pub record WasCut (a : Answer) (x : Condition) (number : ℕ) (stored : List Change) (fall : Fall) (old : Medium) (node : NodeValue) (m : Medium) : Type 0 where
   pub fell : falls x.disk.armed (calls_by x.commits a.edits) ≡ true
   pub stored_are : edits stored ≡ (if stands x.disk.armed (calls_by x.commits a.edits) then a.edits else [])
@@ -106,8 +107,8 @@ pub record CanStart (setting : Setting) (state : NodeState) (s : Standing) (conf
 
 -- ---- of a host
 
--- A plan of a host's core for a task: it is the policy's answer to the task, its changes can be stored, and the core is the one
--- after it.
+-- A plan of a host's core for a task: it is the policy's answer to the task, its changes can be stored, and the core
+-- is the one after it.
 pub record IsPlanFor (role : Role) (task : model.Task) (before : CoreValue) (p : CorePlan) (after : CoreValue) : Type 0 where
   pub answer_is : IsAnswer p (answer real before.setting before.tables task)
   pub storable : IsStorable role before.tables p.changes.items

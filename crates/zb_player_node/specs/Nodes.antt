@@ -1,4 +1,4 @@
--- A node and its disk in a condition of the model: what its disk stands for, what its host has, and what is armed.
+-- A node and its disk in a condition of the model: what its disk represents, what its host has, and what is armed.
 use Rattle.std.specs.Prelude.{ℕ, ◌≡◌, ◌≢◌, ◌≤◌, ◌+◌, ◌%◌, Bool, true, false, List, [], ◌∷◌, length, get_or, Option, Some, None, Ok, ⊤}
 use Rattle.std.specs.List.{concat}
 use Rattle.zb_disk.specs.Memory.{Medium, memory_view}
@@ -20,8 +20,8 @@ use Rattle.zb_store.specs.Store.{both_gates_open}
 use Rattle.zb_stored_tables.specs.Cores.{CoreValue}
 use Rattle.zb_stored_tables.specs.Stored.{restored, state_given}
 
--- What stands for the state of a node of this role: a boot reads it as what is shown of that state, there is an entry for
--- each commit since the last whole record, and no generation is without an event before the one of this number.
+-- What represents the state of a node of this role: a boot reads it as what is shown of that state, there is an entry
+-- for each commit since the last whole record, and no generation is without an event before the one of this number.
 pub record IsStored (role : Role) (t : NodeState) (commits number : ℕ) (s : Standing) : Type 0 where
   pub reads : state_given role s.content (concat s.payloads) ≡ Ok (after_boot (shown t))
   pub gives_it : Gives (restored role) s (record_of t)
@@ -33,8 +33,8 @@ pub record IsStored (role : Role) (t : NodeState) (commits number : ℕ) (s : St
 abbrev pub words_for : Role → Words CoreValue Medium
 words_for role = memory_words (restored role) (λ (c : CoreValue). record_of c.tables) (λ changes. payload (edits changes))
 
--- A node that is up: its host has the setting and what is shown of the state, and every image of the disk stands for them. The
--- next commit is an entry, unless no entry more fits.
+-- A node that is up: its host has the setting and what is shown of the state, and every image of the disk represents
+-- them. The next commit is an entry, unless no entry more fits.
 pub record IsRunning (x : Condition) (s : Standing) (r : Running) (m : Medium) : Type 0 where
   pub role : r.role ≡ x.setting.me.role
   pub core : r.host.core ≡ record { setting = x.setting; tables = shown x.state }

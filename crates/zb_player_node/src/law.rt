@@ -5,13 +5,13 @@ ghost use Rattle.law_run_steps.specs.Conditions.{Condition};
 ghost use Rattle.zb_player_node.specs.Nodes.{IsIn};
 ghost use Rattle.zb_player_node.specs.Values.{NodeValue};
 
-/// Says that a node on which nothing acts is in the same condition before the next event.
+/// States that a node on which nothing acts is in the same condition before the next event.
 pub fn a_later_event()
     ensures { (x : Condition) (number : ℕ) (node : NodeValue) (m : Medium) → IsIn x number node m
         → IsIn x (number + 1) node m }
 {}
 
-/// Says that a node has a host exactly while it has power.
+/// States that a node has a host exactly while it has power.
 pub fn a_host_has_power()
     ensures { (x : Condition) (number : ℕ) (node : NodeValue) (m : Medium) → IsIn x number node m
         → is_some node.machine ≡ x.up }

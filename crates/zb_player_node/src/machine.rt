@@ -28,7 +28,7 @@ use zb_node_types::Refusal;
 use zb_router::{Device, Router};
 use zb_seal::Term;
 
-/// Is the host of a node of any role.
+/// The host of a node of any role.
 #[derive(Drop)]
 pub enum Machine {
     /// That of the centre.
@@ -122,7 +122,8 @@ impl Machine {
     ///
     /// Requires a configuration of a node of that role.
     ///
-    /// Errors: how the boot ended; want of memory.
+    /// # Errors
+    /// How the boot ended; out of memory.
     pub(crate) fn boot(
         alloc: Global,
         role: Role,
@@ -172,12 +173,13 @@ impl Machine {
         }
     }
 
-    /// Writes the record that the disk of a node of that role stands for, and answers its length.
+    /// Writes the record that the disk of a node of that role represents, and returns its length.
     ///
-    /// It answers None where the disk fails or stands for no record of such a node. Requires a configuration of a node
+    /// It answers None where the disk fails or represents no record of such a node. Requires a configuration of a node
     /// of that role, and room for a record.
     ///
-    /// Errors: `NoMemory`.
+    /// # Errors
+    /// `NoMemory`.
     pub(crate) fn dump(
         alloc: Global,
         role: Role,

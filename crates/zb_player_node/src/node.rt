@@ -28,19 +28,20 @@ use zb_disk::MemDisk;
 use zb_node_types::Changes;
 use zb_store::RECORD_ROOM;
 
-/// Tells what became of an event of a node that was up.
+/// What became of an event of a node that was up.
 #[derive(Clone, Copy, Debug, PartialEq, Eq)]
 pub enum Handled {
     /// It was handled: the changes of its plan are stored, and what goes out goes out.
     Whole,
-    /// A stop or a failure of the disk cut it. The node is down. The plan has the changes that are stored: all or none.
+    /// A stop or a failure of the disk cut it. The node is down. The plan has the changes that are stored: all or
+    /// none.
     Cut {
         /// How it ended.
         fall: Fall,
     },
 }
 
-/// Is a node: its configuration, its host while it has power, and what is armed on its disk.
+/// A node: its configuration, its host while it has power, and what is armed on its disk.
 #[derive(Drop)]
 pub struct Node {
     peer: Peer,
@@ -126,7 +127,8 @@ impl Node {
     ///
     /// Requires a configuration of this node. Where the disk holds no record of such a node it stays down.
     ///
-    /// Errors: `NoMemory`.
+    /// # Errors
+    /// `NoMemory`.
     pub fn start(
         alloc: Global,
         peer: Peer,
@@ -150,28 +152,28 @@ impl Node {
         Ok(node)
     }
 
-    /// Answers the node's name.
+    /// Returns the node's name.
     pub fn name(&self) -> Name
         ensures { result ≡ self.now.peer.name }
     {
         self.peer.name
     }
 
-    /// Answers the node's IEEE address.
+    /// Returns the node's IEEE address.
     pub fn eui(&self) -> Eui
         ensures { result ≡ self.now.peer.eui }
     {
         self.peer.eui
     }
 
-    /// Answers the node's role.
+    /// Returns the node's role.
     pub fn role(&self) -> Role
         ensures { result ≡ self.now.peer.role }
     {
         self.peer.role
     }
 
-    /// Answers whether the node has power.
+    /// Returns whether the node has power.
     pub fn is_up(&self) -> bool
         ensures { result ≡ is_some self.now.machine }
     {
@@ -232,7 +234,8 @@ impl Node {
 
     /// Boots the node, which is down, from its disk. It answers how the boot ended, where it didn't end well.
     ///
-    /// Errors: `NoMemory`.
+    /// # Errors
+    /// `NoMemory`.
     pub fn boot(&mut self, alloc: Global, disk: &mut MemDisk) -> Result<Option<Fall>, NoMemory>
         ensures booted { IfOk result (λ r. HasBooted self.old disk.old r self.new disk.new) }
         ensures peer { self.new.peer ≡ self.old.peer }
@@ -257,9 +260,10 @@ impl Node {
         }
     }
 
-    /// Answers the record that the node's disk stands for: no bytes where it stands for none of such a node.
+    /// Returns the record that the node's disk represents: no bytes where it represents none of such a node.
     ///
-    /// Errors: `NoMemory`.
+    /// # Errors
+    /// `NoMemory`.
     pub fn dump(&self, alloc: Global, disk: &mut MemDisk) -> Result<Vec<u8>, NoMemory>
         ensures record_is { IfOk result (λ r. (x : Condition) (number : ℕ) → IsIn x number self.now disk.old
             → (r.items ≡ record_of x.state) × IsIn x (number + 1) self.now disk.new) }

@@ -2,7 +2,7 @@
 use zb_base::{Eui, Frame, Key, Short};
 use zb_send::Payload;
 
-/// Says what happens to a node of any role.
+/// What happens to a node of any role.
 #[derive(Drop)]
 pub enum Task {
     /// It says application data to a network address.

@@ -1,4 +1,4 @@
--- Frames that stand one behind the other in one text, each with its end.
+-- Frames that stand one after the other in one text, each with its end.
 use Rattle.std.specs.Prelude.{◌≡◌, ℕ, ◌+◌, ◌-◌, ◌≤◌, List, [], ◌∷◌, take, drop}
 
 -- the frames of a text, of which the first starts at `start` and each ends where the next one starts

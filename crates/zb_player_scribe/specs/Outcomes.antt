@@ -34,7 +34,8 @@ refused_lines event n (Some r) = Refuse event n (model_place (place_of r)) (reas
 abbrev pub items_of : Option (ArrayVec ℕ) → Option (List ℕ)
 items_of frame = option_map (λ (f : ArrayVec ℕ). f.items) frame
 
--- what was accepted (NWK, then APS), the refusal, what was sealed (APS, then NWK), and the frame, which has that number
+-- what was accepted (NWK, then APS), the refusal, what was sealed (APS, then NWK), and the frame, which has that
+-- number
 unfoldable pub out_lines : ℕ → ℕ → ℕ → Outcome Term Refusal → List Line
 out_lines event n frame out =
     map (Accept event n) (terms out.accepted_nwk out.accepted_aps)

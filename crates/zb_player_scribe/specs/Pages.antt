@@ -13,7 +13,7 @@ abbrev pub Takes : Option (List ℕ) → Option (List ℕ) → Option (List ℕ)
 Takes None before after = after ≡ before
 Takes (Some text) before after = Appends before after text
 
--- a sink failed behind a front of what stands on a page; one that nobody reads never lets it fail
+-- a sink failed after a prefix of what stands on a page; one that nobody reads never lets it fail
 abbrev pub TakesFront : Option (List ℕ) → Option (List ℕ) → Option (List ℕ) → Type 0
 TakesFront None before after = ⊥
 TakesFront (Some text) before after = AppendsFront before after text

@@ -8,7 +8,7 @@ use std::marker::Model;
 use zb_base::{Frame, NoMemory};
 use zb_cursor::frame_from;
 
-/// Holds the frames that went on the air, one behind the other.
+/// The frames that went on the air, one after the other.
 ///
 /// A frame's number is its place from 1. A contract sees the air as the list of the frames' bytes.
 #[derive(Drop)]
@@ -43,7 +43,7 @@ impl Air {
         }
     }
 
-    /// Answers how many frames went on the air.
+    /// Returns how many frames went on the air.
     #[tactic(auto, using(crate::proofs::FramesIn::frame_count))]
     pub fn count(&self) -> u32
         requires { length self.now < 4294967296 }
@@ -54,7 +54,8 @@ impl Air {
 
     /// Puts a frame on the air.
     ///
-    /// Errors: `NoMemory`; the air then stays as it was.
+    /// # Errors
+    /// `NoMemory`; the air then stays as it was.
     pub fn push(&mut self, frame: &Frame) -> Result<(), NoMemory>
         ensures added { OnOk result (self.new ≡ self.old ++ frame.now.items ∷ []) }
         ensures kept { OnErr result (self.new ≡ self.old) }
@@ -66,7 +67,7 @@ impl Air {
         Ok(())
     }
 
-    /// Answers the frame of a number, which counts from 1, where there is one.
+    /// Returns the frame of a number, which counts from 1, where there is one.
     pub fn frame(&self, number: u32) -> Option<Frame>
         ensures { items_of result ≡ (if nat_eq number 0 then None else slice_get self.now (number - 1)) }
     {
@@ -81,7 +82,7 @@ impl Air {
     }
 }
 
-// Answers the frame at a place, where there is one, of frames that stand one behind the other.
+// Answers the frame at a place, where there is one, of frames that stand one after the other.
 #[tactic(auto, using(crate::proofs::FramesIn::frame_at_a_place))]
 fn frame_at(bytes: &[u8], ends: &[usize], place: usize) -> Option<Frame>
     requires { AreEnds (length bytes.now) 0 ends.now }

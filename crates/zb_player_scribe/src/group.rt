@@ -21,7 +21,7 @@ use zb_seal::Term;
 use zb_trace_model::{accept_line, change_line, commit_line, refuse_line, seal_line, send_line};
 
 impl Scribe {
-    /// Tells the changes of a node, and that they are stored, where there are any.
+    /// Reports the changes of a node, and that they are stored, where there are any.
     ///
     /// Requires that the count of lines has room for 17 more. Errors: `NoMemory`, after which the scribe isn't used
     /// further.
@@ -67,7 +67,7 @@ impl Scribe {
         Ok(())
     }
 
-    /// Tells what a node accepted, refused, sealed and sent, in this order.
+    /// Returns what a node accepted, refused, sealed and sent, in this order.
     ///
     /// Requires that the count of lines has room for 6 more. Errors: `NoMemory`, after which the scribe isn't used
     /// further.

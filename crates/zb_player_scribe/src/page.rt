@@ -11,7 +11,7 @@ use zb_base::{Failed, Sink};
 use zb_text::page::hand_out;
 use zb_trace::{Line, put_line};
 
-/// Holds the text of the lines that aren't handed out yet, or no text where nobody reads it.
+/// The text of the lines that aren't handed out yet, or no text where nobody reads it.
 ///
 /// Contracts see that text, and `None` of a page that nobody reads.
 #[derive(Drop)]
@@ -45,9 +45,10 @@ impl Page {
         Page { text: None }
     }
 
-    /// Prints a line behind what stands on the page, where it is read.
+    /// Prints a line after what stands on the page, where it is read.
     ///
-    /// Errors: `AllocError`, after which the page isn't used further.
+    /// # Errors
+    /// `AllocError`, after which the page isn't used further.
     pub fn print(&mut self, line: &Line) -> Result<(), AllocError>
         ensures { OnOk result (self.new ≡ append_known self.old (text line.now)) }
     {

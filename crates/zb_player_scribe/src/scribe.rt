@@ -34,7 +34,8 @@ impl Scribe {
 
     /// Makes the scribe of a run of which no line is known.
     ///
-    /// Errors: `NoMemory`.
+    /// # Errors
+    /// `NoMemory`.
     pub fn new(alloc: Global) -> Result<Scribe, NoMemory>
         ensures kept { IfOk result (λ scribe. Kept [] scribe) }
         ensures told { IfOk result (λ scribe. told scribe ≡ 0) }
@@ -49,7 +50,7 @@ impl Scribe {
         })
     }
 
-    /// Prints a line behind what stands on a page that is read, and keeps what it says.
+    /// Prints a line after what stands on a page that is read, and keeps what it says.
     ///
     /// Requires that the count of lines has room for one more. Errors: `NoMemory`, after which the scribe isn't used
     /// further.
@@ -104,14 +105,14 @@ impl Scribe {
         }
     }
 
-    /// Answers the frame of a number, which counts from 1, where there is one.
+    /// Returns the frame of a number, which counts from 1, where there is one.
     pub fn frame(&self, number: u32) -> Option<Frame>
         ensures { items_of result ≡ (if nat_eq number 0 then None else slice_get self.now.air (number - 1)) }
     {
         self.air.frame(number)
     }
 
-    /// Answers the number of the next frame on the air.
+    /// Returns the number of the next frame on the air.
     ///
     /// Requires that the count of lines has room for one more.
     pub fn next_frame(&self) -> u32
@@ -121,42 +122,42 @@ impl Scribe {
         self.air.count() + 1
     }
 
-    /// Answers how many keys of the supply are used.
+    /// Returns how many keys of the supply are used.
     pub fn used(&self) -> usize
         ensures { result ≡ self.now.used }
     {
         self.used as usize
     }
 
-    /// Answers how many terms were sealed.
+    /// Returns how many terms were sealed.
     pub fn seals(&self) -> u32
         ensures { result ≡ self.now.seals }
     {
         self.seals
     }
 
-    /// Answers how many terms were accepted.
+    /// Returns how many terms were accepted.
     pub fn accepts(&self) -> u32
         ensures { result ≡ self.now.accepts }
     {
         self.accepts
     }
 
-    /// Answers how many events were refused.
+    /// Returns how many events were refused.
     pub fn refusals(&self) -> u32
         ensures { result ≡ self.now.refusals }
     {
         self.refusals
     }
 
-    /// Answers whether all that was accepted or taken in came from earlier terms.
+    /// Returns whether all that was accepted or taken in came from earlier terms.
     pub fn ideal(&self) -> bool
         ensures { (h : List log.Line) → Kept h self.now → result ≡ ideal_of real h }
     {
         self.watch.ideal()
     }
 
-    /// Answers whether outsiders forged only under keys that they may know, and passed on no key of the network.
+    /// Returns whether outsiders forged only under keys that they may know, and passed on no key of the network.
     pub fn private(&self) -> bool
         ensures { (h : List log.Line) → Kept h self.now → result ≡ private_of real h }
     {

@@ -58,7 +58,7 @@ fn first_centre(declared: &[Node]) -> Option<&Node>
     declared.iter().find(|node| is_centre(node))
 }
 
-/// Answers the address of the centre. Requires the nodes of a schedule.
+/// Returns the address of the centre. Requires the nodes of a schedule.
 pub fn centre_of(declared: &[Node]) -> Eui
     requires { AreOfSchedule declared.now }
     ensures { (p : Schedule) → AreNodesOf p declared.now → result.0 ≡ rules.centre_of (stations (schedule_of p)) }

@@ -121,7 +121,8 @@ fn disk_with(alloc: Global, used: Option<MemDisk>, first: &[u8]) -> Result<MemDi
 ///
 /// Where a used disk is given, that one is made new.
 ///
-/// Errors: `NoMemory`.
+/// # Errors
+/// `NoMemory`.
 pub fn first_disk(
     alloc: Global,
     used: Option<MemDisk>,

@@ -16,9 +16,10 @@ use zb_player_scribe::{Page, Scribe, lines_are_told_in_turn, no_lines_are_told};
 use zb_sched::Node;
 use zb_trace_model::{counter_line, given_link_line, given_net_line, node_line};
 
-/// Tells the line of a node. Requires room for one more line.
+/// Reports the line of a node. Requires room for one more line.
 ///
-/// Errors: `NoMemory`.
+/// # Errors
+/// `NoMemory`.
 pub(crate) fn tell_node(
     alloc: Global,
     scribe: &mut Scribe,
@@ -44,9 +45,10 @@ pub(crate) fn tell_node(
     scribe.tell(alloc, page, &line)
 }
 
-/// Tells the network key of a node, if it has one. Requires room for one more line.
+/// Reports the network key of a node, if it has one. Requires room for one more line.
 ///
-/// Errors: `NoMemory`.
+/// # Errors
+/// `NoMemory`.
 pub(crate) fn tell_network(
     alloc: Global,
     scribe: &mut Scribe,
@@ -70,9 +72,10 @@ pub(crate) fn tell_network(
     }
 }
 
-/// Tells the link key of a node's install code, if it has one. Requires room for one more line.
+/// Reports the link key of a node's install code, if it has one. Requires room for one more line.
 ///
-/// Errors: `NoMemory`.
+/// # Errors
+/// `NoMemory`.
 pub(crate) fn tell_code(
     alloc: Global,
     scribe: &mut Scribe,
@@ -118,9 +121,10 @@ fn tell_limit(
     scribe.tell(alloc, page, &counter_line(node, layer, limit))
 }
 
-/// Tells the stored limits of a node, those that aren't 0. Requires room for two more lines.
+/// Reports the stored limits of a node, those that aren't 0. Requires room for two more lines.
 ///
-/// Errors: `NoMemory`.
+/// # Errors
+/// `NoMemory`.
 pub(crate) fn tell_limits(
     alloc: Global,
     scribe: &mut Scribe,

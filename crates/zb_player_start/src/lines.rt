@@ -18,9 +18,10 @@ use zb_base::{Eui, NoMemory};
 use zb_player_scribe::{Page, Scribe};
 use zb_sched::Node;
 
-/// Tells the start lines of a schedule. Requires its nodes, and room for 400 more lines.
+/// Reports the start lines of a schedule. Requires its nodes, and room for 400 more lines.
 ///
-/// Errors: `NoMemory`.
+/// # Errors
+/// `NoMemory`.
 pub fn tell_start(
     alloc: Global,
     scribe: &mut Scribe,

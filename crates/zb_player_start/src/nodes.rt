@@ -50,7 +50,8 @@ fn start_node(
 /// The disks are added to those given, which are none. They are made of used ones, as long as there are any. Requires
 /// the nodes of a schedule.
 ///
-/// Errors: `NoMemory`.
+/// # Errors
+/// `NoMemory`.
 pub fn start_nodes(
     alloc: Global,
     declared: &[Declared],

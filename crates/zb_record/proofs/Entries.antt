@@ -1,4 +1,4 @@
--- The entries that were written are made again, behind any others.
+-- The entries that were written are made again, after any others.
 use Rattle.std.proofs.Common.{◌≡◌, ℕ, zero, suc, ◌+◌, ◌≤◌, Bool, true, false, if◌then◌else◌, List, [], ◌∷◌, ◌++◌, length, filter, flat_map, Result, Ok, Err, refl, sym, ap, ◌≢◌, ◌∙◌, subst, arith, append_assoc, append-nil, length-append}
 use Rattle.std.specs.List.{AllByRecursion}
 use Rattle.std.proofs.lemmas.List.Concat.{flat_map-cons}
@@ -34,7 +34,7 @@ rest_of : Result (List ℕ) ℕ → List ℕ
 rest_of (Ok l) = l
 rest_of (Err f) = []
 
--- ---- more bytes behind those that were used
+-- ---- more bytes after those that were used
 
 module _ (v : Version) (more : List ℕ) where
   one_steady : (bytes rest : List ℕ) (s t : NodeState) → change_redone v bytes s ≡ at_end t rest → (length rest ≤ length bytes) × (change_redone v (bytes ++ more) s ≡ at_end t (rest ++ more))
@@ -91,7 +91,7 @@ fuel v (suc a) (suc b) (count ∷ bytes) s la lb = by_rest (changes_redone v cou
         later rest u (omega (arith, la, less)) (omega (arith, lb, less))
     by_rest u (Err f) is later = refl
 
--- payloads behind payloads
+-- payloads after payloads
 behind : (v : Version) (n : ℕ) (q more : List ℕ) (s t : NodeState) → length q ≤ n → payloads_redone v n q s ≡ at_end t [] → payloads_redone v (n + length more) (q ++ more) s ≡ payloads_redone v (length more) more t
 unfolding payloads_redone
 behind v n [] more s t le e =
@@ -120,7 +120,7 @@ redone_behind v q more s t e = ap (λ m. payloads_redone v m (q ++ more) s) (len
 
 -- ---- what is written
 
--- Behind a record of a later version than the first all changes are made as ever.
+-- After a record of a later version than the first all changes are made as ever.
 later_fits : (v : Version) → v ≢ First → (e : Edit) (s : NodeState) → fits_behind v e s ≡ fits e s
 unfolding fits_behind
 later_fits First later e s = absurd (later refl)

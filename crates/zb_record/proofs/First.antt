@@ -1,4 +1,5 @@
--- Changes behind a record: the rules for records stand after them, in version 1 too, where two are made otherwise than ever.
+-- Changes after a record: the rules for records stand after them, in version 1 too, where two are made otherwise than
+-- ever.
 use Rattle.std.proofs.Common.{◌≡◌, ℕ, List, [], ◌∷◌, ◌++◌, map, refl, sym, ap, ◌∙◌, subst, Bool, true, false, if◌then◌else◌}
 use Rattle.std.proofs.lemmas.Bool.{not-true}
 use Rattle.std.proofs.lemmas.List.{map-append}
@@ -104,7 +105,7 @@ first_kept (Moved m) s kept fit = first_moved m s kept fit
 pub first_shown : (e : Edit) (s : NodeState) → keeps_rules s ≡ true → first_fits e s ≡ true → keeps_rules (shown (first_applied e s)) ≡ true
 first_shown e s kept fit = rules_shown (first_applied e s) (first_kept e s kept fit)
 
--- A change that fits behind a record leaves the rules, and so does what tables show of it.
+-- A change that fits after a record leaves the rules, and so does what tables show of it.
 pub behind_kept : (v : Version) (e : Edit) (s : NodeState) → keeps_rules s ≡ true → fits_behind v e s ≡ true → keeps_rules (applied_behind v e s) ≡ true
 unfolding fits_behind applied_behind
 behind_kept First e s kept fit = first_kept e s kept fit

@@ -65,7 +65,7 @@ raised floors sender place value d m lt same new so =
     ∙ ap (λ l. map heard_floor (take place floors) ++ floor_stored sender value (map heard_floor l)) (sym (drop_more floors place d lt))
     ∙ sym (so.before value)
 
--- a floor of a sender that has none goes in front of those of greater senders
+-- a floor of a sender that has none goes before those of greater senders
 in_front : (rest : List SenderFloor) (sender value : ℕ) → ((f : SenderFloor) (fs : List SenderFloor) → rest ≡ f ∷ fs → sender < f.sender.0)
     → floor_stored sender value (map heard_floor rest) ≡ record { sender = sender; kept = 0; stored = value } ∷ map heard_floor rest
 in_front [] sender value above = refl

@@ -1,4 +1,4 @@
--- What was read is read again where more bytes stand behind it, and nothing is left that wasn't there.
+-- What was read is read again where more bytes stand after it, and nothing is left that wasn't there.
 use Rattle.std.proofs.Common.{◌≡◌, ℕ, ◌≤◌, Bool, true, false, List, [], ◌∷◌, ◌++◌, length, take, drop, Option, Some, None, Result, Ok, Err, refl, ap, arith, length-append, length-drop, if◌then◌else◌}
 use Rattle.std.specs.Int.{Width, w32, w64, byte_len, from_le_bytes}
 use Rattle.std.specs.Prelude.{nat_lt, ◌==◌}
@@ -10,7 +10,7 @@ use Rattle.zb_cursor.specs.Reading.{Reading, follow, ◌>>=◌, give, byte_at, b
 use Rattle.zb_record.specs.Fields.{chosen, layer_of, attribute_of, state_of, rollover_of, layer_at, attribute_at, state_at, rollover_at}
 use Rattle.zb_record.specs.Changes.{reserve_at, floor_at, drop_net_at, drop_link_at, install_at, active_at, row_at, became_at, roll_at, told_at, untold_at, live_at, removed_at, start_at, pair_at, later_of, fields_of, change_at}
 
--- the value and the bytes behind it
+-- the value and the bytes after it
 abbrev pub found : {E A : Type 0} → A → List ℕ → Result (A × List ℕ) E
 found x rest = Ok (x, rest)
 
@@ -18,7 +18,7 @@ found x rest = Ok (x, rest)
 abbrev pub Steady : {E A : Type 0} → Reading E A → Type 0
 Steady {E} {A} read = (cut : E) (bytes rest : List ℕ) (x : A) → read cut bytes ≡ found x rest → (length rest ≤ length bytes) × ((other : E) (more : List ℕ) → read other (bytes ++ more) ≡ found x (rest ++ more))
 
--- more bytes behind those that are left
+-- more bytes after those that are left
 with_more : {E A : Type 0} → List ℕ → Result (A × List ℕ) E → Result (A × List ℕ) E
 with_more more (Ok x) = Ok (x.0, x.1 ++ more)
 with_more more (Err e) = Err e

@@ -1,4 +1,4 @@
--- Fields of one byte that stand for one of a few values; another byte is refused as a missing one is.
+-- Fields of one byte that represent one of a few values; another byte is refused as a missing one is.
 use Rattle.std.specs.Prelude.{ℕ, List, [], ◌∷◌, Option, Some, None, Ok, Err, ◌==◌, if◌then◌else◌}
 use Rattle.zb_base.specs.declared.label.Layer.{Layer}
 use Rattle.zb_base.specs.declared.label.Layer.TheVariants as layer

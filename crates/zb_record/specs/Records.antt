@@ -1,5 +1,5 @@
--- The record of a node, read from its bytes: versions 1, 2 and 3. Each field is whole and keeps the rules for records beside
--- the fields before it; a rule over several fields is broken by the last of them.
+-- The record of a node, read from its bytes: versions 1, 2 and 3. Each field is whole and keeps the rules for records
+-- beside the fields before it; a rule over several fields is broken by the last of them.
 use Rattle.std.specs.Prelude.{◌≡◌, ℕ, zero, suc, Bool, not, ◌||◌, ◌==◌, if◌then◌else◌, List, [], ◌∷◌, length, map, Option, Some, None, Result, Ok, Err, nat_le, nat_lt}
 use Rattle.std.specs.Int.{w16, w32}
 use Rattle.zb_base.specs.declared.fault.OrMemory.{OrMemory}
@@ -63,7 +63,7 @@ key_of place [] = None
 key_of zero (r ∷ rs) = Some r.key
 key_of (suc place) (r ∷ rs) = key_of place rs
 
--- the state that a record stands for, after a boot
+-- the state that a record represents, after a boot
 abbrev pub state_from : Head → List NetKey → List LinkKey → List PairKey → NodeState
 state_from h nets links pairs = record {
   role = model_role h.node.role;
@@ -106,7 +106,7 @@ IsRecord view (Ok x) read = read ≡ Ok (view x)
 IsRecord view (Err (Fault left)) read = read ≡ Err left
 IsRecord view (Err NoMemory) read = Unit {0}
 
--- what a call answers that makes tables of a record of so many bytes: the place of the fault, or want of memory
+-- what a call answers that makes tables of a record of so many bytes: the place of the fault, or out of memory
 abbrev pub BadPlace : OrMemory KeyError → ℕ → Result NodeState ℕ → Type 0
 BadPlace (Fault (KeyOld place)) total read = ⊥
 BadPlace (Fault KeysFull) total read = ⊥

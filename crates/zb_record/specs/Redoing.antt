@@ -1,6 +1,6 @@
--- The payloads of journal entries are made again, one behind the other: each change in its order, up to the first that isn't
--- whole, is none, or doesn't fit. Behind a record of version 1 two kinds of changes are made otherwise than ever, and two
--- don't stand.
+-- The payloads of journal entries are made again, one after the other: each change in its order, up to the first that
+-- isn't whole, is none, or doesn't fit. After a record of version 1 two kinds of changes are made otherwise than ever,
+-- and two don't stand.
 use Rattle.std.specs.Prelude.{◌≡◌, ℕ, zero, suc, ◌-◌, max, min, Bool, true, false, nat_le, List, [], ◌∷◌, ◌++◌, length, map, Result, Ok, Err, if◌then◌else◌}
 use Rattle.std.specs.List.{AllByRecursion}
 use Rattle.zb_node_types.specs.declared.change.Change.{Change}
@@ -14,8 +14,8 @@ use Rattle.zb_record.specs.declared.version.Version.{Version}
 use Rattle.zb_record.specs.declared.version.Version.TheVariants.{First, Second, Third}
 use Rattle.zb_record.specs.Changes.{change_at}
 
--- Behind a record of version 1 there is one NWK limit for all network rows: the declared start is that limit, too, and each
--- row counts as started with it.
+-- After a record of version 1 there is one NWK limit for all network rows: the declared start is that limit, too, and
+-- each row counts as started with it.
 
 -- a row goes on from the limit; like all limits it never falls
 abbrev pub limited : ℕ → NetKey → NetKey
@@ -42,7 +42,7 @@ first_fits (Start key value) s = false
 first_fits (Moved (Pair first second key)) s = false
 first_fits e s = fits e s
 
--- whether a change fits behind a record of a version, and what it does there
+-- whether a change fits after a record of a version, and what it does there
 unfoldable pub fits_behind : Version → Edit → NodeState → Bool
 fits_behind First e s = first_fits e s
 fits_behind Second e s = fits e s
@@ -53,7 +53,7 @@ applied_behind First e s = first_applied e s
 applied_behind Second e s = applied e s
 applied_behind Third e s = applied e s
 
--- The state after the changes that were made, and the bytes behind them; or the fault, as the number of bytes from its
+-- The state after the changes that were made, and the bytes after them; or the fault, as the number of bytes from its
 -- first one to the end.
 abbrev pub Redone : Type 0
 Redone = NodeState × Result (List ℕ) ℕ
@@ -67,7 +67,7 @@ abbrev pub change_made : Version → NodeState → ℕ → Result (Change × Lis
 change_made v s left (Ok x) = if fits_behind v (edit x.0) s then (shown (applied_behind v (edit x.0) s), Ok x.1) else (s, Err left)
 change_made v s left (Err e) = (s, Err e)
 
--- the change at the front
+-- the change at the start
 unfoldable pub change_redone : Version → List ℕ → NodeState → Redone
 change_redone v bytes s = change_made v s (length bytes) (change_at (length bytes) bytes)
 
@@ -82,7 +82,7 @@ payloads_redone v zero bytes s = (s, Ok bytes)
 payloads_redone v (suc n) [] s = (s, Ok [])
 payloads_redone v (suc n) (count ∷ bytes) s = onward (changes_redone v count bytes s).0 (changes_redone v count bytes s).1 (payloads_redone v n)
 
--- all payloads behind a record of a version; each has a byte at least
+-- all payloads after a record of a version; each has a byte at least
 unfoldable pub redone : Version → List ℕ → NodeState → Redone
 redone v entries s = payloads_redone v (length entries) entries s
 

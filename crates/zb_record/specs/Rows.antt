@@ -19,7 +19,8 @@ use Rattle.zb_record.specs.declared.pair.PairRecord.{PairRecord}
 use Rattle.zb_record.specs.Fields.{attribute_at}
 use Rattle.zb_record.specs.Placed.{Placed, ◌>>=◌, give, field, whole, rows_at}
 
--- what the rows of the program are in the model: after a boot a counter goes on from its limit, and a floor from the stored one
+-- what the rows of the program are in the model: after a boot a counter goes on from its limit, and a floor from the
+-- stored one
 
 abbrev pub sender_seen : SenderRecord → SenderFloor
 sender_seen f = record { sender = f.sender.0; kept = f.stored; stored = f.stored }

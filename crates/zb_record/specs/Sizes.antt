@@ -1,4 +1,4 @@
--- The sizes of a record and of the entries behind it.
+-- The sizes of a record and of the entries after it.
 use Rattle.std.specs.Prelude.{ℕ}
 
 -- a record is written into so many bytes
@@ -13,10 +13,10 @@ greatest_record = 46358
 abbrev pub payload_room : ℕ
 payload_room = 481
 
--- at most so many entries stand behind a record
+-- at most so many entries stand after a record
 abbrev pub entries_room : ℕ
 entries_room = 32
 
--- the entries behind a record, each with three bytes before its payload, have at most so many bytes
+-- the entries after a record, each with three bytes before its payload, have at most so many bytes
 abbrev pub payloads_room : ℕ
 payloads_room = 15488

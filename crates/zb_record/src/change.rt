@@ -1,5 +1,5 @@
-//! The changes of a journal entry: a kind byte and the fields of that kind. Numbers and addresses are least significant
-//! byte first.
+//! The changes of a journal entry: a kind byte and the fields of that kind. Numbers and addresses are least
+//! significant byte first.
 ghost use Rattle.std.specs.Prelude.{◌≡◌, ◌∷◌, ◌++◌, ◌<◌, length, IfOk, OnOk};
 ghost use Rattle.zb_node_types.specs.Changes.{edit};
 ghost use Rattle.zb_cursor.specs.Reading.{Gives};
@@ -10,7 +10,7 @@ use crate::field::{read_attribute, read_layer, read_rollover, read_state};
 use zb_cursor::Reader;
 use zb_node_types::Change;
 
-/// A layer, and the limit up to which its counter is reserved.
+/// Returns a layer, and the limit up to which its counter is reserved.
 #[tactic(auto, unfolding(crate::specs::Changes::reserve_at, zb_model::specs::Record::edit_bytes))]
 fn read_reserve(reader: &mut Reader<usize>) -> Result<Change, usize>
     ensures exact { Gives result reader.new.rest.now (reserve_at reader.old.cut reader.old.rest.now) }
@@ -22,7 +22,7 @@ fn read_reserve(reader: &mut Reader<usize>) -> Result<Change, usize>
     Ok(Change::Reserve { layer, limit })
 }
 
-/// A layer, a key, and the floor of a sender.
+/// Returns a layer, a key, and the floor of a sender.
 #[tactic(auto, unfolding(crate::specs::Changes::floor_at, zb_model::specs::Record::edit_bytes))]
 fn read_floor(reader: &mut Reader<usize>) -> Result<Change, usize>
     ensures exact { Gives result reader.new.rest.now (floor_at reader.old.cut reader.old.rest.now) }
@@ -41,7 +41,7 @@ fn read_floor(reader: &mut Reader<usize>) -> Result<Change, usize>
     })
 }
 
-/// A network key that is dropped.
+/// Returns a network key that is dropped.
 #[tactic(auto, unfolding(crate::specs::Changes::drop_net_at, zb_model::specs::Record::edit_bytes))]
 fn read_drop_net(reader: &mut Reader<usize>) -> Result<Change, usize>
     ensures exact { Gives result reader.new.rest.now (drop_net_at reader.old.cut reader.old.rest.now) }
@@ -52,7 +52,7 @@ fn read_drop_net(reader: &mut Reader<usize>) -> Result<Change, usize>
     Ok(Change::DropNet { key })
 }
 
-/// A partner and its link key that is dropped.
+/// Returns a partner and its link key that is dropped.
 #[tactic(auto, unfolding(crate::specs::Changes::drop_link_at, zb_model::specs::Record::edit_bytes))]
 fn read_drop_link(reader: &mut Reader<usize>) -> Result<Change, usize>
     ensures exact { Gives result reader.new.rest.now (drop_link_at reader.old.cut reader.old.rest.now) }
@@ -64,7 +64,7 @@ fn read_drop_link(reader: &mut Reader<usize>) -> Result<Change, usize>
     Ok(Change::DropLink { partner, key })
 }
 
-/// A new network key and its sequence.
+/// Returns a new network key and its sequence.
 #[tactic(auto, unfolding(crate::specs::Changes::install_at, zb_model::specs::Record::edit_bytes))]
 fn read_install(reader: &mut Reader<usize>) -> Result<Change, usize>
     ensures exact { Gives result reader.new.rest.now (install_at reader.old.cut reader.old.rest.now) }
@@ -76,7 +76,7 @@ fn read_install(reader: &mut Reader<usize>) -> Result<Change, usize>
     Ok(Change::Install { key, sequence })
 }
 
-/// The network key that becomes active.
+/// Returns the network key that becomes active.
 #[tactic(auto, unfolding(crate::specs::Changes::active_at, zb_model::specs::Record::edit_bytes))]
 fn read_active(reader: &mut Reader<usize>) -> Result<Change, usize>
     ensures exact { Gives result reader.new.rest.now (active_at reader.old.cut reader.old.rest.now) }
@@ -87,7 +87,7 @@ fn read_active(reader: &mut Reader<usize>) -> Result<Change, usize>
     Ok(Change::Active { key })
 }
 
-/// A partner, its link key and the key's attribute.
+/// Returns a partner, its link key and the key's attribute.
 #[tactic(auto, unfolding(crate::specs::Changes::row_at, zb_model::specs::Record::edit_bytes))]
 fn read_row(reader: &mut Reader<usize>) -> Result<Change, usize>
     ensures exact { Gives result reader.new.rest.now (row_at reader.old.cut reader.old.rest.now) }
@@ -104,7 +104,7 @@ fn read_row(reader: &mut Reader<usize>) -> Result<Change, usize>
     })
 }
 
-/// A state.
+/// Returns a state.
 #[tactic(auto, unfolding(crate::specs::Changes::became_at, zb_model::specs::Record::edit_bytes))]
 fn read_became(reader: &mut Reader<usize>) -> Result<Change, usize>
     ensures exact { Gives result reader.new.rest.now (became_at reader.old.cut reader.old.rest.now) }
@@ -115,7 +115,7 @@ fn read_became(reader: &mut Reader<usize>) -> Result<Change, usize>
     Ok(Change::State { state })
 }
 
-/// A rollover.
+/// Returns a rollover.
 #[tactic(auto, unfolding(crate::specs::Changes::roll_at, zb_model::specs::Record::edit_bytes))]
 fn read_roll(reader: &mut Reader<usize>) -> Result<Change, usize>
     ensures exact { Gives result reader.new.rest.now (roll_at reader.old.cut reader.old.rest.now) }
@@ -126,7 +126,7 @@ fn read_roll(reader: &mut Reader<usize>) -> Result<Change, usize>
     Ok(Change::Roll { rollover })
 }
 
-/// A device that was told.
+/// Returns a device that was told.
 #[tactic(auto, unfolding(crate::specs::Changes::told_at, zb_model::specs::Record::edit_bytes))]
 fn read_told(reader: &mut Reader<usize>) -> Result<Change, usize>
     ensures exact { Gives result reader.new.rest.now (told_at reader.old.cut reader.old.rest.now) }
@@ -137,7 +137,7 @@ fn read_told(reader: &mut Reader<usize>) -> Result<Change, usize>
     Ok(Change::Told { device })
 }
 
-/// A device that is to be told again.
+/// Returns a device that is to be told again.
 #[tactic(auto, unfolding(crate::specs::Changes::untold_at, zb_model::specs::Record::edit_bytes))]
 fn read_untold(reader: &mut Reader<usize>) -> Result<Change, usize>
     ensures exact { Gives result reader.new.rest.now (untold_at reader.old.cut reader.old.rest.now) }
@@ -148,7 +148,7 @@ fn read_untold(reader: &mut Reader<usize>) -> Result<Change, usize>
     Ok(Change::Untold { device })
 }
 
-/// A device that was admitted.
+/// Returns a device that was admitted.
 #[tactic(auto, unfolding(crate::specs::Changes::live_at, zb_model::specs::Record::edit_bytes))]
 fn read_live(reader: &mut Reader<usize>) -> Result<Change, usize>
     ensures exact { Gives result reader.new.rest.now (live_at reader.old.cut reader.old.rest.now) }
@@ -159,7 +159,7 @@ fn read_live(reader: &mut Reader<usize>) -> Result<Change, usize>
     Ok(Change::Live { device })
 }
 
-/// A device that was removed.
+/// Returns a device that was removed.
 #[tactic(auto, unfolding(crate::specs::Changes::removed_at, zb_model::specs::Record::edit_bytes))]
 fn read_removed(reader: &mut Reader<usize>) -> Result<Change, usize>
     ensures exact { Gives result reader.new.rest.now (removed_at reader.old.cut reader.old.rest.now) }
@@ -170,7 +170,7 @@ fn read_removed(reader: &mut Reader<usize>) -> Result<Change, usize>
     Ok(Change::Removed { device })
 }
 
-/// A network key and its first counter.
+/// Returns a network key and its first counter.
 #[tactic(auto, unfolding(crate::specs::Changes::start_at, zb_model::specs::Record::edit_bytes))]
 fn read_start(reader: &mut Reader<usize>) -> Result<Change, usize>
     ensures exact { Gives result reader.new.rest.now (start_at reader.old.cut reader.old.rest.now) }
@@ -195,7 +195,7 @@ fn read_pair(reader: &mut Reader<usize>) -> Result<Change, usize>
     Ok(Change::Pair { first, second, key })
 }
 
-/// The fields of the kinds 08 to 0F.
+/// Returns the fields of the kinds 08 to 0F.
 #[tactic(auto, unfolding(crate::specs::Changes::later_of))]
 fn read_later_of(reader: &mut Reader<usize>, kind: u8) -> Result<Change, usize>
     ensures exact { Gives result reader.new.rest.now (later_of kind reader.old.cut reader.old.rest.now) }
@@ -215,7 +215,7 @@ fn read_later_of(reader: &mut Reader<usize>, kind: u8) -> Result<Change, usize>
     }
 }
 
-/// The fields of a kind.
+/// Returns the fields of a kind.
 #[tactic(auto, unfolding(crate::specs::Changes::fields_of))]
 fn read_fields_of(reader: &mut Reader<usize>, kind: u8) -> Result<Change, usize>
     ensures exact { Gives result reader.new.rest.now (fields_of kind reader.old.cut reader.old.rest.now) }
@@ -236,7 +236,8 @@ fn read_fields_of(reader: &mut Reader<usize>, kind: u8) -> Result<Change, usize>
 
 /// Reads a change other than a draw, which is spelled nowhere.
 ///
-/// Errors: the reader's fault, as at a field that isn't whole, where the bytes are no change, whole or not.
+/// # Errors
+/// The reader's fault, as at a field that isn't whole, where the bytes are no change, whole or not.
 #[tactic(auto, unfolding(crate::specs::Changes::change_at))]
 pub fn read_change(reader: &mut Reader<usize>) -> Result<Change, usize>
     ensures exact { Gives result reader.new.rest.now (change_at reader.old.cut reader.old.rest.now) }

@@ -1,4 +1,4 @@
-//! Fields of one byte that stand for a layer, an attribute, a state or a rollover. A byte that stands for none is
+//! Fields of one byte that represent a layer, an attribute, a state or a rollover. A byte that represents none is
 //! refused by the reader's fault.
 ghost use Rattle.std.specs.Prelude.{◌≡◌, ◌∷◌, IfOk};
 ghost use Rattle.zb_node_types.specs.Changes.{model_role, model_layer, model_attribute, model_state, is_sending};

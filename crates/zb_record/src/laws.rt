@@ -13,22 +13,22 @@ ghost use Rattle.zb_record.specs.Redoing.{redone, HasOneLimit};
 ghost use Rattle.zb_record.specs.declared.version.Version.{Version};
 ghost use Rattle.zb_record.specs.declared.version.Version.TheVariants.{First};
 
-/// Says that the payload of changes that fit makes them again.
+/// States that the payload of changes that fit makes them again.
 ///
-/// It does so behind whatever payloads led to the state that they fit. The record is of a later version than the first.
+/// It does so after whatever payloads led to the state that they fit. The record is of a later version than the first.
 pub fn written_changes_are_made_again()
     ensures { (v : Version) (q : List ℕ) (cs : List Change) (s t : NodeState) → v ≢ First → keeps_rules t ≡ true
         → shown t ≡ t → AllByRecursion InRange cs → AllFit (edits cs) t
         → redone v q s ≡ (t, Ok []) → redone v (q ++ payload (edits cs)) s ≡ (shown (applied_all (edits cs) t), Ok []) }
 {}
 
-/// Says that what is read from a record keeps the rules for records, and no floors of dropped network keys.
+/// States that what is read from a record keeps the rules for records, and no floors of dropped network keys.
 pub fn what_is_read_keeps_the_rules()
     ensures rules { (bytes : List ℕ) (s : NodeState) → record_read bytes ≡ Ok s → keeps_rules s ≡ true }
     ensures forgets { (bytes : List ℕ) (s : NodeState) → record_read bytes ≡ Ok s → shown s ≡ s }
 {}
 
-/// Says that the record of a state is read as that state after a boot.
+/// States that the record of a state is read as that state after a boot.
 ///
 /// Counters go on from their limits, and floors are the stored ones.
 #[tactic(auto, using(crate::proofs::WholeAgain::record_again))]
@@ -37,7 +37,7 @@ pub fn a_written_record_is_read()
         → record_read (record_of s) ≡ Ok (shown (after_boot s)) }
 {}
 
-/// Says that a record of version 1 has one limit, and that the entries behind it leave it one.
+/// States that a record of version 1 has one limit, and that the entries after it leave it one.
 ///
 /// Each network key is started, and goes on from the declared start.
 pub fn a_first_version_has_one_limit()

@@ -16,7 +16,7 @@ use std::alloc::Global;
 use zb_base::{Attribute, Eui, Key, OrMemory, Role};
 use zb_cursor::{Reader, has_bit};
 
-/// Holds a link key of a record.
+/// A link key of a record.
 ///
 /// Partner 8, key 16, attribute 1, flags 1 (bit 0 live, bit 1 from a code, bit 2 told), floor 4.
 #[derive(Clone, Copy, Debug, PartialEq, Eq)]
@@ -38,7 +38,7 @@ pub struct LinkRecord {
 }
 
 impl LinkRecord {
-    /// A row with a floor of 0.
+    /// Returns a row with a floor of 0.
     fn with_flags(partner: Eui, key: Key, attribute: Attribute, flags: u8) -> LinkRecord
         ensures { link_seen result ≡ link_row partner.0 key.0 (model_attribute attribute) flags }
     {
@@ -53,42 +53,42 @@ impl LinkRecord {
         }
     }
 
-    /// Whether it is only offered.
+    /// Returns whether it is only offered.
     fn is_unverified(&self) -> bool
         ensures { result ≡ is_unverified (link_seen self.now).attribute }
     {
         matches!(self.attribute, Attribute::Unverified)
     }
 
-    /// Whether both are live rows of one partner.
+    /// Returns whether both are live rows of one partner.
     fn is_beside(&self, other: &LinkRecord) -> bool
         ensures { result ≡ like_rows (link_seen self.now) (link_seen other.now) }
     {
         self.live && other.live && self.partner.0 == other.partner.0
     }
 
-    /// Whether both are live rows of one partner, of one kind.
+    /// Returns whether both are live rows of one partner, of one kind.
     fn is_like(&self, other: &LinkRecord) -> bool
         ensures { result ≡ kinds_alike (link_seen self.now) (link_seen other.now) }
     {
         self.is_beside(other) && self.is_unverified() == other.is_unverified()
     }
 
-    /// Whether both are live rows of one partner, of which one is told and the other isn't.
+    /// Returns whether both are live rows of one partner, of which one is told and the other isn't.
     fn is_told_apart(&self, other: &LinkRecord) -> bool
         ensures { result ≡ told_apart (link_seen self.now) (link_seen other.now) }
     {
         self.is_beside(other) && self.told != other.told
     }
 
-    /// Whether a told row is a live one of the centre, and a provisional one from a code.
+    /// Returns whether a told row is a live one of the centre, and a provisional one from a code.
     fn is_marked(&self, role: Role) -> bool
         ensures { result ≡ is_marked (model_role role) (link_seen self.now) }
     {
         self.may_be_told(role) && self.may_be_provisional()
     }
 
-    /// Whether it isn't told, or is a live row of the centre.
+    /// Returns whether it isn't told, or is a live row of the centre.
     fn may_be_told(&self, role: Role) -> bool
         ensures { result ≡ (not (link_seen self.now).told
             || ((link_seen self.now).live && is_centre (model_role role))) }
@@ -96,7 +96,7 @@ impl LinkRecord {
         !self.told || (self.live && matches!(role, Role::Centre))
     }
 
-    /// Whether it isn't provisional, or is from a code.
+    /// Returns whether it isn't provisional, or is from a code.
     fn may_be_provisional(&self) -> bool
         ensures { result ≡ (not (is_provisional (link_seen self.now).attribute) || (link_seen self.now).code) }
     {
@@ -104,14 +104,14 @@ impl LinkRecord {
     }
 }
 
-/// Whether there is a row of that key.
+/// Returns whether there is a row of that key.
 fn has_key(rows: &[LinkRecord], key: &Key) -> bool
     ensures { result ≡ list_any (λ r. same_key (link_seen r).key key.now.0) rows.now }
 {
     rows.iter().any(|row| row.key == *key)
 }
 
-/// Whether no row has that key.
+/// Returns whether no row has that key.
 #[tactic(auto, using(crate::proofs::Lists::any_map))]
 fn is_new(rows: &[LinkRecord], key: &Key) -> bool
     ensures { result ≡ is_new_link (map link_seen rows.now) key.now }
@@ -119,7 +119,7 @@ fn is_new(rows: &[LinkRecord], key: &Key) -> bool
     !has_key(rows, key)
 }
 
-/// A key that no row has.
+/// Returns a key that no row has.
 fn read_new_key(reader: &mut Reader<usize>, rows: &[LinkRecord]) -> Result<Key, usize>
     ensures { Gives (λ k. k) result reader.new.rest.now
         (field key_at (is_new_link (map link_seen rows.now)) reader.old.rest.now) }
@@ -133,21 +133,21 @@ fn read_new_key(reader: &mut Reader<usize>, rows: &[LinkRecord]) -> Result<Key, 
     }
 }
 
-/// Whether one of the rows is like another.
+/// Returns whether one of the rows is like another.
 fn has_like(rows: &[LinkRecord], other: &LinkRecord) -> bool
     ensures { result ≡ list_any (λ r. kinds_alike (link_seen r) (link_seen other.now)) rows.now }
 {
     rows.iter().any(|row| row.is_like(other))
 }
 
-/// Whether one of the rows is told where another isn't, or the other way round.
+/// Returns whether one of the rows is told where another isn't, or the other way round.
 fn has_told_apart(rows: &[LinkRecord], other: &LinkRecord) -> bool
     ensures { result ≡ list_any (λ r. told_apart (link_seen r) (link_seen other.now)) rows.now }
 {
     rows.iter().any(|row| row.is_told_apart(other))
 }
 
-/// Whether a row may stand behind these.
+/// Returns whether a row may stand after these.
 #[tactic(auto, using(crate::proofs::Lists::any_map))]
 fn row_fits(role: Role, rows: &[LinkRecord], row: &LinkRecord) -> bool
     ensures { result ≡ link_fits (model_role role) (map link_seen rows.now) (link_seen row.now) }
@@ -155,7 +155,7 @@ fn row_fits(role: Role, rows: &[LinkRecord], row: &LinkRecord) -> bool
     row.is_marked(role) && is_alone(rows, row)
 }
 
-/// Whether a row has no like among these, and agrees with them.
+/// Returns whether a row has no like among these, and agrees with them.
 #[tactic(auto, using(crate::proofs::Lists::any_map))]
 fn is_alone(rows: &[LinkRecord], row: &LinkRecord) -> bool
     ensures { result ≡ (not (list_any (λ y. kinds_alike y (link_seen row.now)) (map link_seen rows.now))
@@ -164,7 +164,7 @@ fn is_alone(rows: &[LinkRecord], row: &LinkRecord) -> bool
     !has_like(rows, row) && !has_told_apart(rows, row)
 }
 
-/// The flags of a row, and so the row but for its floor.
+/// Returns the flags of a row, and so the row but for its floor.
 fn read_flags(
     reader: &mut Reader<usize>,
     role: Role,
@@ -191,14 +191,14 @@ fn read_flags(
     }
 }
 
-/// Whether flags are known, and their row may stand behind these.
+/// Returns whether flags are known, and their row may stand after these.
 fn flags_fit(role: Role, rows: &[LinkRecord], row: LinkRecord, flags: u8) -> bool
     ensures { result ≡ (nat_lt flags 8 && link_fits (model_role role) (map link_seen rows.now) (link_seen row)) }
 {
     flags < 8 && row_fits(role, rows, &row)
 }
 
-/// A link key, behind these rows.
+/// Returns a link key, after these rows.
 #[tactic(auto, unfolding(crate::specs::Rows::link_at))]
 fn read_link(
     reader: &mut Reader<usize>,
@@ -227,7 +227,7 @@ fn read_link(
     })
 }
 
-/// How many link keys a node may hold.
+/// Returns how many link keys a node may hold.
 fn link_room(role: Role) -> u16
     ensures { result ≡ most_links (model_role role) }
 {
@@ -238,7 +238,7 @@ fn link_room(role: Role) -> u16
     }
 }
 
-/// The number of link keys.
+/// Returns the number of link keys.
 fn read_count(reader: &mut Reader<usize>, role: Role) -> Result<u16, usize>
     ensures { Gives (λ n. n) result reader.new.rest.now
         (field (number_at w16) (has_link_room (model_role role)) reader.old.rest.now) }

@@ -10,7 +10,7 @@ ghost use Rattle.zb_model.specs.State.{at_link, booted_link, is_link, has_link, 
 use zb_base::{Attribute, Eui, Key, Role};
 use zb_counter::Floor;
 
-/// Holds a link key that is shared with a partner.
+/// A link key that is shared with a partner.
 ///
 /// A row is never taken away: a key that comes again for its partner revives it.
 #[derive(Clone, Copy, Debug, PartialEq, Eq)]
@@ -47,28 +47,28 @@ impl LinkRow {
         }
     }
 
-    /// Answers whether it is the row of that partner and key.
+    /// Returns whether it is the row of that partner and key.
     pub fn is_of(&self, partner: Eui, key: &Key) -> bool
         ensures { result ≡ is_link partner.0 key.now.0 (link_key self.now) }
     {
         self.partner == partner && self.key == *key
     }
 
-    /// Answers whether it is a row in use of that partner.
+    /// Returns whether it is a row in use of that partner.
     pub fn is_live_of(&self, partner: Eui) -> bool
         ensures { result ≡ is_live_of partner.0 (link_key self.now) }
     {
         self.live && self.partner == partner
     }
 
-    /// Answers whether it is only offered: nobody proved yet that both sides hold the key.
+    /// Returns whether it is only offered: nobody proved yet that both sides hold the key.
     pub fn is_unverified(&self) -> bool
         ensures { result ≡ is_unverified (link_key self.now).attribute }
     {
         matches!(self.attribute, Attribute::Unverified)
     }
 
-    /// Answers whether both sides proved that they hold the key.
+    /// Returns whether both sides proved that they hold the key.
     pub fn is_verified(&self) -> bool
         ensures { result ≡ is_verified (link_key self.now).attribute }
     {
@@ -199,7 +199,7 @@ pub fn boot_links(rows: &mut [LinkRow])
     }
 }
 
-/// Answers whether there is a row of that partner and key, in use or dropped.
+/// Returns whether there is a row of that partner and key, in use or dropped.
 pub fn has_row(rows: &[LinkRow], partner: Eui, key: &Key) -> bool
     ensures { result ≡ list_any (λ r. is_link partner.0 key.now.0 (link_key r)) rows.now }
 {
@@ -207,14 +207,14 @@ pub fn has_row(rows: &[LinkRow], partner: Eui, key: &Key) -> bool
         .any(|row| row.partner == partner && row.key == *key)
 }
 
-/// Answers whether a partner has a row in use.
+/// Returns whether a partner has a row in use.
 pub fn has_live(rows: &[LinkRow], partner: Eui) -> bool
     ensures { result ≡ list_any (λ r. is_live_of partner.0 (link_key r)) rows.now }
 {
     rows.iter().any(|row| row.live && row.partner == partner)
 }
 
-/// Answers whether a partner was told.
+/// Returns whether a partner was told.
 pub fn has_told(rows: &[LinkRow], partner: Eui) -> bool
     ensures { result ≡ list_any (λ r. is_live_of partner.0 (link_key r) && r.told) rows.now }
 {
@@ -222,7 +222,7 @@ pub fn has_told(rows: &[LinkRow], partner: Eui) -> bool
         .any(|row| row.live && row.partner == partner && row.told)
 }
 
-/// Answers the current row of a partner: its row in use that isn't only offered.
+/// Returns the current row of a partner: its row in use that isn't only offered.
 pub fn current_row<'a>(rows: &'a [LinkRow], partner: Eui) -> Option<&'a LinkRow>
     ensures { option_copied result ≡ find (λ r. is_live_of partner.0 (link_key r)
         && not (is_unverified (link_key r).attribute)) rows.now }
@@ -230,7 +230,7 @@ pub fn current_row<'a>(rows: &'a [LinkRow], partner: Eui) -> Option<&'a LinkRow>
     rows.iter().find(|row| row.live && row.partner.0 == partner.0 && !row.is_unverified())
 }
 
-/// Answers the offered row of a partner: its unverified row in use.
+/// Returns the offered row of a partner: its unverified row in use.
 pub fn offered_row<'a>(rows: &'a [LinkRow], partner: Eui) -> Option<&'a LinkRow>
     ensures { option_copied result ≡ find (λ r. is_live_of partner.0 (link_key r)
         && is_unverified (link_key r).attribute) rows.now }
@@ -238,7 +238,7 @@ pub fn offered_row<'a>(rows: &'a [LinkRow], partner: Eui) -> Option<&'a LinkRow>
     rows.iter().find(|row| row.live && row.partner.0 == partner.0 && row.is_unverified())
 }
 
-/// Answers the first row in use of a partner.
+/// Returns the first row in use of a partner.
 pub fn live_row<'a>(rows: &'a [LinkRow], partner: Eui) -> Option<&'a LinkRow>
     ensures { option_copied result ≡ find (λ r. is_live_of partner.0 (link_key r)) rows.now }
 {
@@ -246,7 +246,7 @@ pub fn live_row<'a>(rows: &'a [LinkRow], partner: Eui) -> Option<&'a LinkRow>
         .find(|row| row.live && row.partner.0 == partner.0)
 }
 
-/// Answers the first row with that key of another partner.
+/// Returns the first row with that key of another partner.
 pub fn other_row<'a>(rows: &'a [LinkRow], partner: Eui, key: &Key) -> Option<&'a LinkRow>
     ensures { option_copied result ≡ find (λ r. same_key (link_key r).key key.now.0
         && not (nat_eq (link_key r).partner partner.0)) rows.now }
@@ -264,7 +264,7 @@ pub fn hear_link(rows: &mut [LinkRow], partner: Eui, key: &Key, kept: u32)
     }
 }
 
-/// Answers how many link keys a node may hold.
+/// Returns how many link keys a node may hold.
 pub fn link_room(role: Role) -> usize
     ensures { result ≡ most_links (model_role role) }
 {

@@ -16,10 +16,10 @@ use std::alloc::Global;
 use zb_base::{Key, OrMemory};
 use zb_cursor::{Reader, has_bit};
 
-/// Holds a network key of a record.
+/// A network key of a record.
 ///
-/// Key 16, sequence 1, flags 1 (bit 0 live, bit 1 started), limit 4. In the first version the flags are live alone, and
-/// there is no limit.
+/// Key 16, sequence 1, flags 1 (bit 0 live, bit 1 started), limit 4. In the first version the flags are live alone,
+/// and there is no limit.
 #[derive(Debug, Drop)]
 pub struct NetRecord {
     /// The key.
@@ -32,18 +32,18 @@ pub struct NetRecord {
     pub started: bool,
     /// Its outgoing counters below this one are reserved.
     pub limit: u32,
-    /// The floors under it, which stand behind all network keys; none under a dropped one.
+    /// The floors under it, which stand after all network keys; none under a dropped one.
     pub floors: ArrayVec<SenderRecord, 64>,
 }
 
-/// Whether there is a row of that key.
+/// Returns whether there is a row of that key.
 fn has_key(rows: &[NetRecord], key: &Key) -> bool
     ensures { result ≡ list_any (λ r. same_key (net_seen r).key key.now.0) rows.now }
 {
     rows.iter().any(|row| row.key == *key)
 }
 
-/// Whether no row has that key.
+/// Returns whether no row has that key.
 #[tactic(auto, using(crate::proofs::Lists::any_map))]
 fn is_new(rows: &[NetRecord], key: &Key) -> bool
     ensures { result ≡ is_new_net (map net_seen rows.now) key.now }
@@ -51,7 +51,7 @@ fn is_new(rows: &[NetRecord], key: &Key) -> bool
     !has_key(rows, key)
 }
 
-/// How many rows are live.
+/// Returns how many rows are live.
 fn count_live(rows: &[NetRecord]) -> usize
     ensures { result ≡ length (filter (λ r. (net_seen r).live) rows.now) }
 {
@@ -64,14 +64,14 @@ fn count_live(rows: &[NetRecord]) -> usize
     count
 }
 
-/// Whether there is room for another live row.
+/// Returns whether there is room for another live row.
 fn has_live_room(rows: &[NetRecord]) -> bool
     ensures { result ≡ nat_lt (lives (map net_seen rows.now)) 2 }
 {
     count_live(rows) < 2
 }
 
-/// A key that no row has.
+/// Returns a key that no row has.
 fn read_new_key(reader: &mut Reader<usize>, rows: &[NetRecord]) -> Result<Key, usize>
     ensures { Gives (λ k. k) result reader.new.rest.now
         (field key_at (is_new_net (map net_seen rows.now)) reader.old.rest.now) }
@@ -85,7 +85,7 @@ fn read_new_key(reader: &mut Reader<usize>, rows: &[NetRecord]) -> Result<Key, u
     }
 }
 
-/// How many values the flags have.
+/// Returns how many values the flags have.
 fn flag_values(version: Version) -> u8
     ensures { result ≡ net_flags version }
 {
@@ -96,7 +96,7 @@ fn flag_values(version: Version) -> u8
     }
 }
 
-/// Whether a row may be live or dropped as its flags say, which come behind those of these rows.
+/// Returns whether a row may be live or dropped as its flags say, which come after those of these rows.
 fn may_live(rows: &[NetRecord], active: u16, flags: u8) -> bool
     ensures { result ≡ (if bit flags 0 then nat_lt (lives (map net_seen rows.now)) 2
         else not (nat_eq active (length (map net_seen rows.now)))) }
@@ -108,7 +108,7 @@ fn may_live(rows: &[NetRecord], active: u16, flags: u8) -> bool
     }
 }
 
-/// The flags of a row.
+/// Returns the flags of a row.
 fn read_flags(
     reader: &mut Reader<usize>,
     version: Version,
@@ -127,14 +127,14 @@ fn read_flags(
     }
 }
 
-/// Whether the flags of a row are known, and may be those of the row behind these.
+/// Returns whether the flags of a row are known, and may be those of the row after these.
 fn flags_fit(version: Version, active: u16, rows: &[NetRecord], flags: u8) -> bool
     ensures { result ≡ net_flags_fit version active (map net_seen rows.now) flags }
 {
     flags < flag_values(version) && may_live(rows, active, flags)
 }
 
-/// Whether a row counts as started.
+/// Returns whether a row counts as started.
 fn is_started(version: Version, flags: u8) -> bool
     ensures { result ≡ is_started version flags }
 {
@@ -145,7 +145,7 @@ fn is_started(version: Version, flags: u8) -> bool
     }
 }
 
-/// The limit of a row that stands there: 0 where the row isn't started.
+/// Returns the limit of a row that stands there: 0 where the row isn't started.
 fn read_own_limit(reader: &mut Reader<usize>, started: bool) -> Result<u32, usize>
     ensures { Gives (λ n. n) result reader.new.rest.now
         (field (number_at w32) (allows_limit started) reader.old.rest.now) }
@@ -159,7 +159,7 @@ fn read_own_limit(reader: &mut Reader<usize>, started: bool) -> Result<u32, usiz
     }
 }
 
-/// The limit of a row.
+/// Returns the limit of a row.
 fn read_limit(
     reader: &mut Reader<usize>,
     version: Version,
@@ -175,7 +175,7 @@ fn read_limit(
     }
 }
 
-/// A network key, behind these rows. Its floors stand elsewhere.
+/// Returns a network key, after these rows. Its floors stand elsewhere.
 #[tactic(auto, unfolding(crate::specs::Rows::net_at))]
 fn read_net(
     reader: &mut Reader<usize>,

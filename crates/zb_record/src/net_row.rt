@@ -10,7 +10,7 @@ ghost use Rattle.zb_record.specs.Senders.{IsPlace, IsAbsent, HasRoom, live_floor
 use arrayvec::ArrayVec;
 use zb_base::{Eui, Key};
 
-/// Holds the floor of one sender under a network key.
+/// The floor of one sender under a network key.
 #[derive(Clone, Copy, Debug, Default, PartialEq, Eq)]
 pub struct SenderFloor {
     /// Whose frames.
@@ -21,10 +21,10 @@ pub struct SenderFloor {
     pub stored: u32,
 }
 
-/// Holds the floors under one network key, by ascending sender.
+/// The floors under one network key, by ascending sender.
 pub type Senders = ArrayVec<SenderFloor, 64>;
 
-/// Holds a network key with its counter and its floors.
+/// A network key with its counter and its floors.
 ///
 /// A row is never taken away: a dropped key is refused when it comes again.
 #[derive(Debug, Drop)]
@@ -160,7 +160,8 @@ impl NetRow {
     }
 }
 
-/// The place of a sender's floor among those by ascending sender: that of the first sender that isn't below it.
+/// Returns the place of a sender's floor among those by ascending sender: that of the first sender that isn't below
+/// it.
 fn place(floors: &[SenderFloor], sender: Eui) -> usize
     ensures { IsPlace floors.now sender.0 result }
 {
@@ -267,7 +268,7 @@ pub fn reserve_net(rows: &mut [NetRow], key: &Key, limit: u32)
     }
 }
 
-/// Gives all keys one limit.
+/// Returns all keys one limit.
 pub fn limit_nets(rows: &mut [NetRow], limit: u32)
     ensures { map net_key rows.new ≡ map (limited limit) (map net_key rows.old) }
 {
@@ -313,21 +314,21 @@ pub fn store_net(rows: &mut [NetRow], key: &Key, sender: Eui, value: u32)
     }
 }
 
-/// Answers whether there is a row of that key, in use or dropped.
+/// Returns whether there is a row of that key, in use or dropped.
 pub fn has_key(rows: &[NetRow], key: &Key) -> bool
     ensures { result ≡ list_any (λ r. same_key (net_key r).key key.now.0) rows.now }
 {
     rows.iter().any(|row| row.key == *key)
 }
 
-/// Answers the place of a key's row.
+/// Returns the place of a key's row.
 pub fn key_place(rows: &[NetRow], key: &Key) -> Option<usize>
     ensures { result ≡ position (λ r. same_key (net_key r).key key.now.0) rows.now }
 {
     rows.iter().position(|row| row.key == *key)
 }
 
-/// Answers the row of a key.
+/// Returns the row of a key.
 pub fn key_row<'a>(rows: &'a [NetRow], key: &Key) -> Option<&'a NetRow>
     ensures { option_copied result ≡ find (λ r. same_key (net_key r).key key.now.0) rows.now }
 {

@@ -13,7 +13,7 @@ use std::alloc::Global;
 use zb_base::{Eui, Key, OrMemory, Role};
 use zb_cursor::Reader;
 
-/// Holds a key of two devices of a record.
+/// A key of two devices of a record.
 ///
 /// First 8, second 8, key 16, live 1, which is 01.
 #[derive(Clone, Copy, Debug, PartialEq, Eq)]
@@ -26,7 +26,7 @@ pub struct PairRecord {
     pub key: Key,
 }
 
-/// Whether two devices have a key.
+/// Returns whether two devices have a key.
 fn has_pair(rows: &[PairRecord], first: Eui, second: Eui) -> bool
     ensures { result ≡ list_any (λ p. is_pair first.0 second.0 (pair_seen p)) rows.now }
 {
@@ -34,7 +34,7 @@ fn has_pair(rows: &[PairRecord], first: Eui, second: Eui) -> bool
         .any(|row| row.first.0 == first.0 && row.second.0 == second.0)
 }
 
-/// Whether two devices are in order, and have no key.
+/// Returns whether two devices are in order, and have no key.
 #[tactic(auto, using(crate::proofs::Lists::any_map))]
 fn is_new(rows: &[PairRecord], first: Eui, second: Eui) -> bool
     ensures { result ≡ is_new_pair (map pair_seen rows.now) first second }
@@ -42,7 +42,7 @@ fn is_new(rows: &[PairRecord], first: Eui, second: Eui) -> bool
     first.0 < second.0 && !has_pair(rows, first, second)
 }
 
-/// The second device of a pair.
+/// Returns the second device of a pair.
 fn read_second(reader: &mut Reader<usize>, rows: &[PairRecord], first: Eui) -> Result<Eui, usize>
     ensures { Gives (λ e. e) result reader.new.rest.now
         (field eui_at (is_new_pair (map pair_seen rows.now) first) reader.old.rest.now) }
@@ -56,7 +56,7 @@ fn read_second(reader: &mut Reader<usize>, rows: &[PairRecord], first: Eui) -> R
     }
 }
 
-/// The byte 01.
+/// Returns the byte 01.
 fn read_live(reader: &mut Reader<usize>) -> Result<u8, usize>
     ensures { Gives (λ b. b) result reader.new.rest.now (field byte_at is_one reader.old.rest.now) }
 {
@@ -65,7 +65,7 @@ fn read_live(reader: &mut Reader<usize>) -> Result<u8, usize>
     if live == 1 { Ok(live) } else { Err(left) }
 }
 
-/// A pair, behind these.
+/// Returns a pair, after these.
 #[tactic(auto, unfolding(crate::specs::Rows::pair_at))]
 fn read_pair(reader: &mut Reader<usize>, rows: &[PairRecord]) -> Result<PairRecord, usize>
     ensures { Gives pair_seen result reader.new.rest.now (pair_at (map pair_seen rows.now) reader.old.rest.now) }
@@ -79,7 +79,7 @@ fn read_pair(reader: &mut Reader<usize>, rows: &[PairRecord]) -> Result<PairReco
     Ok(PairRecord { first, second, key })
 }
 
-/// How many pairs a node may hold.
+/// Returns how many pairs a node may hold.
 fn pair_room(role: Role) -> u16
     ensures { result ≡ pairs_room (model_role role) }
 {
@@ -90,7 +90,7 @@ fn pair_room(role: Role) -> u16
     }
 }
 
-/// The number of pairs.
+/// Returns the number of pairs.
 fn read_count(reader: &mut Reader<usize>, role: Role) -> Result<u16, usize>
     ensures { Gives (λ n. n) result reader.new.rest.now
         (field (number_at w16) (has_pair_room (model_role role)) reader.old.rest.now) }
@@ -140,7 +140,7 @@ pub(crate) fn read_pairs(
     }
 }
 
-/// The pairs with their number.
+/// Returns the pairs with their number.
 #[tactic(auto, unfolding(crate::specs::Rows::all_pairs_at))]
 fn read_all(
     alloc: Global,

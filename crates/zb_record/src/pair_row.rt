@@ -7,7 +7,7 @@ ghost use Rattle.zb_model.specs.State.{names, names_two};
 
 use zb_base::{Eui, Key};
 
-/// Holds a key of two devices.
+/// A key of two devices.
 #[derive(Clone, Copy, Debug, PartialEq, Eq)]
 pub struct Pair {
     /// The device with the smaller address.
@@ -18,7 +18,7 @@ pub struct Pair {
     pub key: Key,
 }
 
-/// Answers whether two devices have a key.
+/// Returns whether two devices have a key.
 pub fn has_pair(pairs: &[Pair], a: Eui, b: Eui) -> bool
     ensures { result ≡ list_any (λ p. names_two a.0 b.0 (pair_key p)) pairs.now }
 {
@@ -37,7 +37,7 @@ pub fn drop_pairs(pairs: &mut Vec<Pair>, device: Eui)
     pairs.retain(|pair| !(pair.first.0 == device.0 || pair.second.0 == device.0));
 }
 
-/// Answers the row of two devices.
+/// Returns the row of two devices.
 pub fn pair_row<'a>(pairs: &'a [Pair], a: Eui, b: Eui) -> Option<&'a Pair>
     ensures { option_copied result ≡ find (λ p. names_two a.0 b.0 (pair_key p)) pairs.now }
 {

@@ -9,7 +9,7 @@ use crate::writing::put;
 use zb_base::{Attribute, Eui, Key, Layer, Rollover, State};
 use zb_node_types::{Change, Changes};
 
-/// The byte of a layer.
+/// Returns the byte of a layer.
 fn layer_byte(layer: Layer) -> u8
     ensures { result ≡ layer_byte (model_layer layer) }
 {
@@ -19,7 +19,7 @@ fn layer_byte(layer: Layer) -> u8
     }
 }
 
-/// Answers the byte of an attribute.
+/// Returns the byte of an attribute.
 pub(crate) fn attribute_byte(attribute: Attribute) -> u8
     ensures { result ≡ attribute_byte (model_attribute attribute) }
 {
@@ -30,7 +30,7 @@ pub(crate) fn attribute_byte(attribute: Attribute) -> u8
     }
 }
 
-/// Answers the byte of a state.
+/// Returns the byte of a state.
 pub(crate) fn state_byte(state: State) -> u8
     ensures { result ≡ state_byte (model_state state) }
 {
@@ -45,7 +45,7 @@ pub(crate) fn state_byte(state: State) -> u8
     }
 }
 
-/// Answers the byte of a rollover.
+/// Returns the byte of a rollover.
 pub(crate) fn rollover_byte(rollover: Rollover) -> u8
     ensures { result ≡ worth 1 (is_sending rollover) }
 {
@@ -55,7 +55,7 @@ pub(crate) fn rollover_byte(rollover: Rollover) -> u8
     }
 }
 
-/// A kind and a key.
+/// Returns a kind and a key.
 fn put_key(into: &mut [u8], at: usize, kind: u8, key: &Key) -> usize
     requires { at + length (kind ∷ key.now.0) ≤ length into.old }
     ensures { Writes into.old into.new at result (kind ∷ key.now.0) }
@@ -64,7 +64,7 @@ fn put_key(into: &mut [u8], at: usize, kind: u8, key: &Key) -> usize
     put(into, at, &key.0)
 }
 
-/// A kind and an address.
+/// Returns a kind and an address.
 fn put_eui(into: &mut [u8], at: usize, kind: u8, eui: Eui) -> usize
     requires { at + length (kind ∷ eight_bytes eui.0) ≤ length into.old }
     ensures { Writes into.old into.new at result (kind ∷ eight_bytes eui.0) }
@@ -73,7 +73,7 @@ fn put_eui(into: &mut [u8], at: usize, kind: u8, eui: Eui) -> usize
     put(into, at, &eui.0.to_le_bytes())
 }
 
-/// A kind, a key and a number.
+/// Returns a kind, a key and a number.
 fn put_key_number(into: &mut [u8], at: usize, kind: u8, key: &Key, value: u32) -> usize
     requires { at + length (kind ∷ key.now.0 ++ four_bytes value) ≤ length into.old }
     ensures { Writes into.old into.new at result (kind ∷ key.now.0 ++ four_bytes value) }
@@ -83,7 +83,7 @@ fn put_key_number(into: &mut [u8], at: usize, kind: u8, key: &Key, value: u32) -
     put(into, at, &value.to_le_bytes())
 }
 
-/// A kind, a partner and a key.
+/// Returns a kind, a partner and a key.
 fn put_eui_key(into: &mut [u8], at: usize, kind: u8, partner: Eui, key: &Key) -> usize
     requires { at + length (kind ∷ eight_bytes partner.0 ++ key.now.0) ≤ length into.old }
     ensures { Writes into.old into.new at result (kind ∷ eight_bytes partner.0 ++ key.now.0) }
@@ -93,7 +93,7 @@ fn put_eui_key(into: &mut [u8], at: usize, kind: u8, partner: Eui, key: &Key) ->
     put(into, at, &key.0)
 }
 
-/// A reservation.
+/// Returns a reservation.
 fn put_reserve(into: &mut [u8], at: usize, layer: Layer, limit: u32) -> usize
     requires { at + length (1 ∷ layer_byte (model_layer layer) ∷ four_bytes limit) ≤ length into.old }
     ensures { Writes into.old into.new at result (1 ∷ layer_byte (model_layer layer) ∷ four_bytes limit) }
@@ -102,7 +102,7 @@ fn put_reserve(into: &mut [u8], at: usize, layer: Layer, limit: u32) -> usize
     put(into, at, &limit.to_le_bytes())
 }
 
-/// A floor.
+/// Returns a floor.
 fn put_floor(into: &mut [u8], at: usize, layer: Layer, key: &Key, sender: Eui, value: u32) -> usize
     requires { at + length (2 ∷ layer_byte (model_layer layer) ∷ key.now.0
         ++ (eight_bytes sender.0 ++ four_bytes value)) ≤ length into.old }
@@ -113,7 +113,7 @@ fn put_floor(into: &mut [u8], at: usize, layer: Layer, key: &Key, sender: Eui, v
     put_eui_number(into, at, sender, value)
 }
 
-/// The beginning of a floor: its kind, layer and key.
+/// Returns the beginning of a floor: its kind, layer and key.
 fn put_layer_key(into: &mut [u8], at: usize, layer: Layer, key: &Key) -> usize
     requires { at + length (2 ∷ layer_byte (model_layer layer) ∷ key.now.0) ≤ length into.old }
     ensures { Writes into.old into.new at result (2 ∷ layer_byte (model_layer layer) ∷ key.now.0) }
@@ -139,7 +139,7 @@ pub(crate) fn put_number64(into: &mut [u8], at: usize, number: u64) -> usize
     put(into, at, &number.to_le_bytes())
 }
 
-/// A number of 4 bytes.
+/// Returns a number of 4 bytes.
 fn put_number32(into: &mut [u8], at: usize, number: u32) -> usize
     requires { at + 4 ≤ length into.old }
     ensures { Writes into.old into.new at result (four_bytes number) }
@@ -147,7 +147,7 @@ fn put_number32(into: &mut [u8], at: usize, number: u32) -> usize
     put(into, at, &number.to_le_bytes())
 }
 
-/// A new network key.
+/// Returns a new network key.
 fn put_install(into: &mut [u8], at: usize, key: &Key, sequence: u8) -> usize
     requires { at + length (5 ∷ key.now.0 ++ sequence ∷ []) ≤ length into.old }
     ensures { Writes into.old into.new at result (5 ∷ key.now.0 ++ sequence ∷ []) }
@@ -156,7 +156,7 @@ fn put_install(into: &mut [u8], at: usize, key: &Key, sequence: u8) -> usize
     put(into, at, &[sequence])
 }
 
-/// A link key.
+/// Returns a link key.
 fn put_row(into: &mut [u8], at: usize, partner: Eui, key: &Key, attribute: Attribute) -> usize
     requires { at + length (7 ∷ eight_bytes partner.0
         ++ (key.now.0 ++ attribute_byte (model_attribute attribute) ∷ [])) ≤ length into.old }
@@ -167,7 +167,7 @@ fn put_row(into: &mut [u8], at: usize, partner: Eui, key: &Key, attribute: Attri
     put(into, at, &[attribute_byte(attribute)])
 }
 
-/// A key of two devices.
+/// Returns a key of two devices.
 fn put_pair(into: &mut [u8], at: usize, first: Eui, second: Eui, key: &Key) -> usize
     requires { at + length (0x0f ∷ eight_bytes first.0 ++ (eight_bytes second.0 ++ key.now.0)) ≤ length into.old }
     ensures { Writes into.old into.new at result (0x0f ∷ eight_bytes first.0 ++ (eight_bytes second.0 ++ key.now.0)) }
@@ -177,7 +177,7 @@ fn put_pair(into: &mut [u8], at: usize, first: Eui, second: Eui, key: &Key) -> u
     put(into, at, &key.0)
 }
 
-/// A kind and a byte.
+/// Returns a kind and a byte.
 fn put_byte(into: &mut [u8], at: usize, kind: u8, byte: u8) -> usize
     requires { at + 2 ≤ length into.old }
     ensures { Writes into.old into.new at result (kind ∷ byte ∷ []) }
@@ -185,7 +185,7 @@ fn put_byte(into: &mut [u8], at: usize, kind: u8, byte: u8) -> usize
     put(into, at, &[kind, byte])
 }
 
-/// A change; a draw is nothing.
+/// Returns a change; a draw is nothing.
 #[tactic(auto, unfolding(zb_model::specs::Record::edit_bytes))]
 fn put_change(into: &mut [u8], at: usize, change: &Change) -> usize
     requires { at + length (edit_bytes (edit change.now)) ≤ length into.old }
@@ -220,7 +220,7 @@ fn put_change(into: &mut [u8], at: usize, change: &Change) -> usize
     }
 }
 
-/// How many changes are stored: all but draws.
+/// Returns how many changes are stored: all but draws.
 fn count_stored(changes: &[Change]) -> u8
     requires { length changes.now ≤ 16 }
     ensures { result ≡ length (filter is_stored (edits changes.now)) }
@@ -234,14 +234,14 @@ fn count_stored(changes: &[Change]) -> u8
     count
 }
 
-/// Whether a change is stored.
+/// Returns whether a change is stored.
 fn is_stored(change: &Change) -> bool
     ensures { result ≡ is_stored (edit change.now) }
 {
     !matches!(*change, Change::Draw { key: _ })
 }
 
-/// Changes, one behind the other.
+/// Changes, one after the other.
 fn put_changes(into: &mut [u8], at: usize, changes: &[Change]) -> usize
     requires { at + length (flat_map edit_bytes (edits changes.now)) ≤ length into.old }
     ensures { Writes into.old into.new at result (flat_map edit_bytes (edits changes.now)) }
@@ -253,7 +253,7 @@ fn put_changes(into: &mut [u8], at: usize, changes: &[Change]) -> usize
     end
 }
 
-/// Writes the payload of changes that are stored together, and answers its length.
+/// Writes the payload of changes that are stored together, and returns its length.
 ///
 /// Requires room for it. A payload of more than `PAYLOAD_ROOM` bytes has no place in a journal.
 #[tactic(auto, unfolding(zb_model::specs::Record::payload))]

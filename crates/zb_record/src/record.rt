@@ -20,7 +20,7 @@ use std::alloc::Global;
 use zb_base::{OrMemory, Role, Rollover, State};
 use zb_cursor::Reader;
 
-/// Holds what a record says of its node first.
+/// What a record says of its node first.
 #[derive(Clone, Copy, Debug, PartialEq, Eq)]
 pub struct Node {
     /// The version of the record.
@@ -31,7 +31,7 @@ pub struct Node {
     pub state: State,
 }
 
-/// Holds what stands in a record before its rows.
+/// What stands in a record before its rows.
 #[derive(Clone, Copy, Debug, PartialEq, Eq)]
 pub struct Head {
     /// The node.
@@ -48,7 +48,7 @@ pub struct Head {
     pub active: u16,
 }
 
-/// Holds what is read of a record.
+/// What is read of a record.
 #[derive(Debug, Drop)]
 pub struct Record {
     /// What stands before the rows.
@@ -61,21 +61,21 @@ pub struct Record {
     pub pairs: Vec<PairRecord>,
 }
 
-/// Whether a node may have a state: the centre has the first one alone.
+/// Returns whether a node may have a state: the centre has the first one alone.
 fn may_enter(role: Role, state: State) -> bool
     ensures { result ≡ may_enter role state }
 {
     !matches!(role, Role::Centre) || matches!(state, State::Fresh)
 }
 
-/// Whether a node may have a rollover: the centre alone sends.
+/// Returns whether a node may have a rollover: the centre alone sends.
 fn may_roll(role: Role, rolling: Rollover) -> bool
     ensures { result ≡ may_roll role rolling }
 {
     matches!(rolling, Rollover::Idle) || matches!(role, Role::Centre)
 }
 
-/// The state of a node.
+/// Returns the state of a node.
 fn read_its_state(reader: &mut Reader<usize>, role: Role) -> Result<State, usize>
     ensures { Gives (λ s. s) result reader.new.rest.now (field state_at (may_enter role) reader.old.rest.now) }
 {
@@ -88,7 +88,7 @@ fn read_its_state(reader: &mut Reader<usize>, role: Role) -> Result<State, usize
     }
 }
 
-/// The rollover of a node.
+/// Returns the rollover of a node.
 fn read_its_rollover(reader: &mut Reader<usize>, role: Role) -> Result<Rollover, usize>
     ensures { Gives (λ r. r) result reader.new.rest.now (field rollover_at (may_roll role) reader.old.rest.now) }
 {
@@ -101,7 +101,7 @@ fn read_its_rollover(reader: &mut Reader<usize>, role: Role) -> Result<Rollover,
     }
 }
 
-/// The node.
+/// Returns the node.
 #[tactic(auto, unfolding(crate::specs::Records::node_at))]
 fn read_node(reader: &mut Reader<usize>) -> Result<Node, usize>
     ensures { Gives (λ n. n) result reader.new.rest.now (node_at reader.old.rest.now) }
@@ -118,7 +118,7 @@ fn read_node(reader: &mut Reader<usize>) -> Result<Node, usize>
     })
 }
 
-/// The number of network keys: 256 at most.
+/// Returns the number of network keys: 256 at most.
 fn read_count(reader: &mut Reader<usize>) -> Result<u16, usize>
     ensures { Gives (λ n. n) result reader.new.rest.now (field (number_at w16) has_net_room reader.old.rest.now) }
 {
@@ -127,7 +127,7 @@ fn read_count(reader: &mut Reader<usize>) -> Result<u16, usize>
     if count <= 256 { Ok(count) } else { Err(left) }
 }
 
-/// The place of the active one of so many network keys.
+/// Returns the place of the active one of so many network keys.
 fn read_place(reader: &mut Reader<usize>, nets: u16) -> Result<u16, usize>
     ensures { Gives (λ n. n) result reader.new.rest.now (field (number_at w16) (is_place nets) reader.old.rest.now) }
 {
@@ -140,7 +140,7 @@ fn read_place(reader: &mut Reader<usize>, nets: u16) -> Result<u16, usize>
     }
 }
 
-/// What stands between the node and the rows.
+/// Returns what stands between the node and the rows.
 #[tactic(auto, unfolding(crate::specs::Records::head_at))]
 fn read_head(reader: &mut Reader<usize>, node: Node) -> Result<Head, usize>
     ensures { Gives (λ h. h) result reader.new.rest.now (head_at node reader.old.rest.now) }
@@ -162,7 +162,7 @@ fn read_head(reader: &mut Reader<usize>, node: Node) -> Result<Head, usize>
     })
 }
 
-/// A call's answer as one that may lack memory.
+/// Returns a call's answer as one that may lack memory.
 fn or_memory<T: Drop>(answer: Result<T, usize>) -> Result<T, OrMemory<usize>>
     ensures { result ≡ without_memory answer }
 {
@@ -172,7 +172,7 @@ fn or_memory<T: Drop>(answer: Result<T, usize>) -> Result<T, OrMemory<usize>>
     }
 }
 
-/// The network keys with their floors.
+/// Returns the network keys with their floors.
 #[tactic(auto, unfolding(crate::specs::Records::nets_at))]
 fn read_net_part(
     alloc: Global,
@@ -195,7 +195,7 @@ fn read_net_part(
     }
 }
 
-/// The record at the front.
+/// Returns the record at the start.
 #[tactic(auto, unfolding(crate::specs::Records::record_at))]
 fn read_front(alloc: Global, reader: &mut Reader<usize>) -> Result<Record, OrMemory<usize>>
     ensures { Answers record_seen result reader.new.rest.now (record_at reader.old.rest.now) }
@@ -215,7 +215,8 @@ fn read_front(alloc: Global, reader: &mut Reader<usize>) -> Result<Record, OrMem
 
 /// Reads a record of version 1, 2 or 3, which is all of the bytes.
 ///
-/// Errors: the number of bytes from the first one of the first field that isn't whole or breaks a rule to the end,
+/// # Errors
+/// The number of bytes from the first one of the first field that isn't whole or breaks a rule to the end,
 /// where a rule over several fields is broken by the last of them. `NoMemory` where memory is short.
 #[tactic(auto, unfolding(crate::specs::Records::record_read))]
 pub fn read_record(alloc: Global, bytes: &[u8]) -> Result<Record, OrMemory<usize>>

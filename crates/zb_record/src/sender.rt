@@ -12,7 +12,7 @@ use arrayvec::ArrayVec;
 use zb_base::Eui;
 use zb_cursor::Reader;
 
-/// Holds the floor of a sender of a record: its address 8, its stored floor 4.
+/// The floor of a sender of a record: its address 8, its stored floor 4.
 #[derive(Clone, Copy, Debug, Default, PartialEq, Eq)]
 pub struct SenderRecord {
     /// Whose frames.
@@ -21,14 +21,14 @@ pub struct SenderRecord {
     pub stored: u32,
 }
 
-/// Whether a sender is above all of these.
+/// Returns whether a sender is above all of these.
 fn is_above(floors: &[SenderRecord], sender: Eui) -> bool
     ensures { result ≡ list_all (λ f. nat_lt (sender_seen f).sender sender.0) floors.now }
 {
     floors.iter().all(|floor| floor.sender.0 < sender.0)
 }
 
-/// Whether a sender may stand behind these.
+/// Returns whether a sender may stand after these.
 #[tactic(auto, using(crate::proofs::Lists::all_seen))]
 fn is_last(floors: &[SenderRecord], sender: Eui) -> bool
     ensures { result ≡ is_last (map sender_seen floors.now) sender }
@@ -36,7 +36,7 @@ fn is_last(floors: &[SenderRecord], sender: Eui) -> bool
     is_above(floors, sender)
 }
 
-/// A sender behind these.
+/// Returns a sender after these.
 fn read_address(reader: &mut Reader<usize>, floors: &[SenderRecord]) -> Result<Eui, usize>
     ensures { Gives (λ e. e) result reader.new.rest.now
         (field eui_at (is_last (map sender_seen floors.now)) reader.old.rest.now) }
@@ -50,7 +50,7 @@ fn read_address(reader: &mut Reader<usize>, floors: &[SenderRecord]) -> Result<E
     }
 }
 
-/// A floor, which isn't 0.
+/// Returns a floor, which isn't 0.
 fn read_stored(reader: &mut Reader<usize>) -> Result<u32, usize>
     ensures { Gives (λ n. n) result reader.new.rest.now (field (number_at w32) isnt_zero reader.old.rest.now) }
 {
@@ -59,7 +59,7 @@ fn read_stored(reader: &mut Reader<usize>) -> Result<u32, usize>
     if 0 < stored { Ok(stored) } else { Err(left) }
 }
 
-/// The floor of a sender behind these.
+/// Returns the floor of a sender after these.
 #[tactic(auto, unfolding(crate::specs::Rows::sender_at))]
 fn read_sender(reader: &mut Reader<usize>, floors: &[SenderRecord]) -> Result<SenderRecord, usize>
     ensures { Gives sender_seen result reader.new.rest.now
@@ -84,7 +84,7 @@ fn read_senders(reader: &mut Reader<usize>, count: u8) -> Result<ArrayVec<Sender
     Ok(floors)
 }
 
-/// How many floors there are: 64 at most.
+/// Returns how many floors there are: 64 at most.
 fn read_count(reader: &mut Reader<usize>) -> Result<u8, usize>
     ensures exact { Gives (λ n. n) result reader.new.rest.now (field byte_at has_few reader.old.rest.now) }
     ensures few { IfOk result (λ n. n ≤ 64) }
@@ -94,7 +94,7 @@ fn read_count(reader: &mut Reader<usize>) -> Result<u8, usize>
     if count <= 64 { Ok(count) } else { Err(left) }
 }
 
-/// The floors under a network key.
+/// Returns the floors under a network key.
 #[tactic(auto, unfolding(crate::specs::Rows::floors_at))]
 fn read_floors(reader: &mut Reader<usize>) -> Result<ArrayVec<SenderRecord, 64>, usize>
     ensures { Gives (λ v. map sender_seen v.items) result reader.new.rest.now (floors_at reader.old.rest.now) }
@@ -104,7 +104,7 @@ fn read_floors(reader: &mut Reader<usize>) -> Result<ArrayVec<SenderRecord, 64>,
     Ok(floors)
 }
 
-/// The floors under a network key, if it is live.
+/// Returns the floors under a network key, if it is live.
 fn read_live_floors(reader: &mut Reader<usize>, row: &mut NetRecord) -> Result<(), usize>
     ensures { Gives (λ done. net_seen row.new) result reader.new.rest.now
         (live_floors_at (net_seen row.old) reader.old.rest.now) }

@@ -31,7 +31,7 @@ pub(crate) fn read_version(reader: &mut Reader<usize>) -> Result<Version, usize>
     }
 }
 
-/// Answers the version that the first byte of a record says, if it is one.
+/// Returns the version that the first byte of a record says, if it is one.
 pub fn version_of(bytes: &[u8]) -> Option<Version>
     ensures { result ≡ record_version bytes.now }
 {

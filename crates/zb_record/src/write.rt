@@ -15,7 +15,7 @@ use crate::payload::{attribute_byte, put_eui_number, put_number64, rollover_byte
 use crate::writing::{put, worth};
 use zb_base::{Key, Role, Rollover, State};
 
-/// Holds what stands in a record before its rows, as it is written.
+/// What stands in a record before its rows, as it is written.
 #[derive(Clone, Copy, Debug, PartialEq, Eq)]
 pub struct Heading {
     /// The part that the node plays.
@@ -32,7 +32,7 @@ pub struct Heading {
     pub active: Option<Key>,
 }
 
-/// Answers the byte of a role.
+/// Returns the byte of a role.
 pub fn role_byte(role: Role) -> u8
     ensures { result ≡ role_byte (model_role role) }
 {
@@ -68,7 +68,7 @@ fn put_nets(into: &mut [u8], at: usize, rows: &[NetRow]) -> usize
     end
 }
 
-/// A sender's floor: its address 8, its stored floor 4.
+/// Returns a sender's floor: its address 8, its stored floor 4.
 fn put_sender(into: &mut [u8], at: usize, floor: &SenderFloor) -> usize
     requires { at + 12 ≤ length into.old }
     ensures writes { Writes into.old into.new at result (sender_bytes (heard_floor floor.now)) }
@@ -90,7 +90,7 @@ fn put_senders(into: &mut [u8], at: usize, floors: &[SenderFloor]) -> usize
     end
 }
 
-/// The floors under a network key: their number 1, and each of them.
+/// Returns the floors under a network key: their number 1, and each of them.
 fn put_floors(into: &mut [u8], at: usize, floors: &Senders) -> usize
     requires { at + 769 ≤ length into.old }
     ensures writes { Writes into.old into.new at result (length floors.now.items
@@ -101,7 +101,7 @@ fn put_floors(into: &mut [u8], at: usize, floors: &Senders) -> usize
     put_senders(into, at, floors.as_slice())
 }
 
-/// The floors of a network key, if it is in use.
+/// Returns the floors of a network key, if it is in use.
 fn put_live_floors(into: &mut [u8], at: usize, row: &NetRow) -> usize
     requires { at + 769 ≤ length into.old }
     ensures writes { Writes into.old into.new at result (if (net_key row.now).live
@@ -115,7 +115,7 @@ fn put_live_floors(into: &mut [u8], at: usize, row: &NetRow) -> usize
     }
 }
 
-/// The floors of the network keys in use, of which there are two at most.
+/// Returns the floors of the network keys in use, of which there are two at most.
 fn put_all_floors(into: &mut [u8], at: usize, rows: &[NetRow]) -> usize
     requires few { length (filter (λ r. (net_key r).live) rows.now) ≤ 2 }
     requires room { at + 2307 ≤ length into.old }
@@ -130,7 +130,7 @@ fn put_all_floors(into: &mut [u8], at: usize, rows: &[NetRow]) -> usize
     end
 }
 
-/// A link key: partner 8, key 16, attribute 1, flags 1 (bit 0 live, bit 1 from a code, bit 2 told), floor 4.
+/// Returns a link key: partner 8, key 16, attribute 1, flags 1 (bit 0 live, bit 1 from a code, bit 2 told), floor 4.
 fn put_link(into: &mut [u8], at: usize, row: &LinkRow) -> usize
     requires { at + 30 ≤ length into.old }
     ensures writes { Writes into.old into.new at result (link_bytes (link_key row.now)) }
@@ -142,7 +142,7 @@ fn put_link(into: &mut [u8], at: usize, row: &LinkRow) -> usize
     put(into, at, &row.floor.stored.to_le_bytes())
 }
 
-/// The partner and the key of a link key.
+/// Returns the partner and the key of a link key.
 fn put_partner_key(into: &mut [u8], at: usize, row: &LinkRow) -> usize
     requires { at + 24 ≤ length into.old }
     ensures writes { Writes into.old into.new at result (eight_bytes row.now.partner.0 ++ row.now.key.0) }
@@ -152,7 +152,7 @@ fn put_partner_key(into: &mut [u8], at: usize, row: &LinkRow) -> usize
     put(into, at, &row.key.0)
 }
 
-/// The link keys.
+/// Returns the link keys.
 fn put_links(into: &mut [u8], at: usize, rows: &[LinkRow]) -> usize
     requires { at + 30 * length rows.now ≤ length into.old }
     ensures writes { Writes into.old into.new at result (flat_map link_bytes (map link_key rows.now)) }
@@ -165,7 +165,7 @@ fn put_links(into: &mut [u8], at: usize, rows: &[LinkRow]) -> usize
     end
 }
 
-/// A key of two devices: first 8, second 8, key 16, live 1, which is 01.
+/// Returns a key of two devices: first 8, second 8, key 16, live 1, which is 01.
 fn put_pair(into: &mut [u8], at: usize, pair: &Pair) -> usize
     requires { at + 33 ≤ length into.old }
     ensures writes { Writes into.old into.new at result (pair_bytes (pair_key pair.now)) }
@@ -175,7 +175,7 @@ fn put_pair(into: &mut [u8], at: usize, pair: &Pair) -> usize
     put_second(into, at, pair)
 }
 
-/// The second device and the key of a pair, which is in use.
+/// Returns the second device and the key of a pair, which is in use.
 fn put_second(into: &mut [u8], at: usize, pair: &Pair) -> usize
     requires { at + 25 ≤ length into.old }
     ensures writes { Writes into.old into.new at result (eight_bytes pair.now.second.0 ++ (pair.now.key.0 ++ 1 ∷ [])) }
@@ -185,7 +185,7 @@ fn put_second(into: &mut [u8], at: usize, pair: &Pair) -> usize
     put_key_live(into, at, &pair.key)
 }
 
-/// A key that is in use.
+/// Returns a key that is in use.
 fn put_key_live(into: &mut [u8], at: usize, key: &Key) -> usize
     requires { at + 17 ≤ length into.old }
     ensures writes { Writes into.old into.new at result (key.now.0 ++ 1 ∷ []) }
@@ -195,7 +195,7 @@ fn put_key_live(into: &mut [u8], at: usize, key: &Key) -> usize
     put(into, at, &[1])
 }
 
-/// The keys of pairs of devices.
+/// Returns the keys of pairs of devices.
 fn put_pairs(into: &mut [u8], at: usize, pairs: &[Pair]) -> usize
     requires { at + 33 * length pairs.now ≤ length into.old }
     ensures writes { Writes into.old into.new at result (flat_map pair_bytes (map pair_key pairs.now)) }
@@ -208,7 +208,7 @@ fn put_pairs(into: &mut [u8], at: usize, pairs: &[Pair]) -> usize
     end
 }
 
-/// Answers the place of the active network key among the rows; 65,535 where there is none.
+/// Returns the place of the active network key among the rows; 65,535 where there is none.
 fn key_number(rows: &[NetRow], key: &Key) -> u16
     requires { length rows.now ≤ 65535 }
     ensures { result ≡ place_from 0 key.now.0 (map net_key rows.now) }
@@ -222,7 +222,7 @@ fn key_number(rows: &[NetRow], key: &Key) -> u16
 }
 
 impl Heading {
-    /// Answers the place of the active network key; 65,535 where none is active.
+    /// Returns the place of the active network key; 65,535 where none is active.
     fn active_number(&self, nets: &[NetRow]) -> u16
         requires { length nets.now ≤ 65535 }
         ensures { result ≡ place_in self.now.active nets.now }
@@ -317,7 +317,7 @@ fn put_number(into: &mut [u8], at: usize, number: u16) -> usize
     put(into, at, &number.to_le_bytes())
 }
 
-/// Writes the record of a node with this heading and these rows, and answers its length.
+/// Writes the record of a node with this heading and these rows, and returns its length.
 ///
 /// Requires at most 256 network keys, of which two are in use, 1,024 link keys and 256 pairs, and `RECORD_ROOM` bytes.
 /// The next APS counter isn't recorded, so the record is the same whatever it is.

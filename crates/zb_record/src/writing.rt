@@ -1,8 +1,8 @@
-//! Writing fields into a buffer, one behind the other.
+//! Writing fields into a buffer, one after the other.
 ghost use Rattle.std.specs.Prelude.{◌≡◌, ◌+◌, ◌≤◌, ◌++◌, length, take};
 ghost use Rattle.zb_model.specs.Record.{worth};
 
-/// Writes a piece at a place, and answers the place behind it.
+/// Writes a piece at a place, and returns the place after it.
 pub(crate) fn put(into: &mut [u8], at: usize, piece: &[u8]) -> usize
     requires { at + length piece.now ≤ length into.old }
     ensures front { take result into.new ≡ take at into.old ++ piece.now }
@@ -13,7 +13,7 @@ pub(crate) fn put(into: &mut [u8], at: usize, piece: &[u8]) -> usize
     end
 }
 
-/// Answers what a bit of a flags byte is worth.
+/// Returns what a bit of a flags byte is worth.
 pub(crate) fn worth(bit: u8, set: bool) -> u8
     ensures value { result ≡ worth bit set }
     ensures small { result ≤ bit }

@@ -6,7 +6,7 @@ ghost use Rattle.zb_model.specs.OwnEvents.{is_unfinished, is_waiting, least, nex
 use zb_base::{Eui, Rollover};
 use zb_keys::{LinkRow, Tables};
 
-/// Answers the device that is sent the new network key next.
+/// Returns the device that is sent the new network key next.
 ///
 /// It is that of the smallest address among the live ones that weren't sent it.
 pub fn next_member(tables: &Tables) -> Option<Eui>
@@ -15,7 +15,7 @@ pub fn next_member(tables: &Tables) -> Option<Eui>
     least_waiting(tables.links())
 }
 
-/// The smallest address of a device with a row that waits.
+/// Returns the smallest address of a device with a row that waits.
 fn least_waiting(rows: &[LinkRow]) -> Option<Eui>
     ensures { option_map (λ e. e.0) result
         ≡ fold (λ best r. least best r.partner) None (filter is_waiting (map link_key rows.now)) }
@@ -27,7 +27,7 @@ fn least_waiting(rows: &[LinkRow]) -> Option<Eui>
     best
 }
 
-/// The smallest address so far and that of a row, if it waits.
+/// Returns the smallest address so far and that of a row, if it waits.
 fn with_row(best: Option<Eui>, row: &LinkRow) -> Option<Eui>
     ensures { option_map (λ e. e.0) result
         ≡ (if is_waiting (link_key row.now)
@@ -40,7 +40,7 @@ fn with_row(best: Option<Eui>, row: &LinkRow) -> Option<Eui>
     }
 }
 
-/// The smaller one of two addresses, if there is a first.
+/// Returns the smaller one of two addresses, if there is a first.
 fn lesser(best: Option<Eui>, other: Eui) -> Eui
     ensures { Some result.0 ≡ least (option_map (λ e. e.0) best) other.0 }
 {
@@ -50,7 +50,7 @@ fn lesser(best: Option<Eui>, other: Eui) -> Eui
     }
 }
 
-/// Answers whether the network may switch: outside a rollover, and in one that reached every live device.
+/// Returns whether the network may switch: outside a rollover, and in one that reached every live device.
 #[tactic(auto, unfolding(zb_model::specs::OwnEvents::is_unfinished))]
 pub fn may_switch(tables: &Tables) -> bool
     ensures { result ≡ not (is_unfinished tables.now) }

@@ -1,4 +1,4 @@
--- The tasks of the policy that an event of a router stands for.
+-- The tasks of the policy that an event of a router represents.
 use Rattle.std.specs.Prelude.{◌≡◌}
 use Rattle.zb_device.specs.Tasks as device
 use Rattle.zb_model.specs.Data.{Task, HasChild}

@@ -2,7 +2,7 @@
 use zb_base::Eui;
 use zb_device::DeviceEvent;
 
-/// Says what happens to a router.
+/// What happens to a router.
 #[derive(Drop)]
 pub enum RouterEvent {
     /// What happens to a device too.

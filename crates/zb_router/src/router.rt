@@ -99,7 +99,7 @@ impl Core for Router {
 }
 
 impl Router {
-    /// Answers what the router has: its network, tables and base keys.
+    /// Returns what the router has: its network, tables and base keys.
     pub fn node(&self) -> &NodeCore
         ensures { result.now ≡ self.now }
     {

@@ -1,4 +1,4 @@
--- Looking for a row from the end, and behind a test.
+-- Looking for a row from the end, and after a test.
 use Rattle.std.proofs.Common.{◌≡◌, ℕ, List, [], ◌∷◌, ◌++◌, map, refl, sym, ap, ◌∙◌, append-nil, Bool, true, false, if◌then◌else◌, ◌&&◌, Option, Some, None}
 use Rattle.std.specs.Prelude.{filter, find, nat_eq, option_map, reverse}
 use Rattle.std.specs.List.{list_any}

@@ -11,7 +11,7 @@ use crate::nets::net_of;
 use zb_base::{Key, Layer};
 use zb_keys::{NetRow, Tables};
 
-/// Answers the counter of the next frame that is sealed at a layer.
+/// Returns the counter of the next frame that is sealed at a layer.
 ///
 /// At NWK it is that of the active row, or the declared start while no row is active.
 pub fn next_counter(tables: &Tables, layer: Layer) -> u32
@@ -20,14 +20,14 @@ pub fn next_counter(tables: &Tables, layer: Layer) -> u32
     tables.outgoing(layer, 1).next
 }
 
-/// Answers the limit up to which counters of a layer are stored.
+/// Returns the limit up to which counters of a layer are stored.
 pub fn stored_limit(tables: &Tables, layer: Layer) -> u32
     ensures { result ≡ stored_limit (model_layer layer) tables.now }
 {
     tables.outgoing(layer, 1).limit
 }
 
-/// Answers whether the counter of a layer stands at its end.
+/// Returns whether the counter of a layer stands at its end.
 #[tactic(auto, unfolding(zb_model::specs::Rules::spent))]
 pub fn is_spent(tables: &Tables, layer: Layer) -> bool
     ensures { result ≡ spent (model_layer layer) tables.now }
@@ -35,7 +35,7 @@ pub fn is_spent(tables: &Tables, layer: Layer) -> bool
     next_counter(tables, layer) >= u32::MAX
 }
 
-/// Answers whether the counter of one of the two layers stands at its end.
+/// Returns whether the counter of one of the two layers stands at its end.
 #[tactic(auto, unfolding(zb_model::specs::Rules::both_spent))]
 pub fn is_any_spent(tables: &Tables) -> bool
     ensures { result ≡ both_spent tables.now }
@@ -43,7 +43,7 @@ pub fn is_any_spent(tables: &Tables) -> bool
     is_spent(tables, Layer::Nwk) || is_spent(tables, Layer::Aps)
 }
 
-/// Answers the first counter of a network key that becomes active for the first time.
+/// Returns the first counter of a network key that becomes active for the first time.
 ///
 /// It is 0 where the counter has passed half of its range, else where the counter stands.
 pub fn first_counter(tables: &Tables) -> u32
@@ -53,14 +53,14 @@ pub fn first_counter(tables: &Tables) -> u32
     if next >= 2147483648 { 0 } else { next }
 }
 
-/// Answers whether a network key has a row that was ever active.
+/// Returns whether a network key has a row that was ever active.
 pub fn has_started(tables: &Tables, key: &Key) -> bool
     ensures { result ≡ is_started_key tables.now key.now.0 }
 {
     is_started(net_of(tables, key))
 }
 
-/// Answers whether there is a row, and it was ever active.
+/// Returns whether there is a row, and it was ever active.
 fn is_started(row: Option<&NetRow>) -> bool
     ensures { result ≡ row_is_started (option_map net_key (option_copied row.entry)) }
 {

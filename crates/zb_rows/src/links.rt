@@ -18,14 +18,14 @@ use zb_base::{Attribute, Eui, Key, Role};
 use zb_keys::{LinkRow, Pair, Tables};
 use zb_record::link_row::{has_live, has_told, link_room, live_row, other_row};
 
-/// Answers the row of a partner and a key, in use or dropped.
+/// Returns the row of a partner and a key, in use or dropped.
 pub fn link_of<'a>(tables: &'a Tables, partner: Eui, key: &Key) -> Option<&'a LinkRow>
     ensures { option_map link_key (option_copied result) ≡ find (is_link partner.0 key.now.0) tables.now.links }
 {
     row_of(tables.links(), partner, key)
 }
 
-/// Answers which of these rows is that of a partner and a key.
+/// Returns which of these rows is that of a partner and a key.
 fn row_of<'a>(rows: &'a [LinkRow], partner: Eui, key: &Key) -> Option<&'a LinkRow>
     ensures { option_copied result ≡ find (λ r. is_link partner.0 key.now.0 (link_key r)) rows.now }
 {
@@ -33,14 +33,14 @@ fn row_of<'a>(rows: &'a [LinkRow], partner: Eui, key: &Key) -> Option<&'a LinkRo
         .find(|row| row.partner.0 == partner.0 && row.key == *key)
 }
 
-/// Answers the first row in use of a partner.
+/// Returns the first row in use of a partner.
 pub fn live_link(tables: &Tables, partner: Eui) -> Option<&LinkRow>
     ensures { option_map link_key (option_copied result) ≡ find (is_live_of partner.0) tables.now.links }
 {
     live_row(tables.links(), partner)
 }
 
-/// Answers the current row of a partner, if it is verified.
+/// Returns the current row of a partner, if it is verified.
 pub fn verified_current(tables: &Tables, partner: Eui) -> Option<&LinkRow>
     ensures { option_map link_key (option_copied result) ≡ verified_current tables.now partner.0 }
 {
@@ -50,14 +50,14 @@ pub fn verified_current(tables: &Tables, partner: Eui) -> Option<&LinkRow>
     }
 }
 
-/// Answers the row of the node's own install code: the first one of the centre that comes from a code.
+/// Returns the row of the node's own install code: the first one of the centre that comes from a code.
 pub fn code_row(tables: &Tables, centre: Eui) -> Option<&LinkRow>
     ensures { option_map link_key (option_copied result) ≡ code_row tables.now centre.0 }
 {
     row_with_code(tables.links(), centre)
 }
 
-/// Answers the first of these rows that is of a partner and from a code.
+/// Returns the first of these rows that is of a partner and from a code.
 fn row_with_code<'a>(rows: &'a [LinkRow], partner: Eui) -> Option<&'a LinkRow>
     ensures { option_copied result ≡ find (λ r. nat_eq (link_key r).partner partner.0 && (link_key r).code) rows.now }
 {
@@ -65,21 +65,21 @@ fn row_with_code<'a>(rows: &'a [LinkRow], partner: Eui) -> Option<&'a LinkRow>
         .find(|row| row.partner.0 == partner.0 && row.code)
 }
 
-/// Answers the row of another partner, in use or dropped, that has a key.
+/// Returns the row of another partner, in use or dropped, that has a key.
 pub fn other_user<'a>(tables: &'a Tables, partner: Eui, key: &Key) -> Option<&'a LinkRow>
     ensures { option_map link_key (option_copied result) ≡ other_user tables.now partner.0 key.now.0 }
 {
     other_row(tables.links(), partner, key)
 }
 
-/// Answers whether a partner has a row of a key, in use or dropped.
+/// Returns whether a partner has a row of a key, in use or dropped.
 pub fn has_link(tables: &Tables, partner: Eui, key: &Key) -> bool
     ensures { result ≡ has_link partner.0 key.now.0 tables.now.links }
 {
     has_row(tables.links(), partner, key)
 }
 
-/// Answers whether one of these rows is that of a partner and a key.
+/// Returns whether one of these rows is that of a partner and a key.
 #[tactic(auto, using(zb_keys::proofs::Mapping::any_map))]
 fn has_row(rows: &[LinkRow], partner: Eui, key: &Key) -> bool
     ensures { result ≡ has_link partner.0 key.now.0 (map link_key rows.now) }
@@ -87,21 +87,21 @@ fn has_row(rows: &[LinkRow], partner: Eui, key: &Key) -> bool
     zb_record::link_row::has_row(rows, partner, key)
 }
 
-/// Answers whether a row of whatever partner, in use or dropped, has a key.
+/// Returns whether a row of whatever partner, in use or dropped, has a key.
 pub fn uses_key(tables: &Tables, key: &Key) -> bool
     ensures { result ≡ key_is_used tables.now key.now.0 }
 {
     is_used(tables.links(), key)
 }
 
-/// Answers whether one of these rows has a key.
+/// Returns whether one of these rows has a key.
 fn is_used(rows: &[LinkRow], key: &Key) -> bool
     ensures { result ≡ list_any (λ r. same_key (link_key r).key key.now.0) rows.now }
 {
     rows.iter().any(|row| row.key == *key)
 }
 
-/// Answers a key of the supply, unless a row of the node has it already.
+/// Returns a key of the supply, unless a row of the node has it already.
 pub fn unless_held(tables: &Tables, draw: Option<Key>) -> Option<Key>
     ensures { option_map (λ k. k.0) result ≡ unless_held tables.now (option_map (λ k. k.0) draw) }
 {
@@ -117,14 +117,14 @@ pub fn unless_held(tables: &Tables, draw: Option<Key>) -> Option<Key>
     }
 }
 
-/// Answers whether a row of the node has a key.
+/// Returns whether a row of the node has a key.
 fn is_held(tables: &Tables, key: &Key) -> bool
     ensures { result ≡ (has_net key.now.0 tables.now.nets || key_is_used tables.now key.now.0) }
 {
     has_net(tables, key) || uses_key(tables, key)
 }
 
-/// Answers whether a device is live: it has a row in use.
+/// Returns whether a device is live: it has a row in use.
 #[tactic(auto, unfolding(zb_model::specs::State::is_live))]
 pub fn is_live(tables: &Tables, partner: Eui) -> bool
     ensures { result ≡ is_live tables.now partner.0 }
@@ -132,7 +132,7 @@ pub fn is_live(tables: &Tables, partner: Eui) -> bool
     has_live_row(tables.links(), partner)
 }
 
-/// Answers whether one of these rows is in use and of a partner.
+/// Returns whether one of these rows is in use and of a partner.
 #[tactic(auto, using(zb_keys::proofs::Mapping::any_map))]
 fn has_live_row(rows: &[LinkRow], partner: Eui) -> bool
     ensures { result ≡ list_any (is_live_of partner.0) (map link_key rows.now) }
@@ -140,21 +140,21 @@ fn has_live_row(rows: &[LinkRow], partner: Eui) -> bool
     has_live(rows, partner)
 }
 
-/// Answers whether a partner has a row, in use or dropped.
+/// Returns whether a partner has a row, in use or dropped.
 pub fn is_known(tables: &Tables, partner: Eui) -> bool
     ensures { result ≡ is_known tables.now partner.0 }
 {
     has_row_of(tables.links(), partner)
 }
 
-/// Answers whether one of these rows is of a partner.
+/// Returns whether one of these rows is of a partner.
 fn has_row_of(rows: &[LinkRow], partner: Eui) -> bool
     ensures { result ≡ list_any (λ r. nat_eq (link_key r).partner partner.0) rows.now }
 {
     rows.iter().any(|row| row.partner.0 == partner.0)
 }
 
-/// Answers whether a partner was told: it was sent the newest network key.
+/// Returns whether a partner was told: it was sent the newest network key.
 #[tactic(auto, unfolding(zb_model::specs::State::is_told))]
 pub fn is_told(tables: &Tables, partner: Eui) -> bool
     ensures { result ≡ is_told tables.now partner.0 }
@@ -162,7 +162,7 @@ pub fn is_told(tables: &Tables, partner: Eui) -> bool
     has_told_row(tables.links(), partner)
 }
 
-/// Answers whether one of these rows is in use, of a partner, and told.
+/// Returns whether one of these rows is in use, of a partner, and told.
 #[tactic(auto, using(zb_keys::proofs::Mapping::any_map))]
 fn has_told_row(rows: &[LinkRow], partner: Eui) -> bool
     ensures { result ≡ list_any (λ r. is_live_of partner.0 r && r.told) (map link_key rows.now) }
@@ -170,14 +170,14 @@ fn has_told_row(rows: &[LinkRow], partner: Eui) -> bool
     has_told(rows, partner)
 }
 
-/// Answers whether a partner's key is in use and has an attribute already: a row of it would change nothing.
+/// Returns whether a partner's key is in use and has an attribute already: a row of it would change nothing.
 pub fn has_row_as(tables: &Tables, partner: Eui, key: &Key, attribute: Attribute) -> bool
     ensures { not result ≡ changes tables.now (Row partner.0 key.now.0 (model_attribute attribute)) }
 {
     has_that_row(tables.links(), partner, key, attribute)
 }
 
-/// Answers whether one of these rows is that of a partner and a key, in use with an attribute.
+/// Returns whether one of these rows is that of a partner and a key, in use with an attribute.
 fn has_that_row(rows: &[LinkRow], partner: Eui, key: &Key, attribute: Attribute) -> bool
     ensures { result ≡ list_any (λ r. is_row_as partner.0 key.now.0 (model_attribute attribute) (link_key r)) rows.now }
 {
@@ -185,7 +185,7 @@ fn has_that_row(rows: &[LinkRow], partner: Eui, key: &Key, attribute: Attribute)
         .any(|row| is_row_as(row, partner, key, attribute))
 }
 
-/// Answers whether it is the row of a partner and a key, in use with an attribute.
+/// Returns whether it is the row of a partner and a key, in use with an attribute.
 fn is_row_as(row: &LinkRow, partner: Eui, key: &Key, attribute: Attribute) -> bool
     ensures { result ≡ is_row_as partner.0 key.now.0 (model_attribute attribute) (link_key row.now) }
 {
@@ -194,7 +194,7 @@ fn is_row_as(row: &LinkRow, partner: Eui, key: &Key, attribute: Attribute) -> bo
         && attribute_byte(row.attribute) == attribute_byte(attribute)
 }
 
-/// Answers the byte of an attribute.
+/// Returns the byte of an attribute.
 fn attribute_byte(attribute: Attribute) -> u8
     ensures { result ≡ attribute_byte (model_attribute attribute) }
 {
@@ -205,28 +205,28 @@ fn attribute_byte(attribute: Attribute) -> u8
     }
 }
 
-/// Answers whether there is no room for another link key.
+/// Returns whether there is no room for another link key.
 pub fn links_full(tables: &Tables) -> bool
     ensures { result ≡ links_full tables.now }
 {
     are_many(tables.links(), tables.role())
 }
 
-/// Answers whether these are as many rows as a node of that role may have.
+/// Returns whether these are as many rows as a node of that role may have.
 fn are_many(rows: &[LinkRow], role: Role) -> bool
     ensures { result ≡ nat_le (most_links (model_role role)) (length (map link_key rows.now)) }
 {
     rows.len() >= link_room(role)
 }
 
-/// Answers whether there is no room for another pair.
+/// Returns whether there is no room for another pair.
 pub fn pairs_full(tables: &Tables) -> bool
     ensures { result ≡ pairs_full tables.now }
 {
     are_many_pairs(tables.pairs())
 }
 
-/// Answers whether these are as many pairs as there may be.
+/// Returns whether these are as many pairs as there may be.
 fn are_many_pairs(pairs: &[Pair]) -> bool
     ensures { result ≡ nat_le most_pairs (length (map pair_key pairs.now)) }
 {

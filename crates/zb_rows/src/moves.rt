@@ -55,14 +55,14 @@ fn add_drops(rows: &[LinkRow], partner: Eui, spared: Option<Key>, changes: &mut 
     }
 }
 
-/// Answers whether it is a row in use of a partner, and not that of the key that is spared.
+/// Returns whether it is a row in use of a partner, and not that of the key that is spared.
 fn goes(row: &LinkRow, partner: Eui, spared: Option<Key>) -> bool
     ensures { result ≡ goes partner.0 (option_map (λ k. k.0) spared) (link_key row.now) }
 {
     row.is_live_of(partner) && !is_spared(spared, &row.key)
 }
 
-/// Answers whether there is a key that is spared, and it is that one.
+/// Returns whether there is a key that is spared, and it is that one.
 fn is_spared(spared: Option<Key>, key: &Key) -> bool
     ensures { result ≡ is_spared (option_map (λ k. k.0) spared) key.now.0 }
 {
@@ -100,7 +100,7 @@ fn count_live(rows: &[NetRow]) -> usize
     count
 }
 
-/// Answers the first of these network keys that is in use and isn't the active one.
+/// Returns the first of these network keys that is in use and isn't the active one.
 fn idle_row(rows: &[NetRow], active: Option<Key>) -> Option<&NetRow>
     ensures { option_copied result ≡ find (λ r. (net_key r).live
         && not (is_active_key (option_map (λ k. k.0) active) (net_key r).key)) rows.now }

@@ -13,7 +13,7 @@ use zb_base::{Key, Role, State};
 use zb_keys::{NetRow, Tables};
 use zb_record::net_row::{has_key, key_row};
 
-/// Answers whether the node may use its network keys.
+/// Returns whether the node may use its network keys.
 ///
 /// A router or device that is new, knocks or is gone may not.
 pub fn may_use(tables: &Tables) -> bool
@@ -22,7 +22,7 @@ pub fn may_use(tables: &Tables) -> bool
     may_use_in(tables.role(), tables.state())
 }
 
-/// Answers whether a node of that role may use its network keys in that state.
+/// Returns whether a node of that role may use its network keys in that state.
 fn may_use_in(role: Role, state: State) -> bool
     ensures { result ≡ may_use_in (model_role role) (model_state state) }
 {
@@ -37,14 +37,14 @@ fn may_use_in(role: Role, state: State) -> bool
     }
 }
 
-/// Answers whether it is the role of the centre.
+/// Returns whether it is the role of the centre.
 pub(crate) fn is_centre(role: Role) -> bool
     ensures { result ≡ is_centre (model_role role) }
 {
     matches!(role, Role::Centre)
 }
 
-/// Answers the active row, where the node may use it.
+/// Returns the active row, where the node may use it.
 #[tactic(auto, unfolding(zb_model::specs::State::usable_active))]
 pub fn usable_active(tables: &Tables) -> Option<&NetRow>
     ensures { option_map net_key (option_copied result) ≡ usable_active tables.now }
@@ -56,14 +56,14 @@ pub fn usable_active(tables: &Tables) -> Option<&NetRow>
     }
 }
 
-/// Answers the newest row in use with a sequence number.
+/// Returns the newest row in use with a sequence number.
 pub fn live_of(tables: &Tables, sequence: u8) -> Option<&NetRow>
     ensures { option_map net_key (option_copied result) ≡ live_of tables.now sequence }
 {
     live_row(tables.nets(), sequence)
 }
 
-/// Answers the newest of these rows that is in use and has a sequence number.
+/// Returns the newest of these rows that is in use and has a sequence number.
 fn live_row(rows: &[NetRow], sequence: u8) -> Option<&NetRow>
     ensures { option_copied result ≡ last_where (λ r. (net_key r).live
         && nat_eq (net_key r).sequence sequence) rows.now }
@@ -73,7 +73,7 @@ fn live_row(rows: &[NetRow], sequence: u8) -> Option<&NetRow>
         .find(|row| row.live && row.sequence == sequence)
 }
 
-/// Answers the newest row with a sequence number that the node may use.
+/// Returns the newest row with a sequence number that the node may use.
 pub fn usable_of(tables: &Tables, sequence: u8) -> Option<&NetRow>
     ensures { option_map net_key (option_copied result) ≡ usable_of tables.now sequence }
 {
@@ -84,21 +84,21 @@ pub fn usable_of(tables: &Tables, sequence: u8) -> Option<&NetRow>
     }
 }
 
-/// Answers the row of a network key, in use or dropped.
+/// Returns the row of a network key, in use or dropped.
 pub fn net_of<'a>(tables: &'a Tables, key: &Key) -> Option<&'a NetRow>
     ensures { option_map net_key (option_copied result) ≡ net_of key.now.0 tables.now }
 {
     key_row(tables.nets(), key)
 }
 
-/// Answers whether a network key has a row, in use or dropped.
+/// Returns whether a network key has a row, in use or dropped.
 pub fn has_net(tables: &Tables, key: &Key) -> bool
     ensures { result ≡ has_net key.now.0 tables.now.nets }
 {
     has_row(tables.nets(), key)
 }
 
-/// Answers whether one of these rows is that of a key.
+/// Returns whether one of these rows is that of a key.
 #[tactic(auto, using(zb_keys::proofs::Mapping::any_map))]
 fn has_row(rows: &[NetRow], key: &Key) -> bool
     ensures { result ≡ has_net key.now.0 (map net_key rows.now) }
@@ -106,14 +106,14 @@ fn has_row(rows: &[NetRow], key: &Key) -> bool
     has_key(rows, key)
 }
 
-/// Answers whether a network key is that of the active row.
+/// Returns whether a network key is that of the active row.
 pub fn is_active_key(tables: &Tables, key: &Key) -> bool
     ensures { result ≡ is_active_key tables.now.active key.now.0 }
 {
     is_that_key(tables.active_key(), key)
 }
 
-/// Answers whether there is a key, and it is that one.
+/// Returns whether there is a key, and it is that one.
 pub(crate) fn is_that_key(active: Option<Key>, key: &Key) -> bool
     ensures { result ≡ is_active_key (option_map (λ k. k.0) active) key.now.0 }
 {
@@ -123,7 +123,7 @@ pub(crate) fn is_that_key(active: Option<Key>, key: &Key) -> bool
     }
 }
 
-/// Answers whether a network key that is taken in becomes active at once.
+/// Returns whether a network key that is taken in becomes active at once.
 ///
 /// It does in a node that waits for one, and where none is active.
 pub fn activates(tables: &Tables) -> bool
@@ -132,14 +132,14 @@ pub fn activates(tables: &Tables) -> bool
     waits_for_key(tables.state()) || has_none(tables.active_key())
 }
 
-/// Answers whether a node in that state waits for a network key.
+/// Returns whether a node in that state waits for a network key.
 fn waits_for_key(state: State) -> bool
     ensures { result ≡ waits_for_key (model_state state) }
 {
     matches!(state, State::Knocked | State::Rejoining)
 }
 
-/// Answers whether there is no key.
+/// Returns whether there is no key.
 fn has_none(key: Option<Key>) -> bool
     ensures { result ≡ is_none (option_map (λ k. k.0) key) }
 {
@@ -149,21 +149,21 @@ fn has_none(key: Option<Key>) -> bool
     }
 }
 
-/// Answers whether there is no room for another network key.
+/// Returns whether there is no room for another network key.
 pub fn nets_full(tables: &Tables) -> bool
     ensures { result ≡ nets_full tables.now }
 {
     are_many(tables.nets())
 }
 
-/// Answers whether these are as many rows as there may be.
+/// Returns whether these are as many rows as there may be.
 fn are_many(rows: &[NetRow]) -> bool
     ensures { result ≡ nat_le most_nets (length (map net_key rows.now)) }
 {
     rows.len() >= 256
 }
 
-/// Answers the place of the dropped row of a network key, among all rows.
+/// Returns the place of the dropped row of a network key, among all rows.
 pub fn dropped_place(tables: &Tables, key: &Key) -> Option<u32>
     ensures { result ≡ dropped_at 0 key.now.0 tables.now.nets }
 {
@@ -174,7 +174,7 @@ pub fn dropped_place(tables: &Tables, key: &Key) -> Option<u32>
     }
 }
 
-/// Answers the place of the first of these rows that is dropped and has a key.
+/// Returns the place of the first of these rows that is dropped and has a key.
 fn dropped_row(rows: &[NetRow], key: &Key) -> Option<usize>
     ensures at { result ≡ dropped_at 0 key.now.0 (map net_key rows.now) }
     ensures within { IfSome result (λ i. i < length rows.now) }

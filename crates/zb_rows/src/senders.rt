@@ -6,7 +6,7 @@ ghost use Rattle.zb_model.specs.Judging.{senders_full};
 use zb_base::Eui;
 use zb_keys::{NetRow, SenderFloor, floor_of};
 
-/// Answers whether a row has no room for the floor that an accepted counter of a sender needs.
+/// Returns whether a row has no room for the floor that an accepted counter of a sender needs.
 ///
 /// The counter isn't below the stored floor, and there are floors of 64 others.
 pub fn is_full_for(row: &NetRow, sender: Eui, counter: u32) -> bool

@@ -1,4 +1,5 @@
--- What a rule of the program answers, as the model's outcome: a refusal, or an effect, which is changes and what is sent.
+-- What a rule of the program answers, as the model's outcome: a refusal, or an effect, which is changes and what is
+-- sent.
 use Rattle.std.specs.Prelude.{◌≡◌, ◌≤◌, ℕ, ⊤, List, map, length, Option, Some, None, option_map, Result, Ok, Err}
 use Rattle.zb_base.specs.declared.place.Place.{Place}
 use Rattle.zb_node_types.specs.declared.refusal.Refusal.{Refusal}

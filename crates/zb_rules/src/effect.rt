@@ -6,7 +6,7 @@ use zb_base::Short;
 use zb_node_types::Changes;
 use zb_send::{Body, Sending};
 
-/// Says what a rule does: the changes that it makes, without counters, and what it sends.
+/// What a rule does: the changes that it makes, without counters, and what it sends.
 #[derive(Debug, Drop)]
 pub struct Effect {
     /// The changes, in order. One that leaves a thing as it is may be among them.
@@ -15,7 +15,7 @@ pub struct Effect {
     pub sending: Option<Sending>,
 }
 
-/// Answers what sends a body to an address.
+/// Returns what sends a body to an address.
 ///
 /// `secured`: at the network layer.
 pub fn sending(to: Short, secured: bool, body: Body) -> Option<Sending>
@@ -25,7 +25,7 @@ pub fn sending(to: Short, secured: bool, body: Body) -> Option<Sending>
 }
 
 impl Effect {
-    /// Answers the effect that changes nothing and sends nothing.
+    /// Returns the effect that changes nothing and sends nothing.
     pub fn nothing() -> Effect
         ensures changes { result.changes.items ≡ [] }
         ensures sending { result.sending ≡ None }
@@ -36,7 +36,7 @@ impl Effect {
         }
     }
 
-    /// Answers the effect that makes these changes and sends nothing.
+    /// Returns the effect that makes these changes and sends nothing.
     pub fn of_changes(changes: Changes) -> Effect
         ensures changes { result.changes ≡ changes }
         ensures sending { result.sending ≡ None }
@@ -47,7 +47,7 @@ impl Effect {
         }
     }
 
-    /// Answers the effect that sends a body to an address and changes nothing.
+    /// Returns the effect that sends a body to an address and changes nothing.
     ///
     /// `secured`: at the network layer.
     pub fn of_sending(to: Short, secured: bool, body: Body) -> Effect

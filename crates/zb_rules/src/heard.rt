@@ -33,14 +33,14 @@ impl Heard {
     ghost use Rattle.zb_record.specs.RowViews.{link_key};
     ghost use Rattle.zb_rules.specs.Hearing.{heard_of};
 
-    /// Answers whether the command wasn't secured at APS.
+    /// Returns whether the command wasn't secured at APS.
     pub fn is_clear(&self) -> bool
         ensures { result ≡ is_clear (heard_of self.now) }
     {
         matches!(self, Heard::Clear { .. })
     }
 
-    /// Answers whether the command was sealed with that label.
+    /// Returns whether the command was sealed with that label.
     pub fn is_sealed_for(&self, label: Label) -> bool
         ensures { result ≡ labelled (model_label label) (heard_of self.now).label }
     {
@@ -50,14 +50,14 @@ impl Heard {
         }
     }
 
-    /// Answers whether the command was not secured at APS, or sealed for data.
+    /// Returns whether the command was not secured at APS, or sealed for data.
     pub fn is_clear_or_data(&self) -> bool
         ensures { result ≡ clear_or_data (heard_of self.now) }
     {
         self.is_clear() || self.is_sealed_for(Label::Data)
     }
 
-    /// Answers the source of the NWK layer, where that was secured.
+    /// Returns the source of the NWK layer, where that was secured.
     pub fn nwk_source(&self) -> Option<Eui>
         ensures { option_map (λ e. e.0) result ≡ (heard_of self.now).nwk_source }
     {
@@ -67,14 +67,14 @@ impl Heard {
         }
     }
 
-    /// Answers whether the NWK layer was secured.
+    /// Returns whether the NWK layer was secured.
     pub fn is_nwk_secured(&self) -> bool
         ensures { result ≡ nwk_secured (heard_of self.now) }
     {
         self.nwk_source().is_some()
     }
 
-    /// Answers the source of the sealed layer: that of APS, else that of NWK.
+    /// Returns the source of the sealed layer: that of APS, else that of NWK.
     pub fn sender(&self) -> Eui
         ensures { result.0 ≡ (heard_of self.now).sender }
     {
@@ -84,21 +84,21 @@ impl Heard {
         }
     }
 
-    /// Answers whether the sealed layer's source is the centre.
+    /// Returns whether the sealed layer's source is the centre.
     pub fn is_from_centre(&self, network: &Network) -> bool
         ensures { result ≡ from_centre network.now (heard_of self.now).sender }
     {
         network.from_centre(self.sender())
     }
 
-    /// Answers whether the sealed layer's source is declared as a router.
+    /// Returns whether the sealed layer's source is declared as a router.
     pub fn is_from_router(&self, network: &Network) -> bool
         ensures { result ≡ acts_as_router network.now (heard_of self.now).sender }
     {
         network.acts_as_router(self.sender())
     }
 
-    /// Answers whether that row's key is the one that opened the command.
+    /// Returns whether that row's key is the one that opened the command.
     pub fn is_under(&self, row: Option<&LinkRow>) -> bool
         ensures { result ≡ row_is (heard_of self.now).row (option_map link_key (option_copied row.entry)) }
     {

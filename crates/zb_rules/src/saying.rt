@@ -13,14 +13,14 @@ use zb_node_types::Refusal;
 use zb_rows::{is_spent, usable_active};
 use zb_send::{Body, Payload};
 
-/// Answers whether a node in that state waits to be let in again.
+/// Returns whether a node in that state waits to be let in again.
 pub fn is_rejoining(state: State) -> bool
     ensures { result ≡ in_rejoining (model_state state) }
 {
     matches!(state, State::Rejoining)
 }
 
-/// Says application data to a short address: a data frame, without APS security.
+/// Reports application data to a short address: a data frame, without APS security.
 ///
 /// # Errors
 /// No key without a usable active network key; wrong state in rejoining; the NWK counter is spent.

@@ -1,4 +1,4 @@
--- What is asked of the program's entries is asked of what they stand for.
+-- What is asked of the program's entries is asked of what they represent.
 use Rattle.std.proofs.Common.{◌≡◌, ℕ, ◌<◌, ◌≤◌, ◌&&◌, ◌||◌, not, nat_lt, zero, suc, arith, List, [], ◌∷◌, Bool, true, false, cond, map, find, length, get_or, set, Option, Some, None, refl, ap}
 use Rattle.std.specs.Prelude.{position}
 use Rattle.std.specs.List.{list_any, AllByRecursion, position_or_len}
@@ -34,7 +34,7 @@ pub other_link_seats : (key name : Bytes) (es : List Entry) → AllByRecursion I
 other_link_seats key name [] linked = refl
 other_link_seats key name (e ∷ es) linked = rw (linked.0, other_link_seats key name es linked.1) refl
 
--- the first entry of a name, replaced by one that stands for its seat changed
+-- the first entry of a name, replaced by one that represents its seat changed
 entry_here : (name : Bytes) (change : Seat → Seat) (es : List Entry) (i : ℕ) (d e : Entry) → i < length es → has_name name (seat_of (get_or es i d)) ≡ true
     → ((k : ℕ) → k < i → has_name name (seat_of (get_or es k d)) ≡ false) → seat_of e ≡ change (seat_of (get_or es i d))
     → map seat_of (set es i e) ≡ changed name change (map seat_of es)

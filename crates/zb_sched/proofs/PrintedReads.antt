@@ -28,7 +28,7 @@ use Rattle.zb_sched.proofs.Leads.{Leads, item_by_item, leads_from, leads_to, one
 use Rattle.zb_sched.proofs.Lists.{all_map, all_of}
 use Rattle.zb_sched.proofs.Splits.{Others, both_all, mapped_all, all_before, all_behind, changed_there, column, no_key, no_such_key, none_of_both, none_passes, one_of, other_bytes, other_number, related, role_there, same_bytes}
 
--- ---- what is known of a node behind the lines of each kind
+-- ---- what is known of a node after the lines of each kind
 
 abbrev bare : Node → Seat
 bare m = new_seat m.name m.role m.eui m.short m.out_block m.in_block

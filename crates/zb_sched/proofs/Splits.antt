@@ -8,7 +8,7 @@ use Rattle.zb_sched_line.specs.Said.{Bytes}
 use Rattle.zb_sched.specs.Judge.{Seat, changed, has_name, is_key, role_named}
 use Rattle.zb_sched.specs.Valid.{Pairwise, Differ}
 
--- what holds of all items holds of those before one, of that one, and of those behind it
+-- what holds of all items holds of those before one, of that one, and of those after it
 pub all_before : {X : Type 0} (P : X → Type 0) (done todo : List X) → AllByRecursion P (done ++ todo) → AllByRecursion P done
 all_before P [] todo all = tt
 all_before P (d ∷ done) todo all = (all.0, all_before P done todo all.1)

@@ -1,4 +1,4 @@
--- What the program's unfinished schedule stands for.
+-- What the program's unfinished schedule represents.
 use Rattle.std.specs.Prelude.{◌≡◌, List, map, Bool, Option, find}
 use Rattle.std.specs.Option.{option_map}
 use Rattle.zb_base.specs.declared.node.Role.{Role}

@@ -4,7 +4,7 @@ use Rattle.zb_base.specs.declared.fault.Failed.{Failed}
 use Rattle.zb_base.specs.declared.fault.OrMemory.{OrMemory}
 use Rattle.zb_base.specs.declared.fault.OrMemory.TheVariants.{Fault, NoMemory}
 
--- Whether the sink failed. Want of memory is no fault of the sink.
+-- Whether the sink failed. Out of memory is no fault of the sink.
 abbrev pub write_fault : Result Unit (OrMemory Failed) → Result Unit Failed
 write_fault (Ok done) = Ok done
 write_fault (Err (Fault failed)) = Err failed

@@ -93,7 +93,7 @@ abbrev pub starting : Layer → ℕ → Seat → Seat
 starting Nwk limit seat = record { node = record seat.node { start_nwk = limit }; nwk_declared = true; aps_declared = seat.aps_declared }
 starting Aps limit seat = record { node = record seat.node { start_aps = limit }; nwk_declared = seat.nwk_declared; aps_declared = true }
 
--- ---- declarations, of which none stands behind an event
+-- ---- declarations, of which none stands after an event
 
 abbrev pub has_begun : Seen → Bool
 has_begun seen = not (length seen.events == 0)

@@ -39,7 +39,7 @@ abbrev pub numbered : ℕ → Result Seen SchedCause → (Seen → Result Schedu
 numbered number (Err cause) go_on = Err (record { line = number; cause = cause })
 numbered number (Ok seen) go_on = go_on seen
 
--- The schedule of the lines from the one of that number on. Without a centre, the fault is behind the last line.
+-- The schedule of the lines from the one of that number on. Without a centre, the fault is after the last line.
 abbrev pub reads : ℕ → Seen → List (List ℕ) → Result Schedule SchedError
 reads number seen [] = if has_centre seen.seats then Ok (finished seen) else Err (record { line = number; cause = NoCentre })
 reads number seen (line ∷ more) = numbered number (after_line seen line) (λ next. reads (number + 1) next more)

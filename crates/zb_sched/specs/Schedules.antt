@@ -27,7 +27,7 @@ pub record Schedule : Type 0 where
   pub draws : List Bytes
   pub events : List Event
 
--- The node and the schedule that the program's values stand for.
+-- The node and the schedule that the program's values represent.
 abbrev pub node_of : CodeNode → Node
 node_of node = record {
   name = node.peer.name.bytes;

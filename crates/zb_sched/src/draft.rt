@@ -23,7 +23,7 @@ use zb_base::{Key, Layer, List, Name, OrMemory, Peer, Role};
 use zb_install::InstallCode;
 use zb_sched_line::{Event, Line, read_line};
 
-/// Is a schedule so far.
+/// A schedule so far.
 #[derive(Drop)]
 pub struct Draft {
     entries: Vec<Entry>,
@@ -125,7 +125,7 @@ impl Draft {
             || key.0 == WELL_KNOWN
     }
 
-    /// Answers whether the centre was declared.
+    /// Returns whether the centre was declared.
     pub fn has_centre(&self) -> bool
         ensures { result ≡ has_centre self.now.seats }
     {

@@ -13,7 +13,7 @@ use std::alloc::{AllocError, Global};
 use zb_base::{Key, Layer, Name, Peer, Role};
 use zb_install::InstallCode;
 
-/// Is a node so far, the link key of its install code, and which of its counters were declared.
+/// A node so far, the link key of its install code, and which of its counters were declared.
 #[derive(Drop)]
 pub struct Entry {
     /// The node.
@@ -26,7 +26,7 @@ pub struct Entry {
     pub aps_declared: bool,
 }
 
-/// Answers whether a node's name, EUI or short address is taken.
+/// Returns whether a node's name, EUI or short address is taken.
 pub fn is_taken(entries: &[Entry], peer: &Peer) -> bool
     ensures { result ≡ list_any
         (λ entry. clashes_with peer.now.name.bytes peer.now.eui.0 peer.now.short.0 (seat_of entry)) entries.now }
@@ -37,7 +37,7 @@ pub fn is_taken(entries: &[Entry], peer: &Peer) -> bool
     })
 }
 
-/// Answers where the node of a name stands.
+/// Returns where the node of a name stands.
 pub fn place(entries: &[Entry], name: &Name) -> Option<usize>
     ensures { result ≡ position (λ entry. has_name name.now.bytes (seat_of entry)) entries.now }
 {
@@ -46,7 +46,7 @@ pub fn place(entries: &[Entry], name: &Name) -> Option<usize>
         .position(|entry| entry.node.peer.name == *name)
 }
 
-/// Answers the part of the node of a name.
+/// Returns the part of the node of a name.
 pub fn role(entries: &[Entry], name: &Name) -> Option<Role>
     ensures { result ≡ role_among name.now.bytes entries.now }
 {
@@ -61,7 +61,7 @@ fn find<'a>(entries: &'a [Entry], name: &Name) -> Option<&'a Entry>
     entries.iter().find(|entry| entry.node.peer.name == *name)
 }
 
-/// Answers the part of the node of a name, which may stand at a guessed place.
+/// Returns the part of the node of a name, which may stand at a guessed place.
 pub fn role_near(entries: &[Entry], name: &Name, guess: usize) -> Option<Role>
     ensures { AreNamedApart (map seat_of entries.now) → result ≡ role_among name.now.bytes entries.now }
 {
@@ -71,7 +71,7 @@ pub fn role_near(entries: &[Entry], name: &Name, guess: usize) -> Option<Role>
     }
 }
 
-/// Answers whether the node of a name has an install code.
+/// Returns whether the node of a name has an install code.
 pub fn has_code(entries: &[Entry], name: &Name) -> bool
     ensures { result ≡ list_any
         (λ entry. has_name name.now.bytes (seat_of entry) && is_some (seat_of entry).node.code) entries.now }
@@ -79,7 +79,7 @@ pub fn has_code(entries: &[Entry], name: &Name) -> bool
     entries.iter().any(|entry| entry.node.peer.name == *name && entry.node.code.is_some())
 }
 
-/// Answers whether the node of a name holds a network key.
+/// Returns whether the node of a name holds a network key.
 pub fn has_network(entries: &[Entry], name: &Name) -> bool
     ensures { result ≡ list_any
         (λ entry. has_name name.now.bytes (seat_of entry) && is_some (seat_of entry).node.network) entries.now }
@@ -87,7 +87,7 @@ pub fn has_network(entries: &[Entry], name: &Name) -> bool
     entries.iter().any(|entry| entry.node.peer.name == *name && entry.node.network.is_some())
 }
 
-/// Answers whether a counter of the node of a name was declared.
+/// Returns whether a counter of the node of a name was declared.
 pub fn has_counter(entries: &[Entry], name: &Name, layer: Layer) -> bool
     ensures { result ≡ list_any
         (λ entry. has_name name.now.bytes (seat_of entry) && is_declared layer (seat_of entry)) entries.now }
@@ -95,14 +95,14 @@ pub fn has_counter(entries: &[Entry], name: &Name, layer: Layer) -> bool
     entries.iter().any(|entry| entry.node.peer.name == *name && entry.is_declared(layer))
 }
 
-/// Answers whether a key is the link key of a node.
+/// Returns whether a key is the link key of a node.
 pub fn is_link(entries: &[Entry], key: &Key) -> bool
     ensures { result ≡ list_any (λ entry. is_linked key.now.0 entry) entries.now }
 {
     entries.iter().any(|entry| entry.has_link(key))
 }
 
-/// Answers whether a key is the link key of a node of another name.
+/// Returns whether a key is the link key of a node of another name.
 pub fn is_link_of_other(entries: &[Entry], key: &Key, name: &Name) -> bool
     ensures { result ≡ list_any
         (λ entry. is_linked key.now.0 entry && not (has_name name.now.bytes (seat_of entry))) entries.now }
@@ -110,7 +110,7 @@ pub fn is_link_of_other(entries: &[Entry], key: &Key, name: &Name) -> bool
     entries.iter().any(|entry| entry.has_link(key) && entry.node.peer.name != *name)
 }
 
-/// Answers whether a key is the network key of a node.
+/// Returns whether a key is the network key of a node.
 pub fn is_network(entries: &[Entry], key: &Key) -> bool
     ensures { result ≡ list_any (λ entry. is_key key.now.0 (network_of (seat_of entry).node)) entries.now }
 {
@@ -168,7 +168,7 @@ pub fn nodes_of(alloc: Global, entries: Vec<Entry>) -> Result<Vec<Node>, AllocEr
     Ok(nodes)
 }
 
-/// Answers whether a node is the centre.
+/// Returns whether a node is the centre.
 pub fn has_centre(entries: &[Entry]) -> bool
     ensures { result ≡ list_any (λ entry. is_centre (seat_of entry).node.role) entries.now }
 {

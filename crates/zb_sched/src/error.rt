@@ -1,9 +1,9 @@
 //! Why a text is no schedule.
 
-/// Says why a line may not stand where it does, or that there is no centre.
+/// Why a line may not stand where it does, or that there is no centre.
 #[derive(Clone, Copy, Debug, PartialEq, Eq)]
 pub enum SchedCause {
-    /// The line is of no form, or a declaration behind an event.
+    /// The line is of no form, or a declaration after an event.
     Syntax,
     /// A name, EUI or short address is taken, or a declaration stands twice for one node.
     DuplicateNode,
@@ -23,7 +23,7 @@ pub enum SchedCause {
     TooMany,
 }
 
-/// Names the first bad line, from 1, and its first cause. That there is no centre is a fault behind the last line.
+/// Names the first bad line, from 1, and its first cause. That there is no centre is a fault after the last line.
 #[derive(Clone, Copy, Debug, PartialEq, Eq)]
 pub struct SchedError {
     /// The number of the line.

@@ -6,7 +6,7 @@ use zb_base::Name;
 
 const NUMBERS: usize = 1024;
 
-/// Holds a place for each number that a name may have.
+/// A place for each number that a name may have.
 #[derive(Drop)]
 pub struct Hints {
     places: [u8; NUMBERS],
@@ -27,7 +27,7 @@ impl Hints {
         self.places[number(name)] = place as u8;
     }
 
-    /// Answers the place that was noted last for a name with the same number.
+    /// Returns the place that was noted last for a name with the same number.
     pub fn place(&self, name: &Name) -> usize {
         self.places[number(name)] as usize
     }

@@ -10,18 +10,18 @@ ghost use Rattle.zb_sched.specs.Printed.{printed};
 ghost use Rattle.zb_sched.specs.Reading.{finished, is_centre, schedule_in};
 ghost use Rattle.zb_sched.specs.Valid.{IsSchedule, IsSoFar, Pairwise};
 
-/// Says that a line that may stand behind others keeps what they keep.
+/// States that a line that may stand after others keeps what they keep.
 pub fn lines_keep_schedules()
     ensures { (seen next : Seen) (sentence : Sentence) → FitsSentence sentence → after_sentence seen sentence ≡ Ok next
         → IsSoFar (finished seen) → IsSoFar (finished next) }
 {}
 
-/// Says that the printed text of a schedule reads as that schedule.
+/// States that the printed text of a schedule reads as that schedule.
 pub fn printed_schedule_reads()
     ensures { (schedule : Schedule) → IsSchedule schedule → schedule_in (printed schedule) ≡ Ok schedule }
 {}
 
-/// Says that no two nodes of a schedule are centres.
+/// States that no two nodes of a schedule are centres.
 pub fn schedules_have_one_centre()
     ensures { (schedule : Schedule) → IsSchedule schedule
         → Pairwise (λ (m n : Node). is_centre m.role ≡ true → is_centre n.role ≡ true → ⊥) schedule.nodes }

@@ -16,7 +16,7 @@ use zb_text::lines::next_line;
 /// Reads a schedule. What is read and then printed reads as itself. Requires a text shorter than 4 GiB - 1.
 ///
 /// # Errors
-/// The first bad line, with the first of its causes; or want of memory.
+/// The first bad line, with the first of its causes; or out of memory.
 pub fn read(alloc: Global, text: &[u8]) -> Result<Schedule, OrMemory<SchedError>>
     requires { length text.now < 2 ^ 32 - 1 }
     ensures exact { Reads result (schedule_in text.now) }

@@ -4,7 +4,7 @@ use zb_base::{Key, List, Peer};
 use zb_install::InstallCode;
 use zb_sched_line::Event;
 
-/// Is a declared node.
+/// A declared node.
 #[derive(Drop)]
 pub struct Node {
     /// Its name, addresses and part.
@@ -23,7 +23,7 @@ pub struct Node {
     pub start_aps: u32,
 }
 
-/// Holds the nodes in the order of their lines, the keys of the supply, and the events.
+/// The nodes in the order of their lines, the keys of the supply, and the events.
 #[derive(Drop)]
 pub struct Schedule {
     /// The declared nodes.

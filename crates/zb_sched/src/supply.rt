@@ -38,7 +38,7 @@ impl Supply {
         }
     }
 
-    /// Answers whether a key is among them.
+    /// Returns whether a key is among them.
     pub fn has(&self, key: &Key) -> bool
         ensures { result ≡ is_drawn key.now.0 self.now }
     {

@@ -76,7 +76,7 @@ rejoin_of word =
 abbrev pub code_of : List ℕ → Option (Option (List ℕ))
 code_of word = option_map (λ bytes. if is_code bytes then Some bytes else None) (bytes_of (length word) word)
 
--- ---- declarations, behind their first word
+-- ---- declarations, after their first word
 
 abbrev pub node_of : List (List ℕ) → Option Sentence
 node_of ws = do
@@ -118,7 +118,7 @@ draw_of ws = do
   end ← nothing key.1
   Some (Draws key.0)
 
--- ---- events, behind their first word
+-- ---- events, after their first word
 
 abbrev pub name_alone : List (List ℕ) → Option Bytes
 name_alone ws = do

@@ -1,4 +1,4 @@
-//! Declarations, and the event that speaks of an install code, behind their first word.
+//! Declarations, and the event that speaks of an install code, after their first word.
 
 ghost use Rattle.std.specs.Prelude.{◌≡◌, codes, is_some, IfSome};
 ghost use Rattle.std.specs.Option.{option_map};

@@ -4,7 +4,7 @@ use arrayvec::ArrayVec;
 use zb_base::{Eui, Frame, Key, Label, Name, Short};
 use zb_install::InstallCode;
 
-/// Is one step of one node, or something on the air. Its fields are the words of its line.
+/// One step of one node, or something on the air. Its fields are the words of its line.
 #[derive(Drop)]
 pub enum Event {
     /// `say NAME SHORT HEX`: the node sends application bytes.
@@ -62,7 +62,7 @@ pub enum Event {
     Boot {
         name: Name,
     },
-    /// `dump NAME`: shows the record that the node's disk stands for.
+    /// `dump NAME`: shows the record that the node's disk represents.
     Dump {
         name: Name,
     },

@@ -1,4 +1,4 @@
-//! Events but forged frames, behind their first word.
+//! Events but forged frames, after their first word.
 
 ghost use Rattle.std.specs.Prelude.{◌≡◌, codes, IfSome};
 ghost use Rattle.zb_text.specs.Words.{left, Shows};

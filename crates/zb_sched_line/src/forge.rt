@@ -1,4 +1,4 @@
-//! Forged frames, behind their first word.
+//! Forged frames, after their first word.
 
 ghost use Rattle.std.specs.Prelude.{◌≡◌, codes, IfSome};
 ghost use Rattle.zb_text.specs.Words.{left, Shows};
@@ -13,7 +13,7 @@ use zb_base::{Eui, Key, Label, Short};
 use zb_text::hexadecimal;
 use zb_text::words::Words;
 
-/// Holds the APS part of a forged frame.
+/// The APS part of a forged frame.
 #[derive(Drop)]
 pub struct Command {
     /// Which key is derived from the base key.
@@ -67,7 +67,7 @@ pub fn forge(mut words: Words) -> Option<Event>
     }
 }
 
-/// Says how a forged frame is sealed at the network layer.
+/// How a forged frame is sealed at the network layer.
 #[derive(Clone, Copy)]
 pub struct Net {
     /// The network key.

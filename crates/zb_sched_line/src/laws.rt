@@ -9,7 +9,7 @@ ghost use Rattle.zb_sched_line.specs.Grammar.{meaning_of};
 ghost use Rattle.zb_sched_line.specs.Said.{Event, Bytes, Codes, Draws, Happens, Holds, Introduces, Starts};
 ghost use Rattle.zb_sched_line.specs.Texts.{event_words, code_words, counter_words, draw_words, netkey_words, node_words};
 
-/// Says that what is in its range and printed reads as itself.
+/// States that what is in its range and printed reads as itself.
 pub fn printed_line_reads()
     ensures node { (name : Bytes) (role : Role) (eui short out_block in_block : ℕ)
         → FitsSentence (Introduces name role eui short out_block in_block)

@@ -13,7 +13,7 @@ use zb_base::{Key, Layer, Name, Peer};
 use zb_install::InstallCode;
 use zb_text::words::Words;
 
-/// Is what a line says. Where an install code stands in it, None is bytes that are no install code.
+/// What a line says. Where an install code stands in it, None is bytes that are no install code.
 #[derive(Drop)]
 pub enum Line {
     /// An empty line, or a comment.

@@ -1,4 +1,5 @@
--- The grammar of the lines of a script, word by word. A line that provisions or removes a device is that of a schedule.
+-- The grammar of the lines of a script, word by word. A line that provisions or removes a device is that of a
+-- schedule.
 use Rattle.std.specs.Prelude.{ℕ, ◌&&◌, List, [], ◌∷◌, codes, bytes_eq, Bool, true, false, if◌then◌else◌, Option, Some, None}
 use Rattle.std.specs.Option.{option_map}
 use Rattle.zb_base.specs.declared.node.Role.{Role}
@@ -46,7 +47,7 @@ init_of ws = do
   end ← nothing key.1
   Some (Begins key.0)
 
--- the rest of a line, where there is one: also an empty one, behind a space
+-- the rest of a line, where there is one: also an empty one, after a space
 abbrev pub rest_of : List (List ℕ) → Option Bytes
 rest_of [] = None
 rest_of (word ∷ more) = Some (line_of_words (word ∷ more))

@@ -1,5 +1,5 @@
--- What one line does to the part of a script that stands before it, or why it may not stand there. The causes are tried in
--- the order in which they stand here.
+-- What one line does to the part of a script that stands before it, or why it may not stand there. The causes are
+-- tried in the order in which they stand here.
 use Rattle.std.specs.Prelude.{ℕ, ◌==◌, ◌&&◌, ◌||◌, not, nat_le, List, [], ◌∷◌, ◌++◌, length, bytes_eq, find, Bool, true, false, if◌then◌else◌, Option, Some, None, Result, Ok, Err}
 use Rattle.std.specs.List.{list_any}
 use Rattle.std.specs.Option.{option_map}
@@ -82,7 +82,7 @@ abbrev pub restored : ℕ → ℕ → Option NodeState → Script → Result Scr
 restored line skip None s = Err NoBackup
 restored line skip (Some tables) s = with_order line (Restore skip (record_of tables)) s
 
--- commands stand behind the centre
+-- commands stand after the centre
 abbrev pub commanded : Script → Result Script ScriptCause → Result Script ScriptCause
 commanded s after = if has_centre s then after else Err Syntax
 

@@ -26,7 +26,7 @@ abbrev pub numbered : ℕ → Result Script ScriptCause → (Script → Result S
 numbered number (Err cause) go_on = Err (record { line = number; cause = cause })
 numbered number (Ok s) go_on = go_on s
 
--- The script of the lines from the one of that number on. Without a centre, the fault is behind the last line.
+-- The script of the lines from the one of that number on. Without a centre, the fault is after the last line.
 abbrev pub reads : ℕ → Script → List (List ℕ) → Result Script ScriptError
 reads number s [] = if has_centre s then Ok s else Err (record { line = number; cause = NoCentre })
 reads number s (line ∷ more) = numbered number (after_line number s line) (λ next. reads (number + 1) next more)

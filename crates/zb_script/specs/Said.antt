@@ -11,8 +11,8 @@ pub data Sentence : Type 0 where
   -- the centre with its blocks of counters, and a router or device
   Founds : (name : Bytes) (eui out_block in_block : ℕ) → Sentence
   Introduces : (name : Bytes) (role : Role) (eui short : ℕ) → Sentence
-  -- commands: a new store, a device's install code (None where the bytes are no install code), a device that is removed by
-  -- way of a parent, what is kept, its backup, and a new store from the text of a backup
+  -- commands: a new store, a device's install code (None where the bytes are no install code), a device that is
+  -- removed by way of a parent, what is kept, its backup, and a new store from the text of a backup
   Begins : (key : Bytes) → Sentence
   Provisions : (name : Bytes) (code : Option Bytes) → Sentence
   Removes : (name : Bytes) (parent : Bytes) → Sentence

@@ -1,4 +1,4 @@
--- What the program's peers, lines and scripts stand for.
+-- What the program's peers, lines and scripts represent.
 use Rattle.std.specs.Prelude.{ℕ, List, map}
 use Rattle.zb_base.specs.declared.node.Peer.{Peer}
 use Rattle.zb_script.specs.Said.{Sentence, Quiet, Founds, Introduces, Begins, Provisions, Removes, Lists, BacksUp, Restores}

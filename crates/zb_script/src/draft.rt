@@ -27,7 +27,7 @@ use zb_install::InstallCode;
 use zb_keys::Tables;
 use zb_record::RECORD_ROOM;
 
-/// Is a script so far.
+/// A script so far.
 #[derive(Drop)]
 pub struct Draft {
     peers: ArrayVec<Peer, 64>,
@@ -48,7 +48,7 @@ impl Model for Draft {
     ghost invariant = { λ d. IsSoFar (script_with d.peers.items d.out_block d.in_block d.steps.items) };
 }
 
-/// Answers whether the name, EUI or short address of a node is that of a peer.
+/// Returns whether the name, EUI or short address of a node is that of a peer.
 fn is_taken(peers: &[Peer], node: &Peer) -> bool
     ensures { result ≡ list_any
         (λ p. clashes_with node.now.name.bytes node.now.eui.0 node.now.short.0 (station_of p)) peers.now }
@@ -58,7 +58,7 @@ fn is_taken(peers: &[Peer], node: &Peer) -> bool
         || peer.short.0 == node.short.0)
 }
 
-/// Answers the router or device of a name.
+/// Returns the router or device of a name.
 fn find_device<'a>(peers: &'a [Peer], name: &Name) -> Option<&'a Peer>
     ensures { option_copied result
         ≡ find (λ p. bytes_eq (station_of p).name name.now.bytes && is_joiner (station_of p).role) peers.now }
@@ -68,7 +68,7 @@ fn find_device<'a>(peers: &'a [Peer], name: &Name) -> Option<&'a Peer>
         .find(|peer| peer.name == *name && is_joiner(peer.role))
 }
 
-/// Answers the centre or router of a name.
+/// Returns the centre or router of a name.
 fn find_parent<'a>(peers: &'a [Peer], name: &Name) -> Option<&'a Peer>
     ensures { option_copied result
         ≡ find (λ p. bytes_eq (station_of p).name name.now.bytes && is_parent (station_of p).role) peers.now }
@@ -78,7 +78,7 @@ fn find_parent<'a>(peers: &'a [Peer], name: &Name) -> Option<&'a Peer>
         .find(|peer| peer.name == *name && is_parent(peer.role))
 }
 
-/// Answers the EUI of a peer.
+/// Returns the EUI of a peer.
 fn eui_of(peer: Option<&Peer>) -> Option<Eui>
     ensures { option_map (λ eui. eui.0) result ≡ option_map (λ p. p.eui.0) (option_copied peer.entry) }
 {
@@ -119,7 +119,7 @@ fn refuse(cause: ScriptCause) -> Result<(), OrMemory<ScriptCause>>
     Err(OrMemory::Fault(cause))
 }
 
-/// The record of tables, written into a room for any record.
+/// Returns the record of tables, written into a room for any record.
 fn record_in(alloc: Global, tables: &Tables, room: &mut [u8]) -> Result<List<u8>, AllocError>
     requires { record_room ≤ length room.old }
     ensures { IfOk result (λ bytes. bytes ≡ record_of tables.now) }
@@ -130,7 +130,7 @@ fn record_in(alloc: Global, tables: &Tables, room: &mut [u8]) -> Result<List<u8>
     Ok(List::from_vec(bytes))
 }
 
-/// The record of tables.
+/// Returns the record of tables.
 fn record_of(alloc: Global, tables: &Tables) -> Result<List<u8>, AllocError>
     ensures { IfOk result (λ bytes. bytes ≡ record_of tables.now) }
 {
@@ -151,7 +151,7 @@ impl Draft {
         }
     }
 
-    /// Answers whether the centre was declared.
+    /// Returns whether the centre was declared.
     pub fn has_centre(&self) -> bool
         ensures { result ≡ has_centre self.now }
     {
@@ -165,14 +165,14 @@ impl Draft {
         is_taken(self.peers.as_slice(), node)
     }
 
-    /// Answers the EUI of the router or device of a name.
+    /// Returns the EUI of the router or device of a name.
     fn device_named(&self, name: &Name) -> Option<Eui>
         ensures { option_map (λ eui. eui.0) result ≡ device_named name.now.bytes self.now.stations }
     {
         eui_of(find_device(self.peers.as_slice(), name))
     }
 
-    /// Answers the EUI of the centre or router of a name.
+    /// Returns the EUI of the centre or router of a name.
     fn parent_named(&self, name: &Name) -> Option<Eui>
         ensures { option_map (λ eui. eui.0) result ≡ parent_named name.now.bytes self.now.stations }
     {

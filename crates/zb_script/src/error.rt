@@ -1,6 +1,6 @@
 //! Why a text is no script.
 
-/// Says why a line may not stand where it does, or that there is no centre.
+/// Why a line may not stand where it does, or that there is no centre.
 #[derive(Clone, Copy, Debug, PartialEq, Eq)]
 pub enum ScriptCause {
     /// The line is of no form, or it stands out of order: the centre, then its peers, then commands.
@@ -21,7 +21,7 @@ pub enum ScriptCause {
     NoCentre,
 }
 
-/// Names the first bad line, from 1, and its first cause. That there is no centre is a fault behind the last line.
+/// Names the first bad line, from 1, and its first cause. That there is no centre is a fault after the last line.
 #[derive(Clone, Copy, Debug, PartialEq, Eq)]
 pub struct ScriptError {
     /// The number of the line.

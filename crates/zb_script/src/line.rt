@@ -13,7 +13,7 @@ use zb_install::InstallCode;
 use zb_sched_line::{Event, Line as ScheduleLine, read_line as read_schedule_line};
 use zb_text::words::Words;
 
-/// Is what a line says. Where an install code stands in it, None is bytes that are no install code.
+/// What a line says. Where an install code stands in it, None is bytes that are no install code.
 #[derive(Drop)]
 pub enum Line<'a> {
     /// An empty line, or a comment.
@@ -154,7 +154,7 @@ fn peer<'a>(mut words: Words<'a>) -> Option<Line<'a>>
     }
 }
 
-/// Whether a node is a router or a device, with a short address that it may have.
+/// Returns whether a node is a router or a device, with a short address that it may have.
 fn may_join(role: Role, short: Short) -> bool
     ensures { result ≡ (is_joiner role && is_short_of role short.0) }
 {
@@ -202,7 +202,7 @@ fn shared_line<'a>(line: &'a [u8]) -> Option<Line<'a>>
     }
 }
 
-/// The line of an event that scripts have too.
+/// Returns the line of an event that scripts have too.
 fn shared_event<'a>(event: Event) -> Option<Line<'a>>
     ensures value { Shows sentence_of result (event_of (event_said event)) }
     ensures joins { IfSome result (λ line. Joins (sentence_of line)) }

@@ -3,7 +3,7 @@
 use zb_base::{Config, Eui, Key, List};
 use zb_install::InstallCode;
 
-/// Is what is to be done with a centre's store.
+/// What is to be done with a centre's store.
 #[derive(Drop)]
 pub enum Order {
     /// A new store is made, of a centre with this network key.
@@ -38,7 +38,7 @@ pub enum Order {
     },
 }
 
-/// Is an order with the number of its line, from 1.
+/// An order with the number of its line, from 1.
 #[derive(Drop)]
 pub struct Step {
     /// The number of the line.
@@ -47,7 +47,7 @@ pub struct Step {
     pub order: Order,
 }
 
-/// Holds the centre's configuration, in which it is the first node, and the steps in their order.
+/// The centre's configuration, in which it is the first node, and the steps in their order.
 #[derive(Drop)]
 pub struct Script {
     /// The configuration.

@@ -143,7 +143,8 @@ opened_nwk bytes base = opened_seen (seen_nwk bytes) base None
 unfoldable pub opened_aps : List ℕ → Key → Option Eui → Result Term OpenError
 opened_aps bytes base given = opened_seen (seen_aps bytes) base given
 
--- The term is of a NWK frame: its header is that of a secured frame with the level that counts, and the term says what the header says.
+-- The term is of a NWK frame: its header is that of a secured frame with the level that counts, and the term says what
+-- the header says.
 pub record IsNwkTerm (t : Term) (h : NwkHeader) (a : NwkAux) : Type 0 where
   pub shaped : nwk_shape.IsHeader h
   pub in_range : nwk_shape.HeaderInRange h

@@ -1,5 +1,5 @@
--- The bytes on the air of a sealed term (05-3474-21, 4.3.1, 4.4.1 and 4.5): its header with the level bits cleared, the
--- cipher text, the MIC (message integrity code).
+-- The bytes on the air of a sealed term (05-3474-21, 4.3.1, 4.4.1 and 4.5): its header with the level bits cleared,
+-- the cipher text, the MIC (message integrity code).
 use Rattle.std.specs.Prelude.{ℕ, zero, suc, ◌+◌, ◌-◌, ◌*◌, ◌/◌, List, [], ◌∷◌, ◌++◌, length, nat_le, if◌then◌else◌}
 use Rattle.std.specs.Int.{w32}
 use Rattle.zb_base.specs.declared.address.Eui.{Eui}
@@ -10,7 +10,8 @@ use Rattle.zb_ccm.specs.Ccm.{Sealed, sealed}
 use Rattle.zb_seal.specs.Keys.{sealing_key}
 use Rattle.zb_seal.specs.declared.term.Term.{Term}
 
--- The low three bits of a control byte are the level: 000 on the air, and 5 (encryption and a MIC of 4 bytes) where it counts.
+-- The low three bits of a control byte are the level: 000 on the air, and 5 (encryption and a MIC of 4 bytes) where it
+-- counts.
 abbrev pub zero_level : ℕ → ℕ
 zero_level control = control / 8 * 8
 
@@ -27,7 +28,8 @@ at_place change place [] = []
 at_place change zero (x ∷ xs) = change x ∷ xs
 at_place change (suc place) (x ∷ xs) = x ∷ at_place change place xs
 
--- How far before the header's end its auxiliary control byte stands: 14 at NWK, and at APS 13 with the extended nonce (bit 5), else 5.
+-- How far before the header's end its auxiliary control byte stands: 14 at NWK, and at APS 13 with the extended nonce
+-- (bit 5), else 5.
 abbrev pub aux_size : Layer → ℕ → ℕ
 aux_size Nwk control = 14
 aux_size Aps control = if bit control 5 then 13 else 5
@@ -46,6 +48,7 @@ wire_under key t = on_air (aux_size t.layer t.control) t.header.items ++ (sealed
 abbrev pub wire : Term → List ℕ
 wire t = wire_under (sealing_key t.label t.base.0) t
 
--- How many bytes a term has on the air: neither the level bits nor the cipher change a length, and the MIC has 4 bytes.
+-- How many bytes a term has on the air: neither the level bits nor the cipher change a length, and the MIC has 4
+-- bytes.
 abbrev pub wire_length : Term → ℕ
 wire_length t = length t.header.items + length t.content.items + 4

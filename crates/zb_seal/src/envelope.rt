@@ -122,7 +122,7 @@ impl Envelope {
         Ok(())
     }
 
-    /// Answers the source in the frame, else the one that is given.
+    /// Returns the source in the frame, else the one that is given.
     pub fn source_or(&self, given: Option<Eui>) -> Option<Eui>
         ensures { result ≡ source_of self.now.source given }
     {

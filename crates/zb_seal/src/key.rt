@@ -18,14 +18,14 @@ pub fn sealing_key(label: Label, base: &Key) -> Key
     }
 }
 
-/// Answers a control byte as on the air, with level bits 000.
+/// Returns a control byte as on the air, with level bits 000.
 pub fn zero_level(control: u8) -> u8
     ensures { result ≡ cleared control }
 {
     control / 8 * 8
 }
 
-/// Answers a control byte as it counts, with level 5.
+/// Returns a control byte as it counts, with level 5.
 pub fn real_level(control: u8) -> u8
     ensures { result ≡ restored control }
 {

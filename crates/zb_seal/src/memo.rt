@@ -46,7 +46,7 @@ impl KeyMemo {
         }
     }
 
-    /// Answers the sealing key that a label makes of a base key, if it was kept.
+    /// Returns the sealing key that a label makes of a base key, if it was kept.
     pub fn find(&self, label: Label, base: &Key) -> Option<&Cipher>
         ensures { IfSome result (λ cipher. cipher.now ≡ key_of label base.now.0) }
     {

@@ -28,7 +28,7 @@ fn restore_level(bytes: &mut [u8], place: usize)
     bytes[place] = real_level(bytes[place]);
 }
 
-/// Answers what is authenticated: the front of the bytes up to the body, with the level that counts in the control
+/// Returns what is authenticated: the start of the bytes up to the body, with the level that counts in the control
 /// byte that stands `size` bytes before its end.
 fn authenticated(bytes: &[u8], body: usize, size: usize) -> Frame
     requires some { 0 < size }
@@ -51,7 +51,7 @@ fn nwk_header(bytes: &[u8], frame: &NwkFrame, aux: &NwkAux) -> Frame
     authenticated(bytes, frame.body.len(), 14)
 }
 
-/// Answers how a NWK frame is addressed, and what it says of itself before any key is tried.
+/// Returns how a NWK frame is addressed, and what it says of itself before any key is tried.
 ///
 /// Requires the bytes that the frame was read from.
 ///
@@ -108,7 +108,7 @@ pub fn look_nwk(bytes: &[u8]) -> Result<Envelope, OpenError>
     }
 }
 
-/// Answers the label that an auxiliary control byte names (05-3474-21, 4.5.1.1.2).
+/// Returns the label that an auxiliary control byte names (05-3474-21, 4.5.1.1.2).
 pub fn label_of(control: u8) -> Label
     ensures { result ≡ label_of_id (key_id control) }
 {
@@ -120,7 +120,7 @@ pub fn label_of(control: u8) -> Label
     }
 }
 
-/// Answers the length of an auxiliary header at APS.
+/// Returns the length of an auxiliary header at APS.
 fn aps_size(source: Option<Eui>) -> usize
     ensures size { result ≡ size_of_aps source }
     ensures some { 0 < result }
@@ -139,7 +139,7 @@ fn aps_header(bytes: &[u8], frame: &ApsFrame, aux: &ApsAux) -> Frame
     authenticated(bytes, frame.body.len(), aps_size(aux.source))
 }
 
-/// Answers what an APS frame says of itself before any key is tried.
+/// Returns what an APS frame says of itself before any key is tried.
 ///
 /// Requires the bytes that the frame was read from.
 ///

@@ -10,7 +10,7 @@ use zb_base::{Frame, Layer};
 use zb_ccm::seal_with;
 use zb_cursor::{TooLong, frame_from, has_bit, put};
 
-/// Answers how far before the header's end its auxiliary control byte stands.
+/// Returns how far before the header's end its auxiliary control byte stands.
 fn aux_size(layer: Layer, control: u8) -> usize
     ensures size { result ≡ size_of_aux layer control }
     ensures some { 5 ≤ result }
@@ -35,7 +35,7 @@ fn clear_level(bytes: &mut [u8], place: usize)
     bytes[place] = zero_level(bytes[place]);
 }
 
-/// Answers the header with level bits 000, where it is long enough for an auxiliary header.
+/// Returns the header with level bits 000, where it is long enough for an auxiliary header.
 fn on_air(size: usize, header: &Frame) -> Frame
     requires { 5 ≤ size }
     ensures { result.items ≡ air size header.now.items }
@@ -48,7 +48,7 @@ fn on_air(size: usize, header: &Frame) -> Frame
     out
 }
 
-/// Encrypts the content of a term, which `text` is, in place, and answers its code.
+/// Encrypts the content of a term, which `text` is, in place, and returns its code.
 fn seal_content(cipher: &Cipher, term: &Term, text: &mut Frame) -> [u8; 4]
     requires { text.old.items ≡ term.now.content.items }
     ensures text { text.new.items ≡ (sealed_term cipher.now term.now).text }

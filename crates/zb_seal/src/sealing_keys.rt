@@ -45,14 +45,14 @@ impl SealingKeys {
         }
     }
 
-    /// Answers the base key.
+    /// Returns the base key.
     pub fn base(&self) -> &Key
         ensures { result.now ≡ self.now }
     {
         &self.base
     }
 
-    /// Answers the sealing key of a label.
+    /// Returns the sealing key of a label.
     pub fn of(&self, label: Label) -> &Cipher
         ensures { result.now ≡ key_of label self.now.0 }
     {

@@ -20,8 +20,8 @@ body_of (Relayed bytes) = model.Relayed bytes.items
 abbrev pub sending_of : Sending → model.Sending
 sending_of s = record { to = s.to.0; secured = s.secured; body = body_of s.body }
 
--- The bytes for which a NWK frame has room, of its 127: its header has 8, and where it is sealed there are an auxiliary header
--- of 14 and a code of 4.
+-- The bytes for which a NWK frame has room, of its 127: its header has 8, and where it is sealed there are an
+-- auxiliary header of 14 and a code of 4.
 abbrev pub room : Bool → ℕ
 room false = 119
 room true = 101
@@ -35,7 +35,8 @@ abbrev pub IsRelayable : Bool → List ℕ → Type 0
 IsRelayable false bytes = length bytes ≤ relayed_room
 IsRelayable true bytes = ⊥
 
--- The frame of the body fits: no command that it has is a Tunnel, which the body itself stands for, and so does what is relayed.
+-- The frame of the body fits: no command that it has is a Tunnel, which the body itself represents, and so does what
+-- is relayed.
 abbrev pub HasRoom : Bool → Body → Type 0
 HasRoom secured (Clear control command) = is_tunnel command ≡ false
 HasRoom secured (Secret label key command) = is_tunnel command ≡ false

@@ -7,7 +7,7 @@ ghost use Rattle.zb_model_real.specs.Terms.{model_label};
 use zb_base::{Eui, Frame, Label, Short};
 use zb_cursor::{frame_from, put};
 
-/// Answers the auxiliary control of an APS frame: level 5, the extended nonce, and the key identifier of the label.
+/// Returns the auxiliary control of an APS frame: level 5, the extended nonce, and the key identifier of the label.
 pub fn aps_control(label: Label) -> u8
     ensures { result ≡ aps_control (model_label label) }
 {
@@ -19,7 +19,7 @@ pub fn aps_control(label: Label) -> u8
     }
 }
 
-/// Answers the label of an APS term, since network keys seal at the NWK layer alone.
+/// Returns the label of an APS term, since network keys seal at the NWK layer alone.
 pub fn aps_label(label: Label) -> Label
     ensures { model_label result ≡ aps_label (model_label label) }
 {
@@ -31,7 +31,7 @@ pub fn aps_label(label: Label) -> Label
     }
 }
 
-/// Answers the low byte of a frame counter, which stands for the sequence numbers of both layers.
+/// Returns the low byte of a frame counter, which represents the sequence numbers of both layers.
 pub fn low_byte(counter: u32) -> u8
     ensures { result ≡ low_byte counter }
 {
@@ -64,7 +64,7 @@ pub(crate) fn data_header(counter: u32, source: Eui) -> Frame
     ])
 }
 
-/// Answers the APS frame control of application data that isn't sealed: delivery by broadcast from FFF8 up.
+/// Returns the APS frame control of application data that isn't sealed: delivery by broadcast from FFF8 up.
 pub(crate) fn data_control(to: Short) -> u8
     ensures { result ≡ data_control to.0 }
 {
@@ -92,7 +92,7 @@ pub fn nwk_auxiliary(counter: u32, source: Eui, sequence: u8) -> Frame
     frame_from(&[0x2d, i, j, k, l, a, b, c, d, e, f, g, h, sequence])
 }
 
-/// Puts the second bytes behind the first. Requires that a frame has room for both.
+/// Puts the second bytes after the first. Requires that a frame has room for both.
 pub fn joined(front: &[u8], back: &[u8]) -> Frame
     requires { length front.now + length back.now ≤ 127 }
     ensures { result.items ≡ front.now ++ back.now }

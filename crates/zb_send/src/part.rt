@@ -231,8 +231,8 @@ fn relayed(bytes: &Frame) -> Part
     }
 }
 
-/// Makes the payload of a NWK frame, from the node's IEEE address and the frame counters of both layers. A key that the
-/// memo lacks is expanded.
+/// Makes the payload of a NWK frame, from the node's IEEE address and the frame counters of both layers. A key that
+/// the memo lacks is expanded.
 #[tactic(auto, using(crate::proofs::Lengths::least_room))]
 pub fn part_of(memo: &KeyMemo, me: Eui, nwk: u32, aps: u32, sending: &Sending) -> Part
     requires { IsSendable sending.now }

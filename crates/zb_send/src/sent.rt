@@ -154,7 +154,7 @@ fn send_one(
     );
 }
 
-/// Tells whether something is sealed at the APS layer.
+/// Returns whether something is sealed at the APS layer.
 fn has_aps_seal(body: &Body) -> bool
     ensures { result ≡ has_aps_seal (body_of body.now) }
 {
@@ -169,21 +169,21 @@ fn has_aps_seal(body: &Body) -> bool
     }
 }
 
-/// Tells whether the NWK layer has a key and a counter for a frame, where it is to be sealed there.
+/// Returns whether the NWK layer has a key and a counter for a frame, where it is to be sealed there.
 fn may_seal_nwk(tables: &Tables, secured: bool) -> bool
     ensures { result ≡ (not secured || (is_some (active_row tables.now) && not (spent Nwk tables.now))) }
 {
     !secured || tables.active_row().is_some() && !is_spent(tables, Layer::Nwk)
 }
 
-/// Tells whether the APS layer has a counter for a frame, where something is to be sealed there.
+/// Returns whether the APS layer has a counter for a frame, where something is to be sealed there.
 fn may_seal_aps(tables: &Tables, body: &Body) -> bool
     ensures { result ≡ (not (has_aps_seal (body_of body.now)) || not (spent Aps tables.now)) }
 {
     !has_aps_seal(body) || !is_spent(tables, Layer::Aps)
 }
 
-/// Tells whether the node has a key and the counters for a frame.
+/// Returns whether the node has a key and the counters for a frame.
 #[tactic(auto, unfolding(zb_model::specs::Answer::may_seal))]
 pub fn may_seal(tables: &Tables, sending: &Sending) -> bool
     ensures { result ≡ may_seal tables.now (Some (sending_of sending.now)) }
@@ -191,7 +191,7 @@ pub fn may_seal(tables: &Tables, sending: &Sending) -> bool
     may_seal_nwk(tables, sending.secured) && may_seal_aps(tables, &sending.body)
 }
 
-/// Tells whether a frame is sealed at a layer.
+/// Returns whether a frame is sealed at a layer.
 fn seals_at(layer: Layer, sending: &Sending) -> bool
     ensures { result ≡ seals_at (model_layer layer) (Some (sending_of sending.now)) }
 {
@@ -201,7 +201,7 @@ fn seals_at(layer: Layer, sending: &Sending) -> bool
     }
 }
 
-/// Tells whether the counters that are reserved at a layer are used up.
+/// Returns whether the counters that are reserved at a layer are used up.
 fn is_used_up(tables: &Tables, layer: Layer) -> bool
     ensures { result
         ≡ nat_eq (next_counter (model_layer layer) tables.now) (stored_limit (model_layer layer) tables.now) }
@@ -209,7 +209,7 @@ fn is_used_up(tables: &Tables, layer: Layer) -> bool
     next_counter(tables, layer) == stored_limit(tables, layer)
 }
 
-/// Answers the limit up to which counters of a layer are reserved before the frame goes out, if any are.
+/// Returns the limit up to which counters of a layer are reserved before the frame goes out, if any are.
 #[tactic(auto, unfolding(zb_model::specs::Answer::reserve_of))]
 pub fn reserve(
     network: &Network,
@@ -233,8 +233,8 @@ pub fn reserve(
 
 /// Puts out what is to be sent, if anything is: the sealed terms and the frame.
 ///
-/// The node's next counters count them. Nothing goes out where the node lacks a key or a counter for it. A key that the
-/// memo lacks is expanded. What stood in the three places is gone.
+/// The node's next counters count them. Nothing goes out where the node lacks a key or a counter for it. A key that
+/// the memo lacks is expanded. What stood in the three places is gone.
 #[tactic(auto, unfolding(zb_model::specs::Answer::out_of))]
 pub fn send_out(
     network: &Network,

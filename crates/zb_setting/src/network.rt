@@ -45,7 +45,8 @@ impl Model for Network {
 impl Network {
     /// Makes what a node of this configuration knows.
     ///
-    /// Errors: want of memory.
+    /// # Errors
+    /// Out of memory.
     #[tactic(auto, unfolding(crate::specs::Settings::setting_for))]
     pub fn new(alloc: Global, config: &Config) -> Result<Network, AllocError>
         requires { IsConfig config.now }
@@ -60,42 +61,42 @@ impl Network {
         })
     }
 
-    /// Answers the node's own IEEE address.
+    /// Returns the node's own IEEE address.
     pub fn eui(&self) -> Eui
         ensures { result.0 ≡ self.now.me.eui }
     {
         self.me.eui
     }
 
-    /// Answers the node's own network address.
+    /// Returns the node's own network address.
     pub fn short(&self) -> Short
         ensures { result.0 ≡ self.now.me.short }
     {
         self.me.short
     }
 
-    /// Answers the part that the node plays.
+    /// Returns the part that the node plays.
     pub fn role(&self) -> Role
         ensures { model_role result ≡ self.now.me.role }
     {
         self.me.role
     }
 
-    /// Tells whether the node is the trust centre.
+    /// Returns whether the node is the trust centre.
     pub fn is_centre(&self) -> bool
         ensures { result ≡ is_centre self.now.me.role }
     {
         peers::is_centre(self.me.role)
     }
 
-    /// Tells whether the node is a router.
+    /// Returns whether the node is a router.
     pub fn is_router(&self) -> bool
         ensures { result ≡ is_router self.now.me.role }
     {
         peers::is_router(self.me.role)
     }
 
-    /// Answers how many outgoing frame counters are reserved at once.
+    /// Returns how many outgoing frame counters are reserved at once.
     pub fn out_block(&self) -> u32
         ensures value { result ≡ self.now.me.out_block }
         ensures least { 1 ≤ result }
@@ -104,7 +105,7 @@ impl Network {
         self.out_block
     }
 
-    /// Answers how far ahead a floor for incoming frame counters is stored.
+    /// Returns how far ahead a floor for incoming frame counters is stored.
     pub fn in_block(&self) -> u32
         ensures value { result ≡ self.now.me.in_block }
         ensures least { 1 ≤ result }
@@ -113,7 +114,7 @@ impl Network {
         self.in_block
     }
 
-    /// Answers the IEEE address of the trust centre.
+    /// Returns the IEEE address of the trust centre.
     pub fn centre(&self) -> Eui
         ensures value { result.0 ≡ centre_of self.now.stations }
         ensures in_range { result.0 < 2 ^ 64 }
@@ -121,14 +122,14 @@ impl Network {
         peers::in_range(self.centre)
     }
 
-    /// Tells whether an IEEE address is that of the trust centre.
+    /// Returns whether an IEEE address is that of the trust centre.
     pub fn from_centre(&self, source: Eui) -> bool
         ensures { result ≡ from_centre self.now source.0 }
     {
         source.0 == self.centre.0
     }
 
-    /// Answers the network address of a declared node, and FFFF where none has this IEEE address.
+    /// Returns the network address of a declared node, and FFFF where none has this IEEE address.
     #[tactic(auto, unfolding(zb_model::specs::Rules::short_of))]
     pub fn short_of(&self, eui: Eui) -> Short
         ensures { result.0 ≡ short_of self.now eui.0 }
@@ -139,7 +140,7 @@ impl Network {
         }
     }
 
-    /// Answers the network address of the source of a frame, and FFFF where it is unknown or not declared.
+    /// Returns the network address of the source of a frame, and FFFF where it is unknown or not declared.
     #[tactic(auto, unfolding(zb_model::specs::Rules::short_of))]
     pub fn short_of_source(&self, source: Option<Eui>) -> Short
         ensures { result.0 ≡ short_of self.now (eui_of (option_map (λ e. e.0) source)) }
@@ -153,21 +154,21 @@ impl Network {
         }
     }
 
-    /// Tells whether a node of this IEEE address is declared.
+    /// Returns whether a node of this IEEE address is declared.
     pub fn is_declared(&self, eui: Eui) -> bool
         ensures { result ≡ is_declared self.now eui.0 }
     {
         peers::peer_of(self.peers.as_slice(), eui).is_some()
     }
 
-    /// Tells whether a router of this IEEE address is declared.
+    /// Returns whether a router of this IEEE address is declared.
     pub fn acts_as_router(&self, eui: Eui) -> bool
         ensures { result ≡ acts_as_router self.now eui.0 }
     {
         peers::router_of(self.peers.as_slice(), eui).is_some()
     }
 
-    /// Answers the IEEE address of the declared node with this network address.
+    /// Returns the IEEE address of the declared node with this network address.
     pub fn eui_at(&self, short: Short) -> Option<Eui>
         ensures { option_map (λ e. e.0) result ≡ option_map (λ p. p.eui) (station_at self.now.stations short.0) }
     {
@@ -177,8 +178,8 @@ impl Network {
         }
     }
 
-    /// Tells whether a frame to this network address is for the node (05-3474-21, 3.6.5): by its own address, or by a
-    /// broadcast to all (FFFF), to all that listen (FFFD), or to the centre and the routers (FFFC).
+    /// Returns whether a frame to this network address is for the node (05-3474-21, 3.6.5): by its own address, or by
+    /// a broadcast to all (FFFF), to all that listen (FFFD), or to the centre and the routers (FFFC).
     pub fn hears(&self, to: Short) -> bool
         ensures { result ≡ hears self.now to.0 }
     {

@@ -10,7 +10,7 @@ ghost use Rattle.zb_setting.specs.Settings.{known};
 
 use zb_base::{Eui, Peer, Role, Short};
 
-/// Tells whether a role is that of the trust centre.
+/// Returns whether a role is that of the trust centre.
 pub(crate) fn is_centre(role: Role) -> bool
     ensures { result ≡ is_the_centre (model_role role) }
 {
@@ -21,7 +21,7 @@ pub(crate) fn is_centre(role: Role) -> bool
     }
 }
 
-/// Tells whether a role is that of a router.
+/// Returns whether a role is that of a router.
 pub(crate) fn is_router(role: Role) -> bool
     ensures { result ≡ is_router (model_role role) }
 {
@@ -32,7 +32,7 @@ pub(crate) fn is_router(role: Role) -> bool
     }
 }
 
-/// Answers the declared node of an IEEE address.
+/// Returns the declared node of an IEEE address.
 #[tactic(auto, unfolding(zb_model::specs::Rules::station_of), using(crate::proofs::Looking::find_map))]
 pub(crate) fn peer_of<'a>(peers: &'a [Peer], eui: Eui) -> Option<&'a Peer>
     ensures { option_map known (option_copied result) ≡ station_of (map known peers.now) eui.0 }
@@ -40,14 +40,14 @@ pub(crate) fn peer_of<'a>(peers: &'a [Peer], eui: Eui) -> Option<&'a Peer>
     with_eui(peers, eui)
 }
 
-/// Answers the first node that has the IEEE address.
+/// Returns the first node that has the IEEE address.
 fn with_eui<'a>(peers: &'a [Peer], eui: Eui) -> Option<&'a Peer>
     ensures { option_copied result ≡ find (λ peer. nat_eq (known peer).eui eui.0) peers.now }
 {
     peers.iter().find(|peer| peer.eui.0 == eui.0)
 }
 
-/// Answers the declared node of a network address.
+/// Returns the declared node of a network address.
 #[tactic(auto, unfolding(zb_model::specs::Rules::station_at), using(crate::proofs::Looking::find_map))]
 pub(crate) fn peer_at<'a>(peers: &'a [Peer], short: Short) -> Option<&'a Peer>
     ensures { option_map known (option_copied result) ≡ station_at (map known peers.now) short.0 }
@@ -55,14 +55,14 @@ pub(crate) fn peer_at<'a>(peers: &'a [Peer], short: Short) -> Option<&'a Peer>
     with_short(peers, short)
 }
 
-/// Answers the first node that has the network address.
+/// Returns the first node that has the network address.
 fn with_short<'a>(peers: &'a [Peer], short: Short) -> Option<&'a Peer>
     ensures { option_copied result ≡ find (λ peer. nat_eq (known peer).short short.0) peers.now }
 {
     peers.iter().find(|peer| peer.short.0 == short.0)
 }
 
-/// Answers the declared router of an IEEE address.
+/// Returns the declared router of an IEEE address.
 #[tactic(auto, using(crate::proofs::Looking::find_map))]
 pub(crate) fn router_of<'a>(peers: &'a [Peer], eui: Eui) -> Option<&'a Peer>
     ensures { option_map known (option_copied result)
@@ -71,7 +71,7 @@ pub(crate) fn router_of<'a>(peers: &'a [Peer], eui: Eui) -> Option<&'a Peer>
     router_with_eui(peers, eui)
 }
 
-/// Answers the first router that has the IEEE address.
+/// Returns the first router that has the IEEE address.
 fn router_with_eui<'a>(peers: &'a [Peer], eui: Eui) -> Option<&'a Peer>
     ensures { option_copied result
         ≡ find (λ peer. nat_eq (known peer).eui eui.0 && is_router (known peer).role) peers.now }
@@ -81,14 +81,14 @@ fn router_with_eui<'a>(peers: &'a [Peer], eui: Eui) -> Option<&'a Peer>
         .find(|peer| peer.eui.0 == eui.0 && is_router(peer.role))
 }
 
-/// Answers the first centre among the declared nodes.
+/// Returns the first centre among the declared nodes.
 fn first_centre<'a>(peers: &'a [Peer]) -> Option<&'a Peer>
     ensures { option_copied result ≡ find (λ peer. is_the_centre (known peer).role) peers.now }
 {
     peers.iter().find(|peer| is_centre(peer.role))
 }
 
-/// Answers an address of which it says that it has 64 bits.
+/// Returns an address of which it says that it has 64 bits.
 pub(crate) fn in_range(eui: Eui) -> Eui
     ensures same { result ≡ eui }
     ensures bits { result.0 < 2 ^ 64 }
@@ -96,7 +96,7 @@ pub(crate) fn in_range(eui: Eui) -> Eui
     eui
 }
 
-/// Answers the IEEE address of the centre. Requires that there is one.
+/// Returns the IEEE address of the centre. Requires that there is one.
 #[tactic(auto, unfolding(zb_model::specs::Rules::centre_of), using(crate::proofs::Looking::find_map))]
 pub(crate) fn centre_among(peers: &[Peer]) -> Eui
     requires { count_by (λ peer. is_centre peer.role) peers.now ≡ 1 }
@@ -108,7 +108,7 @@ pub(crate) fn centre_among(peers: &[Peer]) -> Eui
     }
 }
 
-/// Tells that a node isn't the one that stands for nobody, whose number is no address.
+/// States that a node isn't the one that represents nobody, whose number is no address.
 fn is_nobody(peer: &Peer) -> bool
     ensures is { result ≡ nat_eq (known peer.now).eui nobody }
     ensures never { result ≡ false }
@@ -117,14 +117,14 @@ fn is_nobody(peer: &Peer) -> bool
     false
 }
 
-/// Answers the first node that stands for nobody.
+/// Returns the first node that represents nobody.
 fn first_nobody(peers: &[Peer]) -> Option<&Peer>
     ensures { option_copied result ≡ find (λ peer. nat_eq (known peer).eui nobody) peers.now }
 {
     peers.iter().find(|peer| is_nobody(peer))
 }
 
-/// Says that nobody is declared; does nothing.
+/// States that nobody is declared; does nothing.
 #[tactic(auto, unfolding(zb_model::specs::Rules::station_of), using(crate::proofs::Looking::find_map))]
 pub(crate) fn nobody_among(peers: &[Peer])
     ensures { station_of (map known peers.now) nobody ≡ None }

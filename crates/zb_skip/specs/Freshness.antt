@@ -1,5 +1,5 @@
--- That a centre which goes on from a backup seals nothing again under its keys: which counters the lost store may have used,
--- what the centre lives through since, and what it seals.
+-- That a centre which goes on from a backup seals nothing again under its keys: which counters the lost store may have
+-- used, what the centre lives through since, and what it seals.
 use Rattle.std.specs.Prelude.{ℕ, ◌≡◌, ◌+◌, ◌≤◌, List, [], ◌∷◌, Some, ⊤}
 use Rattle.std.specs.List.{AllByRecursion}
 use Rattle.zb_model.specs.Answer.{answer, answered}
@@ -14,8 +14,9 @@ pub record IsAbove (by limit lost : ℕ) : Type 0 where
   pub within : lost ≤ limit + by
   pub greatest : lost ≤ greatest_counter
 
--- The limits of a store that was lost, later than a backup of it: that of APS, and that of each network key of the backup, are at
--- most so many above those of the backup. A key that the backup has as never active counts from where a skip starts it.
+-- The limits of a store that was lost, later than a backup of it: that of APS, and that of each network key of the
+-- backup, are at most so many above those of the backup. A key that the backup has as never active counts from where a
+-- skip starts it.
 pub record HasUsed (by : ℕ) (backup lost : NodeState) : Type 0 where
   pub aps : IsAbove by backup.aps_limit lost.aps_limit
   pub nets : (key : Bytes) (r l : NetKey) → net_of key backup ≡ Some r → net_of key lost ≡ Some l → IsAbove by (counted_from (stored_limit Nwk backup) r) l.limit
@@ -39,7 +40,8 @@ abbrev pub EachSeal : (Term → Type 0) → Tools → Setting → List Deed → 
 EachSeal P tools c [] s = ⊤
 EachSeal P tools c (d ∷ ds) s = AllByRecursion P (seals_of tools c d s) × EachSeal P tools c ds (after_deed tools c d s)
 
--- A counter that the lost store can't have used: not below its limit at APS, nor below that of a network key of the backup.
+-- A counter that the lost store can't have used: not below its limit at APS, nor below that of a network key of the
+-- backup.
 abbrev pub IsUnusedAt : Layer → NodeState → NodeState → Bytes → ℕ → Type 0
 IsUnusedAt Aps backup lost key counter = lost.aps_limit ≤ counter
 IsUnusedAt Nwk backup lost key counter = (r l : NetKey) → net_of key backup ≡ Some r → net_of key lost ≡ Some l → l.limit ≤ counter

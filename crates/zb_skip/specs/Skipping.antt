@@ -17,8 +17,8 @@ abbrev pub skipped_net : ℕ → ℕ → NetKey → NetKey
 skipped_net by active r = record r { started = true; limit = skipped_limit by (counted_from active r) }
 
 -- The tables with which a centre goes on: the limit of APS and that of each network key, dropped ones too, are so many
--- higher, and a key that was never active counts from the limit of the active one, or from the declared start where none
--- is active. As after a boot, each counter is at its limit. The declared start stays.
+-- higher, and a key that was never active counts from the limit of the active one, or from the declared start where
+-- none is active. As after a boot, each counter is at its limit. The declared start stays.
 unfoldable pub skipped : ℕ → NodeState → NodeState
 skipped by s = after_boot (record s {
   aps_limit = skipped_limit by s.aps_limit;

@@ -6,7 +6,7 @@ ghost use Rattle.zb_model.specs.Tools.{Tools};
 ghost use Rattle.zb_skip.specs.Freshness.{Deed, EachSeal, HasUsed, IsUnused};
 ghost use Rattle.zb_skip.specs.Skipping.{skipped};
 
-/// Says that a centre which skips enough draws no counter again that may have been used since its backup.
+/// States that a centre which skips enough draws no counter again that may have been used since its backup.
 ///
 /// `backup` are the tables that were kept, `lost` any later ones of that store, whose limits are at most `by` above
 /// those of the backup. Whatever the centre lives through after the skip, each term that it seals at the application

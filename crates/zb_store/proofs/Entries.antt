@@ -1,4 +1,4 @@
--- Entries behind one another.
+-- Entries after one another.
 use Rattle.std.proofs.Common.{◌≡◌, ◌≢◌, ℕ, zero, suc, ◌+◌, ◌-◌, ◌≤◌, ◌&&◌, ◌==◌, List, [], ◌∷◌, ◌++◌, length, get_or, take, drop, Option, Some, None, Bool, true, false, nat_le, if◌then◌else◌, refl, sym, ◌∙◌, ap, arith, length-take, length-drop, length-append, get_or-take, get_or-drop}
 use Rattle.std.proofs.lemmas.List.{take-take, drop-take, drop-drop, take_at, drop_at, append_assoc, get_or_at}
 use Rattle.std.proofs.lemmas.Bool.{and_parts, and_from, and_left, eqb-true, eq-eqb, ne_eqb, leb-true, le-leb}
@@ -102,7 +102,7 @@ split_by n b b' (Some payload) is rec within same =
     at_entry n b' payload here
     ∙ ap (λ (l : List (List ℕ)). payload ∷ l) (behind ∙ ap (λ (m : ℕ). ps ++ payloads_of m (drop e (drop a b'))) less ∙ ap (λ (l : List ℕ). ps ++ payloads_of (suc n - suc (length ps)) l) (drop-drop e a b'))
 
--- bytes that begin with the same entries have them, and then whatever comes behind
+-- bytes that begin with the same entries have them, and then whatever comes after it
 pub payloads_split : (n : ℕ) (b b' : List ℕ) → take (extent (payloads_of n b)) b' ≡ take (extent (payloads_of n b)) b
     → payloads_of n b' ≡ payloads_of n b ++ payloads_of (n - length (payloads_of n b)) (drop (extent (payloads_of n b)) b')
 unfolding payloads_of
@@ -115,7 +115,7 @@ unfolding payloads_of
 none_behind zero b shut = refl
 none_behind (suc n) b shut = ap (λ (o : Option (List ℕ)). followed o (λ payload. payloads_of n (drop (3 + length payload) b))) (entry_none b shut)
 
--- an entry that was written behind an open gate is one more
+-- an entry that was written after an open gate is one more
 pub one_behind : (n : ℕ) (b payload : List ℕ) → length payload ≤ 481 → get_or b 0 0 ≡ 165 → take (length (entry_body payload)) (drop 1 b) ≡ entry_body payload → payloads_of (suc n) b ≡ payload ∷ []
 unfolding payloads_of entry_body payload_size
 one_behind n b payload small gate holds =

@@ -106,7 +106,7 @@ some_by (Some payload) n is = (payload, refl, cc)
 pub size_some : (b : List ℕ) (n : ℕ) → size_at b ≡ Some n → (payload : List ℕ) × (entry_of b ≡ Some payload) × (length payload ≡ n)
 size_some b n is = some_by (entry_of b) n is
 
--- what lies behind the entries so far
+-- what lies after the entries so far
 pub behind_more : (b : List ℕ) (start room taken : ℕ) (seen : List ℕ) → IsBehind b start room 15616 seen → taken ≤ 15488 → IsBehind (drop taken b) (start + taken) (room - taken) 3 seen
 behind_more b start room taken seen is few = record {
   size = length-drop taken b ∙ ap (λ (n : ℕ). n - taken) is.size;

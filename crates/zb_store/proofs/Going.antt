@@ -142,7 +142,7 @@ module _ (tells : Telling) (at : ℕ) (bytes : List ℕ) (v0 v1 v2 : View) (only
     cause = causes v0.faults v1.faults v2.faults x (Err e) write.counted.cause sync.counted.cause;
   }
 
--- bytes behind a gate, and then the gate
+-- bytes after a gate, and then the gate
 module _ (tells : Telling) (gate : ℕ) (bytes : List ℕ) (v0 v1 v2 : View) (reads : IsTrue tells.content → v0.images v0.seen) where
   abbrev S : List ℕ → Type 0
   S = IsStage gate bytes v0

@@ -1,4 +1,4 @@
--- What an image stands for after a torn write of the store.
+-- What an image represents after a torn write of the store.
 use Rattle.std.proofs.Common.{◌≡◌, ◌≢◌, ℕ, suc, ◌+◌, ◌-◌, ◌≤◌, ◌<◌, ◌^◌, List, [], ◌∷◌, ◌++◌, length, get_or, take, drop, Some, Bool, not, refl, sym, ◌∙◌, ap, subst, arith, length-take, length-drop, length-append, get_or-take, get_or-drop}
 use Rattle.std.proofs.lemmas.List.{take-take, drop-take, drop-drop, take_at, drop_at, append_assoc, append-nil, get_or_at}
 use Rattle.std.proofs.lemmas.Nat.{from_le_bytes-to_le_bytes_4, from_le_bytes-to_le_bytes_8}
@@ -14,7 +14,7 @@ end_is s x it =
     let bound = subst (λ (ps : List (List ℕ)). extent ps ≤ length (drop (13 + size_of x) x)) (sym it.payloads) (extent_within 32 (drop (13 + size_of x) x)) in
     (omega (arith, it.size), omega (arith, it.size, bound, length-drop (13 + size_of x) x, it.is.within))
 
--- a slot whose front is the same up to the end of its entries
+-- a slot whose prefix is the same up to the end of its entries
 module _ (s : Standing) (x y : List ℕ) (it : IsIn s x) (same : take (end_of s) y ≡ take (end_of s) x) (longer : length x ≤ length y) where
   places : (end_of s ≡ 13 + size_of x + extent s.payloads) × (end_of s ≤ length x)
   places = end_is s x it
@@ -49,7 +49,7 @@ module _ (s : Standing) (x y : List ℕ) (it : IsIn s x) (same : take (end_of s)
         size = it.size ∙ sym opens.0;
       }
 
-  -- with an open gate and an entry behind it it holds one more
+  -- with an open gate and an entry after it it holds one more
   pub adds : (payload : List ℕ) → length s.payloads < 32 → length payload ≤ 481 → get_or y (end_of s) 0 ≡ 165 → take (length (entry_body payload)) (drop (end_of s + 1) y) ≡ entry_body payload → IsIn (appended s payload) y
   adds payload few small gate holds =
       let rest = drop (end_of s) y in
@@ -64,7 +64,7 @@ module _ (s : Standing) (x y : List ℕ) (it : IsIn s x) (same : take (end_of s)
         size = it.size ∙ sym opens.0;
       }
 
--- a record that was written behind an open gate is there, with no entries
+-- a record that was written after an open gate is there, with no entries
 pub holds_body : (b : Bool) (generation : ℕ) (content x : List ℕ) → gate_of x ≡ 165 → take (length (body generation content)) (drop 1 x) ≡ body generation content → generation < 2 ^ 64 → length content ≤ 49152
     → IsIn (record { second = b; generation = generation; content = content; payloads = [] }) x × (13 + length content < length x) × (get_or x (13 + length content) 0 ≡ 0)
 unfolding body size_of generation_of
@@ -103,7 +103,7 @@ holds_body b generation content x gate holds fits small =
       end,
     )
 
--- a slot that holds this stands for it
+-- a slot that holds this represents it
 as_standing : (s : Standing) (x : List ℕ) → IsIn s x → standing_in s.second (fields_of x) ≡ s
 as_standing s x it = same_standing (standing_in s.second (fields_of x)) s refl (sym it.generation) (sym it.content) (sym it.payloads)
 

@@ -1,4 +1,4 @@
--- What an image stands for at each stage of a `put`, and where the other slot's gate is closed.
+-- What an image represents at each stage of a `put`, and where the other slot's gate is closed.
 use Rattle.std.proofs.Common.{◌≡◌, ◌≢◌, inl, inr, ℕ, ◌+◌, ◌≤◌, ◌<◌, ◌^◌, List, [], ◌∷◌, ◌++◌, length, get_or, take, drop, Some, Bool, true, false, not, IsTrue, Result, Ok, Err, sym, ◌∙◌, ap, subst, arith, length-append, add-zero}
 use Rattle.std.proofs.lemmas.Bool.{cases_eq}
 use Rattle.std.specs.Int.{to_le_bytes, w32, w64}
@@ -64,7 +64,7 @@ closing_whole s d c whole was torn =
     both false here there = ap (λ (l : List ℕ). elected (opened l) (opened (slot true c))) here ∙ ap (λ (l : List ℕ). elected (opened (slot false d)) (opened l)) there
     both true here there = ap (λ (l : List ℕ). elected (opened l) (opened (slot true c))) there ∙ ap (λ (l : List ℕ). elected (opened (slot false d)) (opened l)) here
 
--- the record is written behind the other slot's closed gate
+-- the record is written after the other slot's closed gate
 module _ (s : Standing) (content d c : List ℕ) (whole : IsWhole s d) (shut : gate_of (slot (not s.second) d) ≢ open_gate)
     (small : length content ≤ 49152) (torn : Torn (other_gate s + 1) (length (body (s.generation + 1) content)) d c) where
   fits : 1 + length (body (s.generation + 1) content) ≤ 65536

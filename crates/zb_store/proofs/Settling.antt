@@ -1,4 +1,4 @@
--- What an image stands for at each stage of an `open`.
+-- What an image represents at each stage of an `open`.
 use Rattle.std.proofs.Common.{◌≡◌, ℕ, List, [], ◌∷◌, Bool, true, false, not, if◌then◌else◌, IsTrue, Result, Ok, Err, sym, ◌∙◌, ap, subst}
 use Rattle.std.proofs.lemmas.Bool.{eqb-true, eqb-false}
 use Rattle.zb_disk.specs.View.{Telling, View, LeavesOnly}

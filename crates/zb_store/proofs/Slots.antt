@@ -6,7 +6,7 @@ use Rattle.std.specs.Int.{from_le_bytes, w32, w64}
 use Rattle.zb_disk.specs.View.{Torn, overwrite}
 use Rattle.zb_store.specs.Layout.{fields_of, IsOpen, Opened, Standing, slot, base_of, gate_of, generation_of, size_of, opened, elected, stands, standing_in, payloads_of}
 
--- what a front decides is in it
+-- what a prefix decides is in it
 pub part : (a n m : ℕ) (x y : List ℕ) → a + n ≤ m → take m x ≡ take m y → take n (drop a x) ≡ take n (drop a y)
 part a n m x y within same =
     sym (drop-take a n x) ∙ ap (λ (l : List ℕ). drop a l) (sym (take-take (a + n) m x within) ∙ ap (λ (l : List ℕ). take (a + n) l) same ∙ take-take (a + n) m y within) ∙ drop-take a n y
@@ -14,7 +14,7 @@ part a n m x y within same =
 pub byte_of : (k m : ℕ) (x y : List ℕ) → k < m → take m x ≡ take m y → get_or x k 0 ≡ get_or y k 0
 byte_of k m x y within same = sym (get_or-take m x k 0 within) ∙ ap (λ (l : List ℕ). get_or l k 0) same ∙ get_or-take m y k 0 within
 
--- a write in the front of the disk, and in what lies behind it
+-- a write in the prefix of the disk, and in what lies after it
 torn_front : (h at n : ℕ) (d c : List ℕ) → at + n ≤ h → Torn at n d c → Torn at n (take h d) (take h c)
 torn_front h at n d c within torn = record {
   before = λ m until in_it. take-take m h c (omega arith) ∙ torn.before m until (omega (arith, length-take h d)) ∙ sym (take-take m h d (omega arith));
@@ -149,7 +149,7 @@ opened_facts s o is =
     let first = and_parts (gate_of s == 165) (nat_le (size_of s) 49152) parts.0 in
     (record { gate = eqb-true (gate_of s) 165 first.0; small = leb-true (size_of s) 49152 first.1; within = leb-true (13 + size_of s) (length s) parts.1 }, got.1)
 
--- a slot whose front is that of an open one is open too, with the same generation and record
+-- a slot whose prefix is that of an open one is open too, with the same generation and record
 pub same_open : (x y : List ℕ) (m : ℕ) → 13 + size_of x ≤ m → take m y ≡ take m x → length x ≤ length y → IsOpen x → (size_of y ≡ size_of x) × (generation_of y ≡ generation_of x) × IsOpen y
 unfolding size_of generation_of
 same_open x y m front same longer is =

@@ -1,4 +1,4 @@
--- What an image stands for at each stage of a call of the store.
+-- What an image represents at each stage of a call of the store.
 use Rattle.std.proofs.Common.{◌≡◌, ◌≢◌, inl, inr, ℕ, ◌+◌, ◌-◌, ◌≤◌, ◌<◌, List, [], ◌∷◌, ◌++◌, length, get_or, take, drop, Bool, true, false, not, IsTrue, Result, Ok, refl, sym, ◌∙◌, ap, subst, arith, length-take, length-drop, length-append, get_or-take, get_or-drop, add-zero}
 use Rattle.std.proofs.lemmas.List.{get_or_at}
 use Rattle.std.proofs.lemmas.Bool.{cases_eq}
@@ -38,7 +38,7 @@ entry_last : (payload : List ℕ) → get_or (entry_body payload) (2 + length pa
 unfolding entry_body
 entry_last payload = get_or_at (to_le_bytes w16 (length payload) ++ payload) 0 [] 0 (2 + length payload) (length-append (to_le_bytes w16 (length payload)) payload)
 
--- the entry is written behind its closed gate
+-- the entry is written after its closed gate
 module _ (s : Standing) (payload d c : List ℕ) (whole : IsWhole s d) (shut : gate_of (slot (not s.second) d) ≢ open_gate)
     (fits : end_of s + 1 + length (entry_body payload) ≤ 65536) (torn : Torn (entry_gate s + 1) (length (entry_body payload)) d c) where
   b : Bool

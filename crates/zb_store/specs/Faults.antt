@@ -24,7 +24,7 @@ IsPutFault store content old new (TooLarge len) = (len ≡ length content) × (r
 IsPutFault store content old new NoMemory = ⊥
 IsPutFault store content old new Worn = (length content ≤ record_room) × (store.generation ≡ 18446744073709551615)
 
--- of `format`: the disk, too large a record, or want of memory, and then the count of faults stands
+-- of `format`: the disk, too large a record, or out of memory, and then the count of faults stands
 abbrev pub IsFormatFault : List ℕ → View → View → StoreFault → Type 0
 IsFormatFault content old new Disk = Rose old.faults new.faults
 IsFormatFault content old new NoRecord = ⊥
@@ -32,7 +32,7 @@ IsFormatFault content old new (TooLarge len) = (len ≡ length content) × (reco
 IsFormatFault content old new NoMemory = Unrisen old.faults new.faults
 IsFormatFault content old new Worn = ⊥
 
--- of the calls that read: the disk, no open slot, or want of memory, likewise
+-- of the calls that read: the disk, no open slot, or out of memory, likewise
 abbrev pub IsReadFault : Telling → View → View → StoreFault → Type 0
 IsReadFault tells old new Disk = Rose old.faults new.faults
 IsReadFault tells old new NoRecord = IsTrue tells.content → stands old.seen ≡ None
@@ -48,7 +48,7 @@ IsStandingFault tells old new (TooLarge len) = ⊥
 IsStandingFault tells old new NoMemory = ⊥
 IsStandingFault tells old new Worn = ⊥
 
--- of a read into memory: the disk, or want of memory, likewise
+-- of a read into memory: the disk, or out of memory, likewise
 abbrev pub IsBytesFault : View → View → StoreFault → Type 0
 IsBytesFault old new Disk = Rose old.faults new.faults
 IsBytesFault old new NoRecord = ⊥

@@ -1,4 +1,4 @@
--- What the bytes of a disk stand for: a record with the entries behind it, in one of two slots.
+-- What the bytes of a disk represent: a record with the entries after it, in one of two slots.
 use Rattle.std.specs.Prelude.{ℕ, ◌+◌, ◌≤◌, ◌<◌, ◌≡◌, ◌≢◌, ◌==◌, ◌&&◌, ◌++◌, List, [], ◌∷◌, length, get_or, take, drop, Option, Some, None, Bool, true, false, not, zero, suc, nat_le, nat_lt, if◌then◌else◌}
 use Rattle.zb_store.specs.Sizes.{record_room, payload_room, entries_room}
 use Rattle.std.specs.Int.{from_le_bytes, to_le_bytes, w16, w32, w64}
@@ -17,7 +17,7 @@ unfoldable pub slot : Bool → List ℕ → List ℕ
 slot false bytes = take 65536 bytes
 slot true bytes = drop 65536 bytes
 
--- what an open slot holds: its generation, its record, and the bytes behind the record
+-- what an open slot holds: its generation, its record, and the bytes after the record
 pub record Opened : Type 0 where
   pub generation : ℕ
   pub content : List ℕ
@@ -55,7 +55,7 @@ entry_of bytes =
     let size = from_le_bytes w16 (take 2 (drop 1 bytes)) in
     if get_or bytes 0 0 == open_gate && nat_le size payload_room && nat_le (3 + size) (length bytes) then Some (take size (drop 3 bytes)) else None
 
--- one payload and those behind it, or none
+-- one payload and those after it, or none
 abbrev pub followed : Option (List ℕ) → (List ℕ → List (List ℕ)) → List (List ℕ)
 followed None behind = []
 followed (Some payload) behind = payload ∷ behind payload
@@ -70,14 +70,14 @@ abbrev pub extent : List (List ℕ) → ℕ
 extent [] = 0
 extent (payload ∷ payloads) = 3 + length payload + extent payloads
 
--- what a disk stands for, and where: the slot, its generation, the record and the payloads behind it
+-- what a disk represents, and where: the slot, its generation, the record and the payloads after it
 pub record Standing : Type 0 where
   pub second : Bool
   pub generation : ℕ
   pub content : List ℕ
   pub payloads : List (List ℕ)
 
--- the place in its slot behind the last entry
+-- the place in its slot after the last entry
 abbrev pub end_of : Standing → ℕ
 end_of s = 13 + length s.content + extent s.payloads
 
@@ -91,11 +91,11 @@ elected (Some a) None = Some (standing_in false a)
 elected None (Some b) = Some (standing_in true b)
 elected (Some a) (Some b) = if nat_lt a.generation b.generation then Some (standing_in true b) else Some (standing_in false a)
 
--- what the bytes stand for
+-- what the bytes represent
 unfoldable pub stands : List ℕ → Option Standing
 stands bytes = elected (opened (slot false bytes)) (opened (slot true bytes))
 
--- The bytes stand for this and are whole: the other slot's gate and the byte behind the last entry are there, and that
+-- The bytes represent this and are whole: the other slot's gate and the byte after the last entry are there, and that
 -- byte isn't an open gate.
 pub record IsWhole (s : Standing) (bytes : List ℕ) : Type 0 where
   pub stands : stands bytes ≡ Some s
@@ -103,10 +103,10 @@ pub record IsWhole (s : Standing) (bytes : List ℕ) : Type 0 where
   pub end : end_of s < length (slot s.second bytes)
   pub end_closed : get_or (slot s.second bytes) (end_of s) 0 ≢ open_gate
 
--- what a slot holds behind its gate: the generation, the record with its length, and a closed gate for an entry
+-- what a slot holds after its gate: the generation, the record with its length, and a closed gate for an entry
 unfoldable pub body : ℕ → List ℕ → List ℕ
 body generation content = to_le_bytes w64 generation ++ to_le_bytes w32 (length content) ++ content ++ 0 ∷ []
 
--- what an entry holds behind its gate: the payload with its length, and a closed gate for the next one
+-- what an entry holds after its gate: the payload with its length, and a closed gate for the next one
 unfoldable pub entry_body : List ℕ → List ℕ
 entry_body payload = to_le_bytes w16 (length payload) ++ payload ++ 0 ∷ []

@@ -32,7 +32,8 @@ open_stop_leaves_both calls torn = if calls == 2 then reads_open torn 0 else tru
 abbrev pub open_failure_leaves_both : ℕ → Bool
 open_failure_leaves_both call = nat_lt call 3
 
--- An armed stop fell within a run of writes and syncs: so many went through, the next one was refused, and the disk is off.
+-- An armed stop fell within a run of writes and syncs: so many went through, the next one was refused, and the disk is
+-- off.
 pub record StopFell (calls run : ℕ) (old new : Medium) : Type 0 where
   pub within : calls < run
   pub made : new.calls ≡ risen old.calls (calls + 1)

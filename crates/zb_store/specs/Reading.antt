@@ -44,7 +44,7 @@ abbrev pub size_in : Option (List ℕ) → Option ℕ
 size_in None = None
 size_in (Some payload) = Some (length payload)
 
--- the length of the entry that stands at the front
+-- the length of the entry that stands at the start
 abbrev pub size_at : List ℕ → Option ℕ
 size_at bytes = size_in (entry_of bytes)
 
@@ -63,7 +63,7 @@ pub record IsReadAs (s : Standing) (r : Contents) (seen : List ℕ) : Type 0 whe
 abbrev pub AreCounted : ℕ → ℕ → List ℕ → Type 0
 AreCounted generation entries seen = (s : Standing) × (stands seen ≡ Some s) × (generation ≡ s.generation) × (entries ≡ length s.payloads)
 
--- the record that stands, and the payloads behind it one after the other
+-- the record that stands, and the payloads after it one after the other
 abbrev pub AreContents : List ℕ → List ℕ → List ℕ → Type 0
 AreContents content payloads seen = (s : Standing) × (stands seen ≡ Some s) × (content ≡ s.content) × (payloads ≡ concat s.payloads)
 

@@ -9,14 +9,14 @@ record_room = 49152
 abbrev pub payload_room : ℕ
 payload_room = 481
 
--- at most so many entries stand behind a record
+-- at most so many entries stand after a record
 abbrev pub entries_room : ℕ
 entries_room = 32
 
--- the entries behind a record, each with three bytes before its payload, have at most so many bytes
+-- the entries after a record, each with three bytes before its payload, have at most so many bytes
 abbrev pub payloads_room : ℕ
 payloads_room = 15488
 
--- a record with its generation, its length and the gate behind it has at most so many
+-- a record with its generation, its length and the gate after it has at most so many
 abbrev pub body_room : ℕ
 body_room = 49165

@@ -49,14 +49,14 @@ pub record IsPlaced {T E : Type 0} (tells : Telling) (at : ℕ) (bytes : List �
   pub stopped : OnErr result (IsTrue tells.content → IsTrue tells.steady → PlaceStop tells at bytes old new)
   pub cause : HasCause old.faults new.faults result
 
--- what is read once a range behind a gate is written, and once the gate is open too
+-- what is read once a range after a gate is written, and once the gate is open too
 abbrev pub staged : ℕ → List ℕ → List ℕ → List ℕ
 staged gate bytes seen = overwrite seen (gate + 1) bytes
 
 abbrev pub gated : ℕ → List ℕ → List ℕ → List ℕ
 gated gate bytes seen = overwrite (staged gate bytes seen) gate (open_gate ∷ [])
 
--- bytes behind a gate and then the gate: where it stopped
+-- bytes after a gate and then the gate: where it stopped
 pub data GateStop (tells : Telling) (gate : ℕ) (bytes : List ℕ) (old new : View) : Type 0 where
   before_bytes : StoppedAfter tells 0 old new → IsSame old new → GateStop tells gate bytes old new
   bytes_unsynced : StoppedAfter tells 1 old new → Follows (Torn (gate + 1) (length bytes)) old.images new.images → GateStop tells gate bytes old new
@@ -64,7 +64,7 @@ pub data GateStop (tells : Telling) (gate : ℕ) (bytes : List ℕ) (old new : V
   gate_unsynced : StoppedAfter tells 3 old new → new.seen ≡ gated gate bytes old.seen
       → ((c : List ℕ) → new.images c → Torn gate 1 (staged gate bytes old.seen) c) → ((c : List ℕ) → Torn gate 1 (staged gate bytes old.seen) c → new.images c) → GateStop tells gate bytes old new
 
--- an image while bytes are written behind a gate, and then the gate
+-- an image while bytes are written after a gate, and then the gate
 abbrev pub IsStage : ℕ → List ℕ → View → List ℕ → Type 0
 IsStage gate bytes old c = TornFrom old.images (gate + 1) (length bytes) c ⊎ Torn gate 1 (staged gate bytes old.seen) c
 

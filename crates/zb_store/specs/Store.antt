@@ -7,7 +7,8 @@ use Rattle.zb_store.specs.Sizes.{record_room}
 use Rattle.zb_store.specs.Layout.{Standing, IsWhole, stands, slot, gate_of, open_gate, base_of, end_of, body}
 use Rattle.zb_store.specs.Steps.{WentThrough, StoppedAfter}
 
--- where a store goes on: its slot, the generation, the place in the slot behind the last entry, and how many entries stand
+-- where a store goes on: its slot, the generation, the place in the slot after the last entry, and how many entries
+-- stand
 pub record Place : Type 0 where
   pub second : Bool
   pub generation : ℕ
@@ -17,7 +18,7 @@ pub record Place : Type 0 where
 abbrev pub place_of : Standing → Place
 place_of s = record { second = s.second; generation = s.generation; end = end_of s; entries = length s.payloads }
 
--- every image is whole and stands for this, and the other slot's gate is closed in every image
+-- every image is whole and represents this, and the other slot's gate is closed in every image
 pub record IsHeld (s : Standing) (v : View) : Type 0 where
   pub whole : (c : List ℕ) → v.images c → IsWhole s c
   pub closed : (c : List ℕ) → v.images c → gate_of (slot (not s.second) c) ≢ open_gate
@@ -35,11 +36,11 @@ appended s payload = record s { payloads = s.payloads ++ payload ∷ [] }
 abbrev pub replaced : Standing → List ℕ → Standing
 replaced s content = record { second = not s.second; generation = s.generation + 1; content = content; payloads = [] }
 
--- an image is whole and stands for the old or for the new
+-- an image is whole and represents the old or for the new
 abbrev pub IsWholeEither : Standing → Standing → List ℕ → Type 0
 IsWholeEither old new c = IsWhole old c ⊎ IsWhole new c
 
--- Only this gate is unsynced, and it reads open. An image stands for the new exactly where the gate is open in it.
+-- Only this gate is unsynced, and it reads open. An image represents the new exactly where the gate is open in it.
 pub record IsGateOpening (gate : ℕ) (old new : Standing) (v : View) : Type 0 where
   pub unsynced : IsUnsynced gate 1 v
   pub reads : get_or v.seen gate 0 ≡ open_gate
@@ -96,7 +97,7 @@ abbrev pub open_calls : List ℕ → ℕ
 open_calls bytes = if both_gates_open bytes then 3 else 1
 
 -- An `open` that failed likewise. It makes its reads before its first sync; a read fails where the disk is off. Only
--- where it found the gates of both slots open it goes on behind the sync.
+-- where it found the gates of both slots open it goes on after the sync.
 pub data OpenStop (tells : Telling) (s : Standing) (old new : View) : Type 0 where
   reading : (IsTrue tells.refusals → old.off 0 ≡ true) → IsStill old new → OpenStop tells s old new
   not_synced : StoppedAfter tells 0 old new → IsSame old new → OpenStop tells s old new
@@ -122,11 +123,11 @@ pub record IsReplaced {T E : Type 0} (tells : Telling) (second : Bool) (bytes : 
   pub stopped : OnErr result ((s : Standing) (content : List ℕ) → IsReplacement s content second bytes → IsHeld s old → IsTrue tells.content → IsTrue tells.steady → PutStop tells s content old new)
   pub cause : HasCause old.faults new.faults result
 
--- an image is whole and stands for what an image at the beginning stood for
+-- an image is whole and represents what an image at the beginning stood for
 abbrev pub WasThere : View → List ℕ → Type 0
 WasThere old c = (s : Standing) × IsWhole s c × ((d : List ℕ) × old.images d × IsWhole s d)
 
--- what an `open` finds: what the disk as it reads stands for, and whether the other slot's gate is open too
+-- what an `open` finds: what the disk as it reads represents, and whether the other slot's gate is open too
 pub record IsFound (s : Standing) (second other_open : Bool) (v : View) : Type 0 where
   pub is : IsWhole s v.seen
   pub place : second ≡ s.second

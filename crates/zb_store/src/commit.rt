@@ -14,7 +14,7 @@ pub(crate) const OPEN: u8 = 0xA5;
 /// The byte that closes it.
 pub(crate) const SHUT: u8 = 0;
 
-/// Where a slot begins.
+/// Returns where a slot begins.
 pub(crate) fn base(second: bool) -> u64
     ensures { result ≡ base_of second }
 {
@@ -30,7 +30,7 @@ pub(crate) fn write_synced<D: Disk>(disk: &mut D, at: u64, bytes: &[u8]) -> Resu
     disk.sync()
 }
 
-/// Writes a range behind a closed gate, and then opens the gate.
+/// Writes a range after a closed gate, and then opens the gate.
 pub(crate) fn write_gated<D: Disk>(disk: &mut D, gate: u64, bytes: &[u8]) -> Result<(), Failed>
     requires { gate + 1 + length bytes.now ≤ 131072 }
     ensures { IsGated D.tells gate bytes.now (D.state disk.old) (D.state disk.new) result }

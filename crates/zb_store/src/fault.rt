@@ -6,7 +6,7 @@ use std::alloc::AllocError;
 use std::error::Error;
 use std::fmt;
 
-/// Says why a call of the store failed. After a failed `put` or `append` the store is opened again.
+/// Why a call of the store failed. After a failed `put` or `append` the store is opened again.
 #[derive(Clone, Copy, Debug, PartialEq, Eq)]
 pub enum StoreFault {
     /// The disk failed.

@@ -1,6 +1,6 @@
 //! A store of one record and of the changes since it, on any disk.
 //!
-//! At every moment of a call the disk stands for what stood before the call or for what stands after it.
+//! At every moment of a call the disk represents what stood before the call or for what stands after it.
 #![tactic(auto)]
 
 mod commit;

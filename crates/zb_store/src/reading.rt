@@ -1,4 +1,4 @@
-//! The reads of the store: which slot stands, how many entries stand behind its record, and their payloads.
+//! The reads of the store: which slot stands, how many entries stand after its record, and their payloads.
 ghost use Rattle.std.specs.Prelude.{◌≡◌, ◌==◌, ◌&&◌, nat_le, ◌+◌, ◌*◌, ◌-◌, ◌≤◌, ◌<◌, ◌++◌, ℕ, List, [], length, take, drop, true, IsTrue, IfOk, IfErr, OnErr, IsErrOf, IfSome, Some, None, MatchOption, MatchResult};
 ghost use Rattle.std.specs.List.{concat};
 ghost use Rattle.std.specs.Int.{from_le_bytes, w16, w32, w64};
@@ -120,7 +120,7 @@ pub(crate) fn find<D: Disk>(disk: &mut D) -> Result<Option<Found>, Failed>
     Ok(choose(first, size.min(65_536), second, size.saturating_sub(65_536)))
 }
 
-// The length of the entry that stands at a place of the disk, behind which its slot has so many bytes.
+// The length of the entry that stands at a place of the disk, after which its slot has so many bytes.
 fn entry_size<D: Disk>(disk: &mut D, at: u64, room: u64) -> Result<Option<u16>, Failed>
     ensures read { IsRead D.tells (D.state disk.old) (D.state disk.new) result }
     ensures small { IfOk result (λ size. IfSome size (λ n. n ≤ payload_room)) }
@@ -140,7 +140,7 @@ fn is_entry(gate: u8, size: u16, room: u64) -> bool
     gate == OPEN && usize::from(size) <= PAYLOAD_ROOM && 3 + u64::from(size) <= room
 }
 
-/// How many entries stand from a place of the disk on, and how many bytes they take.
+/// Returns how many entries stand from a place of the disk on, and how many bytes they take.
 pub(crate) fn count_entries<D: Disk>(
     disk: &mut D,
     start: u64,
@@ -167,7 +167,7 @@ pub(crate) fn count_entries<D: Disk>(
     Ok((ENTRIES_ROOM, taken))
 }
 
-// The entry at the front, and what lies behind it.
+// The entry at the start, and what lies after it.
 fn split_entry(bytes: &[u8]) -> Option<(&[u8], &[u8])>
     ensures entry { MatchOption result (entry_of bytes.now ≡ None)
         (λ r. (entry_of bytes.now ≡ Some r.0.now) × (r.1.now ≡ drop (3 + length r.0.now) bytes.now)) }
@@ -184,7 +184,7 @@ fn split_entry(bytes: &[u8]) -> Option<(&[u8], &[u8])>
     Some((&bytes[3..end], &bytes[end..]))
 }
 
-/// The payloads of the entries one after the other.
+/// Returns the payloads of the entries one after the other.
 pub(crate) fn payload_bytes(alloc: Global, entries: &[u8]) -> Result<Vec<u8>, AllocError>
     ensures payloads { IfOk result (λ v. v.items ≡ concat (payloads_of entries_room entries.now)) }
     ensures short { IfOk result (λ v. length v.items ≤ length entries.now) }
@@ -203,7 +203,7 @@ pub(crate) fn payload_bytes(alloc: Global, entries: &[u8]) -> Result<Vec<u8>, Al
 }
 
 /// What stands on a disk: its slot, the record, the payloads one after the other, how many entries there are, and the
-/// place in the slot behind the last of them.
+/// place in the slot after the last of them.
 #[derive(Drop)]
 pub(crate) struct Contents {
     pub(crate) found: Found,
@@ -265,7 +265,7 @@ fn read_found<D: Disk>(alloc: Global, disk: &mut D, found: Found) -> Result<Cont
     })
 }
 
-/// What stands on the disk.
+/// Returns what stands on the disk.
 pub(crate) fn read_standing<D: Disk>(alloc: Global, disk: &mut D) -> Result<Contents, StoreFault>
     ensures reads { OnlyReads D.tells (D.state disk.old) (D.state disk.new) result }
     ensures faults { IfErr result (IsReadFault D.tells (D.state disk.old) (D.state disk.new)) }
@@ -298,7 +298,7 @@ fn count_found<D: Disk>(disk: &mut D, found: Found) -> Result<(u64, u32), StoreF
     }
 }
 
-/// The generation that stands, and how many entries.
+/// Returns the generation that stands, and how many entries.
 pub(crate) fn count_standing<D: Disk>(disk: &mut D) -> Result<(u64, u32), StoreFault>
     ensures reads { OnlyReads D.tells (D.state disk.old) (D.state disk.new) result }
     ensures faults { IfErr result (IsStandingFault D.tells (D.state disk.old) (D.state disk.new)) }

@@ -1,11 +1,11 @@
-//! How a record and an entry are spelled behind their gates.
+//! How a record and an entry are spelled after their gates.
 ghost use Rattle.std.specs.Prelude.{◌≡◌, ◌≤◌, length, vec_capacity};
 ghost use Rattle.zb_store.specs.Layout.{body, entry_body};
 ghost use Rattle.zb_store.specs.Sizes.{record_room, payload_room, body_room};
 
 use crate::commit::SHUT;
 
-/// Spells a slot behind its gate: generation, length, record, and a closed gate for the first entry.
+/// Spells a slot after its gate: generation, length, record, and a closed gate for the first entry.
 #[tactic(auto, unfolding(crate::specs::Layout::body))]
 pub(crate) fn spell_body(buffer: &mut Vec<u8>, generation: u64, content: &[u8])
     requires small { length content.now ≤ record_room }
@@ -22,7 +22,7 @@ pub(crate) fn spell_body(buffer: &mut Vec<u8>, generation: u64, content: &[u8])
     buffer.push_reserved(SHUT);
 }
 
-/// Spells an entry behind its gate: length, payload, and a closed gate for the next entry.
+/// Spells an entry after its gate: length, payload, and a closed gate for the next entry.
 #[tactic(auto, unfolding(crate::specs::Layout::entry_body))]
 pub(crate) fn spell_entry(buffer: &mut Vec<u8>, payload: &[u8])
     requires small { length payload.now ≤ payload_room }

@@ -19,14 +19,14 @@ use std::marker::Model;
 use zb_base::Failed;
 use zb_disk::Disk;
 
-/// Keeps one record, and the entries behind it, on any disk.
+/// Keeps one record, and the entries after it, on any disk.
 ///
 /// It is open: it knows where its record stands on the disk and where the next entry goes.
 #[derive(Drop)]
 pub struct Store {
     second: bool,
     generation: u64,
-    // The place in the slot behind the last entry.
+    // The place in the slot after the last entry.
     end: u32,
     entries: u32,
     // Room for what a call writes.
@@ -46,7 +46,7 @@ impl Model for Store {
 }
 
 impl Store {
-    /// Answers how many entries stand behind the record: at most `ENTRIES_ROOM`.
+    /// Returns how many entries stand after the record: at most `ENTRIES_ROOM`.
     pub fn entries(&self) -> u32
         ensures count { result ≡ self.now.entries }
         ensures few { self.now.entries ≤ entries_room }
@@ -57,7 +57,8 @@ impl Store {
     /// Adds an entry with this payload in four device calls. Requires room for one more entry. After a fault the store
     /// is opened again.
     ///
-    /// Errors: `Disk`; `TooLarge`, for more bytes than `PAYLOAD_ROOM`, before any device call.
+    /// # Errors
+    /// `Disk`; `TooLarge`, for more bytes than `PAYLOAD_ROOM`, before any device call.
     pub fn append<D: Disk>(mut self, disk: &mut D, change: &[u8]) -> Result<Store, StoreFault>
         requires few { self.entries < entries_room }
         requires short { length change.now < 2 ^ 32 }
@@ -101,7 +102,8 @@ impl Store {
 
     /// Writes a new record, with no entries, in six device calls. After a fault the store is opened again.
     ///
-    /// Errors: `Disk`; `TooLarge`, for more bytes than `RECORD_ROOM`, and `Worn`, before any device call.
+    /// # Errors
+    /// `Disk`; `TooLarge`, for more bytes than `RECORD_ROOM`, and `Worn`, before any device call.
     pub fn put<D: Disk>(mut self, disk: &mut D, content: &[u8]) -> Result<Store, StoreFault>
         requires short { length content.now < 2 ^ 32 }
 
@@ -150,7 +152,8 @@ impl Store {
     /// Makes a store whose first record this is, with generation 1, in five device calls. Whatever the disk held is
     /// given up.
     ///
-    /// Errors: `Disk`; `NoMemory`; `TooLarge`, for more bytes than `RECORD_ROOM`, before any device call.
+    /// # Errors
+    /// `Disk`; `NoMemory`; `TooLarge`, for more bytes than `RECORD_ROOM`, before any device call.
     pub fn format<D: Disk>(alloc: Global, disk: &mut D, first: &[u8]) -> Result<Store, StoreFault>
         requires short { length first.now < 2 ^ 32 }
         ensures ready { IfOk result (λ store. IsTrue D.tells.content
@@ -191,18 +194,19 @@ impl Store {
     ///
     /// It makes its reads first, then one device call, or three where the gates of both slots are open.
     ///
-    /// Errors: `Disk`; `NoRecord`; `NoMemory`.
+    /// # Errors
+    /// `Disk`; `NoRecord`; `NoMemory`.
     pub fn open<D: Disk>(
         alloc: Global,
         disk: &mut D,
     ) -> Result<(Store, Vec<u8>, Vec<u8>), StoreFault>
-        // What it answers is what the disk as it reads stands for.
+        // What it answers is what the disk as it reads represents.
         ensures answer { IfOk result (λ r. IsTrue D.tells.content
             → IsAnswer r.0 r.1.items r.2.items (D.state disk.old).seen) }
         ensures record_size { IfOk result (λ r. length r.1.items ≤ record_room) }
         ensures payloads_size { IfOk result (λ r. length r.2.items ≤ payloads_room) }
 
-        // Where each image at entry is whole, each image at each moment is whole too, and stands for what one at entry
+        // Where each image at entry is whole, each image at each moment is whole too, and represents what one at entry
         // stood for. After Ok the store is ready.
         ensures moments { AllWhole (D.state disk.old) → IsTrue D.tells.content
             → LeavesOnly (D.state disk.old) (D.state disk.new) (WasThere (D.state disk.old)) }
@@ -238,9 +242,10 @@ impl Store {
         }
     }
 
-    /// Answers the generation that stands on the disk, and how many entries. It writes nothing and takes no memory.
+    /// Returns the generation that stands on the disk, and how many entries. It writes nothing and takes no memory.
     ///
-    /// Errors: `Disk`; `NoRecord`.
+    /// # Errors
+    /// `Disk`; `NoRecord`.
     pub fn standing<D: Disk>(disk: &mut D) -> Result<(u64, u32), StoreFault>
         ensures reads { OnlyReads D.tells (D.state disk.old) (D.state disk.new) result }
         ensures answer { IfOk result (λ r. IsTrue D.tells.content → AreCounted r.0 r.1 (D.state disk.old).seen) }
@@ -249,9 +254,10 @@ impl Store {
         count_standing(disk)
     }
 
-    /// Answers the record that stands on the disk, and the payloads one after the other. It writes nothing.
+    /// Returns the record that stands on the disk, and the payloads one after the other. It writes nothing.
     ///
-    /// Errors: `Disk`; `NoRecord`; `NoMemory`.
+    /// # Errors
+    /// `Disk`; `NoRecord`; `NoMemory`.
     pub fn peek<D: Disk>(alloc: Global, disk: &mut D) -> Result<(Vec<u8>, Vec<u8>), StoreFault>
         ensures reads { OnlyReads D.tells (D.state disk.old) (D.state disk.new) result }
         ensures answer { IfOk result (λ r. IsTrue D.tells.content

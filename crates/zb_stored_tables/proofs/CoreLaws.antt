@@ -1,4 +1,5 @@
--- A core over tables keeps the law of cores: an entry leads from its record to the next one's, and a record gives it again.
+-- A core over tables keeps the law of cores: an entry leads from its record to the next one's, and a record gives it
+-- again.
 use Rattle.std.proofs.Common.{◌≡◌, ◌≢◌, ℕ, Bool, true, false, if◌then◌else◌, List, [], ◌∷◌, ◌++◌, length, get_or, Result, Ok, Err, refl, sym, ap, ◌∙◌, subst, arith}
 use Rattle.std.proofs.lemmas.Bool.{eqb-true}
 use Rattle.std.specs.Prelude.{Some, None, ◌==◌}
@@ -166,7 +167,7 @@ kept_after role s t cs plan after =
 
 -- ---- the law
 
--- An entry behind what led to tables that differ from these in memory alone.
+-- An entry after what led to tables that differ from these in memory alone.
 reached_adds : (role : Role) (s t : NodeState) (cs : List Change) (r q : List ℕ) (u : NodeState) (b : Begun role r q u) → IsStorable role s cs → IsStoredAfter cs s t → get_or r 0 0 ≢ 1
     → after_boot b.reached ≡ after_boot s → state_given role r (q ++ payload (edits cs)) ≡ gave (after_boot t)
 reached_adds role s t cs r q u b plan after later same =

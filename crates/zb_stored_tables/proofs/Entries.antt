@@ -1,4 +1,4 @@
--- What the entries behind a record lead to keeps what the record's state keeps.
+-- What the entries after a record lead to keeps what the record's state keeps.
 use Rattle.std.proofs.Common.{◌≡◌, ℕ, zero, suc, ◌≤◌, Bool, true, false, if◌then◌else◌, List, [], ◌∷◌, length, Result, Ok, Err, refl, sym, ap, ◌∙◌, subst, arith}
 use Rattle.zb_node_types.specs.declared.change.Change.{Change}
 use Rattle.zb_node_types.specs.Changes.{edit}
@@ -88,7 +88,7 @@ module _ (v : Version) (P : NodeState → Type 0) (Q : List ℕ → Type 0) (wit
       by_some u (Ok between) is e later = let a = changes_keep count bytes between s u (within count bytes q) p is in later between u a.1 a.0 e
       by_some u (Err f) is e later = not_failed u t f rest e
 
--- ---- no bytes are left behind all payloads
+-- ---- no bytes are left after all payloads
 
 abbrev NoLonger : ℕ → List ℕ → Type 0
 NoLonger n bytes = length bytes ≤ n
@@ -192,7 +192,7 @@ one_ruled v role c s fit p = record {
 abbrev Any : List ℕ → Type 0
 Any bytes = Unit {0}
 
--- The entries behind a record keep the rules, the role, and no floors of dropped network keys.
+-- The entries after a record keep the rules, the role, and no floors of dropped network keys.
 pub entries_ruled : (v : Version) (role : Role) (entries rest : List ℕ) (s t : NodeState) → IsRuled role s → redone v entries s ≡ at_end t rest → IsRuled role t
 unfolding redone
 entries_ruled v role entries rest s t p e =

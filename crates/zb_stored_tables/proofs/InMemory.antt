@@ -1,4 +1,5 @@
--- What is in memory alone isn't in a record: the next counters, the floors that are kept, and the floors of dropped network keys.
+-- What is in memory alone isn't in a record: the next counters, the floors that are kept, and the floors of dropped
+-- network keys.
 use Rattle.std.proofs.Common.{◌≡◌, ℕ, ◌+◌, List, [], ◌∷◌, ◌++◌, map, filter, flat_map, Bool, true, false, if◌then◌else◌, Option, Some, None, refl, sym, ap, ◌∙◌}
 use Rattle.std.specs.Prelude.{nat_eq}
 use Rattle.std.proofs.lemmas.List.{length-map}

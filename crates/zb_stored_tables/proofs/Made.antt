@@ -170,7 +170,7 @@ unfolding applied_all
 all_made_fits [] s range fits = fits
 all_made_fits (c ∷ cs) s range fits = all_made_fits cs (applied (edit c) s) range.1 (made_fits c s range.0 fits)
 
--- ---- behind a record of the first version
+-- ---- after a record of the first version
 
 limited_fits : (limit : ℕ) → limit < 2 ^ 32 → (r : NetKey) → NetFits r → NetFits (limited limit r)
 limited_fits limit small r fits = record { key = fits.key; limit = omega (arith, fits.limit, small); floors = fits.floors }

@@ -59,7 +59,7 @@ either false p q = q
 none_keeps : Keeps Change InRange (λ cut bytes. Err cut)
 none_keeps cut bytes rest x a e = absurd (cc)
 
--- what stands at the front of the fields that are left
+-- what stands at the start of the fields that are left
 
 after_eui : {next : Eui → Reading ℕ Change} → ((x : Eui) → IsEui x → Keeps Change InRange (next x)) → Keeps Change InRange (eui_at >>= next)
 after_eui more = then_keeps IsEui InRange eui_keeps more

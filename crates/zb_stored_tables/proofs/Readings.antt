@@ -105,7 +105,7 @@ key_says cut bytes rest x e = by_test (nat_lt (length bytes) 16) e
     by_test true e = absurd (cc)
     by_test false e = ap seen e
 
--- a byte that stands for a value
+-- a byte that represents a value
 record Picked {A : Type 0} (pick : ℕ → Option A) (bytes rest : List ℕ) (x : A) : Type 0 where
   byte : ℕ
   front : a_byte bytes ≡ taken byte rest
@@ -191,7 +191,7 @@ both false b e = absurd (cc)
 
 -- ---- rows
 
--- so many rows behind those that are there
+-- so many rows after those that are there
 record More {A : Type 0} (take : Taking (List A)) (done rows : List A) (bytes rest : List ℕ) : Type 0 where
   more : List A
   rows_is : rows ≡ done ++ more

@@ -1,4 +1,4 @@
--- How tables are made of a record and the entries behind it: the answers of the calls, put together.
+-- How tables are made of a record and the entries after it: the answers of the calls, put together.
 use Rattle.std.proofs.Common.{◌≡◌, ℕ, suc, ◌<◌, true, false, List, [], ◌∷◌, length, get_or, Result, Ok, Err, refl, sym, ap, ◌∙◌}
 use Rattle.zb_base.specs.declared.fault.OrMemory.{OrMemory}
 use Rattle.zb_base.specs.declared.fault.OrMemory.TheVariants.{Fault, NoMemory}

@@ -22,7 +22,7 @@ use Rattle.zb_record.proofs.Sound.{both_read}
 use Rattle.zb_stored_tables.specs.Stored.{is_of_other}
 use Rattle.zb_stored_tables.proofs.Widths.{found, given}
 
--- a byte that stands for a value
+-- a byte that represents a value
 record Picked {A : Type 0} (pick : ℕ → Option A) (bytes rest : List ℕ) (x : A) : Type 0 where
   byte : ℕ
   parts : bytes ≡ byte ∷ rest

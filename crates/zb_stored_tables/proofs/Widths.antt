@@ -118,7 +118,7 @@ key_keeps cut bytes rest x a e = by_test (nat_lt (length bytes) 16) refl e
         let long : length (take 16 bytes) ≡ 16 = omega (arith, length-take 16 bytes, ltb-false (length bytes) 16 is) in
         (subst IsKey g.value long, subst AreBytes g.left (dropped 16 bytes a))
 
--- a byte that stands for a value
+-- a byte that represents a value
 pub pick_keeps : (A : Type 0) (pick : ℕ → Option A) → Keeps A (Any A) (λ cut bytes. Rattle.zb_cursor.specs.Reading.follow (byte_at cut bytes) (λ b left. chosen (pick b) cut left))
 pick_keeps A pick cut [] rest x a e = absurd (cc)
 pick_keeps A pick cut (b ∷ bytes) rest x a e = by_value (pick b) e

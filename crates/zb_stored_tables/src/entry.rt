@@ -9,7 +9,7 @@ ghost use Rattle.zb_record.specs.Sizes.{payload_room};
 use zb_node_types::{Change, Changes};
 use zb_record::PAYLOAD_ROOM;
 
-/// Writes the payload of changes, and answers its length.
+/// Writes the payload of changes, and returns its length.
 ///
 /// Requires a payload of at most `PAYLOAD_ROOM` bytes, and as many bytes of room.
 pub fn change_bytes(changes: &Changes, into: &mut [u8]) -> u32
@@ -21,7 +21,7 @@ pub fn change_bytes(changes: &Changes, into: &mut [u8]) -> u32
     zb_record::change_bytes(changes, &mut into[..PAYLOAD_ROOM])
 }
 
-/// Says of changes that their values can be spelled; does nothing.
+/// Reports of changes that their values can be spelled; does nothing.
 ///
 /// Keys have 16 bytes, and numbers are within their types.
 pub fn hold_ranges(changes: &Changes)

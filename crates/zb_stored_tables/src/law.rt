@@ -18,14 +18,14 @@ ghost use Rattle.zb_record.specs.Records.{record_read};
 ghost use Rattle.zb_stored_tables.specs.Cores.{CoreValue, IsValueAfter};
 ghost use Rattle.zb_stored_tables.specs.Stored.{state_given, restored, IsKept, IsStorable, IsStoredAfter, MayReserve};
 
-/// Says that what is read from the bytes of a record has values within its widths.
+/// States that what is read from the bytes of a record has values within its widths.
 #[tactic(auto, using(crate::proofs::Widths::read_fits))]
 pub fn what_is_read_fits_a_record()
     ensures { (bytes : List ℕ) (s : NodeState) → AllByRecursion (λ b. b < 256) bytes → record_read bytes ≡ Ok s
         → FitsBytes s }
 {}
 
-/// Says that bytes of version 3 that are read as a state are its record.
+/// States that bytes of version 3 that are read as a state are its record.
 ///
 /// So what is read is a record, and nothing else is.
 pub fn what_is_read_has_these_bytes_as_its_record()
@@ -33,19 +33,19 @@ pub fn what_is_read_has_these_bytes_as_its_record()
         → record_version bytes ≡ Some Third → record_read bytes ≡ Ok s → record_of s ≡ bytes }
 {}
 
-/// Says that a change read from the bytes of an entry has values that can be spelled again.
+/// States that a change read from the bytes of an entry has values that can be spelled again.
 pub fn what_is_read_is_in_range()
     ensures { (cut : ℕ) (bytes rest : List ℕ) (c : Change) → AllByRecursion (λ b. b < 256) bytes
         → change_at cut bytes ≡ Ok (c, rest) → InRange c }
 {}
 
-/// Says that a change of values that can be spelled leaves values within the widths of a record.
+/// States that a change of values that can be spelled leaves values within the widths of a record.
 #[tactic(auto, using(crate::proofs::Made::made_fits))]
 pub fn changes_keep_to_the_widths()
     ensures { (c : Change) (s : NodeState) → InRange c → FitsBytes s → FitsBytes (applied (edit c) s) }
 {}
 
-/// Says what the state keeps that a record and the entries behind it give.
+/// Returns what the state keeps that a record and the entries after it give.
 ///
 /// It keeps the rules for records, the widths of a record and no floors of dropped network keys, and is of the role
 /// that was asked for.
@@ -55,7 +55,7 @@ pub fn what_bytes_give_is_kept()
         → state_given role content entries ≡ Ok s → IsKept s × (s.role ≡ role) }
 {}
 
-/// Says that a record has nothing that is in memory alone.
+/// States that a record has nothing that is in memory alone.
 ///
 /// That is what a boot sets back, and the floors of dropped network keys. Seals and accepted frames change only what a
 /// boot sets back.
@@ -69,9 +69,9 @@ pub fn what_is_in_memory_alone_is_not_recorded()
         → after_boot (after_hearing layer key sender counter s) ≡ after_boot s }
 {}
 
-/// Says the law of cores of any core over tables.
+/// Reports the law of cores of any core over tables.
 ///
-/// `s` are the tables before a plan and `t` those after it. An entry behind a record that isn't of the first version
+/// `s` are the tables before a plan and `t` those after it. An entry after a record that isn't of the first version
 /// leads from the record before to the one after. The record alone gives itself again, and isn't of the first version.
 /// A plan without changes leaves it.
 pub fn a_core_over_tables_keeps_the_law()
@@ -84,7 +84,7 @@ pub fn a_core_over_tables_keeps_the_law()
     ensures idle { (s t : NodeState) → shown s ≡ s → IsStoredAfter [] s t → record_of t ≡ record_of s }
 {}
 
-/// Says the same of the value that the cores of all roles have, a setting and tables.
+/// Reports the same of the value that the cores of all roles have, a setting and tables.
 ///
 /// `c` is the core before an event, and `d` the one after its changes, accepted terms and seals. It also says that
 /// these are the tables that are shown after the event's answer, where they are those of the answer.
@@ -105,7 +105,7 @@ pub fn a_core_of_setting_and_tables_keeps_the_law()
         → d ≡ record { setting = c.setting; tables = shown (answered a c.tables) } }
 {}
 
-/// Says that what is stored after a plan gives the tables after it again.
+/// States that what is stored after a plan gives the tables after it again.
 ///
 /// A node boots with them as a boot leaves them.
 pub fn a_boot_gives_the_tables_again()
@@ -116,14 +116,14 @@ pub fn a_boot_gives_the_tables_again()
         → state_given role (record_of t) [] ≡ Ok (after_boot t) }
 {}
 
-/// Says that at most 14 changes of values that can be spelled have room in an entry.
+/// States that at most 14 changes of values that can be spelled have room in an entry.
 #[tactic(auto, using(crate::proofs::Short::few_short))]
 pub fn few_changes_fit_an_entry()
     ensures { (cs : List Change) → AllByRecursion InRange cs → length cs ≤ 14
         → length (payload (edits cs)) ≤ payload_room }
 {}
 
-/// Says that a reserve fits where its limit isn't below the stored one, and makes room.
+/// States that a reserve fits where its limit isn't below the stored one, and makes room.
 ///
 /// At NWK there is an active network key. The next counter stays, and the stored limit becomes the new one.
 pub fn a_reserve_makes_room()

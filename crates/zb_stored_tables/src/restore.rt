@@ -1,4 +1,4 @@
-//! Tables from a record and the entries behind it.
+//! Tables from a record and the entries after it.
 ghost use Rattle.std.specs.Prelude.{◌≡◌, ◌≤◌, Ok, OnOk, IfOk, IfErr, length};
 ghost use Rattle.zb_base.specs.declared.fault.OrMemory.TheVariants.{Fault};
 ghost use Rattle.zb_node_types.specs.Changes.{model_role};
@@ -28,7 +28,7 @@ fn version(content: &[u8]) -> Version
     version_of(content).unwrap_or(Version::Third)
 }
 
-// Makes the entries behind a record of so many bytes again. The place of a fault counts on from the record's length.
+// Makes the entries after a record of so many bytes again. The place of a fault counts on from the record's length.
 fn redo(
     tables: &mut Tables,
     version: Version,
@@ -53,7 +53,7 @@ fn redo(
     }
 }
 
-// The tables that a record and the payloads behind it lead to, before a boot.
+// The tables that a record and the payloads after it lead to, before a boot.
 fn read(
     alloc: Global,
     role: Role,
@@ -77,7 +77,7 @@ fn read(
     }
 }
 
-/// Makes the tables with which a node of that role boots on a record and the payloads behind it.
+/// Makes the tables with which a node of that role boots on a record and the payloads after it.
 pub(crate) fn restore(
     alloc: Global,
     role: Role,

@@ -19,9 +19,9 @@ use zb_base::{Eui, Key, Layer, OrMemory, Role};
 use zb_keys::Tables;
 use zb_node_types::{Changes, KeyError};
 
-/// Holds a node's tables as the core of a host keeps them.
+/// A node's tables as the core of a host keeps them.
 ///
-/// They are what a record and the entries behind it gave, and what plans made of it since. Their values fit the widths
+/// They are what a record and the entries after it gave, and what plans made of it since. Their values fit the widths
 /// of a record.
 #[derive(Debug, Drop)]
 pub struct StoredTables {
@@ -40,9 +40,10 @@ impl Model for StoredTables {
 }
 
 impl StoredTables {
-    /// Makes the tables with which a node of that role boots on a record and the payloads behind it.
+    /// Makes the tables with which a node of that role boots on a record and the payloads after it.
     ///
-    /// Errors: `BadRecord` at the place of the first fault: at 1 where the record is of another role, in the record
+    /// # Errors
+    /// `BadRecord` at the place of the first fault: at 1 where the record is of another role, in the record
     /// where `Tables::from_record` finds it, and in the entries where `Tables::redo` finds it, counted on from the
     /// record's length. `NoMemory` where memory is short.
     pub fn restore(
@@ -65,14 +66,14 @@ impl StoredTables {
         Ok(StoredTables { tables })
     }
 
-    /// Answers the tables.
+    /// Returns the tables.
     pub fn tables(&self) -> &Tables
         ensures { result.now ≡ self.now }
     {
         &self.tables
     }
 
-    /// Says what holds of them at all times; does nothing.
+    /// Returns what holds of them at all times; does nothing.
     pub fn keep_rules(&self)
         ensures { IsKept self.now }
     {
@@ -115,7 +116,7 @@ impl StoredTables {
         self.tables.heard(layer, key, sender, counter);
     }
 
-    /// Writes their record, and answers its length.
+    /// Writes their record, and returns its length.
     ///
     /// Requires `RECORD_ROOM` bytes of room.
     pub fn record(&self, into: &mut [u8]) -> u32

@@ -20,7 +20,7 @@ cut_none c xs none =
     let whole : length xs ≤ position_or_len (λ b. b == c) xs = grind (arith, nat_tests) in
     slice_split_none (λ b. b == c) xs (λ k d lt. fails_before_first (λ b. b == c) xs k d (omega arith))
 
--- the part before the first such byte, and the parts of what is behind it
+-- the part before the first such byte, and the parts of what is after it
 pub cut_some : (c at : ℕ) (xs : List ℕ) → position (λ b. b == c) xs ≡ Some at
     → parts c xs ≡ take at xs ∷ parts c (take (length (drop at xs) - 1) (drop 1 (drop at xs)))
 cut_some c at xs found =

@@ -35,7 +35,7 @@ digit_none x h g =
     let t : nat_lt (get_or VALUES x 0) 16 ≡ false = grind (arith, nat_tests) in
     rw t at (table_at x h)
 
--- What pairs of digits give behind bytes that are known.
+-- What pairs of digits give after bytes that are known.
 abbrev pub spelled_from : List ℕ → List ℕ → Option (List ℕ)
 spelled_from done [] = Some done
 spelled_from done (high ∷ []) = None
@@ -92,7 +92,7 @@ judged text false e = sym (itself (result_ok (decode_pairs 0 text))) ∙ decodes
 pub decoded : (text : List ℕ) → result_ok (decode_of text) ≡ spelled_from [] text
 decoded text = judged text (length text % 2 == 1) refl
 
--- The first two digits of a text, and the text behind them.
+-- The first two digits of a text, and the text after them.
 pub pairs_more : (done after text word : List ℕ) (byte : ℕ) → 2 ≤ length text
     → Some byte ≡ byte_of_pair (get_or text 0 0) (get_or text 1 0) → after ≡ done ++ byte ∷ []
     → spelled_from done text ≡ spelled_from [] word

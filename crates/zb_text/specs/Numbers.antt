@@ -12,7 +12,7 @@ abbrev pub up_to : ℕ → Option ℕ → Option ℕ
 up_to limit None = None
 up_to limit (Some number) = if nat_le number limit then Some number else None
 
--- Whether a word has no digit, or a 0 in front of another character.
+-- Whether a word has no digit, or a 0 before another character.
 abbrev pub is_ill_begun : List ℕ → Bool
 is_ill_begun word = length word == 0 || (nat_lt 1 (length word) && slice_index word 0 == 48)
 

@@ -1,4 +1,4 @@
--- The lines of a text and the words of a line, taken from the front one by one.
+-- The lines of a text and the words of a line, taken from the start one by one.
 use Rattle.std.specs.Prelude.{◌≡◌, ℕ, ◌==◌, List, [], ◌∷◌, Option, Some, None}
 use Rattle.std.specs.List.{slice_split}
 use Rattle.std.specs.Option.{option_copied, option_map}
@@ -8,7 +8,7 @@ use Rattle.zb_text.specs.declared.words.Words.{Words}
 abbrev pub parts : ℕ → List ℕ → List (List ℕ)
 parts separator text = slice_split (λ byte. byte == separator) text
 
--- The words of what is left of a line, which are separated by one space each. None is what is left behind the last
+-- The words of what is left of a line, which are separated by one space each. None is what is left after the last
 -- word. An empty line has one word, which is empty.
 abbrev pub words : Option (List ℕ) → List (List ℕ)
 words None = []
@@ -43,6 +43,6 @@ abbrev pub Shows : {X Y : Type 0} → (X → Y) → Option X → Option Y → Ty
 Shows view None expected = expected ≡ None
 Shows view (Some x) expected = expected ≡ Some (view x)
 
--- A word behind another one.
+-- A word after another one.
 abbrev pub then : List ℕ → List ℕ
 then word = 32 ∷ word

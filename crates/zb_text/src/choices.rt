@@ -21,7 +21,7 @@ pub fn role(word: &[u8]) -> Option<Role>
     }
 }
 
-/// Answers the word for the role of a node.
+/// Returns the word for the role of a node.
 pub fn role_text(role: Role) -> &'static [u8]
     ensures { result.now ≡ spec.role_text role }
 {
@@ -45,7 +45,7 @@ pub fn layer(word: &[u8]) -> Option<Layer>
     }
 }
 
-/// Answers the word for a layer.
+/// Returns the word for a layer.
 pub fn layer_text(layer: Layer) -> &'static [u8]
     ensures { result.now ≡ spec.layer_text layer }
 {
@@ -72,7 +72,7 @@ pub fn label(word: &[u8]) -> Option<Label>
     }
 }
 
-/// Answers the word for a key identifier.
+/// Returns the word for a key identifier.
 pub fn label_text(label: Label) -> &'static [u8]
     ensures { result.now ≡ spec.label_text label }
 {
@@ -99,7 +99,7 @@ pub fn attribute(word: &[u8]) -> Option<Attribute>
     }
 }
 
-/// Answers the word for the attribute of a link key.
+/// Returns the word for the attribute of a link key.
 pub fn attribute_text(attribute: Attribute) -> &'static [u8]
     ensures { result.now ≡ spec.attribute_text attribute }
 {
@@ -133,7 +133,7 @@ pub fn state(word: &[u8]) -> Option<State>
     }
 }
 
-/// Answers the word for the state of a node.
+/// Returns the word for the state of a node.
 pub fn state_text(state: State) -> &'static [u8]
     ensures { result.now ≡ spec.state_text state }
 {
@@ -161,7 +161,7 @@ pub fn rollover(word: &[u8]) -> Option<Rollover>
     }
 }
 
-/// Answers the word for a rollover.
+/// Returns the word for a rollover.
 pub fn rollover_text(rollover: Rollover) -> &'static [u8]
     ensures { result.now ≡ spec.rollover_text rollover }
 {
@@ -186,7 +186,7 @@ pub fn place(word: &[u8]) -> Option<Place>
     }
 }
 
-/// Answers the word for the place of a refusal.
+/// Returns the word for the place of a refusal.
 pub fn place_text(place: Place) -> &'static [u8]
     ensures { result.now ≡ spec.place_text place }
 {
@@ -210,7 +210,7 @@ pub fn answer(word: &[u8]) -> Option<bool>
     }
 }
 
-/// Answers the word for an answer.
+/// Returns the word for an answer.
 pub fn answer_text(answer: bool) -> &'static [u8]
     ensures { result.now ≡ spec.answer_text answer }
 {

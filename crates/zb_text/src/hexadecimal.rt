@@ -42,7 +42,7 @@ pub fn bytes<const N: usize>(word: &[u8]) -> Option<ArrayVec<u8, N>>
     Some(found)
 }
 
-/// The bytes that pairs of digits spell.
+/// Returns the bytes that pairs of digits spell.
 fn pairs_of<const N: usize>(word: &[u8]) -> Option<ArrayVec<u8, N>>
     requires { length word.now / 2 ≤ N }
     ensures { option_map (λ found. found.items) result ≡ result_ok (decode_of word.now) }
@@ -77,7 +77,7 @@ static VALUES: [u8; 256] = [
     255, 255, 255,
 ];
 
-/// The value of a digit, in either case.
+/// Returns the value of a digit, in either case.
 #[tactic(auto, using(crate::proofs::Pairs::digit_some, crate::proofs::Pairs::digit_none))]
 fn digit(byte: u8) -> Option<u8>
     ensures value { result ≡ hex_digit_value byte }
@@ -87,7 +87,7 @@ fn digit(byte: u8) -> Option<u8>
     if value < 16 { Some(value) } else { None }
 }
 
-/// The byte of two digits, the first of them for its high four bits.
+/// Returns the byte of two digits, the first of them for its high four bits.
 fn pair_value(high: u8, low: u8) -> Option<u8>
     ensures { result ≡ byte_of_pair high low }
 {

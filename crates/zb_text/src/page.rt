@@ -1,4 +1,4 @@
-//! A page of text that is being printed: its first word, words behind a space each, the ends of lines, and the way
+//! A page of text that is being printed: its first word, words after a space each, the ends of lines, and the way
 //! out into a sink. A page grows as its vector does, so no word costs an allocation of its own.
 
 ghost use Rattle.std.specs.Prelude.{◌≡◌, ◌∷◌, ◌++◌, [], decimal, OnOk, OnErr};
@@ -38,7 +38,7 @@ fn put_space(out: &mut Vec<u8>) -> Result<(), AllocError>
     Ok(())
 }
 
-/// Prints a word behind a space.
+/// Prints a word after a space.
 pub fn add_word(out: &mut Vec<u8>, word: &[u8]) -> Result<(), AllocError>
     ensures { OnOk result (out.new.items ≡ out.old.items ++ then word.now) }
 {
@@ -47,7 +47,7 @@ pub fn add_word(out: &mut Vec<u8>, word: &[u8]) -> Result<(), AllocError>
     Ok(())
 }
 
-/// Prints a number in decimal digits behind a space.
+/// Prints a number in decimal digits after a space.
 pub fn add_number(out: &mut Vec<u8>, number: u32) -> Result<(), AllocError>
     ensures { OnOk result (out.new.items ≡ out.old.items ++ then (decimal number)) }
 {
@@ -56,7 +56,7 @@ pub fn add_number(out: &mut Vec<u8>, number: u32) -> Result<(), AllocError>
     Ok(())
 }
 
-/// Prints an IEEE address in 16 digits behind a space.
+/// Prints an IEEE address in 16 digits after a space.
 pub fn add_eui(out: &mut Vec<u8>, eui: Eui) -> Result<(), AllocError>
     ensures { OnOk result (out.new.items ≡ out.old.items ++ then (eui_text eui.0)) }
 {
@@ -65,7 +65,7 @@ pub fn add_eui(out: &mut Vec<u8>, eui: Eui) -> Result<(), AllocError>
     Ok(())
 }
 
-/// Prints a network address in 4 digits behind a space.
+/// Prints a network address in 4 digits after a space.
 pub fn add_short(out: &mut Vec<u8>, short: Short) -> Result<(), AllocError>
     ensures { OnOk result (out.new.items ≡ out.old.items ++ then (short_text short.0)) }
 {
@@ -74,7 +74,7 @@ pub fn add_short(out: &mut Vec<u8>, short: Short) -> Result<(), AllocError>
     Ok(())
 }
 
-/// Prints a key in 32 digits behind a space.
+/// Prints a key in 32 digits after a space.
 pub fn add_key(out: &mut Vec<u8>, key: &Key) -> Result<(), AllocError>
     ensures { OnOk result (out.new.items ≡ out.old.items ++ then (encode_upper key.now.0)) }
 {
@@ -83,7 +83,7 @@ pub fn add_key(out: &mut Vec<u8>, key: &Key) -> Result<(), AllocError>
     Ok(())
 }
 
-/// Prints bytes in two digits each, or `-` for no bytes, behind a space.
+/// Prints bytes in two digits each, or `-` for no bytes, after a space.
 pub fn add_bytes(out: &mut Vec<u8>, bytes: &[u8]) -> Result<(), AllocError>
     ensures { OnOk result (out.new.items ≡ out.old.items ++ then (bytes_text bytes.now)) }
 {

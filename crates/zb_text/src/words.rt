@@ -10,7 +10,7 @@ use zb_base::{Attribute, Eui, Key, Label, Layer, Name, Place, Role, Rollover, Sh
 /// Reads the words of one line, from the first to the last.
 #[derive(Clone, Copy, Debug)]
 pub struct Words<'a> {
-    /// What is left of the line, or None behind its last word.
+    /// What is left of the line, or None after its last word.
     pub rest: Option<&'a [u8]>,
 }
 
@@ -179,7 +179,7 @@ impl<'a> Words<'a> {
         Some(answer)
     }
 
-    /// Answers Some where no word is left.
+    /// Returns Some where no word is left.
     #[tactic(auto, using(crate::proofs::Cuts::parts_are_some))]
     pub fn end(&self) -> Option<()>
         ensures { result ≡ nothing (left self.now) }
@@ -191,7 +191,7 @@ impl<'a> Words<'a> {
     }
 }
 
-/// What stands before the first of some byte, and what stands behind it; None where there is no such byte.
+/// What stands before the first of some byte, and what stands after it; None where there is no such byte.
 #[tactic(auto, using(crate::proofs::Cuts::cut_none, crate::proofs::Cuts::cut_some))]
 pub(crate) fn cut(text: &[u8], separator: u8) -> Option<(&[u8], &[u8])>
     ensures parts { MatchOption result (parts separator text.now ≡ text.now ∷ [])

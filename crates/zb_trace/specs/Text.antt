@@ -61,7 +61,7 @@ MayStand (Octet byte) = byte < 256
 MayStand (Octets limit bytes) = IsBytes bytes × (length bytes ≤ limit)
 MayStand (AllOctets bytes) = IsBytes bytes
 
--- The words behind a first one.
+-- The words after a first one.
 abbrev pub trailing : List Word → List ℕ
 trailing words = flat_map (λ word. then (spelled word)) words
 

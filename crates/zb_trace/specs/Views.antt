@@ -29,7 +29,7 @@ the_centre stations = eui_or_nobody (find (λ (s : Station). is_centre s.role) s
 unfoldable pub sent_by : List Station → List ℕ → Option ℕ
 sent_by stations name = if bytes_eq name (codes "-") then None else Some (named stations name)
 
--- A line behind lines that declare these nodes.
+-- A line after lines that declare these nodes.
 abbrev pub logged : List Station → Line → log.Line
 logged known (line.Node name r eui short out_block in_block) =
     log.Declared (record { name = name.bytes; eui = eui.0; short = short.0; role = model_role r; out_block = out_block; in_block = in_block })
@@ -68,7 +68,7 @@ logged known (line.Boot event node) = log.Boot event (named known node.bytes)
 logged known (line.Dump event node bytes) = log.Dump event (named known node.bytes) bytes
 logged known (line.End events seals accepts refusals ideal private) = log.End events seals accepts refusals ideal private
 
--- The model's lines, and one more line of the program behind them.
+-- The model's lines, and one more line of the program after them.
 abbrev pub with_line : List log.Line → Line → List log.Line
 with_line h l = h ++ logged (stations_of h) l ∷ []
 

@@ -9,7 +9,7 @@ use zb_base::{Attribute, Eui, Key, Layer, Name, Rollover, State};
 use zb_text::choices::{attribute_text, layer_text, rollover_text, state_text};
 use zb_text::page::{add_eui, add_key, add_number, add_word, end_line};
 
-/// A reserved outgoing counter.
+/// Returns a reserved outgoing counter.
 #[tactic(auto, using(std::proofs::Common::append_assoc), unfolding(crate::specs::Text::text))]
 pub(crate) fn put_reserve(
     out: &mut Vec<u8>,
@@ -27,7 +27,7 @@ pub(crate) fn put_reserve(
     Ok(())
 }
 
-/// A stored floor.
+/// Returns a stored floor.
 #[tactic(auto, using(std::proofs::Common::append_assoc), unfolding(crate::specs::Text::text))]
 pub(crate) fn put_floor(
     out: &mut Vec<u8>,
@@ -50,7 +50,7 @@ pub(crate) fn put_floor(
     Ok(())
 }
 
-/// A key of the supply that is used.
+/// Returns a key of the supply that is used.
 #[tactic(auto, using(std::proofs::Common::append_assoc), unfolding(crate::specs::Text::text))]
 pub(crate) fn put_draw(out: &mut Vec<u8>, event: u32, key: &Key) -> Result<(), AllocError>
     ensures { OnOk result (out.new.items ≡ out.old.items ++ spec.text (line.Draw event key.now)) }
@@ -61,7 +61,7 @@ pub(crate) fn put_draw(out: &mut Vec<u8>, event: u32, key: &Key) -> Result<(), A
     Ok(())
 }
 
-/// A network key that is dropped.
+/// Returns a network key that is dropped.
 #[tactic(auto, using(std::proofs::Common::append_assoc), unfolding(crate::specs::Text::text))]
 pub(crate) fn put_drop_net(
     out: &mut Vec<u8>,
@@ -78,7 +78,7 @@ pub(crate) fn put_drop_net(
     Ok(())
 }
 
-/// A link key that is dropped.
+/// Returns a link key that is dropped.
 #[tactic(auto, using(std::proofs::Common::append_assoc), unfolding(crate::specs::Text::text))]
 pub(crate) fn put_drop_link(
     out: &mut Vec<u8>,
@@ -97,7 +97,7 @@ pub(crate) fn put_drop_link(
     Ok(())
 }
 
-/// A new network key.
+/// Returns a new network key.
 #[tactic(auto, using(std::proofs::Common::append_assoc), unfolding(crate::specs::Text::text))]
 pub(crate) fn put_install(
     out: &mut Vec<u8>,
@@ -115,7 +115,7 @@ pub(crate) fn put_install(
     Ok(())
 }
 
-/// The active network key.
+/// Returns the active network key.
 #[tactic(auto, using(std::proofs::Common::append_assoc), unfolding(crate::specs::Text::text))]
 pub(crate) fn put_active(
     out: &mut Vec<u8>,
@@ -131,7 +131,7 @@ pub(crate) fn put_active(
     Ok(())
 }
 
-/// The first counter of a network key.
+/// Returns the first counter of a network key.
 #[tactic(auto, using(std::proofs::Common::append_assoc), unfolding(crate::specs::Text::text))]
 pub(crate) fn put_start(
     out: &mut Vec<u8>,
@@ -149,7 +149,7 @@ pub(crate) fn put_start(
     Ok(())
 }
 
-/// A link key and its attribute.
+/// Returns a link key and its attribute.
 #[tactic(auto, using(std::proofs::Common::append_assoc), unfolding(crate::specs::Text::text))]
 pub(crate) fn put_row(
     out: &mut Vec<u8>,
@@ -170,7 +170,7 @@ pub(crate) fn put_row(
     Ok(())
 }
 
-/// A key for two devices.
+/// Returns a key for two devices.
 #[tactic(auto, using(std::proofs::Common::append_assoc), unfolding(crate::specs::Text::text))]
 pub(crate) fn put_pair(
     out: &mut Vec<u8>,
@@ -190,7 +190,7 @@ pub(crate) fn put_pair(
     Ok(())
 }
 
-/// The state of a node.
+/// Returns the state of a node.
 #[tactic(auto, using(std::proofs::Common::append_assoc), unfolding(crate::specs::Text::text))]
 pub(crate) fn put_state(
     out: &mut Vec<u8>,
@@ -206,7 +206,7 @@ pub(crate) fn put_state(
     Ok(())
 }
 
-/// An admitted device.
+/// Returns an admitted device.
 #[tactic(auto, using(std::proofs::Common::append_assoc), unfolding(crate::specs::Text::text))]
 pub(crate) fn put_live(out: &mut Vec<u8>, event: u32, device: Eui) -> Result<(), AllocError>
     ensures { OnOk result (out.new.items ≡ out.old.items ++ spec.text (line.Live event device)) }
@@ -217,7 +217,7 @@ pub(crate) fn put_live(out: &mut Vec<u8>, event: u32, device: Eui) -> Result<(),
     Ok(())
 }
 
-/// A removed device.
+/// Returns a removed device.
 #[tactic(auto, using(std::proofs::Common::append_assoc), unfolding(crate::specs::Text::text))]
 pub(crate) fn put_removed(out: &mut Vec<u8>, event: u32, device: Eui) -> Result<(), AllocError>
     ensures { OnOk result (out.new.items ≡ out.old.items ++ spec.text (line.Removed event device)) }
@@ -228,7 +228,7 @@ pub(crate) fn put_removed(out: &mut Vec<u8>, event: u32, device: Eui) -> Result<
     Ok(())
 }
 
-/// A rollover.
+/// Returns a rollover.
 #[tactic(auto, using(std::proofs::Common::append_assoc), unfolding(crate::specs::Text::text))]
 pub(crate) fn put_roll(
     out: &mut Vec<u8>,
@@ -244,7 +244,7 @@ pub(crate) fn put_roll(
     Ok(())
 }
 
-/// A device that was sent the newest network key.
+/// Returns a device that was sent the newest network key.
 #[tactic(auto, using(std::proofs::Common::append_assoc), unfolding(crate::specs::Text::text))]
 pub(crate) fn put_told(out: &mut Vec<u8>, event: u32, device: Eui) -> Result<(), AllocError>
     ensures { OnOk result (out.new.items ≡ out.old.items ++ spec.text (line.Told event device)) }
@@ -255,7 +255,7 @@ pub(crate) fn put_told(out: &mut Vec<u8>, event: u32, device: Eui) -> Result<(),
     Ok(())
 }
 
-/// A device that is to be sent it again.
+/// Returns a device that is to be sent it again.
 #[tactic(auto, using(std::proofs::Common::append_assoc), unfolding(crate::specs::Text::text))]
 pub(crate) fn put_untold(out: &mut Vec<u8>, event: u32, device: Eui) -> Result<(), AllocError>
     ensures { OnOk result (out.new.items ≡ out.old.items ++ spec.text (line.Untold event device)) }

@@ -22,7 +22,7 @@ pub(crate) fn put_commit(out: &mut Vec<u8>, event: u32, node: &Name) -> Result<(
     Ok(())
 }
 
-/// An accepted layer of a frame.
+/// Returns an accepted layer of a frame.
 #[tactic(auto, using(std::proofs::Common::append_assoc), unfolding(crate::specs::Text::text))]
 pub(crate) fn put_accept(
     out: &mut Vec<u8>,
@@ -38,7 +38,7 @@ pub(crate) fn put_accept(
     Ok(())
 }
 
-/// A refused event.
+/// Returns a refused event.
 #[tactic(auto, using(std::proofs::Common::append_assoc), unfolding(crate::specs::Text::text))]
 pub(crate) fn put_refuse(
     out: &mut Vec<u8>,
@@ -54,7 +54,7 @@ pub(crate) fn put_refuse(
     Ok(())
 }
 
-/// A sealed layer of a frame.
+/// Returns a sealed layer of a frame.
 #[tactic(auto, using(std::proofs::Common::append_assoc), unfolding(crate::specs::Text::text))]
 pub(crate) fn put_seal(
     out: &mut Vec<u8>,
@@ -70,7 +70,7 @@ pub(crate) fn put_seal(
     Ok(())
 }
 
-/// A forged layer of a frame.
+/// Returns a forged layer of a frame.
 #[tactic(auto, using(std::proofs::Common::append_assoc), unfolding(crate::specs::Text::text))]
 pub(crate) fn put_forge(out: &mut Vec<u8>, event: u32, term: &Term) -> Result<(), AllocError>
     ensures { OnOk result (out.new.items ≡ out.old.items ++ spec.text (line.Forge event term.now)) }
@@ -81,7 +81,7 @@ pub(crate) fn put_forge(out: &mut Vec<u8>, event: u32, term: &Term) -> Result<()
     Ok(())
 }
 
-/// A frame on the air.
+/// Returns a frame on the air.
 #[tactic(auto, using(std::proofs::Common::append_assoc), unfolding(crate::specs::Text::text))]
 pub(crate) fn put_send(
     out: &mut Vec<u8>,
@@ -116,7 +116,7 @@ pub(crate) fn put_inject(
     Ok(())
 }
 
-/// A disk that stopped.
+/// Returns a disk that stopped.
 #[tactic(auto, using(std::proofs::Common::append_assoc), unfolding(crate::specs::Text::text))]
 pub(crate) fn put_stopped(out: &mut Vec<u8>, event: u32, node: &Name) -> Result<(), AllocError>
     ensures { OnOk result (out.new.items ≡ out.old.items ++ spec.text (line.Stopped event node.now)) }
@@ -126,7 +126,7 @@ pub(crate) fn put_stopped(out: &mut Vec<u8>, event: u32, node: &Name) -> Result<
     Ok(())
 }
 
-/// A reset node.
+/// Returns a reset node.
 #[tactic(auto, using(std::proofs::Common::append_assoc), unfolding(crate::specs::Text::text))]
 pub(crate) fn put_down_reset(out: &mut Vec<u8>, event: u32, node: &Name) -> Result<(), AllocError>
     ensures { OnOk result (out.new.items ≡ out.old.items ++ spec.text (line.DownReset event node.now)) }
@@ -137,7 +137,7 @@ pub(crate) fn put_down_reset(out: &mut Vec<u8>, event: u32, node: &Name) -> Resu
     Ok(())
 }
 
-/// A node whose disk failed.
+/// Returns a node whose disk failed.
 #[tactic(auto, using(std::proofs::Common::append_assoc), unfolding(crate::specs::Text::text))]
 pub(crate) fn put_down_disk(out: &mut Vec<u8>, event: u32, node: &Name) -> Result<(), AllocError>
     ensures { OnOk result (out.new.items ≡ out.old.items ++ spec.text (line.DownDisk event node.now)) }
@@ -148,7 +148,7 @@ pub(crate) fn put_down_disk(out: &mut Vec<u8>, event: u32, node: &Name) -> Resul
     Ok(())
 }
 
-/// A node that booted.
+/// Returns a node that booted.
 #[tactic(auto, using(std::proofs::Common::append_assoc), unfolding(crate::specs::Text::text))]
 pub(crate) fn put_boot(out: &mut Vec<u8>, event: u32, node: &Name) -> Result<(), AllocError>
     ensures { OnOk result (out.new.items ≡ out.old.items ++ spec.text (line.Boot event node.now)) }
@@ -158,7 +158,7 @@ pub(crate) fn put_boot(out: &mut Vec<u8>, event: u32, node: &Name) -> Result<(),
     Ok(())
 }
 
-/// The record that a node's disk stands for.
+/// Returns the record that a node's disk represents.
 #[tactic(auto, using(std::proofs::Common::append_assoc), unfolding(crate::specs::Text::text))]
 pub(crate) fn put_dump(
     out: &mut Vec<u8>,
@@ -174,7 +174,7 @@ pub(crate) fn put_dump(
     Ok(())
 }
 
-/// The end of a transcript.
+/// Returns the end of a transcript.
 #[tactic(auto, using(std::proofs::Common::append_assoc), unfolding(crate::specs::Text::text))]
 pub(crate) fn put_end(
     out: &mut Vec<u8>,

@@ -3,7 +3,7 @@ use zb_base::{Attribute, Eui, Frame, Key, Layer, List, Name, Role, Rollover, Sho
 use zb_node_types::Refusal;
 use zb_seal::Term;
 
-/// Is one line of a transcript. `event` is the number of the event that gave the line, from 1; the lines of the start
+/// One line of a transcript. `event` is the number of the event that gave the line, from 1; the lines of the start
 /// have the number 0. A node is named by its name, and where a line names a partner, a sender or a device, by its
 /// IEEE address.
 #[derive(Drop)]
@@ -198,7 +198,7 @@ pub enum Line {
         event: u32,
         node: Name,
     },
-    /// The record that the node's disk stands for.
+    /// The record that the node's disk represents.
     Dump {
         event: u32,
         node: Name,

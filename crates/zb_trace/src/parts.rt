@@ -37,7 +37,7 @@ pub(crate) fn begin_of(
     Ok(())
 }
 
-/// Prints the words of a term, each behind a space.
+/// Prints the words of a term, each after a space.
 #[tactic(auto, using(std::proofs::Common::append_assoc), unfolding(crate::specs::Text::term_words))]
 pub(crate) fn add_term(out: &mut Vec<u8>, term: &Term) -> Result<(), AllocError>
     ensures { OnOk result (out.new.items ≡ out.old.items ++ trailing (term_words term.now)) }
@@ -53,7 +53,7 @@ pub(crate) fn add_term(out: &mut Vec<u8>, term: &Term) -> Result<(), AllocError>
     Ok(())
 }
 
-/// Prints where and why an event was refused, each word behind a space.
+/// Prints where and why an event was refused, each word after a space.
 #[tactic(auto, using(std::proofs::Common::append_assoc), unfolding(crate::specs::Text::refusal_words))]
 pub(crate) fn add_refusal(out: &mut Vec<u8>, refusal: &Refusal) -> Result<(), AllocError>
     ensures { OnOk result (out.new.items ≡ out.old.items ++ trailing (refusal_words refusal.now)) }

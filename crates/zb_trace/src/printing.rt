@@ -14,7 +14,7 @@ use std::alloc::{AllocError, Global};
 use zb_base::{Failed, NoMemory, OrMemory, Sink};
 use zb_text::page::hand_out;
 
-/// Prints a line, with its line feed, behind what is printed already. It takes memory only where the page grows.
+/// Prints a line, with its line feed, after what is printed already. It takes memory only where the page grows.
 pub fn put_line(out: &mut Vec<u8>, line: &Line) -> Result<(), AllocError>
     ensures { OnOk result (out.new.items ≡ out.old.items ++ spec.text line.now) }
 {
@@ -184,7 +184,7 @@ pub fn text(alloc: Global, line: &Line) -> Result<Vec<u8>, NoMemory>
 /// keeps its room from line to line.
 ///
 /// # Errors
-/// Where the sink fails, a front of the text was taken; where memory lacks, nothing was.
+/// Where the sink fails, a prefix of the text was taken; where memory lacks, nothing was.
 pub fn write_line<W: Sink>(
     page: &mut Vec<u8>,
     out: &mut W,

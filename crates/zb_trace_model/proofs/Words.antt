@@ -200,7 +200,7 @@ reason_said why detail =
     else if is_word why (codes "wrong-hash") then model.WrongHash
     else model.NoFrame
 
--- A line by its kind: `ws` are the words behind the kind, and `more` those behind the name.
+-- A line by its kind: `ws` are the words after the kind, and `more` those after the name.
 
 abbrev of_power : ℕ → Bytes → ℕ → List Word → log.Line
 of_power event kind n more =

@@ -26,8 +26,8 @@ abbrev pub sender : List Station → Option ℕ → ArrayString
 sender known None = name_in (codes "-")
 sender known (Some n) = called known n
 
--- A change by the policy's rules. Draws, and devices that are live, removed, told or not, are the centre's: their lines
--- name no node.
+-- A change by the policy's rules. Draws, and devices that are live, removed, told or not, are the centre's: their
+-- lines name no node.
 abbrev pub move_line : ℕ → ArrayString → model.Move → Line
 move_line event node (model.Draw key) = line.Draw event (key_of key)
 move_line event node (model.DropNet key) = line.DropNet event node (key_of key)
@@ -114,8 +114,8 @@ IsOfNodes known (log.Boot event n) = IsDeclared known n
 IsOfNodes known (log.Dump event n bytes) = IsDeclared known n
 IsOfNodes known (log.End events seals accepts refusals ideal private) = ⊤
 
--- A line that may stand in a transcript: of a declared node or of none, its numbers in their ranges, and its keys of 16
--- bytes.
+-- A line that may stand in a transcript: of a declared node or of none, its numbers in their ranges, and its keys of
+-- 16 bytes.
 pub record IsProper (known : List Station) (m : log.Line) : Type 0 where
   pub node : IsOfNodes known m
   pub words : trace.IsProper (line_for known m)

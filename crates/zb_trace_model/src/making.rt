@@ -274,7 +274,7 @@ pub fn boot_line(event: u32, node: Name) -> Line
     Line::Boot { event, node }
 }
 
-/// Makes the line of the record that a node's disk stands for.
+/// Makes the line of the record that a node's disk represents.
 #[tactic(auto, using(crate::proofs::Says::dump_says))]
 pub fn dump_line(event: u32, node: Name, bytes: zb_base::List<u8>) -> Line
     ensures { (known : List Station) (n : ℕ) → IsCalled known n node.bytes

@@ -45,7 +45,7 @@ AllSuit [] (w ∷ ws) = ⊥
 AllSuit (f ∷ fs) [] = ⊥
 AllSuit (f ∷ fs) (w ∷ ws) = Suits f w × AllSuit fs ws
 
--- The words behind the beginning of a line read as themselves.
+-- The words after the beginning of a line read as themselves.
 
 abbrev put_before : Word → List Word → List Word
 put_before w ws = w ∷ ws
@@ -246,7 +246,7 @@ Named = List ℕ × List (List ℕ)
 named : (f : Named → Option (List Word)) (node : List ℕ) (rest : List (List ℕ)) → is_name node ≡ true → option_and_then f (field name_of (node ∷ rest)) ≡ f (node, rest)
 named f node rest h = rw h refl
 
--- a line that speaks of a node: `dispatch` says that the kind leads to this reading of what is behind the name
+-- a line that speaks of a node: `dispatch` says that the kind leads to this reading of what is after the name
 of_named : (event : ℕ) (kind node : List ℕ) (behind : List (List ℕ) → Option (List Word)) (ws : List Word) → event ≤ 4294967295 → is_name node ≡ true → IsWord kind
     → ((rest : List (List ℕ)) → of_event event (kind ∷ node ∷ rest) ≡ option_and_then (λ (t : Named). option_map (begun_of event kind t.0) (behind t.1)) (field name_of (node ∷ rest)))
     → behind (map spelled ws) ≡ Some ws → AllByRecursion IsWord (map spelled ws) → Printed (begun_of event kind node ws)

@@ -1,4 +1,4 @@
--- A line off the front of a text.
+-- A line off the start of a text.
 use Rattle.std.proofs.Common.{◌≡◌, ℕ, ◌+◌, ◌-◌, ◌<◌, ◌==◌, List, [], ◌∷◌, ◌++◌, length, get_or, map, true, false, Option, Some, None, refl, arith, ap, sym, ◌∙◌, append_assoc, append-nil, nat_lt, take, drop, take-append-drop, bytes_eq, length-append}
 use Rattle.std.specs.List.{AllByRecursion}
 use Rattle.std.specs.Option.{option_map, MatchOption}
@@ -79,7 +79,7 @@ one_line x y xs ys e = (some_pair_parts x y xs ys e).0
 abbrev read_joined : List ℕ → Option (List Word)
 read_joined line = read_words (words_of (Some line))
 
--- The line that was taken off the front is the one that the text begins with.
+-- The line that was taken off the start is the one that the text begins with.
 pub begins_with : (bytes line : List ℕ) (after : List (List ℕ)) (l : Line) (more : List ℕ) → IsProper l → bytes ≡ text l ++ more
     → first_of (lines bytes) ≡ Some (line, after) → read_words (words_of (Some line)) ≡ Some (words l)
 begins_with bytes line after l more proper e taken =

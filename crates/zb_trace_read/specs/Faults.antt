@@ -6,7 +6,7 @@ use Rattle.zb_trace.specs.declared.line.Line.{Line}
 use Rattle.zb_trace.specs.Text.{text, texts, IsProper, AllProper}
 use Rattle.zb_trace_read.specs.declared.fault.TraceError.{TraceError}
 
--- The text has so many lines, and what is behind them isn't empty and begins with the text of no line.
+-- The text has so many lines, and what is after them isn't empty and begins with the text of no line.
 pub record IsFirstBad (bytes : List ℕ) (number : ℕ) : Type 0 where
   pub before : List Line
   pub rest : List ℕ
@@ -20,7 +20,7 @@ abbrev pub IsTraceFault : List ℕ → OrMemory TraceError → Type 0
 IsTraceFault bytes (error.Fault e) = IsFirstBad bytes e.line
 IsTraceFault bytes error.NoMemory = Unit {0}
 
--- Want of memory, and no other fault.
+-- Out of memory, and no other fault.
 abbrev pub IsNoMemory : OrMemory TraceError → Type 0
 IsNoMemory (error.Fault e) = ⊥
 IsNoMemory error.NoMemory = Unit {0}

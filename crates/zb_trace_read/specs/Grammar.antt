@@ -1,4 +1,4 @@
--- How the words of a line are read: each kind of line has a shape, which says what stands behind its first words.
+-- How the words of a line are read: each kind of line has a shape, which says what stands after its first words.
 use Rattle.std.specs.Prelude.{ℕ, ◌==◌, List, [], ◌∷◌, length, codes, bytes_eq, if◌then◌else◌, Option, Some, None}
 use Rattle.std.specs.Option.{option_map, option_and_then}
 use Rattle.std.specs.Result.{result_ok}
@@ -54,7 +54,7 @@ value_of AByte word = option_and_then octet_of (fixed_of 1 word)
 value_of (SomeBytes limit) word = option_map (Octets limit) (bytes_of limit word)
 value_of AllBytes word = option_map AllOctets (all_bytes_of word)
 
--- What words are in the places of a shape, with nothing behind them.
+-- What words are in the places of a shape, with nothing after them.
 abbrev pub shaped : List Field → List (List ℕ) → Option (List Word)
 shaped [] words = option_map (λ _. []) (nothing words)
 shaped (place ∷ more) words =
@@ -75,7 +75,7 @@ a_layer = OneOf layers
 abbrev pub a_term : List Field
 a_term = a_layer ∷ OneOf labels ∷ AKey ∷ AnAddress ∷ a_count ∷ AByte ∷ SomeBytes 127 ∷ SomeBytes 127 ∷ []
 
--- words behind a word that says which of two forms they have
+-- words after a word that says which of two forms they have
 abbrev pub two_forms : List ℕ → List Field → List ℕ → List Field → List (List ℕ) → Option (List Word)
 two_forms one first other second words =
     option_and_then (λ (taken : List ℕ × List (List ℕ)).

@@ -7,7 +7,7 @@ use Rattle.zb_text.specs.Words.{first_of, field}
 use Rattle.zb_trace.specs.Text.{Word, Fixed, roles, attributes, states, rollovers, answers, begun, begun_of}
 use Rattle.zb_trace_read.specs.Grammar.{OneOf, ANameOrDash, AnAddress, AShort, AKey, SomeBytes, AllBytes, a_count, a_sequence, a_layer, a_term, shaped, two_forms, a_refusal}
 
--- behind the name of a node, at the start
+-- after the name of a node, at the start
 unfoldable pub of_start : List ℕ → List ℕ → List (List ℕ) → Option (List Word)
 of_start kind node words =
     if bytes_eq kind (codes "node") then option_map (begun_of 0 (codes "node") node) (shaped (OneOf roles ∷ AnAddress ∷ AShort ∷ a_count ∷ a_count ∷ []) words)
@@ -15,7 +15,7 @@ of_start kind node words =
     else if bytes_eq kind (codes "counter") then option_map (begun_of 0 (codes "counter") node) (shaped (a_layer ∷ a_count ∷ []) words)
     else None
 
--- behind the name of a node whose stable state changes
+-- after the name of a node whose stable state changes
 unfoldable pub of_change : ℕ → List ℕ → List ℕ → List (List ℕ) → Option (List Word)
 of_change event kind node words =
     if bytes_eq kind (codes "reserve") then option_map (begun_of event (codes "reserve") node) (shaped (a_layer ∷ a_count ∷ []) words)
@@ -31,7 +31,7 @@ of_change event kind node words =
     else if event == 0 then of_start kind node words
     else None
 
--- behind the name of a node to which something happens
+-- after the name of a node to which something happens
 unfoldable pub of_node : ℕ → List ℕ → List ℕ → List (List ℕ) → Option (List Word)
 of_node event kind node words =
     if bytes_eq kind (codes "seal") then option_map (begun_of event (codes "seal") node) (shaped a_term words)
@@ -61,7 +61,7 @@ abbrev pub of_dump : ℕ → List (List ℕ) → Option (List Word)
 of_dump event words =
     option_and_then (λ (node : List ℕ × List (List ℕ)). option_map (begun_of event (codes "dump") node.0) (shaped (AllBytes ∷ []) node.1)) (field name_of words)
 
--- behind the number of an event
+-- after the number of an event
 abbrev pub of_event : ℕ → List (List ℕ) → Option (List Word)
 of_event event words =
     option_and_then (λ (kind : List ℕ × List (List ℕ)).

@@ -14,7 +14,7 @@ use zb_base::Name;
 use zb_text::words::Words;
 use zb_trace::Line;
 
-/// Reads what stands behind the name of a node to which something happens, or whose stable state changes.
+/// Reads what stands after the name of a node to which something happens, or whose stable state changes.
 #[tactic(auto, unfolding(crate::specs::Reading::of_node))]
 pub(crate) fn read_of_node(
     event: u32,

@@ -13,7 +13,7 @@ use crate::parts::read_term;
 use zb_text::words::Words;
 use zb_trace::Line;
 
-/// Reads what stands behind the number of an event and a kind.
+/// Reads what stands after the number of an event and a kind.
 #[tactic(auto, unfolding(crate::specs::Reading::of_nobody))]
 pub(crate) fn read_of_nobody(event: u32, kind: &[u8], reader: &mut Words<'_>) -> Option<Line>
     ensures value { Shows words result (spec.of_nobody event kind.now (left reader.old)) }

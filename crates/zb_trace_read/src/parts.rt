@@ -12,7 +12,7 @@ use zb_node_types::Refusal;
 use zb_seal::Term;
 use zb_text::words::Words;
 
-/// Reads the words of a term, with nothing behind them.
+/// Reads the words of a term, with nothing after them.
 #[tactic(auto, unfolding(zb_trace::specs::Text::term_words))]
 pub(crate) fn read_term(reader: &mut Words<'_>) -> Option<Term>
     ensures value { Shows term_words result (shaped a_term (left reader.old)) }
@@ -39,7 +39,7 @@ pub(crate) fn read_term(reader: &mut Words<'_>) -> Option<Term>
     })
 }
 
-/// Reads the words of a refusal, with nothing behind them.
+/// Reads the words of a refusal, with nothing after them.
 #[tactic(auto, unfolding(crate::specs::Grammar::a_refusal))]
 pub(crate) fn read_refusal(reader: &mut Words<'_>) -> Option<Refusal>
     ensures value { Shows refusal_words result (a_refusal (left reader.old)) }

@@ -21,10 +21,10 @@ use zb_text::words::Words;
 use zb_trace::{Line, put_line};
 
 /// Reads the lines of a transcript: those that the whole text is the text of, hexadecimal digits in upper case and a
-/// line feed behind the last line included. Requires a text shorter than 4 GiB.
+/// line feed after the last line included. Requires a text shorter than 4 GiB.
 ///
 /// # Errors
-/// The first line that is no text of a line; or want of memory.
+/// The first line that is no text of a line; or out of memory.
 pub fn read_lines(alloc: Global, bytes: &[u8]) -> Result<Vec<Line>, OrMemory<TraceError>>
     requires { length bytes.now < 2 ^ 32 }
     ensures found { IfOk result (λ lines. AllProper lines.items × (bytes.now ≡ texts lines.items)) }
@@ -49,7 +49,7 @@ pub fn read_lines(alloc: Global, bytes: &[u8]) -> Result<Vec<Line>, OrMemory<Tra
     Ok(lines)
 }
 
-/// Makes the fault behind so many lines.
+/// Makes the fault after so many lines.
 fn first_bad(before: usize) -> OrMemory<TraceError>
     requires { before + 1 < 2 ^ 32 }
     ensures { result ≡ OrMemory.Fault (record { line = before + 1 }) }
@@ -59,12 +59,13 @@ fn first_bad(before: usize) -> OrMemory<TraceError>
     })
 }
 
-/// Takes the line whose text a text begins with, and answers it with what is behind it; or none.
+/// Takes the line whose text a text begins with, and answers it with what is after it; or none.
 ///
-/// The line is printed again and compared, so that only its exact text is taken. The page is room for that: what stands
-/// on it is lost. So a transcript can be read line by line, with no list of lines.
+/// The line is printed again and compared, so that only its exact text is taken. The page is room for that: what
+/// stands on it is lost. So a transcript can be read line by line, with no list of lines.
 ///
-/// Errors: want of memory.
+/// # Errors
+/// Out of memory.
 pub fn take_line<'a>(
     alloc: Global,
     page: &mut Vec<u8>,
@@ -89,7 +90,7 @@ pub fn take_line<'a>(
     }
 }
 
-/// Answers what is behind a front, where the text begins with it.
+/// Returns what is after a prefix, where the text begins with it.
 #[tactic(auto, using(crate::proofs::Taking::with_front, crate::proofs::Taking::no_front))]
 fn without_front<'a>(text: &'a [u8], front: &[u8]) -> Option<&'a [u8]>
     ensures { MatchOption result ((more : List ℕ) → text.now ≡ front.now ++ more → ⊥)
@@ -197,7 +198,7 @@ fn all_bytes(alloc: Global, word: &[u8]) -> Result<Option<zb_base::List<u8>>, Al
     }
 }
 
-/// Says that each byte is below 256.
+/// States that each byte is below 256.
 fn known_bytes(bytes: &[u8])
     ensures { IsBytes bytes.now }
 {}

@@ -13,7 +13,7 @@ use zb_base::Name;
 use zb_text::words::Words;
 use zb_trace::Line;
 
-/// Reads what stands behind the name of a node at the start.
+/// Reads what stands after the name of a node at the start.
 #[tactic(auto, unfolding(crate::specs::Reading::of_start))]
 pub(crate) fn read_start(kind: &[u8], node: Name, reader: &mut Words<'_>) -> Option<Line>
     requires { is_name node.bytes ≡ true }

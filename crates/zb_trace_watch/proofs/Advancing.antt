@@ -1,4 +1,4 @@
--- A watch that stands for some lines stands for one more, where each part takes in what the line adds to its readings.
+-- A watch that represents some lines represents one more, where each part takes in what the line adds to its readings.
 use Rattle.zb_model.specs.Data as model
 use Rattle.std.proofs.Common.{◌≡◌, ℕ, List, [], ◌∷◌, ◌++◌, Bool, true, false, ◌||◌, ◌&&◌, Option, Some, None, ◌⊎◌, inl, inr, refl, ap, sym, ◌∙◌, bytes_eq, nat_eq, subst}
 use Rattle.std.specs.List.{list_any, flat_map}

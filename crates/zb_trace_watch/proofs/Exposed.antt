@@ -1,5 +1,5 @@
--- What outsiders may know is the least set that has the start, and that has what a term carries wherever it has the base
--- key of the term.
+-- What outsiders may know is the least set that has the start, and that has what a term carries wherever it has the
+-- base key of the term.
 use Rattle.std.proofs.Common.{◌≡◌, ℕ, ◌+◌, ◌<◌, ◌≤◌, zero, suc, List, [], ◌∷◌, ◌++◌, length, Bool, true, false, ◌||◌, Option, Some, None, ◌⊎◌, inl, inr, refl, arith, ap, sym, ◌∙◌, subst, bytes_eq, length-append}
 use Rattle.std.specs.Prelude.{if◌then◌else◌, fold}
 use Rattle.std.specs.List.{AllByRecursion, flat_map}

@@ -145,7 +145,8 @@ bytes_tell a b =
     ∙ fifth (nat_eq a.counter b.counter) (same_layer (model_layer a.layer) (model_layer b.layer)) (bytes_eq a.base.0 b.base.0) (same_label (model_label a.label) (model_label b.label)) (nat_eq a.source.0 b.source.0)
     (nat_eq a.control b.control && (bytes_eq a.header.items b.header.items && bytes_eq a.content.items b.content.items))
 
--- After an insertion a set has what it had, and what was inserted, under each test that answers alike where keys are equal.
+-- After an insertion a set has what it had, and what was inserted, under each test that answers alike where keys are
+-- equal.
 pub inserted_alike : {K : Type 0} (cmp : K → K → Ordering) (test : K → Bool) → ((a b : K) → is_eq (cmp a b) ≡ true → test a ≡ test b)
     → (keys : List K) (key : K) → list_any test (insert_key cmp keys key) ≡ (list_any test keys || test key)
 inserted_alike cmp test alike [] key = or_swap (test key) false

@@ -4,7 +4,8 @@ use Rattle.zb_base.specs.declared.address.Eui.{Eui}
 use Rattle.zb_trace_watch.specs.Sets.{eui_cmp, key_cmp, keys_at, meet, node_has}
 use Rattle.zb_trace_watch.specs.declared.origins.Origins.{Origins}
 
--- whether the key is that of the node's code, or a term carries it under one of the node's keys; nothing is asked where there is no node
+-- whether the key is that of the node's code, or a term carries it under one of the node's keys; nothing is asked
+-- where there is no node
 abbrev pub came : Origins → Option Eui → List ℕ → Bool
 came o None key = true
 came o (Some node) key = node_has o.codes node.0 key || meet (keys_at eui_cmp o.bases node) (keys_at key_cmp o.carriers (record { 0 = key }))

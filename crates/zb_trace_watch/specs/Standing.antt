@@ -1,4 +1,4 @@
--- What a watch stands for: a list of transcript lines, by the readings of the model.
+-- What a watch represents: a list of transcript lines, by the readings of the model.
 use Rattle.zb_model.specs.Data as model
 use Rattle.std.specs.Prelude.{◌≡◌, ℕ, ◌&&◌, List, [], ◌∷◌, ◌++◌, Bool, true, false, bytes_eq, nat_eq, Option, Some, None, flat_map}
 use Rattle.std.specs.List.{list_any}
@@ -38,7 +38,7 @@ is_that (Some other) key = bytes_eq key other
 abbrev pub carries : Tools → Bytes → Bytes → model.Term → Bool
 carries tools base key t = bytes_eq base t.base && is_that (carried tools t) key
 
--- The watch stands for these lines.
+-- The watch represents these lines.
 pub record Stands (tools : Tools) (w : Watch) (h : List Line) : Type 0 where
   pub nodes : Declares w.nodes (stations_of h)
   -- the terms of seal and forge lines, and the keys that they carry
@@ -64,6 +64,6 @@ pub record Stands (tools : Tools) (w : Watch) (h : List Line) : Type 0 where
   pub ideal : w.origins.ideal ≡ ideal tools h
   pub based : w.exposure.based ≡ each_line (based_line tools) [] h
 
--- The watch after a line stands for the lines before it and this one.
+-- The watch after a line represents the lines before it and this one.
 abbrev pub Follows : Watch → Watch → Line → List Line → Tools → Type 0
 Follows old new line h tools = FindKeys tools → Stands tools old h → Stands tools new (h ++ line ∷ [])

@@ -24,7 +24,7 @@ label_number label.Network = 1
 label_number label.Transport = 2
 label_number label.Load = 3
 
--- a list behind its length
+-- a list after its length
 abbrev pub sized : List ℕ → List ℕ
 sized bytes = length bytes ∷ bytes
 

@@ -26,7 +26,7 @@ impl<O: Ord + Drop> Holdings<O> {
         }
     }
 
-    /// Tells whether the owner has the key.
+    /// Returns whether the owner has the key.
     pub fn has(&self, owner: &O, key: &Key) -> bool
         ensures { result ≡ held O.cmp self.now owner.now key.now.0 }
     {
@@ -54,7 +54,7 @@ impl<O: Ord + Drop> Holdings<O> {
         Ok(())
     }
 
-    /// Tells whether a key of the set is one of the owner's.
+    /// Returns whether a key of the set is one of the owner's.
     pub fn meets(&self, owner: &O, keys: &Keys) -> bool
         ensures { result ≡ meet keys.now.keys.keys (keys_at O.cmp self.now owner.now) }
     {
@@ -64,7 +64,7 @@ impl<O: Ord + Drop> Holdings<O> {
         }
     }
 
-    /// Puts the keys of an owner behind those of a list.
+    /// Puts the keys of an owner after those of a list.
     pub fn append_to(&self, owner: &O, list: &mut Vec<Key>) -> Result<(), AllocError>
         ensures { OnOk result (list.new.items ≡ list.old.items ++ keys_at O.cmp self.now owner.now) }
     {

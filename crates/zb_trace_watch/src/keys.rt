@@ -23,14 +23,14 @@ impl Keys {
         }
     }
 
-    /// Tells whether the set has the key.
+    /// Returns whether the set has the key.
     pub fn has(&self, key: &Key) -> bool
         ensures { result ≡ has self.now key.now.0 }
     {
         self.keys.contains(key)
     }
 
-    /// Adds a key, and answers whether it is new.
+    /// Adds a key, and returns whether it is new.
     pub fn add(&mut self, key: Key) -> Result<bool, AllocError>
         ensures new { IfOk result (λ new. new ≡ not (has self.old key.0)) }
         ensures adds { OnOk result ((k : List ℕ) → has self.new k ≡ (has self.old k || bytes_eq k key.0)) }
@@ -39,7 +39,7 @@ impl Keys {
         Ok(new)
     }
 
-    /// Whether the two sets have a key in common: the keys of the smaller one are looked up in the other.
+    /// Returns whether the two sets have a key in common: the keys of the smaller one are looked up in the other.
     #[tactic(auto, using(crate::proofs::Alike::meet_turned))]
     pub fn meets(&self, other: &Keys) -> bool
         ensures { result ≡ meet self.now.keys.keys other.now.keys.keys }
@@ -63,7 +63,7 @@ impl Keys {
         false
     }
 
-    /// Puts the keys behind those of a list.
+    /// Puts the keys after those of a list.
     pub fn append_to(&self, list: &mut Vec<Key>) -> Result<(), AllocError>
         ensures { OnOk result (list.new.items ≡ list.old.items ++ self.now.keys.keys) }
     {

@@ -34,14 +34,14 @@ impl Nodes {
         }
     }
 
-    /// Answers the address of the first node of that name.
+    /// Returns the address of the first node of that name.
     pub fn named(&self, name: &Name) -> Option<Eui>
         ensures { result ≡ address_of self.now name.now }
     {
         self.addresses.get(name).copied()
     }
 
-    /// Answers the node where it is a router or device, and none else.
+    /// Returns the node where it is a router or device, and none else.
     pub fn joiner(&self, node: Option<Eui>) -> Option<Eui>
         ensures { result ≡ (if is_joiner self.now node then node else None) }
     {
@@ -66,7 +66,7 @@ impl Nodes {
         }
     }
 
-    /// Answers the partner of a node's link row where the node is the centre.
+    /// Returns the partner of a node's link row where the node is the centre.
     pub fn partner(&self, node: Option<Eui>, partner: Eui) -> Option<Eui>
         ensures { result ≡ (if is_first_centre self.now.centre node then Some partner else None) }
     {
@@ -98,7 +98,7 @@ impl Nodes {
     }
 }
 
-/// The centre, where it was declared before, or is this node.
+/// Returns the centre, where it was declared before, or is this node.
 fn first_centre(before: Option<Eui>, eui: Eui, role: Role) -> Option<Eui>
     ensures first { result ≡ option_or before (if is_centre (model_role role) then Some eui else None) }
     ensures somebody { eui.0 < 2 ^ 64 }

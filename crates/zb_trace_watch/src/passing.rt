@@ -7,7 +7,7 @@ use crate::keys::Keys;
 use std::alloc::{AllocError, Global};
 use zb_base::{Attribute, Key};
 
-/// Holds the network's keys, and those that forged terms carry.
+/// The network's keys, and those that forged terms carry.
 #[derive(Drop)]
 pub struct Passing {
     /// The keys that were given, drawn or entered as codes.

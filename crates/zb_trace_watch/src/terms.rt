@@ -34,7 +34,7 @@ impl Terms {
         }
     }
 
-    /// Tells whether the set has the term.
+    /// Returns whether the set has the term.
     pub fn has(&self, term: &Term) -> bool
         ensures { result ≡ has_term self.now term.now }
     {

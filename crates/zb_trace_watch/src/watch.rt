@@ -22,7 +22,7 @@ use zb_carried_keys::carried;
 use zb_seal::Term;
 use zb_trace::Line;
 
-/// Holds what is known of a transcript after the lines so far. A watch keeps no line.
+/// What is known of a transcript after the lines so far. A watch keeps no line.
 ///
 /// What it keeps stands in ordered maps and sets, so that a step, which looks a key, a node or a term up or puts it
 /// in, costs logarithmic work. A line takes a fixed number of steps, and those of two tasks:
@@ -75,7 +75,7 @@ impl Watch {
         Ok(watch)
     }
 
-    /// Tells whether all that was accepted or taken in came from earlier terms.
+    /// Returns whether all that was accepted or taken in came from earlier terms.
     ///
     /// Each accepted term was sealed or forged before, and each key that a router or device took in is its code's or
     /// came in an earlier term under one of its keys.
@@ -86,7 +86,7 @@ impl Watch {
         self.origins.ideal
     }
 
-    /// Tells whether outsiders forged only under keys that they may know, and passed on no key of the network.
+    /// Returns whether outsiders forged only under keys that they may know, and passed on no key of the network.
     pub fn private(&self) -> bool
         ensures value { result ≡ (self.now.exposure.based && not self.now.passing.passed_on) }
         ensures private { (tools : Tools) (h : List log.Line) → Stands tools self.now h → result ≡ private_of tools h }

@@ -1,4 +1,4 @@
--- A stop behind more device calls than a journal entry makes does not fall.
+-- A stop after more device calls than a journal entry makes does not fall.
 use Rattle.std.specs.Prelude.{◌≡◌, true, List, [], ◌∷◌, Some, None, refl}
 use Rattle.zb_model.specs.Data.{Role, Reason, Nwk, ForNetwork, Station, Reserve, AtEvent, SayTo}
 use Rattle.zb_model.specs.Lines.{Line, Declared, GivenNet, Changed, Commit, Refuse, Seal, Send, End}

@@ -1,4 +1,4 @@
--- Behind the seals that are left none is late.
+-- After the seals that are left none is late.
 use Rattle.std.proofs.Common.{◌≡◌, ◌≤◌, drop, length, false}
 use Rattle.zb_audit_lockout.specs.Reading.{some_late}
 use Rattle.zb_audit_lockout.proofs.evidence.up_to_open.Given as goal

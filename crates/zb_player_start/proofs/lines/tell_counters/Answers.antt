@@ -1,4 +1,4 @@
--- The lines of each node are told behind those of the nodes before it.
+-- The lines of each node are told after those of the nodes before it.
 use Rattle.std.proofs.Common.{arith}
 use Rattle.zb_player_scribe.proofs.Telling.{none_told}
 use Rattle.zb_player_start.specs.Starts.{counter_lines}

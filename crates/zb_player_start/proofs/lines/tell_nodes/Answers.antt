@@ -1,4 +1,4 @@
--- The line of each node is told behind those of the nodes before it.
+-- The line of each node is told after those of the nodes before it.
 use Rattle.std.proofs.Common.{◌≡◌, ◌++◌, arith, subst}
 use Rattle.std.specs.Io.KnownBytes.{append_known}
 use Rattle.zb_trace_model.specs.Said.{text_of}

@@ -1,4 +1,4 @@
--- The text begins with the text of a line exactly where the line that is read at its front, printed, is its front.
+-- The text begins with the text of a line exactly where the line that is read at its prefix, printed, is its prefix.
 use Rattle.std.proofs.Common.{◌∙◌, sym}
 use Rattle.zb_trace_read.proofs.Taking.{no_line, begins_with, shows_none, shows_some, page_is, rest_is_shorter, is_front}
 use Rattle.zb_trace_read.proofs.reading.take_line.Goals as goal

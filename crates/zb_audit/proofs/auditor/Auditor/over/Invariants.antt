@@ -1,4 +1,4 @@
--- The auditor stands for the lines so far.
+-- The auditor represents the lines so far.
 use Rattle.std.proofs.Common.{take}
 use Rattle.zb_audit.specs.Auditing.{Stands}
 use Rattle.zb_model.specs.Tools.{Tools}

@@ -1,4 +1,4 @@
--- One more node behind the others.
+-- One more node after the others.
 use Rattle.zb_player_events.proofs.SeatLemmas.{added}
 use Rattle.zb_player_events.proofs.seats.Seats.add.Goals as goal
 

@@ -1,4 +1,4 @@
--- The watch stands for the lines so far.
+-- The watch represents the lines so far.
 use Rattle.std.proofs.Common.{take}
 use Rattle.zb_model.specs.Tools.{Tools}
 use Rattle.zb_trace.specs.Views.{log_of}
