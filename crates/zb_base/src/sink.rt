@@ -7,7 +7,7 @@ ghost use Rattle.zb_base.specs.Outside.{AppendsFront, HasCause, has_number as ha
 use crate::numbers::has_number;
 use crate::{Failed, NoMemory};
 use std::alloc::Global;
-use std::io::Write;
+use std::io::{ErrorKind, Write};
 use std::marker::Model;
 
 /// An output that is written from its beginning on.
@@ -197,14 +197,19 @@ impl<W: Write> Sink for StdSink<W> {
     }
 }
 
-/// Writes the whole piece, in as many calls as the writer wants.
+/// Writes the whole piece, in as many calls as the writer wants. An interrupted call is repeated.
 fn write_whole<W: Write>(writer: &mut W, piece: &[u8]) -> Result<(), Failed> {
     let mut rest = piece;
-    while !rest.is_empty() {
+    for _ in 0..u64::MAX {
+        if rest.is_empty() {
+            return Ok(());
+        }
         match writer.write(rest) {
-            Ok(0) | Err(_) => return Err(Failed),
+            Ok(0) => return Err(Failed),
             Ok(count) => rest = &rest[count..],
+            Err(error) if error.kind() == ErrorKind::Interrupted => {}
+            Err(_) => return Err(Failed),
         }
     }
-    Ok(())
+    Err(Failed)
 }

@@ -7,7 +7,7 @@ ghost use Rattle.zb_base.specs.Outside.{HasCause, has_number as has, risen};
 use crate::numbers::{fill, has_number};
 use crate::{Failed, NoMemory};
 use std::alloc::Global;
-use std::io::Read;
+use std::io::{ErrorKind, Read};
 use std::marker::Model;
 
 /// An input that is read from its beginning to its end.
@@ -111,9 +111,9 @@ impl<R: Read> Source for StdSource<R> {
         // It counts each failed call once, and no other call.
         ensures counted { self.new ≡ (if is_err result then risen self.old 1 else self.old) }
     {
-        match self.inner.read(buf) {
+        match read_once(&mut self.inner, buf) {
             Ok(count) => Ok(count),
-            Err(_) => {
+            Err(Failed) => {
                 self.faults = self.faults.saturating_add(1);
                 Err(Failed)
             }
@@ -145,4 +145,18 @@ impl Source for MemSource {
         self.at += count;
         Ok(count)
     }
+}
+
+/// Reads once, as much as the reader gives. An interrupted call is repeated.
+fn read_once<R: Read>(reader: &mut R, buf: &mut [u8]) -> Result<usize, Failed>
+    ensures { ReadsAtMost result buf.new }
+{
+    for _ in 0..u64::MAX {
+        match reader.read(buf) {
+            Ok(count) => return Ok(count),
+            Err(error) if error.kind() == ErrorKind::Interrupted => {}
+            Err(_) => return Err(Failed),
+        }
+    }
+    Err(Failed)
 }

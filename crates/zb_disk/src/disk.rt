@@ -5,6 +5,9 @@ ghost use Rattle.zb_disk.specs.Calls.{IsRead, IsWrite, IsSync};
 
 use zb_base::Failed;
 
+/// The number of bytes of a disk.
+pub const DISK_ROOM: usize = 131_072;
+
 /// Stores at most 131,072 bytes, which outlast a crash once they are synced.
 ///
 /// Since the last sync each written range, and the part past the old end, may hold any bytes after a crash. All other

@@ -4,27 +4,33 @@ ghost use Rattle.std.proofs.Common.{rules};
 ghost use Rattle.zb_base.specs.Outside.{risen};
 ghost use Rattle.zb_disk.specs.File.{file_tells, file_view};
 
-use crate::Disk;
-use std::fs::{Files, OpenFile, OpenOptions};
-use std::io;
-use std::io::{Read, Seek, SeekFrom, Write};
+use crate::{Disk, StoreFiles};
+use std::fs::OpenFile;
+use std::io::{self, ErrorKind, Read, Seek, SeekFrom, Write};
 use zb_base::{Failed, NoMemory};
 
-/// Stores its bytes in a file. It tells nothing of content.
+/// A disk whose bytes are those of a file. It tells nothing of content.
 ///
-/// The file is opened at first use, and made where it is missing.
+/// The file is opened at first use, for this process alone. Where it is missing it reads as empty, and is made by the
+/// first write. After a failed sync every call fails: what the disk has is known only when the file is opened anew.
 #[derive(Drop)]
-pub struct FileDisk<'a, T: Files + AllocGlobal + Drop> {
+pub struct FileDisk<'a, T: StoreFiles + AllocGlobal + Drop> {
     rt: &'a T,
     path: String,
     file: Option<T::File>,
-    /// Counts the writes and syncs that were asked for.
+    // No file has that name.
+    is_missing: bool,
+    // The file was made, and its name may not be on the disk yet.
+    is_new: bool,
+    // A sync failed.
+    is_lost: bool,
+    /// The number of writes and syncs that were asked for.
     pub calls: u64,
-    /// Counts the calls that failed.
+    /// The number of calls that failed.
     pub faults: u64,
 }
 
-impl<'a, T: Files + AllocGlobal + Drop> FileDisk<'a, T> {
+impl<'a, T: StoreFiles + AllocGlobal + Drop> FileDisk<'a, T> {
     /// Makes a disk over the file at this path; opens nothing.
     ///
     /// # Errors
@@ -37,20 +43,61 @@ impl<'a, T: Files + AllocGlobal + Drop> FileDisk<'a, T> {
             rt,
             path: String::from_str(rt.alloc(), path)?,
             file: None,
+            is_missing: false,
+            is_new: false,
+            is_lost: false,
             calls: 0,
             faults: 0,
         })
     }
 
-    // The file, opened at first use. Each call puts it back.
-    fn take_file(&mut self) -> io::Result<T::File>
+    // Takes the file out, which is opened at first use; None where no file has its name. Each call puts it back.
+    fn take_file(&mut self) -> io::Result<Option<T::File>>
         ensures calls { self.new.calls ≡ self.old.calls }
         ensures faults { self.new.faults ≡ self.old.faults }
     {
-        match self.file.take() {
-            Some(file) => Ok(file),
-            None => open_file(self.rt, self.path.as_str()),
+        if self.is_lost {
+            return Err(io::Error::from(ErrorKind::Other));
         }
+        if self.is_missing {
+            return Ok(None);
+        }
+        if let Some(file) = self.file.take() {
+            return Ok(Some(file));
+        }
+        let found = self.rt.open_store(self.path.as_str())?;
+        self.is_missing = found.is_none();
+        Ok(found)
+    }
+
+    // Takes the file out for a write, which makes it where it is missing.
+    fn take_or_make(&mut self) -> io::Result<T::File>
+        ensures calls { self.new.calls ≡ self.old.calls }
+        ensures faults { self.new.faults ≡ self.old.faults }
+    {
+        if let Some(file) = self.take_file()? {
+            return Ok(file);
+        }
+        let file = self.rt.make_store(self.path.as_str())?;
+        self.is_missing = false;
+        self.is_new = true;
+        Ok(file)
+    }
+
+    // Syncs the file, and the folder of a new one. After a failure the disk is lost.
+    fn sync_file(&mut self, file: T::File) -> io::Result<()>
+        ensures calls { self.new.calls ≡ self.old.calls }
+        ensures faults { self.new.faults ≡ self.old.faults }
+    {
+        self.is_lost = true;
+        file.sync_all()?;
+        if self.is_new {
+            self.rt.sync_folder(self.path.as_str())?;
+        }
+        self.is_new = false;
+        self.is_lost = false;
+        self.file = Some(file);
+        Ok(())
     }
 
     // Counts a call that failed.
@@ -64,14 +111,6 @@ impl<'a, T: Files + AllocGlobal + Drop> FileDisk<'a, T> {
     }
 }
 
-fn open_file<T: Files>(rt: &T, path: &str) -> io::Result<T::File> {
-    let mut options = OpenOptions::new();
-    options.read(true);
-    options.write(true);
-    options.create(true);
-    options.open(rt, path)
-}
-
 // Fills the buffer from a place on, with 00 past the end.
 fn read_file<F: Read + Seek>(file: &mut F, at: u64, buf: &mut [u8]) -> io::Result<()> {
     file.seek(SeekFrom::Start(at))?;
@@ -80,12 +119,15 @@ fn read_file<F: Read + Seek>(file: &mut F, at: u64, buf: &mut [u8]) -> io::Resul
         if filled == buf.len() {
             return Ok(());
         }
-        let count = file.read(&mut buf[filled..])?;
-        if count == 0 {
-            buf[filled..].fill(0);
-            return Ok(());
+        match file.read(&mut buf[filled..]) {
+            Ok(0) => {
+                buf[filled..].fill(0);
+                return Ok(());
+            }
+            Ok(count) => filled += count,
+            Err(error) if error.kind() == ErrorKind::Interrupted => {}
+            Err(error) => return Err(error),
         }
-        filled += count;
     }
     Ok(())
 }
@@ -95,7 +137,7 @@ fn write_file<F: Write + Seek>(file: &mut F, at: u64, bytes: &[u8]) -> io::Resul
     file.write_all(bytes)
 }
 
-impl<'a, T: Files + AllocGlobal + Drop> Disk for FileDisk<'a, T> {
+impl<'a, T: StoreFiles + AllocGlobal + Drop> Disk for FileDisk<'a, T> {
     ghost tells = { file_tells };
 
     ghost state = { λ d. file_view d.calls d.faults };
@@ -107,32 +149,41 @@ impl<'a, T: Files + AllocGlobal + Drop> Disk for FileDisk<'a, T> {
     ghost only_now = { λ d c left. left };
 
     fn size(&mut self) -> Result<u64, Failed> {
-        let Ok(mut file) = self.take_file() else {
-            return Err(self.fail());
-        };
-        let size = file.seek(SeekFrom::End(0));
-        self.file = Some(file);
-        match size {
-            Ok(size) => Ok(size),
+        match self.take_file() {
+            Ok(None) => Ok(0),
+            Ok(Some(mut file)) => {
+                let size = file.seek(SeekFrom::End(0));
+                self.file = Some(file);
+                match size {
+                    Ok(size) => Ok(size),
+                    Err(_) => Err(self.fail()),
+                }
+            }
             Err(_) => Err(self.fail()),
         }
     }
 
     fn read(&mut self, at: u64, buf: &mut [u8]) -> Result<(), Failed> {
-        let Ok(mut file) = self.take_file() else {
-            return Err(self.fail());
-        };
-        let done = read_file(&mut file, at, buf);
-        self.file = Some(file);
-        match done {
-            Ok(()) => Ok(()),
+        match self.take_file() {
+            Ok(None) => {
+                buf.fill(0);
+                Ok(())
+            }
+            Ok(Some(mut file)) => {
+                let done = read_file(&mut file, at, buf);
+                self.file = Some(file);
+                match done {
+                    Ok(()) => Ok(()),
+                    Err(_) => Err(self.fail()),
+                }
+            }
             Err(_) => Err(self.fail()),
         }
     }
 
     fn write(&mut self, at: u64, bytes: &[u8]) -> Result<(), Failed> {
         self.calls = self.calls.saturating_add(1);
-        let Ok(mut file) = self.take_file() else {
+        let Ok(mut file) = self.take_or_make() else {
             return Err(self.fail());
         };
         let done = write_file(&mut file, at, bytes);
@@ -145,12 +196,12 @@ impl<'a, T: Files + AllocGlobal + Drop> Disk for FileDisk<'a, T> {
 
     fn sync(&mut self) -> Result<(), Failed> {
         self.calls = self.calls.saturating_add(1);
-        let Ok(file) = self.take_file() else {
-            return Err(self.fail());
+        let synced = match self.take_file() {
+            Ok(None) => Ok(()),
+            Ok(Some(file)) => self.sync_file(file),
+            Err(error) => Err(error),
         };
-        let done = file.sync_all();
-        self.file = Some(file);
-        match done {
+        match synced {
             Ok(()) => Ok(()),
             Err(_) => Err(self.fail()),
         }

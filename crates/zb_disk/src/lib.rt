@@ -1,13 +1,15 @@
-//! Disks: the trait that the store stands on, two disks in memory, and one over a file.
+//! Disks: the trait that the store stands on, two disks in memory, and one over a file of the system.
 #![tactic(auto)]
 
 mod disk;
 mod file;
 mod flags;
 mod memory;
+mod store_files;
 mod trail;
 
-pub use disk::Disk;
+pub use disk::{DISK_ROOM, Disk};
 pub use file::FileDisk;
 pub use memory::{Arming, MemDisk};
+pub use store_files::StoreFiles;
 pub use trail::TrailDisk;
