@@ -80,8 +80,10 @@ fn worked_scripts(rt: HostRuntime) -> Result<(), Fail> {
 #[test]
 fn a_file_keeps_the_store(rt: HostRuntime) -> Result<(), Fail> {
     let path = "served_test_store";
-    let mut disk = FileDisk::new(&rt, path)?;
-    check(&rt, FIRST, &mut disk, FIRST_LINES)?;
+    {
+        let mut disk = FileDisk::new(&rt, path)?;
+        check(&rt, FIRST, &mut disk, FIRST_LINES)?;
+    }
     let mut again = FileDisk::new(&rt, path)?;
     check(&rt, AGAIN, &mut again, AGAIN_LINES)?;
     std::fs::remove_file(&rt, path)?;

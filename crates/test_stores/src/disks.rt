@@ -2,6 +2,7 @@
 ghost use Rattle.std.specs.Prelude.{◌≤◌, length};
 
 use crate::support::pattern;
+use std::os::unix::fs::MetadataExt;
 use std::process::Abort;
 use std::test::Fail;
 use zb_base::Failed;
@@ -100,13 +101,37 @@ fn a_trail_has_its_room(rt: HostRuntime) -> Result<(), Fail> {
 fn a_file_is_opened_again(rt: HostRuntime) -> Result<(), Fail> {
     let path = "disk_test_of_a_file";
     std::fs::write(&rt, path, [1, 2].as_slice())?;
-    let mut disk = FileDisk::new(&rt, path)?;
-    check_calls(&rt, &mut disk);
-    assert_eq!(rt; (disk.calls, disk.faults), (2, 0));
+    {
+        let mut disk = FileDisk::new(&rt, path)?;
+        check_calls(&rt, &mut disk);
+        assert_eq!(rt; (disk.calls, disk.faults), (2, 0));
+        // the first one still has it
+        let mut other = FileDisk::new(&rt, path)?;
+        assert_eq!(rt; other.size(), Err(Failed));
+        assert_eq!(rt; other.write(0, &[9]), Err(Failed));
+        assert_eq!(rt; (other.calls, other.faults), (1, 2));
+    }
     let mut again = FileDisk::new(&rt, path)?;
     assert_eq!(rt; again.size(), Ok(7));
     assert_eq!(rt; four(&mut again, 3), Ok([0, 0, 7, 8]));
     assert_eq!(rt; (again.calls, again.faults), (0, 0));
+    std::fs::remove_file(&rt, path)?;
+    Ok(())
+}
+
+#[test]
+fn a_file_is_made_by_the_first_write(rt: HostRuntime) -> Result<(), Fail> {
+    let path = "disk_test_of_a_new_file";
+    let mut disk = FileDisk::new(&rt, path)?;
+    assert_eq!(rt; disk.size(), Ok(0));
+    assert_eq!(rt; four(&mut disk, 0), Ok([0; 4]));
+    assert_eq!(rt; disk.sync(), Ok(()));
+    assert!(rt; std::fs::metadata(&rt, path).is_err());
+    assert_eq!(rt; disk.write(1, &[5, 6]), Ok(()));
+    assert_eq!(rt; disk.sync(), Ok(()));
+    assert_eq!(rt; four(&mut disk, 0), Ok([0, 5, 6, 0]));
+    assert_eq!(rt; disk.size(), Ok(131_072));
+    assert_eq!(rt; std::fs::metadata(&rt, path)?.mode() & 0o777, 0o600);
     std::fs::remove_file(&rt, path)?;
     Ok(())
 }

@@ -7,12 +7,11 @@ ghost use Rattle.zb_command.specs.Statuses.{line_of, text_of};
 use crate::program::run;
 use crate::status::Status;
 use std::env;
-use std::fs::Files;
 use std::io::{self, BufWriter, Write};
 use std::rt::Env;
 use std::thread::Threads;
 use zb_base::{Failed, Sink, StdSink, StdSource};
-use zb_disk::FileDisk;
+use zb_disk::{FileDisk, StoreFiles};
 
 /// How many bytes of output are held back, but for those of `admin`.
 const HELD_BACK: usize = 65_536;
@@ -21,7 +20,7 @@ const HELD_BACK: usize = 65_536;
 ///
 /// Where it didn't end well it says so on standard output. What standard output holds back is handed on at the end,
 /// and fails as a write does. Of `admin` it holds back nothing.
-pub fn run_process<H: Env + Input + Print + Files + AllocGlobal + Threads + Sync + Drop>(
+pub fn run_process<H: Env + Input + Print + StoreFiles + AllocGlobal + Threads + Sync + Drop>(
     rt: &H,
 ) -> Status {
     let words = match words_after_name(rt) {
@@ -64,7 +63,7 @@ fn end_at_once<H: Print>(rt: &H, status: Status) -> Status {
 }
 
 /// Runs the command, and writes into `output`.
-fn run_words<H: Input + Files + AllocGlobal + Threads + Sync + Drop, W: Write>(
+fn run_words<H: Input + StoreFiles + AllocGlobal + Threads + Sync + Drop, W: Write>(
     rt: &H,
     words: &[String],
     output: &mut StdSink<W>,

@@ -1,5 +1,4 @@
-//! What a store asks of the system: a file that this process alone has open, that its owner alone may read, and whose
-//! bytes are those of the disk and not of a cache.
+//! What a store asks of the system: a file that this process alone has open and that its owner alone may read.
 ghost use Rattle.std.specs.Prelude.{◌≤◌};
 
 use crate::DISK_ROOM;
@@ -8,7 +7,7 @@ use std::io::{self, ErrorKind, Write};
 use std::os::fd::AsRawFd;
 use std::os::unix::fs::{MetadataExt, OpenOptionsExt};
 
-/// Opens, makes and settles the files of stores.
+/// Opens and makes the files of stores.
 pub trait StoreFiles: Files {
     /// Opens the file of a store for this process alone, or returns None where nothing has that name.
     ///
@@ -48,7 +47,8 @@ impl StoreFiles for HostRuntime {
         options.write(true);
         let file = locked(options.open(self, path)?)?;
         warn_of_readers(self, path, &file)?;
-        settle(&file)?;
+        // what an earlier process wrote and did not sync
+        file.sync_all()?;
         Ok(Some(file))
     }
 
@@ -126,15 +126,4 @@ fn warn_of_readers(rt: &HostRuntime, path: &str, file: &File) -> io::Result<()> 
         );
     }
     Ok(())
-}
-
-/// Writes out what the system holds back of a file, and drops what it has cached of it.
-///
-/// After a failed sync of an earlier process the cache can differ from the disk.
-fn settle(file: &File) -> io::Result<()> {
-    file.sync_all()?;
-    match libc::posix_fadvise(file.as_raw_fd(), 0, 0, libc::POSIX_FADV_DONTNEED) {
-        0 => Ok(()),
-        error => Err(io::Error::from_raw_os_error(error)),
-    }
 }
