@@ -9,6 +9,7 @@ ghost use Rattle.zb_aps.specs.Shape.{IsShaped, IsFrame, IsHeader, HeaderInRange,
 ghost use Rattle.zb_cursor.specs.Spelling.{bit};
 ghost use Rattle.zb_aps.specs.Reading.{content_at, frame_at, frame_of};
 ghost use Rattle.zb_aps.specs.Faults.{HasFault};
+ghost use Rattle.zb_base.specs.Limits.{longest_frame};
 
 use crate::auxiliary::{ApsAux, put_aux, read_aux};
 use crate::fault::ApsError;
@@ -50,7 +51,7 @@ impl ApsFrame {
 /// Reads what stands after a header.
 #[tactic(auto, unfolding(crate::specs::Reading::secured_at, crate::specs::Reading::unsecured_at))]
 fn read_content(reader: &mut Reader<ApsError>, header: ApsHeader) -> Result<ApsFrame, ApsError>
-    requires fits { length reader.old.rest.now ≤ 127 }
+    requires fits { length reader.old.rest.now ≤ longest_frame }
     requires shaped { IsHeader header }
     requires in_range { HeaderInRange header }
     ensures exact { Gives result reader.new.rest.now
@@ -78,7 +79,7 @@ fn read_content(reader: &mut Reader<ApsError>, header: ApsHeader) -> Result<ApsF
 
 #[tactic(auto, unfolding(crate::specs::Reading::frame_at))]
 fn read_frame(reader: &mut Reader<ApsError>) -> Result<ApsFrame, ApsError>
-    requires { length reader.old.rest.now ≤ 127 }
+    requires { length reader.old.rest.now ≤ longest_frame }
     ensures exact { Gives result reader.new.rest.now (frame_at reader.old.cut reader.old.rest.now) }
     ensures found { IfOk result (λ f. IsFrame reader.old.rest.now f) }
 {
@@ -141,8 +142,8 @@ fn put_content(out: &mut Frame, value: &ApsFrame) -> Result<(), TooLong>
 pub fn write(value: &ApsFrame) -> Result<Frame, TooLong>
     requires { IsShaped value.now }
     ensures text { IfOk result (λ bytes. bytes.items ≡ frame value.now) }
-    ensures fits { IfOk result (λ bytes. length (frame value.now) ≤ 127) }
-    ensures long { OnErr result (127 < length (frame value.now)) }
+    ensures fits { IfOk result (λ bytes. length (frame value.now) ≤ longest_frame) }
+    ensures long { OnErr result (longest_frame < length (frame value.now)) }
 {
     let mut out = ArrayVec::new();
     put_header(&mut out, &value.header)?;

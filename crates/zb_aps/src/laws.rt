@@ -6,6 +6,7 @@ ghost use Rattle.zb_aps.specs.declared.frame.ApsFrame.{ApsFrame};
 ghost use Rattle.zb_aps.specs.Spelling.{frame};
 ghost use Rattle.zb_aps.specs.Shape.{InRange, IsShaped, Spells};
 ghost use Rattle.zb_aps.specs.Reading.{frame_of};
+ghost use Rattle.zb_base.specs.Limits.{longest_frame};
 
 /// Returns what `read` and `write` are to each other.
 pub fn round_trips()
@@ -13,7 +14,7 @@ pub fn round_trips()
     ensures one_spelling { (bytes other : List ℕ) (f : ApsFrame) → Spells bytes f → Spells other f
         → bytes ≡ other }
     // Reading what was written gives the frame.
-    ensures written_is_read { (f : ApsFrame) → InRange f → IsShaped f → length (frame f) ≤ 127
+    ensures written_is_read { (f : ApsFrame) → InRange f → IsShaped f → length (frame f) ≤ longest_frame
         → frame_of (frame f) ≡ Ok f }
     // Writing what was read gives the bytes.
     ensures read_is_written { (bytes : List ℕ) (f : ApsFrame) → IsBytes bytes → frame_of bytes ≡ Ok f

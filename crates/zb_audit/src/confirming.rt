@@ -9,6 +9,7 @@ ghost use Rattle.zb_audit_names.specs.Standing.{IsSpeaker};
 ghost use Rattle.zb_model.specs.Data.{Bytes};
 ghost use Rattle.zb_trace.specs.declared.line.Line.{Line as AnyLine};
 ghost use Rattle.zb_carried_keys.specs.Carrying.{is_command_header};
+ghost use Rattle.zb_base.specs.Limits.{longest_frame};
 
 use crate::numbers::first_bad;
 use std::alloc::Global;
@@ -208,7 +209,7 @@ fn is_command_header(header: &[u8]) -> bool
 }
 
 fn confirmed_in(bytes: &[u8]) -> Option<Eui>
-    requires { length bytes.now ≤ 127 }
+    requires { length bytes.now ≤ longest_frame }
     ensures { result ≡ confirmed_bytes (command_of bytes.now) }
 {
     match read_command(bytes) {

@@ -2,6 +2,7 @@
 ghost use Rattle.std.specs.Prelude.{◌≡◌, ◌+◌, ◌*◌, ◌≤◌, ◌<◌, ◌^◌, length, map, sum_by};
 ghost use Rattle.zb_campaign.specs.Campaigns.{accepts_in, refusals_in, seals_in};
 ghost use Rattle.zb_player.specs.Runs.{last_line};
+ghost use Rattle.zb_base.specs.Limits.{most_lines};
 
 use zb_player::Summary;
 
@@ -23,9 +24,9 @@ impl Total {
         ensures seals { self.new.seals ≡ self.old.seals + end.now.seals }
         ensures accepts { self.new.accepts ≡ self.old.accepts + end.now.accepts }
         ensures refusals { self.new.refusals ≡ self.old.refusals + end.now.refusals }
-        ensures few_seals { self.new.seals ≤ self.old.seals + 4294967295 }
-        ensures few_accepts { self.new.accepts ≤ self.old.accepts + 4294967295 }
-        ensures few_refusals { self.new.refusals ≤ self.old.refusals + 4294967295 }
+        ensures few_seals { self.new.seals ≤ self.old.seals + most_lines }
+        ensures few_accepts { self.new.accepts ≤ self.old.accepts + most_lines }
+        ensures few_refusals { self.new.refusals ≤ self.old.refusals + most_lines }
     {
         self.seals += end.seals as u64;
         self.accepts += end.accepts as u64;

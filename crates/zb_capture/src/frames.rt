@@ -1,6 +1,7 @@
 //! The frames of a capture.
 ghost use Rattle.std.specs.Prelude.{◌≡◌, ◌<◌, ◌++◌, length, take, drop};
 ghost use Rattle.zb_capture.specs.Runs.{all_runs};
+ghost use Rattle.zb_base.specs.Limits.{most_frames};
 
 use crate::run::{FrameRun, Run};
 use std::alloc::Global;
@@ -63,7 +64,7 @@ impl Frames {
     ///
     /// Requires at most 100,000 frames.
     pub fn len(&self) -> usize
-        requires { length self.now ≤ 100000 }
+        requires { length self.now ≤ most_frames }
         ensures { result ≡ length self.now }
     {
         self.count + self.last.len()
@@ -84,7 +85,7 @@ impl Frames {
     ///
     /// Requires fewer than 100,000 frames.
     pub fn push(&mut self, frame: &Frame) -> Result<(), NoMemory>
-        requires { length self.old < 100000 }
+        requires { length self.old < most_frames }
         ensures added { OnOk result (self.new ≡ self.old ++ frame.now ∷ []) }
         ensures kept { OnErr result (self.new ≡ self.old) }
     {
@@ -96,7 +97,7 @@ impl Frames {
     ///
     /// Requires at most 100,000 frames in all.
     pub fn append(&mut self, more: Frames) -> Result<(), NoMemory>
-        requires { length self.old + length more ≤ 100000 }
+        requires { length self.old + length more ≤ most_frames }
         ensures { OnOk result (self.new ≡ self.old ++ more) }
     {
         let Frames {

@@ -2,6 +2,7 @@
 ghost use Rattle.std.specs.Prelude.{◌≡◌, ℕ, ◌-◌, ◌<◌, ◌≤◌, ◌∷◌, length, get_or, take, drop};
 ghost use Rattle.arrayvec.specs.ArrayVec.{ArrayVec};
 ghost use Rattle.zb_capture.specs.Runs.{AreEnds, frames_in};
+ghost use Rattle.zb_base.specs.Limits.{most_frames};
 
 use std::alloc::Global;
 use std::marker::Model;
@@ -62,7 +63,7 @@ impl Run {
 
     /// Puts a frame after these.
     pub fn push(&mut self, frame: &Frame) -> Result<(), NoMemory>
-        requires { length self.old < 100000 }
+        requires { length self.old < most_frames }
         ensures added { OnOk result (self.new ≡ self.old ++ frame.now ∷ []) }
         ensures kept { OnErr result (self.new ≡ self.old) }
     {

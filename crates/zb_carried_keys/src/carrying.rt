@@ -3,6 +3,7 @@ ghost use Rattle.std.specs.Prelude.{◌≡◌, ◌≤◌, length};
 ghost use Rattle.zb_aps.specs.Reading.{frame_of};
 ghost use Rattle.zb_cmd.specs.Reading.{command_of};
 ghost use Rattle.zb_carried_keys.specs.Carrying.{carried, clear_key, is_clear_command, is_command, is_command_header, key_in};
+ghost use Rattle.zb_base.specs.Limits.{longest_frame};
 
 use zb_aps::ApsFrame;
 use zb_base::{Key, Layer};
@@ -71,7 +72,7 @@ fn is_clear_command(frame: &ApsFrame) -> bool
 
 /// Returns the key in a Transport-Key, of any of its three types.
 fn transported(bytes: &[u8]) -> Option<Key>
-    requires { length bytes.now ≤ 127 }
+    requires { length bytes.now ≤ longest_frame }
     ensures { result ≡ key_in (command_of bytes.now) }
 {
     match read_command(bytes) {

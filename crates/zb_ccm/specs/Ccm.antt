@@ -8,6 +8,10 @@ use Rattle.zb_aes.specs.Block.{enciphered}
 use Rattle.zb_aes.specs.Bytes.{xored}
 use Rattle.zb_ccm.specs.Blocks.{block_count, blocks_of, chain}
 
+-- RFC 3610, 2.2: lengths below 2^16 - 2^8 are encoded in two bytes.
+abbrev pub longest_text : ℕ
+longest_text = 65280
+
 -- RFC 3610, 2.2: 64 where data is authenticated only, then the size of the MIC in 3 bits, then the size of the length
 -- field in 3 bits.
 abbrev pub flags : List ℕ → ℕ → ℕ

@@ -3,7 +3,7 @@
 ghost use Rattle.std.specs.Prelude.{◌≡◌, ◌≤◌, ◌<◌, length, take};
 ghost use Rattle.zb_aes.specs.Columns.{state_bytes};
 ghost use Rattle.zb_ccm.specs.Blocks.{block_at, blocks_of, chain};
-ghost use Rattle.zb_ccm.specs.Ccm.{mic_of, with_length, flags};
+ghost use Rattle.zb_ccm.specs.Ccm.{mic_of, with_length, flags, longest_text};
 
 use crate::blocks::{block_of, filled, numbered};
 use crate::keystream::stream_block_of;
@@ -24,7 +24,7 @@ fn chained_bytes(cipher: &Cipher, start: State, bytes: &[u8]) -> State
 // Makes the first block of the authenticated data, which begins with their length.
 fn first_associated(associated: &[u8]) -> State
     requires some { 0 < length associated.now }
-    requires fits { length associated.now < 65280 }
+    requires fits { length associated.now < longest_text }
     ensures { state_bytes result ≡ block_at (with_length associated.now) 0 }
 {
     let [high, low] = (associated.len() as u16).to_be_bytes();
@@ -34,7 +34,7 @@ fn first_associated(associated: &[u8]) -> State
 
 // Chains the authenticated data to a value.
 fn chained_associated(cipher: &Cipher, value: State, associated: &[u8]) -> State
-    requires { length associated.now < 65280 }
+    requires { length associated.now < longest_text }
     ensures { state_bytes result ≡ chain cipher.now (state_bytes value) (blocks_of (with_length associated.now)) }
 {
     if associated.is_empty() {
@@ -66,8 +66,8 @@ pub fn compute_mic(
     message: &[u8],
     size: u8,
 ) -> [u8; 16]
-    requires associated_fits { length associated.now < 65280 }
-    requires message_fits { length message.now < 65280 }
+    requires associated_fits { length associated.now < longest_text }
+    requires message_fits { length message.now < longest_text }
     requires low { 2 ≤ size }
     requires high { size ≤ 16 }
     ensures { take size result ≡ mic_of cipher.now nonce.now associated.now message.now size }

@@ -3,7 +3,7 @@
 ghost use Rattle.std.specs.Prelude.{◌≡◌, ◌<◌, ◌≤◌, length};
 ghost use Rattle.zb_aes.specs.Columns.{state_bytes};
 ghost use Rattle.zb_ccm.specs.Blocks.{block_count};
-ghost use Rattle.zb_ccm.specs.Ccm.{crypted, stream, stream_block};
+ghost use Rattle.zb_ccm.specs.Ccm.{crypted, stream, stream_block, longest_text};
 
 use crate::blocks::{add, numbered};
 use zb_aes::{Cipher, State};
@@ -18,7 +18,7 @@ pub fn stream_block_of(cipher: &Cipher, nonce: &[u8; 13], number: u16) -> State
 
 /// Turns a message into its cipher text, and a cipher text into its message.
 pub fn crypt(cipher: &Cipher, nonce: &[u8; 13], text: &mut [u8])
-    requires { length text.old < 65280 }
+    requires { length text.old < longest_text }
     ensures crypts { text.new ≡ crypted cipher.now nonce.now text.old }
     ensures covers { length text.old ≤ length (stream cipher.now nonce.now (block_count (length text.old))) }
 {

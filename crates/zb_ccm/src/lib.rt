@@ -5,7 +5,7 @@
 #![tactic(auto)]
 
 ghost use Rattle.std.specs.Prelude.{◌≡◌, ◌<◌, length, Some, None, OnOk, OnErr};
-ghost use Rattle.zb_ccm.specs.Ccm.{sealed, opens};
+ghost use Rattle.zb_ccm.specs.Ccm.{sealed, opens, longest_text};
 
 mod blocks;
 mod chaining;
@@ -28,8 +28,8 @@ pub struct BadMic;
 ///
 /// Requires fewer than 65,280 bytes of message and of authenticated data each.
 pub fn seal(key: &Key, nonce: &[u8; 13], associated: &[u8], message: &mut [u8]) -> [u8; 4]
-    requires associated_fits { length associated.now < 65280 }
-    requires message_fits { length message.old < 65280 }
+    requires associated_fits { length associated.now < longest_text }
+    requires message_fits { length message.old < longest_text }
     ensures { record { text = message.new; mic = result }
         ≡ sealed key.now.0 nonce.now associated.now message.old 4 }
 {
@@ -40,8 +40,8 @@ pub fn seal(key: &Key, nonce: &[u8; 13], associated: &[u8], message: &mut [u8]) 
 ///
 /// Requires fewer than 65,280 bytes of message and of authenticated data each.
 pub fn seal8(key: &Key, nonce: &[u8; 13], associated: &[u8], message: &mut [u8]) -> [u8; 8]
-    requires associated_fits { length associated.now < 65280 }
-    requires message_fits { length message.old < 65280 }
+    requires associated_fits { length associated.now < longest_text }
+    requires message_fits { length message.old < longest_text }
     ensures { record { text = message.new; mic = result }
         ≡ sealed key.now.0 nonce.now associated.now message.old 8 }
 {
@@ -61,8 +61,8 @@ pub fn open(
     text: &mut [u8],
     mic: &[u8; 4],
 ) -> Result<(), BadMic>
-    requires associated_fits { length associated.now < 65280 }
-    requires text_fits { length text.old < 65280 }
+    requires associated_fits { length associated.now < longest_text }
+    requires text_fits { length text.old < longest_text }
     ensures opened { OnOk result (opens key.now.0 nonce.now associated.now text.old mic.now ≡ Some text.new) }
     ensures refused { OnErr result (opens key.now.0 nonce.now associated.now text.old mic.now ≡ None) }
     ensures kept { OnErr result (text.new ≡ text.old) }
@@ -77,8 +77,8 @@ pub fn seal_with(
     associated: &[u8],
     message: &mut [u8],
 ) -> [u8; 4]
-    requires associated_fits { length associated.now < 65280 }
-    requires message_fits { length message.old < 65280 }
+    requires associated_fits { length associated.now < longest_text }
+    requires message_fits { length message.old < longest_text }
     ensures { record { text = message.new; mic = result }
         ≡ sealed cipher.now nonce.now associated.now message.old 4 }
 {
@@ -94,8 +94,8 @@ pub fn seal8_with(
     associated: &[u8],
     message: &mut [u8],
 ) -> [u8; 8]
-    requires associated_fits { length associated.now < 65280 }
-    requires message_fits { length message.old < 65280 }
+    requires associated_fits { length associated.now < longest_text }
+    requires message_fits { length message.old < longest_text }
     ensures { record { text = message.new; mic = result }
         ≡ sealed cipher.now nonce.now associated.now message.old 8 }
 {
@@ -114,8 +114,8 @@ pub fn open_with(
     text: &mut [u8],
     mic: &[u8; 4],
 ) -> Result<(), BadMic>
-    requires associated_fits { length associated.now < 65280 }
-    requires text_fits { length text.old < 65280 }
+    requires associated_fits { length associated.now < longest_text }
+    requires text_fits { length text.old < longest_text }
     ensures opened { OnOk result (opens cipher.now nonce.now associated.now text.old mic.now ≡ Some text.new) }
     ensures refused { OnErr result (opens cipher.now nonce.now associated.now text.old mic.now ≡ None) }
     ensures kept { OnErr result (text.new ≡ text.old) }

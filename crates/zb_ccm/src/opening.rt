@@ -2,7 +2,7 @@
 
 ghost use Rattle.std.specs.Prelude.{◌≡◌, ◌<◌, ◌≤◌, length};
 ghost use Rattle.std.specs.Str.{bytes_eq};
-ghost use Rattle.zb_ccm.specs.Ccm.{mic_of, IsOpening};
+ghost use Rattle.zb_ccm.specs.Ccm.{mic_of, IsOpening, longest_text};
 
 use crate::BadMic;
 use crate::chaining::compute_mic;
@@ -20,8 +20,8 @@ fn is_mic(
     message: &[u8],
     mic: &[u8; 4],
 ) -> bool
-    requires associated_fits { length associated.now < 65280 }
-    requires message_fits { length message.now < 65280 }
+    requires associated_fits { length associated.now < longest_text }
+    requires message_fits { length message.now < longest_text }
     ensures { result ≡ bytes_eq (mic_of cipher.now nonce.now associated.now message.now 4) mic.now }
 {
     let computed = compute_mic(cipher, nonce, associated, message, 4);
@@ -37,8 +37,8 @@ fn open_through(
     mic: &[u8; 4],
     copy: &mut [u8],
 ) -> Result<(), BadMic>
-    requires associated_fits { length associated.now < 65280 }
-    requires text_fits { length text.old < 65280 }
+    requires associated_fits { length associated.now < longest_text }
+    requires text_fits { length text.old < longest_text }
     requires same_length { length copy.old ≡ length text.old }
     ensures { IsOpening cipher.now nonce.now associated.now text.old mic.now text.new result }
 {
@@ -59,7 +59,7 @@ pub fn open_copy(
     text: &mut [u8],
     mic: &[u8; 4],
 ) -> Result<(), BadMic>
-    requires associated_fits { length associated.now < 65280 }
+    requires associated_fits { length associated.now < longest_text }
     requires text_fits { length text.old ≤ COPIED }
     ensures { IsOpening cipher.now nonce.now associated.now text.old mic.now text.new result }
 {
@@ -76,8 +76,8 @@ pub fn open_in_place(
     text: &mut [u8],
     mic: &[u8; 4],
 ) -> Result<(), BadMic>
-    requires associated_fits { length associated.now < 65280 }
-    requires text_fits { length text.old < 65280 }
+    requires associated_fits { length associated.now < longest_text }
+    requires text_fits { length text.old < longest_text }
     ensures { IsOpening cipher.now nonce.now associated.now text.old mic.now text.new result }
 {
     crypt(cipher, nonce, text);

@@ -10,6 +10,7 @@ ghost use Rattle.zb_cmd.specs.declared.command.Command.{Command};
 ghost use Rattle.zb_cmd.specs.Shape.{Spells};
 ghost use Rattle.zb_cmd.specs.Reading.{update_at, remove_at, switch_at, verify_at, confirm_at, body_of, command_at, command_of, IsRead};
 ghost use Rattle.zb_cmd.specs.Faults.{HasFault};
+ghost use Rattle.zb_base.specs.Limits.{longest_frame};
 
 use crate::fault::CmdError;
 use crate::request::{put_partner, read_request};
@@ -348,8 +349,8 @@ fn known_hash(hash: &[u8; 16])
 pub fn write_command(value: &Command) -> Result<Frame, TooLong>
     requires { IsCommand value.now }
     ensures text { IfOk result (λ bytes. bytes.items ≡ command value.now) }
-    ensures fits { IfOk result (λ bytes. length (command value.now) ≤ 127) }
-    ensures long { OnErr result (127 < length (command value.now)) }
+    ensures fits { IfOk result (λ bytes. length (command value.now) ≤ longest_frame) }
+    ensures long { OnErr result (longest_frame < length (command value.now)) }
     ensures short { is_tunnel value.now ≡ false → length (command value.now) ≤ most_bytes }
 {
     known_length(value);

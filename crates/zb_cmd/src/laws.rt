@@ -7,6 +7,7 @@ ghost use Rattle.zb_cmd.specs.declared.leave.Leave.{Leave};
 ghost use Rattle.zb_cmd.specs.Spelling.{command, leave};
 ghost use Rattle.zb_cmd.specs.Shape.{InRange, IsCommand, Spells, SpellsLeave};
 ghost use Rattle.zb_cmd.specs.Reading.{command_of, leave_of};
+ghost use Rattle.zb_base.specs.Limits.{longest_frame};
 
 /// Returns what `read_command` and `write_command` are to each other, and likewise for a Leave.
 pub fn round_trips()
@@ -14,7 +15,7 @@ pub fn round_trips()
     ensures one_spelling { (bytes other : List ℕ) (c : Command) → Spells bytes c → Spells other c
         → bytes ≡ other }
     // Reading what was written gives the command.
-    ensures written_is_read { (c : Command) → InRange c → IsCommand c → length (command c) ≤ 127
+    ensures written_is_read { (c : Command) → InRange c → IsCommand c → length (command c) ≤ longest_frame
         → command_of (command c) ≡ Ok c }
     // Writing what was read gives the bytes.
     ensures read_is_written { (bytes : List ℕ) (c : Command) → IsBytes bytes → command_of bytes ≡ Ok c

@@ -6,6 +6,7 @@ ghost use Rattle.zb_base.specs.Outside.{Rose, Unrisen};
 ghost use Rattle.zb_command.specs.Inputs.{TakesAtMost};
 ghost use Rattle.zb_command.specs.Serving.{Serviced, ServesOut};
 ghost use Rattle.zb_command.specs.Statuses.{served_status};
+ghost use Rattle.zb_base.specs.Limits.{first_too_long};
 
 use crate::input::{InputFault, LONGEST, read_input};
 use crate::status::{Cause, Status};
@@ -27,7 +28,7 @@ pub(crate) fn serve_input<R: Source, W: Sink, D: Disk>(
     ensures out { ServesOut result (W.taken output.old) (W.taken output.new) (W.faults output.old)
         (W.faults output.new) }
     ensures end { result ≡ Status.Ok → IsAtEnd (R.rest input.new) }
-    ensures few { TakesAtMost (R.rest input.old) (R.rest input.new) 16777217 }
+    ensures few { TakesAtMost (R.rest input.old) (R.rest input.new) first_too_long }
     ensures read_fault { result ≡ Status.ReadFault → Rose (R.faults input.old) (R.faults input.new) }
     ensures no_read_fault { result ≢ Status.ReadFault → Unrisen (R.faults input.old) (R.faults input.new) }
     ensures no_write_fault { result ≢ Status.WriteFault → Unrisen (W.faults output.old) (W.faults output.new) }

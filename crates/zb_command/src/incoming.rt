@@ -1,5 +1,6 @@
 //! The bytes of an input as they come in, and the lines in them.
 ghost use Rattle.std.specs.Prelude.{◌≡◌};
+ghost use Rattle.zb_base.specs.Limits.{first_too_long};
 
 use crate::capture::CaptureFault;
 use crate::input::{InputFault, LONGEST, read_on};
@@ -47,7 +48,7 @@ impl Incoming {
         requires size { 1 ≤ size }
         ensures filled { IsFilled result (R.rest input.old) (R.rest input.new) self.old self.new size
             (R.faults input.old) (R.faults input.new) }
-        ensures few { TakesAtMost (R.rest input.old) (R.rest input.new) (16777217 - self.old.count) }
+        ensures few { TakesAtMost (R.rest input.old) (R.rest input.new) (first_too_long - self.old.count) }
     {
         let before = self.part.len();
         let limit = before + size.min(LONGEST as usize + 1 - self.count);
@@ -138,7 +139,7 @@ impl Incoming {
             (R.faults input.old) (R.faults input.new) }
         ensures unrisen { result ≢ CaptureFault.Input InputFault.Read
             → Unrisen (R.faults input.old) (R.faults input.new) }
-        ensures few { TakesAtMost (R.rest input.old) (R.rest input.new) (16777217 - self.old.count) }
+        ensures few { TakesAtMost (R.rest input.old) (R.rest input.new) (first_too_long - self.old.count) }
     {
         let OrMemory::Fault(fault) = fault else {
             return CaptureFault::Input(InputFault::NoMemory);

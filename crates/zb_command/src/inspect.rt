@@ -8,6 +8,7 @@ ghost use Rattle.zb_command.specs.Answers.{wanted, Writes};
 ghost use Rattle.zb_command.specs.Commands.{Inspecting};
 ghost use Rattle.zb_command.specs.Inputs.{TakesAtMost};
 ghost use Rattle.zb_command.specs.Outcomes.{Ends};
+ghost use Rattle.zb_base.specs.Limits.{first_too_long};
 
 use crate::capture::{CaptureFault, read_capture_on};
 use crate::input::{InputFault, LONGEST};
@@ -31,7 +32,7 @@ pub(crate) fn inspect_input<T: Threads + Sync, R: Source, W: Sink>(
     ensures ends { Ends result (wanted (Inspecting jobs) (R.rest input.old)) (W.taken output.old)
         (W.taken output.new) (W.faults output.old) (W.faults output.new) }
     ensures end { result ≡ Status.Ok → IsAtEnd (R.rest input.new) }
-    ensures few { TakesAtMost (R.rest input.old) (R.rest input.new) 16777217 }
+    ensures few { TakesAtMost (R.rest input.old) (R.rest input.new) first_too_long }
     ensures read_fault { result ≡ Status.ReadFault → Rose (R.faults input.old) (R.faults input.new) }
     ensures no_read_fault { result ≢ Status.ReadFault → Unrisen (R.faults input.old) (R.faults input.new) }
     ensures no_write_fault { result ≢ Status.WriteFault → Unrisen (W.faults output.old) (W.faults output.new) }

@@ -9,6 +9,7 @@ ghost use Rattle.zb_command.specs.Outcomes.{Ends, Played};
 ghost use Rattle.zb_player.specs.Runs.{transcript_text};
 ghost use Rattle.zb_sched.specs.Schedules as sched;
 ghost use Rattle.zb_sched.specs.Valid.{IsSchedule};
+ghost use Rattle.zb_base.specs.Limits.{first_too_long};
 
 use crate::input::{InputFault, LONGEST, read_input};
 use crate::status::{Cause, Status};
@@ -23,7 +24,7 @@ pub(crate) fn play_input<R: Source, W: Sink>(alloc: Global, input: &mut R, outpu
     ensures ends { Ends result (wanted Playing (R.rest input.old)) (W.taken output.old) (W.taken output.new)
         (W.faults output.old) (W.faults output.new) }
     ensures end { result ≡ Status.Ok → IsAtEnd (R.rest input.new) }
-    ensures few { TakesAtMost (R.rest input.old) (R.rest input.new) 16777217 }
+    ensures few { TakesAtMost (R.rest input.old) (R.rest input.new) first_too_long }
     ensures played { result ≡ Status.Ok → IfSome (R.rest input.old)
         (λ bytes. Played bytes (W.taken output.old) (W.taken output.new)) }
     ensures read_fault { result ≡ Status.ReadFault → Rose (R.faults input.old) (R.faults input.new) }

@@ -12,6 +12,7 @@ ghost use Rattle.zb_command.specs.Outcomes.{IsWritten, Made, Played, ReadsToEnd,
 ghost use Rattle.zb_command.specs.Serving.{Serviced};
 ghost use Rattle.zb_command.specs.Words.{invocation, Fits};
 ghost use Rattle.zb_command.specs.declared.status.Cause.{Cause};
+ghost use Rattle.zb_base.specs.Limits.{first_too_long};
 
 use crate::admin::serve_input;
 use crate::audit::audit_input;
@@ -47,7 +48,7 @@ pub fn run<T: Threads + Sync, R: Source, W: Sink, D: Disk>(
     ensures end { (job : Invocation) → invocation_of (map string_bytes words.now) ≡ Some job → result ≡ Status.Ok
         → ReadsToEnd job (R.rest input.new) }
     // It takes no more of the input than one byte past the longest.
-    ensures few { TakesAtMost (R.rest input.old) (R.rest input.new) 16777217 }
+    ensures few { TakesAtMost (R.rest input.old) (R.rest input.new) first_too_long }
     // What `play` wrote is a lawful run of the schedule that its input is.
     ensures played { invocation_of (map string_bytes words.now) ≡ Some Playing → result ≡ Status.Ok
         → IfSome (R.rest input.old) (λ bytes. Played bytes (W.taken output.old) (W.taken output.new)) }
@@ -109,7 +110,7 @@ fn carry_out<T: Threads + Sync, R: Source, W: Sink, D: Disk>(
         store.new output.new }
     ensures store { (invocation command.entry ≡ Serving → ⊥) → store.new ≡ store.old }
     ensures end { result ≡ Status.Ok → ReadsToEnd (invocation command.entry) (R.rest input.new) }
-    ensures few { TakesAtMost (R.rest input.old) (R.rest input.new) 16777217 }
+    ensures few { TakesAtMost (R.rest input.old) (R.rest input.new) first_too_long }
     ensures played { invocation command.entry ≡ Playing → result ≡ Status.Ok
         → IfSome (R.rest input.old) (λ bytes. Played bytes (W.taken output.old) (W.taken output.new)) }
     ensures made { (count : ℕ) → invocation command.entry ≡ Making count → result ≡ Status.Ok

@@ -10,6 +10,7 @@ ghost use Rattle.zb_command.specs.Commands.{Sniffing};
 ghost use Rattle.zb_command.specs.KeyWords.{keys_in};
 ghost use Rattle.zb_command.specs.Inputs.{TakesAtMost};
 ghost use Rattle.zb_command.specs.Outcomes.{Ends};
+ghost use Rattle.zb_base.specs.Limits.{first_too_long};
 
 use crate::input::{InputFault, LONGEST, read_input};
 use crate::keys::read_keys;
@@ -37,7 +38,7 @@ pub(crate) fn sniff_input<T: Threads + Sync, R: Source, W: Sink>(
     ensures ends { Ends result (wanted (Sniffing jobs (keys_in (map string_bytes words.now))) (R.rest input.old))
         (W.taken output.old) (W.taken output.new) (W.faults output.old) (W.faults output.new) }
     ensures end { result ≡ Status.Ok → IsAtEnd (R.rest input.new) }
-    ensures few { TakesAtMost (R.rest input.old) (R.rest input.new) 16777217 }
+    ensures few { TakesAtMost (R.rest input.old) (R.rest input.new) first_too_long }
     ensures read_fault { result ≡ Status.ReadFault → Rose (R.faults input.old) (R.faults input.new) }
     ensures no_read_fault { result ≢ Status.ReadFault → Unrisen (R.faults input.old) (R.faults input.new) }
     ensures no_write_fault { result ≢ Status.WriteFault → Unrisen (W.faults output.old) (W.faults output.new) }

@@ -4,6 +4,7 @@ ghost use Rattle.std.specs.Int.{w16, w32, w64};
 ghost use Rattle.zb_cursor.specs.Spelling.{byte, number, short, eui, key, optional};
 ghost use Rattle.zb_cursor.specs.Reading.{Gives, GivesBy, byte_at, body_and_mic_at, bytes_at, number_at, short_at, eui_at, key_at, optional_at, times_at};
 ghost use Rattle.std.specs.List.{flat_map, AllByRecursion};
+ghost use Rattle.zb_base.specs.Limits.{longest_frame};
 
 use crate::writing::frame_from;
 use arrayvec::ArrayVec;
@@ -77,7 +78,7 @@ impl<'a, E: Copy + Drop> Reader<'a, E> {
     /// Requires at most 127 bytes to be left.
     #[tactic(auto, unfolding(crate::specs::Reading::body_and_mic_at))]
     pub fn body_and_mic(&mut self) -> Result<(Frame, [u8; 4]), E>
-        requires { length self.old.rest.now ≤ 127 }
+        requires { length self.old.rest.now ≤ longest_frame }
         ensures exact { GivesBy (λ x. (x.0.items, x.1)) result self.new.rest.now
             (body_and_mic_at self.old.cut self.old.rest.now) }
         ensures spelled { IfOk result (λ x. self.old.rest.now ≡ x.0.items ++ x.1) }

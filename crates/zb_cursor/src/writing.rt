@@ -4,6 +4,7 @@ ghost use Rattle.std.specs.List.{flat_map};
 ghost use Rattle.std.specs.Int.{w16, w32, w64};
 ghost use Rattle.zb_cursor.specs.Spelling.{byte, number, short, eui, key, optional};
 ghost use Rattle.zb_cursor.specs.Writing.{Appends};
+ghost use Rattle.zb_base.specs.Limits.{longest_frame};
 
 use arrayvec::ArrayVec;
 use std::error::Error;
@@ -45,7 +46,7 @@ pub fn put(out: &mut Frame, piece: &[u8]) -> Result<(), TooLong>
 ///
 /// Requires at most 127 of them.
 pub fn frame_from(bytes: &[u8]) -> Frame
-    requires { length bytes.now ≤ 127 }
+    requires { length bytes.now ≤ longest_frame }
     ensures { result.items ≡ bytes.now }
 {
     let mut frame = ArrayVec::new();

@@ -2,6 +2,7 @@
 ghost use Rattle.std.specs.Prelude.{◌≡◌, ◌<◌, ◌≤◌, ◌+◌, ◌^◌, length, IfSome};
 ghost use Rattle.std.specs.Option.{option_copied};
 ghost use Rattle.zb_inspect_frame.specs.Layers.{looked, tried, opened_by, clear as clear_of, is_closed as closed};
+ghost use Rattle.zb_base.specs.Limits.{longest_frame};
 
 use zb_base::{Eui, Frame};
 use zb_seal::{Envelope, OpenError, SealingKeys, Term};
@@ -88,7 +89,7 @@ fn open_first(envelope: Envelope, source: Eui, number: u32, keys: &[SealingKeys]
 /// to.
 pub(crate) fn clear<'a>(finding: &'a Finding, body: &'a Frame) -> Option<&'a [u8]>
     ensures value { option_copied result ≡ clear_of finding.now body.now.items }
-    ensures fits { IfSome result (λ content. length content.now ≤ 127) }
+    ensures fits { IfSome result (λ content. length content.now ≤ longest_frame) }
 {
     match finding {
         Finding::NotSecured => Some(body.as_slice()),

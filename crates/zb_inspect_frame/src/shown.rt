@@ -8,6 +8,7 @@ ghost use Rattle.zb_aps.specs.Shape.{Spells as SpellsAps};
 ghost use Rattle.zb_seal.specs.Opening.{aps_envelope, nwk_envelope};
 ghost use Rattle.zb_inspect_frame.specs.Layers.{found_aps, looked, tried};
 ghost use Rattle.zb_inspect_frame.specs.Shows.{source_known, data_in, command_in, tunnelled, tunnel_of, below, shown_under, frame_shown};
+ghost use Rattle.zb_base.specs.Limits.{longest_frame};
 
 use crate::addresses::Addresses;
 use crate::layer::{Finding, clear, is_closed, look, try_keys};
@@ -201,7 +202,7 @@ fn tunnelled(aps: &Finding, frame: &ApsFrame) -> Option<Frame>
 }
 
 fn tunnel(content: &[u8]) -> Option<Frame>
-    requires { length content.now ≤ 127 }
+    requires { length content.now ≤ longest_frame }
     ensures { result ≡ tunnel_of content.now }
 {
     match read_command(content) {
@@ -213,7 +214,7 @@ fn tunnel(content: &[u8]) -> Option<Frame>
 /// Returns the payload of an APS command, where it is known.
 fn command_in<'a>(aps: &'a Finding, frame: &'a ApsFrame) -> Option<&'a [u8]>
     ensures value { option_copied result ≡ command_in aps.now frame.now }
-    ensures fits { IfSome result (λ content. length content.now ≤ 127) }
+    ensures fits { IfSome result (λ content. length content.now ≤ longest_frame) }
 {
     if frame.header.control & 3 == 1 {
         clear(aps, &frame.body)

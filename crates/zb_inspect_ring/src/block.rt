@@ -7,6 +7,7 @@ ghost use Rattle.zb_inspect_frame.specs.Settling.{is_settled as settled, is_unop
 ghost use Rattle.zb_inspect_frame.specs.Shows.{frame_shown};
 ghost use Rattle.zb_inspect_ring.specs.Rings.{lead_of, leads_of, leads as leads_in, frames_shown};
 ghost use Rattle.zb_inspect_ring.specs.Pieces.{SameFrames, IsWithin, StandsFor, Sees, IsShown, fresh};
+ghost use Rattle.zb_base.specs.Limits.{most_frames};
 
 use crate::ring::Lead;
 use std::alloc::{AllocError, Global};
@@ -58,7 +59,7 @@ pub(crate) fn look_at(
 ) -> Result<(), NoMemory>
     requires known { known ≤ length keys.now }
     requires keys { length keys.now < 2 ^ 32 }
-    requires frames { length frames.now ≤ 100000 }
+    requires frames { length frames.now ≤ most_frames }
     requires within { IsWithin (length frames.now) block.old }
     requires before { Sees frames.now addrs.now (take known keys.now) block.old }
     ensures same { OnOk result (SameFrames block.old block.new) }
@@ -95,7 +96,7 @@ fn show_all(
     count: usize,
 ) -> Result<Vec<Shown>, NoMemory>
     requires keys { length keys.now < 2 ^ 32 }
-    requires frames { length frames.now ≤ 100000 }
+    requires frames { length frames.now ≤ most_frames }
     requires within { from + count ≤ length frames.now }
     ensures { IfOk result (λ v. v.items ≡ frames_shown addrs.now keys.now (take count (drop from frames.now))) }
 {
@@ -147,7 +148,7 @@ fn show_unopened(
 ) -> Result<Vec<Shown>, NoMemory>
     requires known { known ≤ length keys.now }
     requires keys { length keys.now < 2 ^ 32 }
-    requires frames { length frames.now ≤ 100000 }
+    requires frames { length frames.now ≤ most_frames }
     requires within { from + count ≤ length frames.now }
     requires before { list_all unopened
         (frames_shown addrs.now (take known keys.now) (take count (drop from frames.now))) ≡ true }
@@ -168,7 +169,7 @@ fn show_again(
 ) -> Vec<Shown>
     requires known { known ≤ length keys.now }
     requires keys { length keys.now < 2 ^ 32 }
-    requires frames { length frames.now ≤ 100000 }
+    requires frames { length frames.now ≤ most_frames }
     requires within { from + vec_len seen ≤ length frames.now }
     requires before { seen.items ≡ frames_shown addrs.now (take known keys.now)
         (take (vec_len seen) (drop from frames.now)) }
@@ -190,7 +191,7 @@ fn refresh_all(
 )
     requires known { known ≤ length keys.now }
     requires keys { length keys.now < 2 ^ 32 }
-    requires frames { length frames.now ≤ 100000 }
+    requires frames { length frames.now ≤ most_frames }
     requires within { from + length seen.old ≤ length frames.now }
     requires before { seen.old ≡ frames_shown addrs.now (take known keys.now)
         (take (length seen.old) (drop from frames.now)) }

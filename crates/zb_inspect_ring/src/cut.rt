@@ -3,6 +3,7 @@ ghost use Rattle.std.specs.Prelude.{◌≡◌, ◌≤◌, ◌<◌, length, IfOk}
 ghost use Rattle.std.specs.List.{AllByRecursion, AllZip};
 ghost use Rattle.std.specs.Int.{div_ceil};
 ghost use Rattle.zb_inspect_ring.specs.Pieces.{AreSized, all_blocks, count_of, HasShare, IsShareWithin, IsUnseen, Numbered};
+ghost use Rattle.zb_base.specs.Limits.{most_frames};
 
 use crate::block::{Block, Seen};
 use crate::piece::Piece;
@@ -15,7 +16,7 @@ use zb_parallel::{Share, shares};
 /// Each piece but the last has as many frames as there are for a job, rounded up.
 pub(crate) fn cut(alloc: Global, frames: u32, jobs: u32) -> Result<Vec<Piece>, NoMemory>
     requires jobs { 1 ≤ jobs }
-    requires frames { frames ≤ 100000 }
+    requires frames { frames ≤ most_frames }
     ensures numbers { IfOk result (λ v. Numbered 1 (all_blocks v.items)) }
     ensures count { IfOk result (λ v. count_of (all_blocks v.items) ≡ frames) }
     ensures unseen { IfOk result (λ v. AllByRecursion IsUnseen (all_blocks v.items)) }

@@ -2,6 +2,7 @@
 ghost use Rattle.std.specs.Prelude.{◌≡◌, ◌+◌, ◌<◌, ◌≤◌, ◌^◌, ◌++◌, ◌∷◌, ◌&&◌, [], length, true, IfOk, OnOk};
 ghost use Rattle.zb_inspect_ring.specs.Rings.{leads as leads_in, frames_shown};
 ghost use Rattle.zb_inspect_ring.specs.Pieces.{AreShown, AreJoined, IsAdded, Numbered, count_of, frames_from, has_lines as lines_kept};
+ghost use Rattle.zb_base.specs.Limits.{most_frames};
 
 use crate::block::{Block, Seen, look_at};
 use crate::ring::Lead;
@@ -28,7 +29,7 @@ pub(crate) fn look_first(
     leads: &mut Vec<Lead>,
 ) -> Result<Vec<Block>, NoMemory>
     requires keys { length keys.now < 2 ^ 32 }
-    requires frames { length frames.now ≤ 100000 }
+    requires frames { length frames.now ≤ most_frames }
     requires first { 1 ≤ first }
     requires within { first + count ≤ length frames.now + 1 }
     ensures numbers { IfOk result (λ v. Numbered first v.items) }

@@ -3,6 +3,7 @@ ghost use Rattle.std.specs.Prelude.{◌≡◌, ◌+◌, ◌≤◌, ◌<◌, ◌^
 ghost use Rattle.std.specs.List.{AllByRecursion, AllZip};
 ghost use Rattle.zb_inspect_ring.specs.Pieces.{AllSee, AreShown, IsNext, IsNextPiece, IsOneUnseen, IsWithin, Numbered, all_fresh, count_of, frames_from};
 ghost use Rattle.zb_inspect_ring.specs.Rings.{leads as leads_in, frames_shown};
+ghost use Rattle.zb_base.specs.Limits.{most_frames};
 
 use crate::block::{Block, Seen, look_at};
 use crate::first::look_first;
@@ -37,7 +38,7 @@ pub(crate) fn look(
 ) -> Result<Piece, NoMemory>
     requires known { known ≤ length keys.now }
     requires keys { length keys.now < 2 ^ 32 }
-    requires frames { length frames.now ≤ 100000 }
+    requires frames { length frames.now ≤ most_frames }
     requires within { AllByRecursion (IsWithin (length frames.now)) piece.blocks.items }
     requires before { AllSee frames.now addrs.now (take known keys.now) piece.blocks.items }
     ensures { IfOk result (λ p. IsNextPiece frames.now addrs.now keys.now piece p) }
@@ -65,7 +66,7 @@ fn look_new(
     count: u32,
 ) -> Result<Piece, NoMemory>
     requires keys { length keys.now < 2 ^ 32 }
-    requires frames { length frames.now ≤ 100000 }
+    requires frames { length frames.now ≤ most_frames }
     requires first { 1 ≤ first }
     requires within { first + count ≤ length frames.now + 1 }
     ensures number { IfOk result (λ p. p.number ≡ number) }
@@ -95,7 +96,7 @@ fn look_again(
 ) -> Result<Piece, NoMemory>
     requires known { known ≤ length keys.now }
     requires keys { length keys.now < 2 ^ 32 }
-    requires frames { length frames.now ≤ 100000 }
+    requires frames { length frames.now ≤ most_frames }
     requires within { AllByRecursion (IsWithin (length frames.now)) piece.blocks.items }
     requires before { AllSee frames.now addrs.now (take known keys.now) piece.blocks.items }
     ensures number { IfOk result (λ p. p.number ≡ piece.number) }
@@ -156,7 +157,7 @@ fn look_at_all(
 ) -> Result<(), NoMemory>
     requires known { known ≤ length keys.now }
     requires keys { length keys.now < 2 ^ 32 }
-    requires frames { length frames.now ≤ 100000 }
+    requires frames { length frames.now ≤ most_frames }
     requires within { AllByRecursion (IsWithin (length frames.now)) blocks.old }
     requires before { AllSee frames.now addrs.now (take known keys.now) blocks.old }
     ensures next { OnOk result (AllZip (IsNext frames.now addrs.now keys.now) blocks.old blocks.new) }

@@ -5,6 +5,7 @@ ghost use Rattle.std.specs.List.{AllByRecursion, AllZip};
 ghost use Rattle.zb_inspect_ring.specs.Pieces.{AreSized, all_blocks, all_leads, AllSee, AreShown, IsCut, IsNextPiece, IsWithin};
 ghost use Rattle.zb_inspect_ring.specs.Rings.{keys_of, learnt, ring_of, IsRing};
 ghost use Rattle.zb_capture.specs.Grammar.{IsCapture};
+ghost use Rattle.zb_base.specs.Limits.{most_frames};
 
 use crate::cut::cut;
 use crate::piece::{Piece, look};
@@ -96,7 +97,7 @@ fn look_at_all<T: Threads + Sync, G: Gate>(
 ) -> Result<Vec<Piece>, NoMemory>
     requires known { known ≤ length keys.now }
     requires keys { length keys.now < 2 ^ 32 }
-    requires frames { length frames.now ≤ 100000 }
+    requires frames { length frames.now ≤ most_frames }
     requires within { AllByRecursion (λ p. AllByRecursion (IsWithin (length frames.now)) p.blocks.items) pieces.items }
     requires before { AllByRecursion (λ p. AllSee frames.now addrs.now (take known keys.now) p.blocks.items)
         pieces.items }
@@ -107,7 +108,7 @@ fn look_at_all<T: Threads + Sync, G: Gate>(
         rt,
         pieces,
         &|piece: Piece| -> Result<Piece, NoMemory>
-            requires { (known ≤ length keys.now) × (length keys.now < 2 ^ 32) × (length frames.now ≤ 100000)
+            requires { (known ≤ length keys.now) × (length keys.now < 2 ^ 32) × (length frames.now ≤ most_frames)
                 × AllByRecursion (IsWithin (length frames.now)) piece.blocks.items × AllSee frames.now addrs.now
                 (take known keys.now) piece.blocks.items }
             ensures { IfOk result (λ p. IsNextPiece frames.entry.now addrs.entry.now keys.entry.now piece p) }

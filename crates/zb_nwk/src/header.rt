@@ -7,6 +7,7 @@ ghost use Rattle.zb_cursor.specs.Writing.{Appends};
 ghost use Rattle.zb_nwk.specs.Spelling.{route, addresses, header};
 ghost use Rattle.zb_nwk.specs.Shape.{IsControl, IsHeader, RouteInRange, HeaderInRange};
 ghost use Rattle.zb_nwk.specs.Reading.{control_at, route_at, fields_at, header_at};
+ghost use Rattle.zb_base.specs.Limits.{longest_frame};
 
 use crate::fault::NwkError;
 use arrayvec::ArrayVec;
@@ -159,7 +160,7 @@ fn read_fields(reader: &mut Reader<NwkError>, control: u16) -> Result<NwkHeader,
 /// Reads a header.
 #[tactic(auto, unfolding(crate::specs::Reading::header_at))]
 pub(crate) fn read_header(reader: &mut Reader<NwkError>) -> Result<NwkHeader, NwkError>
-    requires { length reader.old.rest.now ≤ 127 }
+    requires { length reader.old.rest.now ≤ longest_frame }
     ensures exact { Gives result reader.new.rest.now (header_at reader.old.cut reader.old.rest.now) }
     ensures spelled { IfOk result (λ x. reader.old.rest.now ≡ header x ++ reader.new.rest.now) }
     ensures shaped { IfOk result (λ x. IsHeader x) }

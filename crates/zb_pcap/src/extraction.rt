@@ -3,6 +3,7 @@ ghost use Rattle.std.specs.Prelude.{◌≡◌, ◌+◌, ◌≤◌, length, take,
 ghost use Rattle.zb_capture.specs.Grammar.{IsCapture};
 ghost use Rattle.zb_pcap.specs.Mac.{IsWithin};
 ghost use Rattle.zb_pcap.specs.Extracts.{record_in, verdict, extract_of, extracted, Answers};
+ghost use Rattle.zb_base.specs.Limits.{longest_frame, most_frames};
 
 use crate::fault::PcapError;
 use crate::header::read_header;
@@ -64,7 +65,7 @@ fn sort(
     keys: &[Key],
 ) -> Result<Extraction, NoMemory>
     requires keys { length keys.now ≤ 256 }
-    requires packets { length packets.now ≤ 100000 }
+    requires packets { length packets.now ≤ most_frames }
     ensures value { IfOk result (λ e. e ≡ extract_of keys.now check (map record_in packets.now)) }
     ensures valid { IfOk result (λ e. IsCapture e.capture) }
 {
@@ -99,7 +100,7 @@ impl Sorted {
 
     /// Takes a packet.
     fn take(&mut self, check: bool, packet: &Packet<'_>) -> Result<(), NoMemory>
-        requires room { self.old.bad_check + self.old.other + length self.old.frames < 100000 }
+        requires room { self.old.bad_check + self.old.other + length self.old.frames < most_frames }
         ensures frames { OnOk result (self.new.frames ≡ self.old.frames ++ frames_of packet.now.bytes.now
             (verdict check (record_in packet.now))) }
         ensures bad_check { OnOk result (self.new.bad_check ≡ self.old.bad_check + bad_of
@@ -136,7 +137,7 @@ fn judge(check: bool, packet: &Packet<'_>) -> Mac
 /// Returns the frame of `len` bytes from `at` on.
 fn frame_at(bytes: &[u8], at: u32, len: u32) -> Frame
     requires within { at + len ≤ length bytes.now }
-    requires fits { len ≤ 127 }
+    requires fits { len ≤ longest_frame }
     ensures { result.items ≡ take len (drop at bytes.now) }
 {
     let (_, rest) = bytes.split_at(at as usize);

@@ -1,6 +1,7 @@
 //! The MAC header of a packet (IEEE 802.15.4).
 ghost use Rattle.std.specs.Prelude.{◌≡◌, ◌+◌, ◌≤◌, ◌<◌, ◌^◌, ◌==◌, not, length};
 ghost use Rattle.zb_pcap.specs.Mac.{number16 as number_at, is_plain_data as is_data, address_size as size_of_address, network_size as size_of_network, header_size as size_of_header, body as body_of, has_wrong_check as has_wrong, is_wrong as wrong, payload_of, mac_of, IsWithin};
+ghost use Rattle.zb_base.specs.Limits.{longest_frame};
 
 use crate::check::fcs;
 
@@ -70,7 +71,7 @@ fn body(packet: &[u8], check: bool) -> &[u8]
 
 #[tactic(auto, using(crate::proofs::Headers::too_short))]
 fn payload(body: &[u8]) -> Mac
-    requires { length body.now ≤ 127 }
+    requires { length body.now ≤ longest_frame }
     ensures value { result ≡ payload_of body.now }
     ensures within { IsWithin result (length body.now) }
 {

@@ -2,6 +2,7 @@
 ghost use Rattle.std.specs.Prelude.{◌≡◌, ◌≤◌, ◌<◌, ◌^◌, length, map, IfOk, IfSome, vec_len};
 ghost use Rattle.zb_pcap.specs.Files.{record_of, records};
 ghost use Rattle.zb_pcap.specs.Extracts.{record_in, Answers, Takes};
+ghost use Rattle.zb_base.specs.Limits.{most_frames};
 
 use crate::fault::{PcapCause, PcapError};
 use crate::header::{Order, number32};
@@ -24,7 +25,7 @@ pub(crate) fn read_packets<'a>(
     bytes: &'a [u8],
 ) -> Result<Vec<Packet<'a>>, OrMemory<PcapError>>
     ensures exact { Answers (λ v. map record_in v.items) result (records 100000 1 order bytes.now) }
-    ensures few { IfOk result (λ v. vec_len v ≤ 100000) }
+    ensures few { IfOk result (λ v. vec_len v ≤ most_frames) }
 {
     let mut packets = Vec::new(alloc);
     let mut place: u32 = 1;

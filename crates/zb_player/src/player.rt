@@ -7,6 +7,7 @@ ghost use Rattle.zb_sched.specs.Schedules as sched;
 ghost use Rattle.zb_sched.specs.Valid.{IsSchedule};
 ghost use Rattle.zb_sched_line.specs.Views.{event_of};
 ghost use Rattle.zb_player_scribe.specs.Pages.{IsClear, IsFor};
+ghost use Rattle.zb_base.specs.Limits.{most_events};
 
 use crate::bench::{Bench, Still};
 use crate::fault::PlayFault;
@@ -128,7 +129,7 @@ fn answer_all<'a, B: Bench, W: Sink>(
 ) -> Result<(), PlayFault>
     requires clear { IsClear run.old.ledger.page }
     requires fit { IsFor run.old.ledger.page (W.taken out.old) }
-    requires few { length events.now ≤ 100000 }
+    requires few { length events.now ≤ most_events }
     requires room { lines_told run.old.ledger ≤ 400 }
     ensures clear { OnOk result (IsClear run.new.ledger.page) }
     ensures whole { OnOk result (B.still bench.old ≡ true → Answers run.old disks.old

@@ -14,6 +14,7 @@ ghost use Rattle.zb_node_types.specs.Changes.{model_place, place_of, reason};
 ghost use Rattle.zb_trace_model.specs.Naming.{IsCalled};
 ghost use Rattle.zb_trace_model.specs.Said.{IsLineOf};
 ghost use Rattle.zb_player_scribe.specs.Kept.{declares_node};
+ghost use Rattle.zb_base.specs.Limits.{most_lines};
 
 use crate::acts::Act;
 use std::alloc::Global;
@@ -53,7 +54,7 @@ impl Ledger {
     /// # Errors
     /// `NoMemory`.
     pub fn tell(&mut self, line: &Line) -> Result<(), NoMemory>
-        requires room { lines_told self.old < 4294967295 }
+        requires room { lines_told self.old < most_lines }
         ensures few { OnOk result (lines_told self.new ≤ lines_told self.old + 1) }
         ensures adds { OnOk result ((w : Schedule) (h : List log.Line) (m : log.Line) → IsTold w h self.old
             → IsLineOf (stations w) line.now m → declares_node m ≡ false → Adds w h (m ∷ []) self.old self.new) }
@@ -66,7 +67,7 @@ impl Ledger {
     /// # Errors
     /// `NoMemory`.
     pub fn refuse(&mut self, event: u32, node: Name, refusal: Refusal) -> Result<(), NoMemory>
-        requires room { lines_told self.old < 4294967295 }
+        requires room { lines_told self.old < most_lines }
         ensures few { OnOk result (lines_told self.new ≤ lines_told self.old + 1) }
         ensures adds { OnOk result ((w : Schedule) (h : List log.Line) (n : ℕ) → IsTold w h self.old
             → IsCalled (stations w) n node.bytes

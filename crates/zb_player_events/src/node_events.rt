@@ -13,6 +13,7 @@ ghost use Rattle.law_run_steps.specs.Conditions.{condition_of};
 ghost use Rattle.zb_player_node.specs.Tasks.{model_task, suits};
 ghost use Rattle.zb_player_events.specs.Told.{Adds, Before, Calls, Goes, HasRoom, IsFallen, IsRefusedFor, IsTold, fall_line, lines_told};
 ghost use Rattle.zb_trace_model.specs.Naming.{IsCalled};
+ghost use Rattle.zb_base.specs.Limits.{most_lines};
 
 use crate::ledger::Ledger;
 use zb_armed_host::Fall;
@@ -80,7 +81,7 @@ impl Ledger {
 
     // Tells that a stop or a failure fell on a call of a node.
     fn fallen(&mut self, event: u32, node: Name, fall: Fall) -> Result<(), NoMemory>
-        requires room { lines_told self.old < 4294967295 }
+        requires room { lines_told self.old < most_lines }
         ensures few { OnOk result (lines_told self.new ≤ lines_told self.old + 1) }
         ensures adds { OnOk result ((w : Schedule) (h : List log.Line) (n : ℕ) → IsTold w h self.old
             → IsCalled (stations w) n node.bytes → Adds w h (fall_line fall event n ∷ []) self.old self.new) }

@@ -11,6 +11,7 @@ ghost use Rattle.zb_model_real.specs.Terms.{model_term};
 ghost use Rattle.law_schedules.specs.Schedules.{event_for};
 ghost use Rattle.zb_sched_line.specs.Views.{event_of};
 ghost use Rattle.zb_seal.specs.Wire.{wire_length};
+ghost use Rattle.zb_base.specs.Limits.{longest_frame, most_lines};
 
 use crate::ledger::Ledger;
 use zb_base::{Frame, Name, NoMemory, Short};
@@ -124,7 +125,7 @@ impl Ledger {
     // A frame is forged under a network key.
     fn forge_net(&mut self, event: u32, term: Term) -> Result<(), NoMemory>
         requires room { HasRoom self.old }
-        requires fits { wire_length term ≤ 127 }
+        requires fits { wire_length term ≤ longest_frame }
         ensures few { OnOk result (lines_told self.new ≤ lines_told self.old + 24) }
         ensures adds { OnOk result ((w : Schedule) (h : List log.Line) → IsTold w h self.old
             → Adds w h (forged_net real h event (model_term term)) self.old self.new) }
@@ -137,7 +138,7 @@ impl Ledger {
     // And one with an APS command under a link key in it.
     fn forge_both(&mut self, event: u32, inner: Term, term: Term) -> Result<(), NoMemory>
         requires room { HasRoom self.old }
-        requires fits { wire_length term ≤ 127 }
+        requires fits { wire_length term ≤ longest_frame }
         ensures few { OnOk result (lines_told self.new ≤ lines_told self.old + 24) }
         ensures adds { OnOk result ((w : Schedule) (h : List log.Line) → IsTold w h self.old
             → Adds w h (forged_both real h event (model_term inner) (model_term term)) self.old self.new) }
@@ -170,7 +171,7 @@ impl Ledger {
 
     // The frame goes on the air.
     fn send(&mut self, event: u32, bytes: Frame) -> Result<(), NoMemory>
-        requires room { lines_told self.old < 4294967295 }
+        requires room { lines_told self.old < most_lines }
         ensures few { OnOk result (lines_told self.new ≤ lines_told self.old + 1) }
         ensures adds { OnOk result ((w : Schedule) (h : List log.Line) → IsTold w h self.old
             → Adds w h (log.Send event None (length (air h) + 1) bytes.items ∷ []) self.old self.new) }

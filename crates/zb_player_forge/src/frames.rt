@@ -5,6 +5,7 @@ ghost use Rattle.zb_model.specs.Play.{forged_control};
 ghost use Rattle.zb_model_real.specs.Real.{real};
 ghost use Rattle.zb_model_real.specs.Terms.{model_label, model_term};
 ghost use Rattle.zb_seal.specs.Wire.{wire_length};
+ghost use Rattle.zb_base.specs.Limits.{longest_frame};
 
 use zb_base::{Eui, Frame, Key, Label, Layer, Short};
 use zb_cmd::read_leave;
@@ -95,7 +96,7 @@ pub fn aps_command(label: Label, key: &Key, source: Eui, counter: u32, command: 
 /// Requires that they fit a frame.
 #[tactic(auto, using(zb_model_real::proofs::SameTerms::same_wire))]
 pub fn sealed(term: &Term) -> Frame
-    requires { wire_length term.now ≤ 127 }
+    requires { wire_length term.now ≤ longest_frame }
     ensures text { result.items ≡ real.wire (model_term term.now) }
     ensures len { length result.items ≡ wire_length term.now }
 {

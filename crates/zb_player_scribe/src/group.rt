@@ -9,6 +9,7 @@ ghost use Rattle.zb_trace_model.specs.Naming.{IsCalled};
 ghost use Rattle.zb_player_scribe.specs.Kept.{Tells, told};
 ghost use Rattle.zb_player_scribe.specs.Outcomes.{AreOfCentre, items_of, lines_of_edits, out_lines, refused_lines};
 ghost use Rattle.zb_text.specs.Fields.{is_name};
+ghost use Rattle.zb_base.specs.Limits.{most_lines};
 
 use crate::page::Page;
 use crate::scribe::Scribe;
@@ -33,7 +34,7 @@ impl Scribe {
         node: Name,
         changes: &Changes,
     ) -> Result<(), NoMemory>
-        requires { told self.old + 17 ≤ 4294967295 }
+        requires { told self.old + 17 ≤ most_lines }
         ensures tells { OnOk result ((known : List Station) (n : ℕ) → IsCalled known n node.bytes
             → AreOfCentre known n changes.now.items
             → Tells known (lines_of_edits event n (edits changes.now.items))
@@ -55,7 +56,7 @@ impl Scribe {
         node: Name,
         changes: &[Change],
     ) -> Result<(), NoMemory>
-        requires { told self.old + length changes.now ≤ 4294967295 }
+        requires { told self.old + length changes.now ≤ most_lines }
         ensures tells { OnOk result ((known : List Station) (n : ℕ) → IsCalled known n node.bytes
             → AreOfCentre known n changes.now
             → Tells known (change_lines event n (edits changes.now)) self.old page.old self.new page.new) }
@@ -79,7 +80,7 @@ impl Scribe {
         node: Name,
         out: &Outcome<Term, Refusal>,
     ) -> Result<(), NoMemory>
-        requires { told self.old + 6 ≤ 4294967295 }
+        requires { told self.old + 6 ≤ most_lines }
         ensures tells { OnOk result ((known : List Station) (n : ℕ) → IsCalled known n node.bytes
             → is_name node.bytes ≡ true
             → Tells known (out_lines event n (length self.old.air + 1) out.now)
@@ -104,7 +105,7 @@ impl Scribe {
         node: Name,
         term: &Option<Term>,
     ) -> Result<(), NoMemory>
-        requires { told self.old < 4294967295 }
+        requires { told self.old < most_lines }
         ensures tells { OnOk result ((known : List Station) (n : ℕ) → IsCalled known n node.bytes
             → Tells known (map (accept event n) (option_to_list (option_map model_term term.now)))
             self.old page.old self.new page.new) }
@@ -126,7 +127,7 @@ impl Scribe {
         node: Name,
         term: &Term,
     ) -> Result<(), NoMemory>
-        requires { told self.old < 4294967295 }
+        requires { told self.old < most_lines }
         ensures tells { OnOk result ((known : List Station) (n : ℕ) → IsCalled known n node.bytes
             → Tells known (accept event n (model_term term.now) ∷ [])
             self.old page.old self.new page.new) }
@@ -143,7 +144,7 @@ impl Scribe {
         node: Name,
         refusal: Option<Refusal>,
     ) -> Result<(), NoMemory>
-        requires { told self.old < 4294967295 }
+        requires { told self.old < most_lines }
         ensures tells { OnOk result ((known : List Station) (n : ℕ) → IsCalled known n node.bytes
             → Tells known (refused_lines event n refusal) self.old page.old self.new page.new) }
         ensures told { OnOk result (told self.new ≤ told self.old + 1) }
@@ -164,7 +165,7 @@ impl Scribe {
         node: Name,
         refusal: Refusal,
     ) -> Result<(), NoMemory>
-        requires { told self.old < 4294967295 }
+        requires { told self.old < most_lines }
         ensures tells { OnOk result ((known : List Station) (n : ℕ) → IsCalled known n node.bytes
             → Tells known (refused_lines event n (Some refusal))
             self.old page.old self.new page.new) }
@@ -181,7 +182,7 @@ impl Scribe {
         node: Name,
         term: &Option<Term>,
     ) -> Result<(), NoMemory>
-        requires { told self.old < 4294967295 }
+        requires { told self.old < most_lines }
         ensures tells { OnOk result ((known : List Station) (n : ℕ) → IsCalled known n node.bytes
             → Tells known (map (seal event n) (option_to_list (option_map model_term term.now)))
             self.old page.old self.new page.new) }
@@ -203,7 +204,7 @@ impl Scribe {
         node: Name,
         term: &Term,
     ) -> Result<(), NoMemory>
-        requires { told self.old < 4294967295 }
+        requires { told self.old < most_lines }
         ensures tells { OnOk result ((known : List Station) (n : ℕ) → IsCalled known n node.bytes
             → Tells known (seal event n (model_term term.now) ∷ [])
             self.old page.old self.new page.new) }
@@ -221,7 +222,7 @@ impl Scribe {
         number: u32,
         frame: &Option<Frame>,
     ) -> Result<(), NoMemory>
-        requires { told self.old < 4294967295 }
+        requires { told self.old < most_lines }
         ensures tells { OnOk result ((known : List Station) (n : ℕ) → IsCalled known n node.bytes
             → is_name node.bytes ≡ true
             → Tells known (send_lines event (Some n) number (items_of frame.now))
@@ -245,7 +246,7 @@ impl Scribe {
         number: u32,
         frame: &Frame,
     ) -> Result<(), NoMemory>
-        requires { told self.old < 4294967295 }
+        requires { told self.old < most_lines }
         ensures tells { OnOk result ((known : List Station) (n : ℕ) → IsCalled known n node.bytes
             → is_name node.bytes ≡ true
             → Tells known (send_lines event (Some n) number (Some frame.now.items))

@@ -1,4 +1,6 @@
 //! The scribe.
+ghost use Rattle.zb_base.specs.Limits.{most_lines};
+
 use crate::air::Air;
 use crate::page::Page;
 use std::alloc::Global;
@@ -55,7 +57,7 @@ impl Scribe {
     /// Requires that the count of lines has room for one more. Errors: `NoMemory`, after which the scribe isn't used
     /// further.
     pub fn tell(&mut self, alloc: Global, page: &mut Page, line: &Line) -> Result<(), NoMemory>
-        requires { told self.old < 4294967295 }
+        requires { told self.old < most_lines }
         ensures page { OnOk result (page.new ≡ append_known page.old (text line.now)) }
         ensures kept { OnOk result ((h : List log.Line) → Kept h self.old
             → Kept (h ++ logged (stations_of h) line.now ∷ []) self.new) }
@@ -72,7 +74,7 @@ impl Scribe {
 
     // Counts a line, and keeps the frame of one that shows a frame.
     fn count(&mut self, line: &Line) -> Result<(), NoMemory>
-        requires { told self.old < 4294967295 }
+        requires { told self.old < most_lines }
         ensures counts { OnOk result ((known : List Station) → Counts (logged known line.now) self.old self.new) }
         ensures told { OnOk result (told self.new ≤ told self.old + 1) }
     {
@@ -116,7 +118,7 @@ impl Scribe {
     ///
     /// Requires that the count of lines has room for one more.
     pub fn next_frame(&self) -> u32
-        requires { told self.now < 4294967295 }
+        requires { told self.now < most_lines }
         ensures { result ≡ length self.now.air + 1 }
     {
         self.air.count() + 1

@@ -9,6 +9,7 @@ ghost use Rattle.zb_trace_model.specs.Naming.{IsCalled};
 ghost use Rattle.zb_trace_model.specs.Said.{line_text};
 ghost use Rattle.zb_player_scribe.specs.Kept.{Kept, Tells, told};
 ghost use Rattle.zb_player_start.specs.Starts.{IsKnown, code_lines, counter_lines, network_lines, station_of};
+ghost use Rattle.zb_base.specs.Limits.{most_lines};
 
 use std::alloc::Global;
 use zb_base::{Eui, Layer, Name, NoMemory};
@@ -26,7 +27,7 @@ pub(crate) fn tell_node(
     page: &mut Page,
     node: &Node,
 ) -> Result<(), NoMemory>
-    requires { told scribe.old < 4294967295 }
+    requires { told scribe.old < most_lines }
     ensures page { OnOk result ((known : List Station)
         → page.new ≡ append_known page.old (line_text known (model.Declared (station_of node.now)))) }
     ensures kept { OnOk result ((h : List model.Line) → Kept h scribe.old
@@ -55,7 +56,7 @@ pub(crate) fn tell_network(
     page: &mut Page,
     node: &Node,
 ) -> Result<(), NoMemory>
-    requires { told scribe.old < 4294967295 }
+    requires { told scribe.old < most_lines }
     ensures tells { OnOk result ((known : List Station) → IsKnown known node.now
         → Tells known (network_lines node.now) scribe.old page.old scribe.new page.new) }
     ensures told { OnOk result (told scribe.new ≤ told scribe.old + 1) }
@@ -83,7 +84,7 @@ pub(crate) fn tell_code(
     centre: Eui,
     node: &Node,
 ) -> Result<(), NoMemory>
-    requires { told scribe.old < 4294967295 }
+    requires { told scribe.old < most_lines }
     ensures tells { OnOk result ((known : List Station) → IsKnown known node.now
         → Tells known (code_lines centre.0 node.now) scribe.old page.old scribe.new page.new) }
     ensures told { OnOk result (told scribe.new ≤ told scribe.old + 1) }
@@ -109,7 +110,7 @@ fn tell_limit(
     layer: Layer,
     limit: u32,
 ) -> Result<(), NoMemory>
-    requires { told scribe.old < 4294967295 }
+    requires { told scribe.old < most_lines }
     ensures tells { OnOk result ((known : List Station) (n : ℕ) → IsCalled known n node.bytes
         → Tells known (limit_line n (model_layer layer) limit) scribe.old page.old scribe.new page.new) }
     ensures told { OnOk result (told scribe.new ≤ told scribe.old + 1) }

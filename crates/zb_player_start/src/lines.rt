@@ -10,6 +10,7 @@ ghost use Rattle.zb_trace_model.specs.Said.{text_of};
 ghost use Rattle.zb_sched.specs.Schedules.{Schedule};
 ghost use Rattle.zb_player_scribe.specs.Kept.{Kept, Tells, told};
 ghost use Rattle.zb_player_start.specs.Starts.{AreKnown, code_lines, counter_lines, declared_lines, network_lines};
+ghost use Rattle.zb_base.specs.Limits.{most_lines};
 
 use crate::config::centre_of;
 use crate::line::{tell_code, tell_limits, tell_network, tell_node};
@@ -29,7 +30,7 @@ pub fn tell_start(
     declared: &[Node],
 ) -> Result<(), NoMemory>
     requires schedule { AreOfSchedule declared.now }
-    requires room { told scribe.old + 400 ≤ 4294967295 }
+    requires room { told scribe.old + 400 ≤ most_lines }
     ensures page { OnOk result ((p : Schedule) → AreNodesOf p declared.now
         → page.new ≡ append_known page.old (text_of (stations (schedule_of p)) (start (schedule_of p)))) }
     ensures kept { OnOk result ((p : Schedule) → AreNodesOf p declared.now → Kept [] scribe.old
@@ -49,7 +50,7 @@ fn tell_nodes(
     page: &mut Page,
     declared: &[Node],
 ) -> Result<(), NoMemory>
-    requires { told scribe.old + length declared.now ≤ 4294967295 }
+    requires { told scribe.old + length declared.now ≤ most_lines }
     ensures page { OnOk result ((known : List Station)
         → page.new ≡ append_known page.old (text_of known (declared_lines declared.now))) }
     ensures kept { OnOk result (Kept [] scribe.old → Kept (declared_lines declared.now) scribe.new) }
@@ -67,7 +68,7 @@ fn tell_networks(
     page: &mut Page,
     declared: &[Node],
 ) -> Result<(), NoMemory>
-    requires { told scribe.old + length declared.now ≤ 4294967295 }
+    requires { told scribe.old + length declared.now ≤ most_lines }
     ensures tells { OnOk result ((known : List Station) → AreKnown known declared.now
         → Tells known (flat_map network_lines declared.now) scribe.old page.old scribe.new page.new) }
     ensures told { OnOk result (told scribe.new ≤ told scribe.old + length declared.now) }
@@ -85,7 +86,7 @@ fn tell_codes(
     centre: Eui,
     declared: &[Node],
 ) -> Result<(), NoMemory>
-    requires { told scribe.old + length declared.now ≤ 4294967295 }
+    requires { told scribe.old + length declared.now ≤ most_lines }
     ensures tells { OnOk result ((known : List Station) → AreKnown known declared.now
         → Tells known (flat_map (code_lines centre.0) declared.now) scribe.old page.old
         scribe.new page.new) }
@@ -103,7 +104,7 @@ fn tell_counters(
     page: &mut Page,
     declared: &[Node],
 ) -> Result<(), NoMemory>
-    requires { told scribe.old + 2 * length declared.now ≤ 4294967295 }
+    requires { told scribe.old + 2 * length declared.now ≤ most_lines }
     ensures tells { OnOk result ((known : List Station) → AreKnown known declared.now
         → Tells known (flat_map counter_lines declared.now) scribe.old page.old scribe.new page.new) }
     ensures told { OnOk result (told scribe.new ≤ told scribe.old + 2 * length declared.now) }

@@ -10,14 +10,15 @@ ghost use Rattle.zb_aps.specs.declared.auxiliary.ApsAux.{ApsAux};
 ghost use Rattle.zb_seal.specs.declared.term.Term.{Term};
 ghost use Rattle.zb_seal.specs.Wire.{zero_level, at_place, aux_size, wire};
 ghost use Rattle.zb_seal.specs.Opening.{source_of, opened_nwk, opened_aps, IsNwkTerm, IsApsTerm};
+ghost use Rattle.zb_base.specs.Limits.{longest_frame};
 
 /// Returns what `wire` and the calls that open are to each other.
 pub fn wire_and_open()
     // The bytes of a term open to it, under its base key, and at APS with its source where the header has none.
     ensures nwk_opens { (t : Term) (h : NwkHeader) (a : NwkAux) → IsNwkTerm t h a → length t.base.0 ≡ 16
-        → length (wire t) ≤ 127 → opened_nwk (wire t) t.base ≡ Ok t }
+        → length (wire t) ≤ longest_frame → opened_nwk (wire t) t.base ≡ Ok t }
     ensures aps_opens { (t : Term) (h : ApsHeader) (a : ApsAux) (given : Option Eui) → IsApsTerm t h a
-        → source_of a.source given ≡ Some t.source → length t.base.0 ≡ 16 → length (wire t) ≤ 127
+        → source_of a.source given ≡ Some t.source → length t.base.0 ≡ 16 → length (wire t) ≤ longest_frame
         → opened_aps (wire t) t.base given ≡ Ok t }
     // The bytes of an opened term are those that were opened, with level bits 000.
     ensures nwk_wire { (bytes : List ℕ) (base : Key) (t : Term) → IsBytes bytes → length base.0 ≡ 16

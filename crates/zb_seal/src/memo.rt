@@ -4,6 +4,7 @@ ghost use Rattle.zb_seal.specs.Keys.{sealing_key as key_of};
 ghost use Rattle.zb_seal.specs.Opening.{content_of, opened};
 ghost use Rattle.zb_seal.specs.declared.envelope.OpenError.TheVariants.{BadMic};
 ghost use Rattle.zb_seal.specs.Wire.{wire, wire_length};
+ghost use Rattle.zb_base.specs.Limits.{longest_frame};
 
 use crate::envelope::{Envelope, OpenError};
 use crate::key::sealing_key;
@@ -121,7 +122,7 @@ impl KeyMemo {
     /// `TooLong` where its bytes on the air are more than 127.
     pub fn wire(&self, term: &Term) -> Result<Frame, TooLong>
         ensures text { IfOk result (λ bytes. bytes.items ≡ wire term.now) }
-        ensures long { OnErr result (127 < wire_length term.now) }
+        ensures long { OnErr result (longest_frame < wire_length term.now) }
         ensures len { length (wire term.now) ≡ wire_length term.now }
     {
         match self.find(term.label, &term.base) {

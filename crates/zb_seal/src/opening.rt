@@ -9,6 +9,7 @@ ghost use Rattle.zb_nwk.specs.Spelling.{header as header_of_nwk, aux as aux_of_n
 ghost use Rattle.zb_aps.specs.Spelling.{header as header_of_aps, aux as aux_of_aps};
 ghost use Rattle.zb_seal.specs.Opening.{leveled_nwk, leveled_aps, aps_size as size_of_aps, nwk_envelope as envelope_of_nwk, aps_envelope as envelope_of_aps, nwk_closed, seen_nwk, seen_aps, label_of as label_of_id, opened_nwk, opened_aps, OpensNwk, OpensAps};
 ghost use Rattle.zb_seal.specs.declared.term.Term.{Term};
+ghost use Rattle.zb_base.specs.Limits.{longest_frame};
 
 use crate::envelope::{Envelope, NwkEnvelope, OpenError};
 use crate::key::{real_level, sealing_key};
@@ -33,7 +34,7 @@ fn restore_level(bytes: &mut [u8], place: usize)
 fn authenticated(bytes: &[u8], body: usize, size: usize) -> Frame
     requires some { 0 < size }
     requires room { size + body + 4 ≤ length bytes.now }
-    requires fits { length bytes.now ≤ 127 }
+    requires fits { length bytes.now ≤ longest_frame }
     ensures { result.items
         ≡ at_place restored (length bytes.now - 4 - body - size) (take (length bytes.now - 4 - body) bytes.now) }
 {

@@ -2,6 +2,7 @@
 ghost use Rattle.std.specs.Prelude.{◌≡◌, ◌+◌, ◌-◌, ◌≤◌, ◌<◌, length, slice_set, IfOk, OnErr};
 ghost use Rattle.zb_seal.specs.Keys.{sealing_key as key_of};
 ghost use Rattle.zb_seal.specs.Wire.{wire as wire_of, wire_under, sealed_term, on_air as air, aux_size as size_of_aux, wire_length, at_place, zero_level as cleared};
+ghost use Rattle.zb_base.specs.Limits.{longest_frame};
 
 use crate::key::{nonce, sealing_key, zero_level};
 use crate::term::Term;
@@ -68,8 +69,8 @@ fn seal_content(cipher: &Cipher, term: &Term, text: &mut Frame) -> [u8; 4]
 pub fn wire_with(term: &Term, cipher: &Cipher) -> Result<Frame, TooLong>
     requires { cipher.now ≡ key_of term.now.label term.now.base.0 }
     ensures text { IfOk result (λ bytes. bytes.items ≡ wire_of term.now) }
-    ensures fits { IfOk result (λ bytes. length (wire_of term.now) ≤ 127) }
-    ensures long { OnErr result (127 < length (wire_of term.now)) }
+    ensures fits { IfOk result (λ bytes. length (wire_of term.now) ≤ longest_frame) }
+    ensures long { OnErr result (longest_frame < length (wire_of term.now)) }
     ensures len { length (wire_of term.now) ≡ wire_length term.now }
 {
     let mut out = on_air(aux_size(term.layer, term.control), &term.header);
@@ -87,8 +88,8 @@ pub fn wire_with(term: &Term, cipher: &Cipher) -> Result<Frame, TooLong>
 /// `TooLong` where they are more than 127 bytes.
 pub fn wire(term: &Term) -> Result<Frame, TooLong>
     ensures text { IfOk result (λ bytes. bytes.items ≡ wire_of term.now) }
-    ensures fits { IfOk result (λ bytes. length (wire_of term.now) ≤ 127) }
-    ensures long { OnErr result (127 < length (wire_of term.now)) }
+    ensures fits { IfOk result (λ bytes. length (wire_of term.now) ≤ longest_frame) }
+    ensures long { OnErr result (longest_frame < length (wire_of term.now)) }
     ensures len { length (wire_of term.now) ≡ wire_length term.now }
 {
     let key = sealing_key(term.label, &term.base);

@@ -3,6 +3,7 @@ ghost use Rattle.std.specs.Prelude.{◌≡◌, ◌+◌, ◌≤◌, ◌∷◌, �
 ghost use Rattle.zb_model.specs.Frames.{aps_auxiliary, aps_control, aps_label, data_control, data_front, low_byte, nwk_auxiliary, nwk_header, sealed_command, sealed_data};
 ghost use Rattle.zb_model.specs.Data.{ForData};
 ghost use Rattle.zb_model_real.specs.Terms.{model_label};
+ghost use Rattle.zb_base.specs.Limits.{longest_frame};
 
 use zb_base::{Eui, Frame, Label, Short};
 use zb_cursor::{frame_from, put};
@@ -94,7 +95,7 @@ pub fn nwk_auxiliary(counter: u32, source: Eui, sequence: u8) -> Frame
 
 /// Puts the second bytes after the first. Requires that a frame has room for both.
 pub fn joined(front: &[u8], back: &[u8]) -> Frame
-    requires { length front.now + length back.now ≤ 127 }
+    requires { length front.now + length back.now ≤ longest_frame }
     ensures { result.items ≡ front.now ++ back.now }
 {
     let mut out = frame_from(front);

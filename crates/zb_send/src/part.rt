@@ -11,6 +11,7 @@ ghost use Rattle.zb_model_real.specs.Terms.{model_label, model_term};
 ghost use Rattle.zb_seal.specs.Wire.{wire_length};
 ghost use Rattle.zb_send.specs.Sendings.{IsSendable, body_of, room};
 ghost use Rattle.zb_send.specs.Parts.{part_seen};
+ghost use Rattle.zb_base.specs.Limits.{longest_frame};
 
 use crate::headers::{
     aps_control, aps_label, command_header, data_control, data_header, joined, low_byte,
@@ -51,7 +52,7 @@ fn spelled(command: &Command) -> Frame
 /// Seals a term. Requires that its bytes on the air fit a frame.
 #[tactic(auto, using(zb_model_real::proofs::SameTerms::same_wire))]
 pub(crate) fn sealed(memo: &KeyMemo, term: &Term) -> Frame
-    requires { wire_length term.now ≤ 127 }
+    requires { wire_length term.now ≤ longest_frame }
     ensures text { result.items ≡ real.wire (model_term term.now) }
     ensures len { length result.items ≡ wire_length term.now }
 {

@@ -6,6 +6,7 @@ ghost use Rattle.zb_text.specs.Words.{left, field, Takes, Shows};
 ghost use Rattle.zb_trace.specs.Text as spec;
 ghost use Rattle.zb_trace.specs.Text.{Chosen, CalledOrNobody, Address, ShortAddress, Secret, Octet, Octets, AllOctets, counted, sequenced};
 ghost use Rattle.zb_trace_read.specs.Grammar.{OneOf, ANameOrDash, AnAddress, AShort, AKey, AByte, SomeBytes, AllBytes, a_count, a_sequence, value_of};
+ghost use Rattle.zb_base.specs.Limits.{longest_frame};
 
 use zb_base::{
     Attribute, Eui, Frame, Key, Label, Layer, Name, Place, Role, Rollover, Short, State,
@@ -138,7 +139,7 @@ pub(crate) fn key(reader: &mut Words<'_>) -> Option<Key>
 pub(crate) fn some_bytes(reader: &mut Words<'_>) -> Option<Frame>
     ensures value { Takes
         (λ f. Octets 127 f.items) result (left reader.new) (field (value_of (SomeBytes 127)) (left reader.old)) }
-    ensures fits { IfSome result (λ f. IsBytes f.items × (length f.items ≤ 127)) }
+    ensures fits { IfSome result (λ f. IsBytes f.items × (length f.items ≤ longest_frame)) }
 {
     reader.bytes::<127>()
 }
