@@ -1,3 +1,4 @@
 pub mod Outside
 pub mod Config
 pub mod Texts
+pub mod Sizes

@@ -3,7 +3,7 @@ use Rattle.std.specs.List.{concat}
 use Rattle.std.specs.Prelude.{◌&&◌, true, false, ◌^◌, ◌==◌, if◌then◌else◌, Result, OnOk, OnErr, ℕ, ◌+◌, ◌≤◌, ◌<◌, ◌≡◌, ◌≢◌, ◌⊎◌, ◌++◌, List, [], ◌∷◌, length, get_or, Bool, not, IsTrue, Some, None}
 use Rattle.zb_disk.specs.View.{Telling, View, Torn, Follows, IsSame, IsStill, IsUnsynced, Only, LeavesOnly}
 use Rattle.zb_base.specs.Outside.{HasCause}
-use Rattle.zb_store.specs.Sizes.{record_room}
+use Rattle.zb_base.specs.Sizes.{record_room}
 use Rattle.zb_store.specs.Layout.{Standing, IsWhole, stands, slot, gate_of, open_gate, base_of, end_of, body}
 use Rattle.zb_store.specs.Steps.{WentThrough, StoppedAfter}
 
