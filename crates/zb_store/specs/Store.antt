@@ -104,10 +104,6 @@ pub data OpenStop (tells : Telling) (s : Standing) (old new : View) : Type 0 whe
   both_open : both_gates_open old.seen ≡ true → StoppedAfter tells 1 old new → IsBothOpen (base_of s.second) (other_gate s) s new → OpenStop tells s old new
   closing : both_gates_open old.seen ≡ true → StoppedAfter tells 2 old new → IsGateClosing (other_gate s) s new → OpenStop tells s old new
 
--- a call made no write and no sync, and nothing has changed
-abbrev pub IsUnchanged : View → View → Type 0
-IsUnchanged old new = IsStill old new
-
 -- what `put` writes for this record: into the other slot, with the next generation
 pub record IsReplacement (s : Standing) (content : List ℕ) (second : Bool) (bytes : List ℕ) : Type 0 where
   pub place : second ≡ not s.second
