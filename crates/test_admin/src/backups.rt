@@ -2,9 +2,8 @@
 
 use std::test::Fail;
 use zb_backup::{BackupError, read_backup, write_backup};
-use zb_base::Role;
+use zb_base::{RECORD_ROOM, Role};
 use zb_keys::Tables;
-use zb_record::RECORD_ROOM;
 
 /// A centre that removed its one device, as a run wrote it.
 const REMOVED: &str = "\

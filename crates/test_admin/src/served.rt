@@ -3,10 +3,10 @@ use crate::scripts::read_text;
 use std::process::Abort;
 use std::test::Fail;
 use zb_admin::{AdminFault, serve};
-use zb_base::{MemSink, Role};
+use zb_base::{MemSink, RECORD_ROOM, Role};
 use zb_disk::{Disk, FileDisk, MemDisk};
 use zb_keys::Tables;
-use zb_store::{RECORD_ROOM, Store};
+use zb_store::Store;
 
 const HEAD: &str = "centre c 00124B0000000001 4 2\npeer d device 00124B0000000002 1A2B\n";
 

@@ -10,6 +10,4 @@ mod gates;
 #[cfg(test)]
 mod reports;
 #[cfg(test)]
-mod shares;
-#[cfg(test)]
 mod worked;

@@ -8,12 +8,11 @@ ghost use Rattle.zb_stored_tables.specs.Cores.{IsOfRole};
 use arrayvec::ArrayVec;
 use std::process::Abort;
 use std::test::Fail;
-use zb_base::{Config, Eui, Frame, Key, Name, Peer, Role, Short};
+use zb_base::{Config, Eui, Frame, Key, Name, Peer, RECORD_ROOM, Role, Short};
 use zb_disk::MemDisk;
 use zb_host::{Core, Host, Outcome};
 use zb_keys::{Declaration, HeldCode, HeldNetwork, Tables};
 use zb_node_types::Refusal;
-use zb_record::RECORD_ROOM;
 use zb_seal::Term;
 use zb_store::Store;
 

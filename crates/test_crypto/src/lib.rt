@@ -1,5 +1,5 @@
-//! Tests of the cryptography and of the base below it, over their public calls: published vectors, check values, and
-//! sources and sinks that fail.
+//! Tests of the cryptography, and of the counters and readers below it, over their public calls: published vectors and
+//! check values.
 #![tactic(auto)]
 
 #[cfg(test)]
@@ -18,5 +18,3 @@ mod fields;
 mod hash;
 #[cfg(test)]
 mod install_codes;
-#[cfg(test)]
-mod outside;

@@ -2,7 +2,7 @@
 use Rattle.std.proofs.Common.{ℕ, ◌+◌, ◌≤◌, ◌≡◌, ◌≢◌, ◌++◌, ◌==◌, List, [], ◌∷◌, length, get_or, Option, Some, None, Bool, true, false, if◌then◌else◌, refl, sym, ◌∙◌, ap, subst, arith, append-nil}
 use Rattle.zb_node_types.specs.declared.change.Change.{Change}
 use Rattle.zb_host.specs.declared.plan.Plan.{Plan}
-use Rattle.zb_store.specs.Sizes.{payload_room}
+use Rattle.zb_base.specs.Sizes.{payload_room}
 use Rattle.zb_host.specs.Plans.{Restored, gives, bad}
 use Rattle.test_stores.specs.declared.tally.Tally.{Tally}
 use Rattle.test_stores.specs.declared.tally.TallyEvent.{TallyEvent}

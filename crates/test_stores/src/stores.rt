@@ -397,20 +397,3 @@ fn opens_a_file_again(rt: HostRuntime) -> Result<(), Fail> {
     std::fs::remove_file(&rt, path)?;
     Ok(())
 }
-
-#[test]
-fn commits_many_times(rt: HostRuntime) -> Result<(), Fail> {
-    let mut disk = MemDisk::new(rt.alloc(), &[])?;
-    let mut store = Store::format(rt.alloc(), &mut disk, &[7; 300])?;
-    let start = std::time::Instant::now(&rt)?;
-    for _ in 0..100_000u32 {
-        if store.entries() == 32 {
-            store = store.put(&mut disk, &[7; 300])?;
-        }
-        assert!(rt; store.entries() < 32);
-        store = store.append(&mut disk, &[5; 30])?;
-    }
-    let spent = start.elapsed(&rt)?;
-    eprintln!(rt; "100,000 entries: {} ms", spent.as_millis())?;
-    Ok(())
-}

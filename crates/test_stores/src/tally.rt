@@ -2,7 +2,7 @@
 ghost use Rattle.std.specs.Prelude.{◌≡◌, ◌+◌, ◌≤◌, ◌==◌, ◌||◌, nat_lt, min, if◌then◌else◌, [], ◌∷◌, length, take, get_or, Some, None, MatchResult};
 ghost use Rattle.zb_base.specs.declared.label.Layer.TheVariants.{Nwk as nwk};
 ghost use Rattle.zb_node_types.specs.declared.change.Change.TheVariants.{Reserve as reserve};
-ghost use Rattle.zb_store.specs.Sizes.{payloads_room};
+ghost use Rattle.zb_base.specs.Sizes.{payloads_room};
 ghost use Rattle.zb_host.specs.Plans.{gives, bad};
 ghost use Rattle.test_stores.specs.Tallies.{IsPlan, IsAfter, IsBooted, planned, sealed, number_of, entry, recorded, fault_in, counted, restored, spelled};
 ghost use Rattle.test_stores.specs.TallyLaws.{tally_adds, tally_keeps, tally_newest, tally_idle, tally_short};

@@ -1,9 +1,9 @@
 //! What a node is declared with, in its first record, and a network key that comes again.
 
 use std::test::Fail;
-use zb_base::{Key, Role};
+use zb_base::{Key, RECORD_ROOM, Role};
 use zb_keys::{Declaration, HeldNetwork, Tables};
-use zb_record::{RECORD_ROOM, Version};
+use zb_record::Version;
 use zb_rows::{activates, dropped_place, has_net, live_of};
 
 #[test]

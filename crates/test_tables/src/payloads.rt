@@ -5,11 +5,10 @@ use crate::worked::{FIRST, FULL};
 use std::alloc::Global;
 use std::process::Abort;
 use std::test::Fail;
-use zb_base::Layer;
+use zb_base::{Layer, RECORD_ROOM};
 use zb_keys::Tables;
 use zb_node_types::{Change, Changes, KeyError};
 use zb_record::{Version, change_bytes};
-use zb_store::RECORD_ROOM;
 
 #[test]
 fn payload_of_a_reserve(rt: HostRuntime) {
@@ -23,29 +22,32 @@ fn payload_of_a_reserve(rt: HostRuntime) {
     assert!(rt; room.get(..len) == Some(&[1, 1, 0, 4, 0, 0, 0][..]));
 }
 
-// Where a payload is at fault after the full record.
-fn redo_of(alloc: Global, payload: &[u8]) -> Option<u32> {
-    match Tables::from_record(alloc, &FULL) {
-        Ok(mut tables) => match tables.redo(Version::Third, payload) {
+// What `fault_after` returns of a fault that has no place in the payload.
+const NO_PLACE: u32 = 1_000_000;
+
+// Returns where a payload is at fault after a record, taken as an entry of that version.
+fn fault_after(alloc: Global, record: &[u8], version: Version, payload: &[u8]) -> Option<u32> {
+    match Tables::from_record(alloc, record) {
+        Ok(mut tables) => match tables.redo(version, payload) {
             Ok(()) => None,
             Err(KeyError::BadRecord { at }) => Some(at),
-            Err(_) => Some(1_000_000),
+            Err(_) => Some(NO_PLACE),
         },
-        Err(_) => Some(1_000_000),
+        Err(_) => Some(NO_PLACE),
     }
 }
 
 // A payload of one change, which fits, whole and cut at each byte.
 fn cut(rt: &(impl AllocGlobal + Abort), payload: &[u8]) {
-    assert!(rt; redo_of(rt.alloc(), payload) == None);
+    assert!(rt; fault_after(rt.alloc(), &FULL, Version::Third, payload) == None);
     for len in 1..payload.len() {
-        assert!(rt; redo_of(rt.alloc(), &payload[..len]) == Some(1));
+        assert!(rt; fault_after(rt.alloc(), &FULL, Version::Third, &payload[..len]) == Some(1));
     }
 }
 
 #[test]
 fn cut_payloads(rt: HostRuntime) {
-    assert!(rt; redo_of(rt.alloc(), &[]) == None);
+    assert!(rt; fault_after(rt.alloc(), &FULL, Version::Third, &[]) == None);
     cut(&rt, &[1, 1, 1, 9, 0, 0, 0]);
     cut(
         &rt,
@@ -113,38 +115,45 @@ fn cut_install(rt: HostRuntime) {
     payload[18] = 5;
     payload[19..35].fill(0xA3);
     payload[35] = 3;
-    assert!(rt; redo_of(rt.alloc(), &payload) == None);
+    assert!(rt; fault_after(rt.alloc(), &FULL, Version::Third, &payload) == None);
     for len in 1..36 {
         let fault = if len < 18 { 1 } else { 18 };
-        assert!(rt; redo_of(rt.alloc(), &payload[..len]) == Some(fault));
+        assert!(rt; fault_after(rt.alloc(), &FULL, Version::Third, &payload[..len]) == Some(fault));
     }
 }
 
 #[test]
 fn payloads_that_do_not_fit(rt: HostRuntime) {
     // an unknown kind, a draw, a third layer
-    assert!(rt; redo_of(rt.alloc(), &[1, 0x7F]) == Some(1));
-    assert!(rt; redo_of(rt.alloc(), &[1, 0x00]) == Some(1));
-    assert!(rt; redo_of(rt.alloc(), &[1, 1, 2, 9, 0, 0, 0]) == Some(1));
+    assert!(rt; fault_after(rt.alloc(), &FULL, Version::Third, &[1, 0x7F]) == Some(1));
+    assert!(rt; fault_after(rt.alloc(), &FULL, Version::Third, &[1, 0x00]) == Some(1));
+    assert!(rt; fault_after(rt.alloc(), &FULL, Version::Third, &[1, 1, 2, 9, 0, 0, 0]) == Some(1));
     // more changes than there are, and another payload after one
-    assert!(rt; redo_of(rt.alloc(), &[2, 9, 0]) == Some(3));
-    assert!(rt; redo_of(rt.alloc(), &[0, 1, 9, 0, 1, 9, 2]) == Some(5));
+    assert!(rt; fault_after(rt.alloc(), &FULL, Version::Third, &[2, 9, 0]) == Some(3));
+    assert!(rt; fault_after(rt.alloc(), &FULL, Version::Third, &[0, 1, 9, 0, 1, 9, 2]) == Some(5));
     // a lower limit, another state of the centre, a device that isn't live
-    assert!(rt; redo_of(rt.alloc(), &[1, 1, 1, 1, 0, 0, 0]) == Some(1));
-    assert!(rt; redo_of(rt.alloc(), &[1, 8, 1]) == Some(1));
-    assert!(rt; redo_of(rt.alloc(), &[1, 10, 0x14, 0, 0, 0, 0, 0, 0, 0]) == Some(1));
+    assert!(rt; fault_after(rt.alloc(), &FULL, Version::Third, &[1, 1, 1, 1, 0, 0, 0]) == Some(1));
+    assert!(rt; fault_after(rt.alloc(), &FULL, Version::Third, &[1, 8, 1]) == Some(1));
+    assert!(rt;
+        fault_after(
+            rt.alloc(),
+            &FULL,
+            Version::Third,
+            &[1, 10, 0x14, 0, 0, 0, 0, 0, 0, 0]
+        ) == Some(1)
+    );
     // a third live network key, and one in the place of another
     let third = [
         1, 5, 0xA3, 0xA3, 0xA3, 0xA3, 0xA3, 0xA3, 0xA3, 0xA3, 0xA3, 0xA3, 0xA3, 0xA3, 0xA3, 0xA3,
         0xA3, 0xA3, 3,
     ];
-    assert!(rt; redo_of(rt.alloc(), &third) == Some(1));
+    assert!(rt; fault_after(rt.alloc(), &FULL, Version::Third, &third) == Some(1));
     let next = [
         2, 3, 0xA2, 0xA2, 0xA2, 0xA2, 0xA2, 0xA2, 0xA2, 0xA2, 0xA2, 0xA2, 0xA2, 0xA2, 0xA2, 0xA2,
         0xA2, 0xA2, 5, 0xA3, 0xA3, 0xA3, 0xA3, 0xA3, 0xA3, 0xA3, 0xA3, 0xA3, 0xA3, 0xA3, 0xA3,
         0xA3, 0xA3, 0xA3, 0xA3, 3,
     ];
-    assert!(rt; redo_of(rt.alloc(), &next) == None);
+    assert!(rt; fault_after(rt.alloc(), &FULL, Version::Third, &next) == None);
 }
 
 // What is stored of it after the entries that install a third key and then reserve up to 12: all keys have that limit,
@@ -189,18 +198,6 @@ fn counter_goes_on_behind_a_first_version(rt: HostRuntime) -> Result<(), Fail> {
     Ok(())
 }
 
-// Where a payload is at fault after the record of version 1, taken as a later one too.
-fn fault_behind(alloc: Global, version: Version, payload: &[u8]) -> Option<u32> {
-    match Tables::from_record(alloc, &FIRST) {
-        Ok(mut tables) => match tables.redo(version, payload) {
-            Ok(()) => None,
-            Err(KeyError::BadRecord { at }) => Some(at),
-            Err(_) => Some(1_000_000),
-        },
-        Err(_) => Some(1_000_000),
-    }
-}
-
 #[test]
 fn entries_at_fault_behind_a_first_version(rt: HostRuntime) {
     let start = [
@@ -213,11 +210,11 @@ fn entries_at_fault_behind_a_first_version(rt: HostRuntime) {
     ];
     // a NWK limit needs no active key there, and isn't lowered
     let reserve = [1, 1, 0, 8, 0, 0, 0];
-    assert!(rt; fault_behind(rt.alloc(), Version::First, &reserve) == None);
-    assert!(rt; fault_behind(rt.alloc(), Version::Second, &reserve) == Some(1));
-    assert!(rt; fault_behind(rt.alloc(), Version::First, &[1, 1, 0, 7, 0, 0, 0]) == Some(1));
+    assert!(rt; fault_after(rt.alloc(), &FIRST, Version::First, &reserve) == None);
+    assert!(rt; fault_after(rt.alloc(), &FIRST, Version::Second, &reserve) == Some(1));
+    assert!(rt; fault_after(rt.alloc(), &FIRST, Version::First, &[1, 1, 0, 7, 0, 0, 0]) == Some(1));
     // a start, and a pair, which fits after a later version
-    assert!(rt; fault_behind(rt.alloc(), Version::First, &start) == Some(7));
-    assert!(rt; fault_behind(rt.alloc(), Version::First, &pair) == Some(1));
-    assert!(rt; fault_behind(rt.alloc(), Version::Third, &pair) == None);
+    assert!(rt; fault_after(rt.alloc(), &FIRST, Version::First, &start) == Some(7));
+    assert!(rt; fault_after(rt.alloc(), &FIRST, Version::First, &pair) == Some(1));
+    assert!(rt; fault_after(rt.alloc(), &FIRST, Version::Third, &pair) == None);
 }

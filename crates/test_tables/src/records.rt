@@ -4,10 +4,9 @@ use crate::worked::FULL;
 use std::alloc::Global;
 use std::process::Abort;
 use std::test::Fail;
-use zb_base::{Layer, OrMemory, Role};
+use zb_base::{Layer, OrMemory, RECORD_ROOM, Role};
 use zb_keys::Tables;
 use zb_node_types::KeyError;
-use zb_store::RECORD_ROOM;
 
 // Where the fields of the full record begin.
 const FIELDS: [u32; 47] = [

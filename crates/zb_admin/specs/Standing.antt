@@ -13,7 +13,7 @@ use Rattle.zb_model.specs.Rules.{Setting}
 use Rattle.zb_model.specs.State.{NodeState}
 use Rattle.zb_record.specs.Ranges.{fits_widths}
 use Rattle.zb_store.specs.Layout.{Standing, stands}
-use Rattle.zb_store.specs.Sizes.{entries_room}
+use Rattle.zb_base.specs.Sizes.{entries_room}
 use Rattle.zb_store.specs.Store.{AllWhole}
 use Rattle.zb_stored_tables.specs.Cores.{CoreValue}
 use Rattle.zb_stored_tables.specs.Stored.{restored, state_given}

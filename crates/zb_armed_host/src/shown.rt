@@ -5,7 +5,7 @@ ghost use Rattle.zb_disk.specs.View.{IsStill};
 ghost use Rattle.zb_base.specs.Outside.{Unrisen};
 ghost use Rattle.zb_disk.specs.Memory.{memory_view};
 ghost use Rattle.zb_store.specs.Layout.{Standing, IsWhole, stands};
-ghost use Rattle.zb_store.specs.Sizes.{record_room, payloads_room};
+ghost use Rattle.zb_base.specs.Sizes.{record_room, payloads_room};
 ghost use Rattle.zb_host.specs.Plans.{gives};
 ghost use Rattle.zb_host.specs.Hosts.{Gives};
 ghost use Rattle.zb_armed_host.specs.Arms.{IsUnarmed};

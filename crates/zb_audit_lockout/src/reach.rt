@@ -10,8 +10,7 @@ use crate::bags::Bags;
 use crate::lateness::Lateness;
 use crate::windows::{Windows, any_among};
 use std::alloc::{AllocError, Global};
-use zb_base::{Eui, Key};
-use zb_trace_watch::exposure::WELL_KNOWN;
+use zb_base::{Eui, Key, WELL_KNOWN};
 use zb_trace_watch::holdings::Holdings;
 
 /// Holds which keys lead to which, who held them, and how late the keys were drawn to which they lead.

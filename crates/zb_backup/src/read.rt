@@ -7,7 +7,7 @@ ghost use Rattle.serde_json.specs.View.{view};
 ghost use Rattle.zb_model.specs.Data.{Centre};
 ghost use Rattle.zb_record.specs.Records.{record_read};
 ghost use Rattle.zb_record.specs.RowViews.{net_key};
-ghost use Rattle.zb_record.specs.Sizes.{record_room};
+ghost use Rattle.zb_base.specs.Sizes.{record_room};
 ghost use Rattle.zb_backup.specs.Format.{backup_of};
 ghost use Rattle.zb_backup.specs.Reading.{backup_in, has_widths, tables_in, ReadsBackup};
 ghost use Rattle.zb_backup.specs.Steps.{has_room, told_state, IsMade, IsOfRecord, IsRefusal};
@@ -18,9 +18,9 @@ use crate::told_rows::{Parts, told};
 use crate::write::backup_value;
 use serde_json::{Category, Error, Value};
 use std::alloc::Global;
-use zb_base::{OrMemory, Role};
+use zb_base::{OrMemory, RECORD_ROOM, Role};
 use zb_keys::{NetRow, Tables};
-use zb_record::{RECORD_ROOM, write_record};
+use zb_record::write_record;
 
 /// Returns how many network keys are in use.
 fn live_count(rows: &[NetRow]) -> usize

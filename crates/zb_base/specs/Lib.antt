@@ -2,3 +2,4 @@ pub mod Outside
 pub mod Config
 pub mod Texts
 pub mod Limits
+pub mod Sizes

@@ -1,5 +1,4 @@
 //! The states of a node, of a link key and of a rollover.
-use std::fmt;
 
 /// How far a router or device is in joining the network. The centre stays in `Fresh`.
 #[derive(Clone, Copy, Debug, Default, PartialEq, Eq, PartialOrd, Ord, Hash)]
@@ -41,52 +40,4 @@ pub enum Rollover {
     Idle,
     /// The newest network key is being sent to one device after the other.
     Sending,
-}
-
-impl fmt::Display for State {
-    ghost use Rattle.std.specs.Prelude.{Some};
-    ghost use Rattle.zb_base.specs.Texts.{state_text};
-
-    ghost output = { λ it. Some (state_text it) };
-
-    fn fmt<W: fmt::Write>(&self, f: &mut fmt::Formatter<W>) -> fmt::Result {
-        f.write_str(match self {
-            State::Fresh => "fresh",
-            State::Knocked => "knocked",
-            State::Joined => "joined",
-            State::Offered => "offered",
-            State::Confirmed => "confirmed",
-            State::Rejoining => "rejoining",
-            State::Gone => "gone",
-        })
-    }
-}
-
-impl fmt::Display for Attribute {
-    ghost use Rattle.std.specs.Prelude.{Some};
-    ghost use Rattle.zb_base.specs.Texts.{attribute_text};
-
-    ghost output = { λ it. Some (attribute_text it) };
-
-    fn fmt<W: fmt::Write>(&self, f: &mut fmt::Formatter<W>) -> fmt::Result {
-        f.write_str(match self {
-            Attribute::Provisional => "provisional",
-            Attribute::Unverified => "unverified",
-            Attribute::Verified => "verified",
-        })
-    }
-}
-
-impl fmt::Display for Rollover {
-    ghost use Rattle.std.specs.Prelude.{Some};
-    ghost use Rattle.zb_base.specs.Texts.{rollover_text};
-
-    ghost output = { λ it. Some (rollover_text it) };
-
-    fn fmt<W: fmt::Write>(&self, f: &mut fmt::Formatter<W>) -> fmt::Result {
-        f.write_str(match self {
-            Rollover::Idle => "idle",
-            Rollover::Sending => "sending",
-        })
-    }
 }

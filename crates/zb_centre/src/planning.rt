@@ -22,17 +22,8 @@ use zb_node_types::Refusal;
 use zb_plan::plan_own;
 use zb_rules::{Effect, say};
 use zb_seal::{KeyMemo, Term};
-use zb_send::Payload;
+use zb_send::copied;
 use zb_setting::Network;
-
-// Copies application data.
-fn copied(bytes: &Payload) -> Payload
-    ensures { result.items ≡ bytes.now.items }
-{
-    let mut copy = Payload::new();
-    let _ = copy.try_extend_from_slice(bytes.as_slice());
-    copy
-}
 
 // Decides an event of the centre's own by its rule. A delivery is none.
 fn decide(network: &Network, tables: &Tables, event: &CentreEvent) -> Result<Effect, Refusal>

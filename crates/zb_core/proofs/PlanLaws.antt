@@ -9,7 +9,7 @@ use Rattle.zb_model.specs.State.{shown}
 use Rattle.zb_model_real.specs.Real.{real}
 use Rattle.zb_node_types.specs.Changes.{edits}
 use Rattle.zb_plan.specs.Answers.{IsAnswer}
-use Rattle.zb_record.specs.Sizes.{payload_room}
+use Rattle.zb_base.specs.Sizes.{payload_room}
 use Rattle.zb_stored_tables.specs.Cores.{CoreValue}
 use Rattle.zb_stored_tables.specs.Stored.{IsStorable, restored}
 use Rattle.zb_stored_tables.proofs.CoreValues.{value_adds, value_idle, value_keeps, value_leads}

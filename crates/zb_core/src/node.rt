@@ -9,7 +9,7 @@ ghost use Rattle.zb_model.specs.Record.{record_of};
 ghost use Rattle.zb_model_real.specs.Real.{real};
 ghost use Rattle.zb_node_types.specs.Changes.{model_role};
 ghost use Rattle.zb_plan.specs.Answers.{IsAnswer};
-ghost use Rattle.zb_record.specs.Sizes.{payloads_room, record_room};
+ghost use Rattle.zb_base.specs.Sizes.{payloads_room, record_room};
 ghost use Rattle.zb_stored_tables.specs.Cores.{IsBooted, IsOfRole};
 ghost use Rattle.zb_stored_tables.specs.Stored.{IsStorable, restored};
 

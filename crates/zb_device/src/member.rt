@@ -22,18 +22,8 @@ use zb_node_types::Refusal;
 use zb_plan::plan_own;
 use zb_rules::{Effect, say};
 use zb_seal::{KeyMemo, Term};
-use zb_send::Payload;
+use zb_send::copied;
 use zb_setting::Network;
-
-/// Returns the same data once more.
-fn copied(bytes: &Payload) -> Payload
-    ensures { result.items ≡ bytes.now.items }
-{
-    match Payload::try_from(bytes.as_slice()) {
-        Ok(copy) => copy,
-        Err(_) => Payload::new(),
-    }
-}
 
 // Decides an event of the node's own by its rule. A delivery is none.
 fn decide(network: &Network, tables: &Tables, event: &DeviceEvent) -> Result<Effect, Refusal>

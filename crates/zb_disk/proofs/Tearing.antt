@@ -166,9 +166,6 @@ length-torn_some : (p bytes : List ℕ) (written : List Bool) (some : Bool) → 
 length-torn_some p bytes written true = length-tear p 0 bytes written
 length-torn_some p bytes written false = refl
 
-pub length-torn_by : (p bytes : List ℕ) (written : List Bool) → length (torn_by p bytes written) ≡ length bytes
-length-torn_by p bytes written = length-torn_some p bytes written (nat_lt 0 (length p))
-
 torn_by_image : (p : List ℕ) (bytes : List ℕ) (written : List Bool) (grown : ℕ) (some : Bool) → IsImage bytes written grown (if some then tear p 0 bytes written else bytes)
 torn_by_image p bytes written grown true = image_torn p bytes written grown
 torn_by_image p bytes written grown false = image_seen bytes written grown

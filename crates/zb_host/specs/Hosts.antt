@@ -6,7 +6,7 @@ use Rattle.zb_base.specs.Outside.{Rose, Unrisen}
 use Rattle.zb_disk.specs.View.{Telling, View, IsStill, LeavesOnly}
 use Rattle.zb_store.specs.declared.fault.StoreFault.{StoreFault}
 use Rattle.zb_store.specs.declared.fault.StoreFault.TheVariants.{Disk, NoRecord, TooLarge, NoMemory, Worn}
-use Rattle.zb_store.specs.Sizes.{entries_room, payload_room, record_room}
+use Rattle.zb_base.specs.Sizes.{entries_room, payload_room, record_room}
 use Rattle.zb_store.specs.Layout.{Standing, IsWhole, stands}
 use Rattle.zb_store.specs.Steps.{WentThrough}
 use Rattle.zb_store.specs.Store.{Place, place_of, IsHeld, IsReady, IsWholeEither, appended, replaced, AppendStop, PutStop}

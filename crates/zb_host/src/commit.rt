@@ -1,14 +1,14 @@
 //! A commit: one entry, or the whole record.
 ghost use Rattle.std.specs.Prelude.{◌≡◌, ◌≤◌, ◌<◌, ◌==◌, ◌||◌, List, ℕ, length, true, false, IfOk};
-ghost use Rattle.zb_store.specs.Sizes.{record_room, payload_room, entries_room};
+ghost use Rattle.zb_base.specs.Sizes.{record_room, payload_room, entries_room};
 ghost use Rattle.zb_host.specs.Hosts.{IsCommit, IsRoom};
 
 use crate::Core;
 use std::alloc::Global;
-use zb_base::NoMemory;
+use zb_base::{ENTRIES_ROOM, NoMemory, RECORD_ROOM};
 use zb_disk::Disk;
 use zb_node_types::Changes;
-use zb_store::{ENTRIES_ROOM, RECORD_ROOM, Store, StoreFault};
+use zb_store::{Store, StoreFault};
 
 /// A piece of the room of a record. An entry fits into one.
 const BLANK: [u8; 1_024] = [0; 1_024];

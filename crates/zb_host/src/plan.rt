@@ -3,7 +3,7 @@ ghost use Rattle.std.specs.Prelude.{◌≡◌, ◌≢◌, ◌≤◌, ◌++◌, L
 ghost use Rattle.zb_node_types.specs.declared.change.Change.{Change as change};
 ghost use Rattle.zb_base.specs.Config.{IsConfig};
 ghost use Rattle.zb_base.specs.declared.node.Config.{Config as configuration};
-ghost use Rattle.zb_store.specs.Sizes.{record_room, payload_room, payloads_room};
+ghost use Rattle.zb_base.specs.Sizes.{record_room, payload_room, payloads_room};
 ghost use Rattle.zb_host.specs.Plans.{Restored, gives, IsRestoreFault};
 
 use std::alloc::Global;

@@ -1,5 +1,5 @@
 //! Working out a report, and writing it.
-ghost use Rattle.std.specs.Prelude.{◌≡◌, ◌≢◌, ◌≤◌, ◌++◌, length, map, IfOk, Ok, Err, OnOk, OnErr};
+ghost use Rattle.std.specs.Prelude.{◌≡◌, ◌≢◌, ◌≤◌, ◌++◌, length, IfOk, Err, OnOk, OnErr};
 ghost use Rattle.std.specs.Io.KnownBytes.{Appends};
 ghost use Rattle.std.specs.List.{AllByRecursion};
 ghost use Rattle.zb_base.specs.Outside.{AppendsFront, HasCause, Unrisen};
@@ -16,7 +16,7 @@ use std::thread::{Threads, map_vec};
 use zb_base::{Failed, NoMemory, Sink};
 use zb_capture::Capture;
 use zb_inspect_ring::{Piece, Ring, open_all};
-use zb_parallel::Gate;
+use zb_parallel::{Gate, gather};
 
 /// Writes the report on a capture, worked out by so many jobs. Nothing is written before the report is known.
 ///
@@ -94,17 +94,6 @@ fn print_piece(alloc: Global, piece: Piece) -> Result<Vec<u8>, NoMemory>
         page = block.print(page)?;
     }
     Ok(page)
-}
-
-/// Returns the pages, where none lacked memory.
-fn gather(alloc: Global, printed: Vec<Result<Vec<u8>, NoMemory>>) -> Result<Vec<Vec<u8>>, NoMemory>
-    ensures { IfOk result (λ v. printed.items ≡ map (λ page. Ok page) v.items) }
-{
-    let mut pages = Vec::with_capacity(alloc, printed.len())?;
-    for page in printed {
-        pages.push(page?)?;
-    }
-    Ok(pages)
 }
 
 /// Writes pages, one after the other, and then a tail.

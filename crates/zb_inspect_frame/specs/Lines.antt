@@ -1,7 +1,6 @@
 -- The lines of a frame in a report (this project's profile): one for each layer.
 use Rattle.std.specs.Prelude.{ℕ, zero, suc, ◌+◌, List, [], ◌∷◌, ◌++◌, codes, decimal, Option, Some, None}
 use Rattle.zb_base.specs.declared.label.Label.{Label}
-use Rattle.zb_base.specs.declared.label.Label.TheVariants as label
 use Rattle.zb_base.specs.declared.label.Layer.{Layer}
 use Rattle.zb_base.specs.declared.label.Layer.TheVariants as layer
 use Rattle.zb_seal.specs.declared.term.Term.{Term}
@@ -9,20 +8,15 @@ use Rattle.zb_inspect_frame.specs.declared.layer.Finding.{Finding}
 use Rattle.zb_inspect_frame.specs.declared.layer.Finding.TheVariants.{Malformed, NotSecured, NoSource, Closed, Opened}
 use Rattle.zb_inspect_frame.specs.declared.shown.Below.{Below}
 use Rattle.zb_inspect_frame.specs.declared.shown.Shown.{Shown}
+use Rattle.zb_text.specs.Choices as choices
 use Rattle.zb_text.specs.Fields.{eui_text}
 use Rattle.zb_text.specs.Hexadecimal.{bytes_text}
 use Rattle.zb_text.specs.Words.{then}
 
 -- LABEL, which stands at APS alone
-abbrev pub label_word : Label → List ℕ
-label_word label.Data = codes "data"
-label_word label.Network = codes "network"
-label_word label.Transport = codes "transport"
-label_word label.Load = codes "load"
-
 abbrev pub label_text : Layer → Label → List ℕ
 label_text layer.Nwk sealed = []
-label_text layer.Aps sealed = then (label_word sealed)
+label_text layer.Aps sealed = then (choices.label_text sealed)
 
 -- SOURCE COUNTER CONTENT
 abbrev pub opened_text : Term → List ℕ

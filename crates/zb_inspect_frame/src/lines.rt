@@ -1,13 +1,14 @@
 //! The lines of a frame in a report: one for each layer.
 ghost use Rattle.std.specs.Prelude.{◌≡◌, ◌+◌, ◌<◌, ◌^◌, ◌++◌, ◌∷◌, [], length, decimal, OnOk};
 ghost use Rattle.zb_text.specs.Words.{then};
-ghost use Rattle.zb_inspect_frame.specs.Lines.{label_word, label_text, opened_text, finding_text, layer_line, inner_text, below_text, frame_text, frames_text, unopened_line, unopened_text};
+ghost use Rattle.zb_inspect_frame.specs.Lines.{label_text, opened_text, finding_text, layer_line, inner_text, below_text, frame_text, frames_text, unopened_line, unopened_text};
 
 use crate::layer::Finding;
 use crate::shown::{Below, Shown};
 use std::alloc::AllocError;
 use zb_base::{Label, Layer};
 use zb_seal::Term;
+use zb_text::choices;
 use zb_text::numbers::put_number;
 use zb_text::page::{add_bytes, add_eui, add_number, add_word, end_line};
 
@@ -138,20 +139,8 @@ fn put_label(out: &mut Vec<u8>, layer: Layer, label: Label) -> Result<(), AllocE
     match layer {
         Layer::Nwk => Ok(()),
         Layer::Aps => {
-            add_label(out, label)?;
+            add_word(out, choices::label_text(label))?;
             Ok(())
         }
     }
-}
-
-fn add_label(out: &mut Vec<u8>, label: Label) -> Result<(), AllocError>
-    ensures { OnOk result (out.new.items ≡ out.old.items ++ then (label_word label)) }
-{
-    match label {
-        Label::Data => add_word(out, b"data")?,
-        Label::Network => add_word(out, b"network")?,
-        Label::Transport => add_word(out, b"transport")?,
-        Label::Load => add_word(out, b"load")?,
-    }
-    Ok(())
 }

@@ -1,5 +1,5 @@
 //! The rounds in which the frames of a capture are opened.
-ghost use Rattle.std.specs.Prelude.{◌≡◌, ◌+◌, ◌≤◌, ◌<◌, ◌^◌, length, take, map, IfOk, Ok};
+ghost use Rattle.std.specs.Prelude.{◌≡◌, ◌+◌, ◌≤◌, ◌<◌, ◌^◌, length, take, IfOk};
 ghost use Rattle.std.specs.Int.{div_ceil};
 ghost use Rattle.std.specs.List.{AllByRecursion, AllZip};
 ghost use Rattle.zb_inspect_ring.specs.Pieces.{AreSized, all_blocks, all_leads, AllSee, AreShown, IsCut, IsNextPiece, IsWithin};
@@ -15,7 +15,7 @@ use std::thread::{Threads, map_vec};
 use zb_base::NoMemory;
 use zb_capture::{Capture, Frames};
 use zb_inspect_frame::Addresses;
-use zb_parallel::{Gate, IdleThread};
+use zb_parallel::{Gate, IdleThread, gather};
 use zb_seal::SealingKeys;
 
 /// The ring of a capture, and what the frames of the capture show under it.
@@ -119,17 +119,6 @@ fn look_at_all<T: Threads + Sync, G: Gate>(
     )?;
     idle.end(rt);
     gather(alloc, looked)
-}
-
-/// Returns the pieces, where none lacked memory.
-fn gather(alloc: Global, looked: Vec<Result<Piece, NoMemory>>) -> Result<Vec<Piece>, NoMemory>
-    ensures { IfOk result (λ v. looked.items ≡ map (λ p. Ok p) v.items) }
-{
-    let mut pieces = Vec::with_capacity(alloc, looked.len())?;
-    for piece in looked {
-        pieces.push(piece?)?;
-    }
-    Ok(pieces)
 }
 
 /// Adds the keys that a round found in the pieces.

@@ -17,10 +17,6 @@ pub shown_is : (s : NodeState) → Forgets s → shown s ≡ s
 unfolding shown
 shown_is s forgets = ap (λ l. record s { nets = l }) forgets
 
-pub forgets_is : (s : NodeState) → shown s ≡ s → Forgets s
-unfolding shown
-forgets_is s e = ap (λ (x : NodeState). x.nets) e
-
 pub new_keeps_rules : (d : Role) → keeps_rules (new_node d) ≡ true
 unfolding keeps_rules rows_have_room keys_differ at_most_two_live active_is_live partners_agree links_are_marked floors_are_kept limits_are_started role_is_kept pairs_are_kept
 new_keeps_rules Centre = refl

@@ -44,9 +44,6 @@ assembled role network code nwk aps state nets active links pairs a b c d e = rw
 zero_max : (n : ℕ) → max 0 n ≡ n
 zero_max n = omega (arith)
 
-declared_row : (n : ℕ) (key : Bytes) (sequence : ℕ) → declared_at n (given_net 0 key sequence) ≡ given_net n key sequence
-declared_row n key sequence = rw (zero_max n) refl
-
 pub first_is : (role : Role) (network : Option (Bytes × ℕ)) (code : Option (ℕ × Bytes)) (nwk aps : ℕ) → written role network code nwk aps ≡ first_state role network code nwk aps
 unfolding first_state with_declared with_given_net with_given_link
 first_is role None None nwk aps = rw (zero_max aps) refl

@@ -2,7 +2,8 @@
 ghost use Rattle.std.specs.Prelude.{◌≡◌, ◌≤◌, length, take};
 ghost use Rattle.zb_keys.specs.Tables.{heading_of, state_of, IsSound};
 ghost use Rattle.zb_model.specs.Record.{record_of};
-ghost use Rattle.zb_record.specs.Sizes.{record_room, greatest_record};
+ghost use Rattle.zb_base.specs.Sizes.{record_room};
+ghost use Rattle.zb_record.specs.Sizes.{greatest_record};
 
 use crate::Tables;
 use crate::contents::Contents;

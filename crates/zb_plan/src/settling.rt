@@ -1,30 +1,15 @@
 //! The changes of a rule as they are stored.
 ghost use Rattle.std.specs.Prelude.{◌≡◌, ◌<◌, ◌≤◌, ◌+◌, ◌*◌, ◌++◌, length, option_map};
 ghost use Rattle.zb_model.specs.Answer.{start_edit, start_for};
-ghost use Rattle.zb_model.specs.Record.{state_byte};
-ghost use Rattle.zb_node_types.specs.Changes.{edit, edits, model_state};
+ghost use Rattle.zb_node_types.specs.Changes.{edit, edits};
 ghost use Rattle.zb_plan.specs.Settling.{activates, active_in, is_change, settled, settled_edits, start_behind};
 
-use zb_base::{Key, State};
+use zb_base::Key;
 use zb_keys::Tables;
 use zb_node_types::{Change, Changes};
+use zb_record::state_byte;
 use zb_rows::{first_counter, has_row_as, has_started, is_active_key};
 use zb_rules::add;
-
-/// Returns the byte of a state.
-fn state_byte(state: State) -> u8
-    ensures { result ≡ state_byte (model_state state) }
-{
-    match state {
-        State::Fresh => 0,
-        State::Knocked => 1,
-        State::Joined => 2,
-        State::Offered => 3,
-        State::Confirmed => 4,
-        State::Rejoining => 5,
-        State::Gone => 6,
-    }
-}
 
 /// Returns whether a change doesn't leave a thing as it is.
 #[tactic(auto, unfolding(zb_model::specs::Answer::changes))]

@@ -15,7 +15,7 @@ use zb_base::{Name, Short};
 use zb_install::InstallCode;
 use zb_player_node::Task;
 use zb_sched::Event;
-use zb_send::Payload;
+use zb_send::copied;
 
 /// What an event is to its node, or that it is the outside's.
 #[derive(Drop)]
@@ -56,15 +56,6 @@ fn say(to: Short, bytes: &ArrayVec<u8, 64>) -> Act
         to,
         bytes: copied(bytes),
     })
-}
-
-// Copies application data.
-fn copied(bytes: &ArrayVec<u8, 64>) -> Payload
-    ensures { result.items ≡ bytes.now.items }
-{
-    let mut copy = Payload::new();
-    let _ = copy.try_extend_from_slice(bytes.as_slice());
-    copy
 }
 
 // A stop is armed on its disk.

@@ -16,9 +16,10 @@ ghost use Rattle.zb_base.specs.Limits.{longest_frame, most_lines};
 use crate::ledger::Ledger;
 use zb_base::{Frame, Name, NoMemory, Short};
 use zb_cursor::frame_from;
-use zb_player_forge::{SECURED, aps_command, clear_frame, forged_control, nwk_frame, sealed};
+use zb_player_forge::{aps_command, clear_frame, forged_control, nwk_frame, sealed};
 use zb_sched::Event;
 use zb_seal::Term;
+use zb_send::SECURED;
 use zb_trace_model::{forge_line, inject_line, send_line};
 
 // The name that represents an outsider.

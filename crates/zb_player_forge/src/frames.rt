@@ -7,22 +7,11 @@ ghost use Rattle.zb_model_real.specs.Terms.{model_label, model_term};
 ghost use Rattle.zb_seal.specs.Wire.{wire_length};
 ghost use Rattle.zb_base.specs.Limits.{longest_frame};
 
-use zb_base::{Eui, Frame, Key, Label, Layer, Short};
+use zb_base::{Eui, Frame, Key, Label, Short};
 use zb_cmd::read_leave;
 use zb_cursor::frame_from;
 use zb_seal::{Term, wire};
-use zb_send::{
-    aps_control, aps_label, command_header, joined, low_byte, nwk_auxiliary, nwk_header,
-};
-
-/// The NWK frame control of a sealed data frame.
-pub const SECURED: u16 = 0x0208;
-
-/// The NWK frame control of a sealed command.
-const COMMAND: u16 = 0x0209;
-
-/// The NWK frame control of a data frame that isn't sealed.
-const CLEAR: u16 = 0x0008;
+use zb_send::{CLEAR, COMMAND, SECURED, command_term, joined, nwk_header, nwk_term};
 
 /// Returns the NWK frame control of a forged content: a Leave is a command.
 ///
@@ -56,18 +45,16 @@ pub fn nwk_frame(
         ≡ nwk_term control to.0 from.0 source.0 key.now.0 sequence counter content.now }
     ensures len { wire_length result ≡ length content.now + 26 }
 {
-    let header = nwk_header(control, to, from, low_byte(counter));
-    let auxiliary = nwk_auxiliary(counter, source, sequence);
-    Term {
-        layer: Layer::Nwk,
-        base: *key,
-        label: Label::Network,
+    nwk_term(
+        control,
+        to,
+        from,
         source,
+        key,
+        sequence,
         counter,
-        control: 0x2d,
-        header: joined(header.as_slice(), auxiliary.as_slice()),
-        content: frame_from(content),
-    }
+        frame_from(content),
+    )
 }
 
 /// Makes the term of an APS command under a link key.
@@ -79,16 +66,7 @@ pub fn aps_command(label: Label, key: &Key, source: Eui, counter: u32, command: 
         ≡ aps_term sealed_command (model_label label) key.now.0 source.0 counter command.now }
     ensures len { wire_length result ≡ length command.now + 19 }
 {
-    Term {
-        layer: Layer::Aps,
-        base: *key,
-        label: aps_label(label),
-        source,
-        counter,
-        control: aps_control(label),
-        header: command_header(label, counter, source),
-        content: frame_from(command),
-    }
+    command_term(label, key, source, counter, frame_from(command))
 }
 
 /// Returns the bytes of a term on the air.

@@ -3,4 +3,4 @@
 
 mod frames;
 
-pub use frames::{SECURED, aps_command, clear_frame, forged_control, nwk_frame, sealed};
+pub use frames::{aps_command, clear_frame, forged_control, nwk_frame, sealed};

@@ -12,7 +12,7 @@ ghost use Rattle.zb_player_node.specs.Tasks.{model_task, suits};
 ghost use Rattle.zb_player_node.specs.Values.{running};
 ghost use Rattle.zb_node_types.specs.Changes.{model_role};
 ghost use Rattle.zb_store.specs.Layout.{IsWhole, Standing};
-ghost use Rattle.zb_store.specs.Sizes.{record_room};
+ghost use Rattle.zb_base.specs.Sizes.{record_room};
 ghost use Rattle.zb_stored_tables.specs.Cores.{IsOfRole};
 ghost use Rattle.zb_stored_tables.specs.Stored.{restored};
 

@@ -23,10 +23,9 @@ use arrayvec::ArrayVec;
 use std::alloc::Global;
 use std::marker::Model;
 use zb_armed_host::{Arms, Fall, reset};
-use zb_base::{Config, Eui, Name, NoMemory, OrMemory, Peer, Role};
+use zb_base::{Config, Eui, Name, NoMemory, OrMemory, Peer, RECORD_ROOM, Role};
 use zb_disk::MemDisk;
 use zb_node_types::Changes;
-use zb_store::RECORD_ROOM;
 
 /// What became of an event of a node that was up.
 #[derive(Clone, Copy, Debug, PartialEq, Eq)]

@@ -7,7 +7,7 @@ ghost use Rattle.zb_install.specs.Code.{code_key};
 ghost use Rattle.zb_keys.specs.Declarations.{code_of, code_with, declared_state, network_of};
 ghost use Rattle.zb_node_types.specs.Changes.{model_role};
 ghost use Rattle.zb_record.specs.Ranges.{FitsBytes};
-ghost use Rattle.zb_store.specs.Sizes.{record_room};
+ghost use Rattle.zb_base.specs.Sizes.{record_room};
 ghost use Rattle.zb_store.specs.Store.{IsHeld, formatted};
 
 use std::alloc::Global;

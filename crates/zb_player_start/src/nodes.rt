@@ -9,17 +9,16 @@ ghost use Rattle.law_schedules.specs.Schedules.{schedule_of};
 ghost use Rattle.zb_player_node.specs.Nodes.{AllStand};
 ghost use Rattle.zb_sched.specs.Schedules.{Schedule};
 ghost use Rattle.zb_player_start.specs.Seats.{IsSeated};
-ghost use Rattle.zb_store.specs.Sizes.{record_room};
+ghost use Rattle.zb_base.specs.Sizes.{record_room};
 
 use crate::config::{centre_of, config_at};
 use crate::disk::first_disk;
 use crate::starting::start_lines_say_what_is_declared;
 use std::alloc::Global;
-use zb_base::{Eui, NoMemory};
+use zb_base::{Eui, NoMemory, RECORD_ROOM};
 use zb_disk::MemDisk;
 use zb_player_node::Node;
 use zb_sched::Node as Declared;
-use zb_store::RECORD_ROOM;
 
 // Makes the node at a place and its disk, of a used one where that is given. Requires `RECORD_ROOM` bytes of room.
 fn start_node(

@@ -34,9 +34,6 @@ use Rattle.zb_record.proofs.Sound.{live_at}
 abbrev pub found : {A : Type 0} → A → List ℕ → Result (A × List ℕ) ℕ
 found x rest = Ok (x, rest)
 
-pub then_again : {A B : Type 0} (first : Placed A) (next : A → Placed B) (bytes between rest : List ℕ) (x : A) (y : B) → first bytes ≡ found x between → next x between ≡ found y rest → (first >>= next) bytes ≡ found y rest
-then_again first next bytes between rest x y one two = ap (λ r. onward r (λ v behind. next v behind)) one ∙ two
-
 pub field_again : {A : Type 0} (read : Reading ℕ A) (fits : A → Bool) (bytes rest : List ℕ) (x : A) → read (length bytes) bytes ≡ found x rest → fits x ≡ true → field read fits bytes ≡ found x rest
 field_again read fits bytes rest x e fit = ap (judged (length bytes) fits) e ∙ rw fit refl
 

@@ -61,10 +61,3 @@ writes_then old mid new at next end p q first second = record {
 pub written_item : {X : Type 0} {spell : X → List ℕ} (old mid new : List ℕ) (at end next i : ℕ) (items : List X) (x : X) → i < length items → x ≡ get_or items i x
     → Written spell old mid at end i items → Writes mid new end next (spell x) → Written spell old new at next (i + 1) items
 written_item {X} {spell} old mid new at end next i items x lt is so one = written_more old mid new at end next i items x lt so (subst (λ (y : X). Writes mid new end next (spell y)) is one)
-
--- three pieces, of which the last two are made of rows that were read twice
-pub rows_then : {X : Type 0} (old one two new : List ℕ) (at next later end : ℕ) (p : List ℕ) (f g : List X → List ℕ) (rows a b : List X) → a ≡ rows → b ≡ rows
-    → Writes old one at next p → Writes one two next later (f a) → Writes two new later end (g b) → Writes old new at end (p ++ (f rows ++ g rows))
-rows_then {X} old one two new at next later end p f g rows a b same_a same_b first second third =
-    writes_then old one new at next end p (f rows ++ g rows) first
-    (writes_then one two new next later end (f rows) (g rows) (subst (λ (l : List X). Writes one two next later (f l)) same_a second) (subst (λ (l : List X). Writes two new later end (g l)) same_b third))

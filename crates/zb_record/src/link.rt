@@ -6,11 +6,12 @@ ghost use Rattle.zb_node_types.specs.Changes.{model_role, model_attribute};
 ghost use Rattle.zb_cursor.specs.Reading.{byte_at, eui_at, key_at, number_at};
 ghost use Rattle.zb_cursor.specs.Spelling.{bit};
 ghost use Rattle.zb_model.specs.State.{is_centre, is_provisional, is_unverified, same_key};
-ghost use Rattle.zb_model.specs.Fits.{like_rows, most_links};
+ghost use Rattle.zb_model.specs.Fits.{like_rows};
 ghost use Rattle.zb_record.specs.Placed.{Answers, Gives, field, rows_at};
 ghost use Rattle.zb_record.specs.Rows.{link_seen, link_row, is_new_link, kinds_alike, told_apart, is_marked, link_fits, link_flags_fit, link_at, links_at, has_link_room};
 
 use crate::field::read_attribute;
+use crate::link_row::link_room;
 use crate::place::begin;
 use std::alloc::Global;
 use zb_base::{Attribute, Eui, Key, OrMemory, Role};
@@ -227,17 +228,6 @@ fn read_link(
     })
 }
 
-/// Returns how many link keys a node may hold.
-fn link_room(role: Role) -> u16
-    ensures { result ≡ most_links (model_role role) }
-{
-    match role {
-        Role::Centre => 1024,
-        Role::Router => 64,
-        Role::Device => 64,
-    }
-}
-
 /// Returns the number of link keys.
 fn read_count(reader: &mut Reader<usize>, role: Role) -> Result<u16, usize>
     ensures { Gives (λ n. n) result reader.new.rest.now
@@ -245,7 +235,7 @@ fn read_count(reader: &mut Reader<usize>, role: Role) -> Result<u16, usize>
 {
     let left = begin(reader);
     let count = reader.number16()?;
-    if count <= link_room(role) {
+    if usize::from(count) <= link_room(role) {
         Ok(count)
     } else {
         Err(left)

@@ -203,23 +203,21 @@ pub fn boot_links(rows: &mut [LinkRow])
 pub fn has_row(rows: &[LinkRow], partner: Eui, key: &Key) -> bool
     ensures { result ≡ list_any (λ r. is_link partner.0 key.now.0 (link_key r)) rows.now }
 {
-    rows.iter()
-        .any(|row| row.partner == partner && row.key == *key)
+    rows.iter().any(|row| row.is_of(partner, key))
 }
 
 /// Returns whether a partner has a row in use.
 pub fn has_live(rows: &[LinkRow], partner: Eui) -> bool
     ensures { result ≡ list_any (λ r. is_live_of partner.0 (link_key r)) rows.now }
 {
-    rows.iter().any(|row| row.live && row.partner == partner)
+    rows.iter().any(|row| row.is_live_of(partner))
 }
 
 /// Returns whether a partner was told.
 pub fn has_told(rows: &[LinkRow], partner: Eui) -> bool
     ensures { result ≡ list_any (λ r. is_live_of partner.0 (link_key r) && r.told) rows.now }
 {
-    rows.iter()
-        .any(|row| row.live && row.partner == partner && row.told)
+    rows.iter().any(|row| row.is_live_of(partner) && row.told)
 }
 
 /// Returns the current row of a partner: its row in use that isn't only offered.
@@ -227,7 +225,8 @@ pub fn current_row<'a>(rows: &'a [LinkRow], partner: Eui) -> Option<&'a LinkRow>
     ensures { option_copied result ≡ find (λ r. is_live_of partner.0 (link_key r)
         && not (is_unverified (link_key r).attribute)) rows.now }
 {
-    rows.iter().find(|row| row.live && row.partner.0 == partner.0 && !row.is_unverified())
+    rows.iter()
+        .find(|row| row.is_live_of(partner) && !row.is_unverified())
 }
 
 /// Returns the offered row of a partner: its unverified row in use.
@@ -235,15 +234,15 @@ pub fn offered_row<'a>(rows: &'a [LinkRow], partner: Eui) -> Option<&'a LinkRow>
     ensures { option_copied result ≡ find (λ r. is_live_of partner.0 (link_key r)
         && is_unverified (link_key r).attribute) rows.now }
 {
-    rows.iter().find(|row| row.live && row.partner.0 == partner.0 && row.is_unverified())
+    rows.iter()
+        .find(|row| row.is_live_of(partner) && row.is_unverified())
 }
 
 /// Returns the first row in use of a partner.
 pub fn live_row<'a>(rows: &'a [LinkRow], partner: Eui) -> Option<&'a LinkRow>
     ensures { option_copied result ≡ find (λ r. is_live_of partner.0 (link_key r)) rows.now }
 {
-    rows.iter()
-        .find(|row| row.live && row.partner.0 == partner.0)
+    rows.iter().find(|row| row.is_live_of(partner))
 }
 
 /// Returns the first row with that key of another partner.

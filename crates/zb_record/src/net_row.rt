@@ -1,5 +1,5 @@
 //! Rows of network keys.
-ghost use Rattle.std.specs.Prelude.{◌≡◌, ◌<◌, ◌≤◌, length, map, if◌then◌else◌, nat_eq, ◌&&◌, find, position, All, IsTrue, IsFalse};
+ghost use Rattle.std.specs.Prelude.{◌≡◌, ◌<◌, ◌≤◌, length, map, if◌then◌else◌, nat_eq, ◌&&◌, find, All, IsTrue, IsFalse};
 ghost use Rattle.std.specs.List.{list_any};
 ghost use Rattle.std.specs.Option.{option_copied};
 ghost use Rattle.zb_record.specs.RowViews.{net_key, heard_floor};
@@ -319,13 +319,6 @@ pub fn has_key(rows: &[NetRow], key: &Key) -> bool
     ensures { result ≡ list_any (λ r. same_key (net_key r).key key.now.0) rows.now }
 {
     rows.iter().any(|row| row.key == *key)
-}
-
-/// Returns the place of a key's row.
-pub fn key_place(rows: &[NetRow], key: &Key) -> Option<usize>
-    ensures { result ≡ position (λ r. same_key (net_key r).key key.now.0) rows.now }
-{
-    rows.iter().position(|row| row.key == *key)
 }
 
 /// Returns the row of a key.

@@ -19,8 +19,8 @@ fn layer_byte(layer: Layer) -> u8
     }
 }
 
-/// Returns the byte of an attribute.
-pub(crate) fn attribute_byte(attribute: Attribute) -> u8
+/// Returns the byte that a record has for an attribute.
+pub fn attribute_byte(attribute: Attribute) -> u8
     ensures { result ≡ attribute_byte (model_attribute attribute) }
 {
     match attribute {
@@ -30,8 +30,8 @@ pub(crate) fn attribute_byte(attribute: Attribute) -> u8
     }
 }
 
-/// Returns the byte of a state.
-pub(crate) fn state_byte(state: State) -> u8
+/// Returns the byte that a record has for a state.
+pub fn state_byte(state: State) -> u8
     ensures { result ≡ state_byte (model_state state) }
 {
     match state {

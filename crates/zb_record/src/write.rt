@@ -4,7 +4,8 @@ ghost use Rattle.std.specs.List.{flat_map};
 ghost use Rattle.zb_node_types.specs.Changes.{model_role, model_state, is_sending};
 ghost use Rattle.zb_record.specs.Headings.{place_in, state_written};
 ghost use Rattle.zb_record.specs.RowViews.{net_key, link_key, pair_key, heard_floor};
-ghost use Rattle.zb_record.specs.Sizes.{record_room, greatest_record};
+ghost use Rattle.zb_base.specs.Sizes.{record_room};
+ghost use Rattle.zb_record.specs.Sizes.{greatest_record};
 ghost use Rattle.zb_record.specs.Written.{Writes};
 ghost use Rattle.zb_model.specs.Record.{record_of, place_from, role_byte, state_byte, two_bytes, four_bytes, eight_bytes, net_bytes, sender_bytes, floors_bytes, link_bytes, pair_bytes, worth};
 

@@ -90,9 +90,6 @@ pub record Dropping (test : LinkKey → Bool) (rows : List LinkRow) (i : ℕ) (o
   pub made : edits new ≡ edits old ++ map Moved (map drop_link (filter test (map link_key (take i rows))))
   pub room : length new ≤ length old + length (filter test (map link_key (take i rows)))
 
-pub drops_none : (test : LinkKey → Bool) (rows : List LinkRow) (old : List Change) → Dropping test rows 0 old old
-drops_none test rows old = record { made = sym (append-nil (edits old)); room = omega arith }
-
 upto : (test : LinkKey → Bool) (rows : List LinkRow) (i : ℕ) (d : LinkRow) (b : Bool) → i < length rows → test (link_key (get_or rows i d)) ≡ b
     → filter test (map link_key (take (i + 1) rows)) ≡ filter test (map link_key (take i rows)) ++ (if b then link_key (get_or rows i d) ∷ [] else [])
 upto test rows i d b lt is =

@@ -9,13 +9,13 @@ ghost use Rattle.zb_model.specs.Answer.{changes};
 ghost use Rattle.zb_model.specs.Commands.{verified_current};
 ghost use Rattle.zb_model.specs.Data.{Row};
 ghost use Rattle.zb_model.specs.Fits.{most_links, most_pairs};
-ghost use Rattle.zb_model.specs.Record.{attribute_byte};
 ghost use Rattle.zb_model.specs.Rules.{links_full, pairs_full, unless_held};
 ghost use Rattle.zb_model.specs.State.{code_row, has_link, has_net, is_known, is_link, is_live, is_live_of, is_told, other_user, same_key};
 
 use crate::nets::has_net;
 use zb_base::{Attribute, Eui, Key, Role};
 use zb_keys::{LinkRow, Pair, Tables};
+use zb_record::attribute_byte;
 use zb_record::link_row::{has_live, has_told, link_room, live_row, other_row};
 
 /// Returns the row of a partner and a key, in use or dropped.
@@ -192,17 +192,6 @@ fn is_row_as(row: &LinkRow, partner: Eui, key: &Key, attribute: Attribute) -> bo
     row.is_of(partner, key)
         && row.live
         && attribute_byte(row.attribute) == attribute_byte(attribute)
-}
-
-/// Returns the byte of an attribute.
-fn attribute_byte(attribute: Attribute) -> u8
-    ensures { result ≡ attribute_byte (model_attribute attribute) }
-{
-    match attribute {
-        Attribute::Provisional => 0,
-        Attribute::Unverified => 1,
-        Attribute::Verified => 2,
-    }
 }
 
 /// Returns whether there is no room for another link key.

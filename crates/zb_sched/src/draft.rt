@@ -19,7 +19,7 @@ use crate::schedule::Schedule;
 use crate::supply::Supply;
 use std::alloc::{AllocError, Global};
 use std::marker::Model;
-use zb_base::{Key, Layer, List, Name, OrMemory, Peer, Role};
+use zb_base::{Key, Layer, List, Name, OrMemory, Peer, Role, WELL_KNOWN};
 use zb_install::InstallCode;
 use zb_sched_line::{Event, Line, read_line};
 
@@ -44,9 +44,6 @@ impl Model for Draft {
 
     ghost invariant = { λ d. AllByRecursion IsLinked d.entries.items × AreNamedApart (map seat_of d.entries.items) };
 }
-
-/// The well-known link key, ASCII `ZigBeeAlliance09`.
-const WELL_KNOWN: [u8; 16] = *b"ZigBeeAlliance09";
 
 impl Draft {
     /// Makes a draft of nothing.
@@ -122,7 +119,7 @@ impl Draft {
         self.is_link_of_other(key, name)
             || self.is_network(key)
             || self.draws.has(key)
-            || key.0 == WELL_KNOWN
+            || *key == WELL_KNOWN
     }
 
     /// Returns whether the centre was declared.
@@ -202,7 +199,7 @@ impl Draft {
         if self.has_network(name) {
             return refuse(SchedCause::DuplicateNode);
         }
-        if self.is_link(&key) || self.draws.has(&key) || key.0 == WELL_KNOWN {
+        if self.is_link(&key) || self.draws.has(&key) || key == WELL_KNOWN {
             return refuse(SchedCause::DrawRepeated);
         }
         if self.role(name).is_none() {
@@ -244,7 +241,7 @@ impl Draft {
         if self.draws.has(&key)
             || self.is_network(&key)
             || self.is_link(&key)
-            || key.0 == WELL_KNOWN
+            || key == WELL_KNOWN
         {
             return refuse(SchedCause::DrawRepeated);
         }

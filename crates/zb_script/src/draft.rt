@@ -7,7 +7,7 @@ ghost use Rattle.zb_base.specs.declared.fault.OrMemory.TheVariants.{Fault};
 ghost use Rattle.zb_sched.specs.Judge.{are_blocks};
 ghost use Rattle.zb_backup.specs.Reading.{backup_in};
 ghost use Rattle.zb_model.specs.Record.{record_of};
-ghost use Rattle.zb_record.specs.Sizes.{record_room};
+ghost use Rattle.zb_base.specs.Sizes.{record_room};
 ghost use Rattle.zb_script.specs.Judge.{after_centre, after_peer, after_remove, after_sentence, commanded, device_named, has_begun, has_centre, is_parent, is_taken as clashes_with, parent_named, provided, restored, with_order};
 ghost use Rattle.zb_script.specs.Grammar.{is_joiner};
 ghost use Rattle.zb_script.specs.Reading.{after_line, start, Steps};
@@ -22,10 +22,9 @@ use arrayvec::ArrayVec;
 use std::alloc::{AllocError, Global};
 use std::marker::Model;
 use zb_backup::{BackupError, read_backup};
-use zb_base::{Config, Eui, List, Name, OrMemory, Peer, Role, Short};
+use zb_base::{Config, Eui, List, Name, OrMemory, Peer, RECORD_ROOM, Role, Short};
 use zb_install::InstallCode;
 use zb_keys::Tables;
-use zb_record::RECORD_ROOM;
 
 /// A script so far.
 #[derive(Drop)]

@@ -9,7 +9,7 @@ use zb_base::{Eui, Frame, Label, Short};
 use zb_cursor::{frame_from, put};
 
 /// Returns the auxiliary control of an APS frame: level 5, the extended nonce, and the key identifier of the label.
-pub fn aps_control(label: Label) -> u8
+pub(crate) fn aps_control(label: Label) -> u8
     ensures { result ≡ aps_control (model_label label) }
 {
     match label {
@@ -21,7 +21,7 @@ pub fn aps_control(label: Label) -> u8
 }
 
 /// Returns the label of an APS term, since network keys seal at the NWK layer alone.
-pub fn aps_label(label: Label) -> Label
+pub(crate) fn aps_label(label: Label) -> Label
     ensures { model_label result ≡ aps_label (model_label label) }
 {
     match label {
@@ -33,14 +33,14 @@ pub fn aps_label(label: Label) -> Label
 }
 
 /// Returns the low byte of a frame counter, which represents the sequence numbers of both layers.
-pub fn low_byte(counter: u32) -> u8
+pub(crate) fn low_byte(counter: u32) -> u8
     ensures { result ≡ low_byte counter }
 {
     (counter % 256) as u8
 }
 
 /// Makes the header of a sealed APS command with its auxiliary header.
-pub fn command_header(label: Label, counter: u32, source: Eui) -> Frame
+pub(crate) fn command_header(label: Label, counter: u32, source: Eui) -> Frame
     ensures items { result.items
         ≡ sealed_command ++ low_byte counter ∷ aps_auxiliary (model_label label) counter source.0 }
     ensures len { length result.items ≡ 15 }
@@ -84,7 +84,7 @@ pub fn nwk_header(control: u16, to: Short, from: Short, sequence: u8) -> Frame
 }
 
 /// Makes the auxiliary header of a NWK frame.
-pub fn nwk_auxiliary(counter: u32, source: Eui, sequence: u8) -> Frame
+pub(crate) fn nwk_auxiliary(counter: u32, source: Eui, sequence: u8) -> Frame
     ensures items { result.items ≡ nwk_auxiliary counter source.0 sequence }
     ensures len { length result.items ≡ 14 }
 {

@@ -5,10 +5,10 @@ mod headers;
 mod part;
 mod sending;
 mod sent;
+mod terms;
 
-pub use headers::{
-    aps_control, aps_label, command_header, joined, low_byte, nwk_auxiliary, nwk_header,
-};
+pub use headers::{joined, nwk_header};
 pub use part::{Part, part_of};
-pub use sending::{Body, Payload, Sending};
+pub use sending::{Body, Payload, Sending, copied};
 pub use sent::{may_seal, reserve, send_out};
+pub use terms::{CLEAR, COMMAND, SECURED, command_term, nwk_term};

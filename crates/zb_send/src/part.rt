@@ -1,9 +1,8 @@
 //! The payload of a NWK frame, and what is sealed in it.
-ghost use Rattle.std.specs.Prelude.{◌≡◌, ◌+◌, ◌≤◌, ℕ, false, length, true};
+ghost use Rattle.std.specs.Prelude.{◌≡◌, ◌≤◌, ℕ, false, length, true};
 ghost use Rattle.zb_cmd.specs.Shape.{is_inner, is_tunnel};
 ghost use Rattle.zb_model.specs.Answer.{part_of};
-ghost use Rattle.zb_model.specs.Data.{ForData, Tunnel};
-ghost use Rattle.zb_model.specs.Frames.{aps_term, data_front, sealed_command, sealed_data};
+ghost use Rattle.zb_model.specs.Data.{Tunnel};
 ghost use Rattle.zb_model.specs.Rules as model;
 ghost use Rattle.zb_model_real.specs.Readers.{model_command};
 ghost use Rattle.zb_model_real.specs.Real.{real};
@@ -13,17 +12,13 @@ ghost use Rattle.zb_send.specs.Sendings.{IsSendable, body_of, room};
 ghost use Rattle.zb_send.specs.Parts.{part_seen};
 ghost use Rattle.zb_base.specs.Limits.{longest_frame};
 
-use crate::headers::{
-    aps_control, aps_label, command_header, data_control, data_header, joined, low_byte,
-};
+use crate::headers::{data_control, joined, low_byte};
 use crate::sending::{Body, Payload, Sending};
-use zb_base::{Eui, Frame, Key, Label, Layer, Short};
+use crate::terms::{COMMAND, SECURED, command_term, data_term};
+use zb_base::{Eui, Frame, Key, Label, Short};
 use zb_cmd::{Command, write_command};
 use zb_cursor::frame_from;
 use zb_seal::{KeyMemo, Term};
-
-/// The NWK frame control of a sealed data frame.
-const SECURED: u16 = 0x0208;
 
 /// The payload of a NWK frame.
 #[derive(Debug, Drop)]
@@ -59,41 +54,6 @@ pub(crate) fn sealed(memo: &KeyMemo, term: &Term) -> Frame
     match memo.wire(term) {
         Ok(bytes) => bytes,
         Err(_) => Frame::new(),
-    }
-}
-
-/// Makes the term of an APS command under a link key.
-fn command_term(label: Label, key: &Key, me: Eui, counter: u32, content: Frame) -> Term
-    ensures term { model_term result
-        ≡ aps_term sealed_command (model_label label) key.now.0 me.0 counter content.items }
-    ensures len { wire_length result ≡ length content.items + 19 }
-{
-    Term {
-        layer: Layer::Aps,
-        base: *key,
-        label: aps_label(label),
-        source: me,
-        counter,
-        control: aps_control(label),
-        header: command_header(label, counter, me),
-        content,
-    }
-}
-
-/// Makes the term of application data under a link key.
-fn data_term(key: &Key, me: Eui, counter: u32, content: Frame) -> Term
-    ensures term { model_term result ≡ aps_term (data_front sealed_data) ForData key.now.0 me.0 counter content.items }
-    ensures len { wire_length result ≡ length content.items + 25 }
-{
-    Term {
-        layer: Layer::Aps,
-        base: *key,
-        label: Label::Data,
-        source: me,
-        counter,
-        control: 0x25,
-        header: data_header(counter, me),
-        content,
     }
 }
 
@@ -213,7 +173,7 @@ fn leaving() -> Part
     ensures room { length result.bytes.items ≤ 101 }
 {
     Part {
-        control: 0x0209,
+        control: COMMAND,
         seal: None,
         bytes: frame_from(&[0x04, 0x40]),
     }

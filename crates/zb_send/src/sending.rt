@@ -1,10 +1,21 @@
 //! What a node is to send: to whom, secured at which layers, and with which content.
+ghost use Rattle.std.specs.Prelude.{◌≡◌};
+
 use arrayvec::ArrayVec;
 use zb_base::{Eui, Frame, Key, Label, Short};
 use zb_cmd::Command;
 
 /// Application data: at most 64 bytes.
 pub type Payload = ArrayVec<u8, 64>;
+
+/// Returns a copy of application data.
+pub fn copied(bytes: &Payload) -> Payload
+    ensures { result.items ≡ bytes.now.items }
+{
+    let mut copy = Payload::new();
+    let _ = copy.try_extend_from_slice(bytes.as_slice());
+    copy
+}
 
 /// What the payload of a NWK frame is to be.
 #[derive(Debug, Drop)]

@@ -1,54 +1,25 @@
 //! The frame that goes out, and the terms that are sealed in it.
-ghost use Rattle.std.specs.Prelude.{◌≡◌, ◌≤◌, ◌+◌, ◌&&◌, ◌||◌, Some, is_some, length, nat_eq, not, option_map};
+ghost use Rattle.std.specs.Prelude.{◌≡◌, ◌≤◌, ◌&&◌, ◌||◌, Some, is_some, length, nat_eq, not, option_map};
 ghost use Rattle.zb_model.specs.Answer.{Counting, framed, has_aps_seal, may_seal, nothing_out, out_of, plain_out, reserve_of, seals_at, secured_out, sent};
 ghost use Rattle.zb_model.specs.Data.{Aps, Nwk};
-ghost use Rattle.zb_model.specs.Frames.{nwk_term};
 ghost use Rattle.zb_model.specs.Rules.{spent};
 ghost use Rattle.zb_model.specs.State.{active_row, next_counter, stored_limit};
 ghost use Rattle.zb_model_real.specs.Real.{real};
-ghost use Rattle.zb_model_real.specs.Terms.{model_term};
 ghost use Rattle.zb_node_types.specs.Changes.{model_layer};
 ghost use Rattle.zb_record.specs.RowViews.{net_key};
-ghost use Rattle.zb_seal.specs.Wire.{wire_length};
 ghost use Rattle.zb_send.specs.Sendings.{CanBeSent, IsSendable, body_of, room, sending_of};
 ghost use Rattle.zb_send.specs.Parts.{part_seen};
 ghost use Rattle.zb_send.specs.Sent.{IsCounting, sent_seen};
 
-use crate::headers::{joined, low_byte, nwk_auxiliary, nwk_header};
+use crate::headers::{joined, nwk_header};
 use crate::part::{Part, part_of, sealed};
 use crate::sending::{Body, Sending};
-use zb_base::{Frame, Label, Layer, Short};
+use crate::terms::{CLEAR, nwk_term};
+use zb_base::{Frame, Layer, Short};
 use zb_keys::{NetRow, Tables};
 use zb_rows::{is_spent, next_counter, stored_limit};
 use zb_seal::{KeyMemo, Term};
 use zb_setting::Network;
-
-/// Makes the term of a NWK frame under a network key.
-fn nwk_term(
-    network: &Network,
-    control: u16,
-    to: Short,
-    counter: u32,
-    row: &NetRow,
-    content: Frame,
-) -> Term
-    ensures term { model_term result ≡ nwk_term control to.0 network.now.me.short network.now.me.eui
-        (net_key row.now).key (net_key row.now).sequence counter content.items }
-    ensures len { wire_length result ≡ length content.items + 26 }
-{
-    let header = nwk_header(control, to, network.short(), low_byte(counter));
-    let auxiliary = nwk_auxiliary(counter, network.eui(), row.sequence);
-    Term {
-        layer: Layer::Nwk,
-        base: row.key,
-        label: Label::Network,
-        source: network.eui(),
-        counter,
-        control: 0x2d,
-        header: joined(header.as_slice(), auxiliary.as_slice()),
-        content,
-    }
-}
 
 /// Puts out nothing of what can't be sealed.
 fn put_nothing(
@@ -75,7 +46,7 @@ fn put_plain(
     requires { length part.bytes.items ≤ 119 }
     ensures { sent_seen sealed_aps.new sealed_nwk.new frame.new ≡ plain_out network.now to.0 (part_seen part) }
 {
-    let header = nwk_header(0x0008, to, network.short(), 0);
+    let header = nwk_header(CLEAR, to, network.short(), 0);
     *frame = Some(joined(header.as_slice(), part.bytes.as_slice()));
     *sealed_aps = part.seal;
     *sealed_nwk = None;
@@ -97,7 +68,16 @@ fn put_secured(
     ensures { sent_seen sealed_aps.new sealed_nwk.new frame.new
         ≡ secured_out real network.now to.0 counter (net_key row.now) (part_seen part) }
 {
-    let term = nwk_term(network, part.control, to, counter, row, part.bytes);
+    let term = nwk_term(
+        part.control,
+        to,
+        network.short(),
+        network.eui(),
+        &row.key,
+        row.sequence,
+        counter,
+        part.bytes,
+    );
     *frame = Some(sealed(memo, &term));
     *sealed_aps = part.seal;
     *sealed_nwk = Some(term);

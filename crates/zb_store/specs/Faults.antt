@@ -4,7 +4,7 @@ use Rattle.zb_base.specs.Outside.{Rose, Unrisen}
 use Rattle.zb_disk.specs.View.{Telling, View, IsStill}
 use Rattle.zb_store.specs.declared.fault.StoreFault.{StoreFault}
 use Rattle.zb_store.specs.declared.fault.StoreFault.TheVariants.{Disk, NoRecord, TooLarge, NoMemory, Worn}
-use Rattle.zb_store.specs.Sizes.{record_room, payload_room}
+use Rattle.zb_base.specs.Sizes.{record_room, payload_room}
 use Rattle.zb_store.specs.Layout.{stands}
 use Rattle.zb_store.specs.Store.{Place}
 

@@ -1,6 +1,6 @@
 -- What the bytes of a disk represent: a record with the entries after it, in one of two slots.
 use Rattle.std.specs.Prelude.{ℕ, ◌+◌, ◌≤◌, ◌<◌, ◌≡◌, ◌≢◌, ◌==◌, ◌&&◌, ◌++◌, List, [], ◌∷◌, length, get_or, take, drop, Option, Some, None, Bool, true, false, not, zero, suc, nat_le, nat_lt, if◌then◌else◌}
-use Rattle.zb_store.specs.Sizes.{record_room, payload_room, entries_room}
+use Rattle.zb_base.specs.Sizes.{record_room, payload_room, entries_room}
 use Rattle.std.specs.Int.{from_le_bytes, to_le_bytes, w16, w32, w64}
 
 -- the byte that opens a slot or an entry

@@ -4,7 +4,7 @@ use Rattle.zb_store.specs.declared.reading.Header.{Header}
 use Rattle.std.specs.List.{concat}
 use Rattle.zb_store.specs.declared.reading.Found.{Found}
 use Rattle.zb_store.specs.declared.reading.Contents.{Contents}
-use Rattle.zb_store.specs.Sizes.{record_room}
+use Rattle.zb_base.specs.Sizes.{record_room}
 use Rattle.zb_store.specs.Layout.{Standing, end_of, slot, stands, standing_in, IsOpen, fields_of, gate_of, generation_of, size_of, open_gate, entry_of}
 
 -- the first 13 bytes of a slot

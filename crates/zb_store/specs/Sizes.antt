@@ -1,22 +1,6 @@
--- The sizes of a store.
+-- The size of a record's body.
 use Rattle.std.specs.Prelude.{ℕ}
 
--- a record has at most so many bytes
-abbrev pub record_room : ℕ
-record_room = 49152
-
--- the payload of an entry has at most so many
-abbrev pub payload_room : ℕ
-payload_room = 481
-
--- at most so many entries stand after a record
-abbrev pub entries_room : ℕ
-entries_room = 32
-
--- the entries after a record, each with three bytes before its payload, have at most so many bytes
-abbrev pub payloads_room : ℕ
-payloads_room = 15488
-
--- a record with its generation, its length and the gate after it has at most so many
+-- the greatest number of bytes of a record with its generation, its length and the gate after it
 abbrev pub body_room : ℕ
 body_room = 49165

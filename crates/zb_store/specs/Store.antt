@@ -3,7 +3,7 @@ use Rattle.std.specs.List.{concat}
 use Rattle.std.specs.Prelude.{◌&&◌, true, false, ◌^◌, ◌==◌, if◌then◌else◌, Result, OnOk, OnErr, ℕ, ◌+◌, ◌≤◌, ◌<◌, ◌≡◌, ◌≢◌, ◌⊎◌, ◌++◌, List, [], ◌∷◌, length, get_or, Bool, not, IsTrue, Some, None}
 use Rattle.zb_disk.specs.View.{Telling, View, Torn, Follows, IsSame, IsStill, IsUnsynced, Only, LeavesOnly}
 use Rattle.zb_base.specs.Outside.{HasCause}
-use Rattle.zb_store.specs.Sizes.{record_room}
+use Rattle.zb_base.specs.Sizes.{record_room}
 use Rattle.zb_store.specs.Layout.{Standing, IsWhole, stands, slot, gate_of, open_gate, base_of, end_of, body}
 use Rattle.zb_store.specs.Steps.{WentThrough, StoppedAfter}
 
@@ -103,10 +103,6 @@ pub data OpenStop (tells : Telling) (s : Standing) (old new : View) : Type 0 whe
   not_synced : StoppedAfter tells 0 old new → IsSame old new → OpenStop tells s old new
   both_open : both_gates_open old.seen ≡ true → StoppedAfter tells 1 old new → IsBothOpen (base_of s.second) (other_gate s) s new → OpenStop tells s old new
   closing : both_gates_open old.seen ≡ true → StoppedAfter tells 2 old new → IsGateClosing (other_gate s) s new → OpenStop tells s old new
-
--- a call made no write and no sync, and nothing has changed
-abbrev pub IsUnchanged : View → View → Type 0
-IsUnchanged old new = IsStill old new
 
 -- what `put` writes for this record: into the other slot, with the next generation
 pub record IsReplacement (s : Standing) (content : List ℕ) (second : Bool) (bytes : List ℕ) : Type 0 where

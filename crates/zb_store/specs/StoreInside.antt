@@ -1,7 +1,8 @@
 -- What the fields of a store keep.
 use Rattle.std.specs.Prelude.{◌+◌, ◌*◌, ◌≤◌, vec_capacity}
 use Rattle.zb_store.specs.declared.store.Store.TheInside.{Inside}
-use Rattle.zb_store.specs.Sizes.{entries_room, body_room}
+use Rattle.zb_base.specs.Sizes.{entries_room}
+use Rattle.zb_store.specs.Sizes.{body_room}
 use Rattle.zb_store.specs.Store.{Place}
 
 abbrev pub place_inside : Inside → Place

@@ -13,5 +13,4 @@ mod store;
 
 pub use fault::StoreFault;
 pub use laws::{armed_runs, stopped_commits, stopped_open, stopped_runs};
-pub use sizes::{ENTRIES_ROOM, PAYLOAD_ROOM, RECORD_ROOM};
 pub use store::Store;

@@ -7,13 +7,14 @@ ghost use Rattle.zb_base.specs.Outside.{HasCause};
 ghost use Rattle.zb_disk.specs.Calls.{IsRead};
 ghost use Rattle.zb_store.specs.Layout.{Standing, slot, stands, entry_of, payloads_of, extent};
 ghost use Rattle.zb_store.specs.Reading.{IsHeaderOf, opens, chosen, IsFoundIn, IsReadIn, IsBehind, size_at, AreCounted};
-ghost use Rattle.zb_store.specs.Sizes.{record_room, payload_room, entries_room, payloads_room, body_room};
+ghost use Rattle.zb_base.specs.Sizes.{record_room, payload_room, entries_room, payloads_room};
+ghost use Rattle.zb_store.specs.Sizes.{body_room};
 ghost use Rattle.zb_store.specs.Faults.{OnlyReads, IsBytesFault, IsReadFault, IsStandingFault};
 
+use crate::StoreFault;
 use crate::commit::{OPEN, base};
-use crate::{ENTRIES_ROOM, PAYLOAD_ROOM, RECORD_ROOM, StoreFault};
 use std::alloc::{AllocError, Global};
-use zb_base::Failed;
+use zb_base::{ENTRIES_ROOM, Failed, PAYLOAD_ROOM, RECORD_ROOM};
 use zb_disk::Disk;
 
 /// The first bytes of a slot.

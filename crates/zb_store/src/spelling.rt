@@ -1,7 +1,8 @@
 //! How a record and an entry are spelled after their gates.
 ghost use Rattle.std.specs.Prelude.{◌≡◌, ◌≤◌, length, vec_capacity};
 ghost use Rattle.zb_store.specs.Layout.{body, entry_body};
-ghost use Rattle.zb_store.specs.Sizes.{record_room, payload_room, body_room};
+ghost use Rattle.zb_base.specs.Sizes.{record_room, payload_room};
+ghost use Rattle.zb_store.specs.Sizes.{body_room};
 
 use crate::commit::SHUT;
 

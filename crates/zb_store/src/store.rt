@@ -4,19 +4,19 @@ ghost use Rattle.zb_disk.specs.View.{IsStill, LeavesOnly};
 ghost use Rattle.zb_base.specs.Outside.{Unrisen};
 ghost use Rattle.zb_store.specs.Layout.{Standing, stands};
 ghost use Rattle.zb_store.specs.Reading.{AreCounted, AreContents};
-ghost use Rattle.zb_store.specs.Sizes.{record_room, payload_room, entries_room, payloads_room};
+ghost use Rattle.zb_base.specs.Sizes.{record_room, payload_room, entries_room, payloads_room};
 ghost use Rattle.zb_store.specs.Steps.{WentThrough};
 ghost use Rattle.zb_store.specs.Store.{IsReady, IsWholeEither, appended, replaced, formatted, open_calls, IsAnswer, AllWhole, WasThere, AppendStop, PutStop, OpenStop, FormatStop};
 ghost use Rattle.zb_store.specs.Faults.{OnlyReads, IsSpared, IsAppendFault, IsPutFault, IsFormatFault, IsReadFault, IsStandingFault};
 
+use crate::StoreFault;
 use crate::commit::{base, lay_out, replace, settle, write_gated};
 use crate::reading::{count_standing, read_standing};
 use crate::sizes::BODY_ROOM;
 use crate::spelling::{spell_body, spell_entry};
-use crate::{PAYLOAD_ROOM, RECORD_ROOM, StoreFault};
 use std::alloc::Global;
 use std::marker::Model;
-use zb_base::Failed;
+use zb_base::{Failed, PAYLOAD_ROOM, RECORD_ROOM};
 use zb_disk::Disk;
 
 /// Keeps one record, and the entries after it, on any disk.

@@ -19,7 +19,7 @@ use Rattle.zb_record.specs.Fields.{record_version}
 use Rattle.zb_record.specs.Ranges.{FitsBytes, InRange, fits_widths}
 use Rattle.zb_record.specs.Records.{record_read}
 use Rattle.zb_record.specs.Redoing.{redone, place_of}
-use Rattle.zb_record.specs.Sizes.{payload_room}
+use Rattle.zb_base.specs.Sizes.{payload_room}
 
 -- the version of a record; one that is read has one
 abbrev pub version_or : Option Version → Version

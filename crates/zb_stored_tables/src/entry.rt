@@ -4,10 +4,10 @@ ghost use Rattle.std.specs.List.{AllByRecursion};
 ghost use Rattle.zb_node_types.specs.Changes.{edits};
 ghost use Rattle.zb_model.specs.Record.{payload};
 ghost use Rattle.zb_record.specs.Ranges.{InRange};
-ghost use Rattle.zb_record.specs.Sizes.{payload_room};
+ghost use Rattle.zb_base.specs.Sizes.{payload_room};
 
+use zb_base::PAYLOAD_ROOM;
 use zb_node_types::{Change, Changes};
-use zb_record::PAYLOAD_ROOM;
 
 /// Writes the payload of changes, and returns its length.
 ///

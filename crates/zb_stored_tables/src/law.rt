@@ -13,7 +13,7 @@ ghost use Rattle.zb_record.specs.declared.version.Version.TheVariants.{Third};
 ghost use Rattle.zb_record.specs.Changes.{change_at};
 ghost use Rattle.zb_record.specs.Fields.{record_version};
 ghost use Rattle.zb_record.specs.Ranges.{FitsBytes, InRange};
-ghost use Rattle.zb_record.specs.Sizes.{payload_room};
+ghost use Rattle.zb_base.specs.Sizes.{payload_room};
 ghost use Rattle.zb_record.specs.Records.{record_read};
 ghost use Rattle.zb_stored_tables.specs.Cores.{CoreValue, IsValueAfter};
 ghost use Rattle.zb_stored_tables.specs.Stored.{state_given, restored, IsKept, IsStorable, IsStoredAfter, MayReserve};

@@ -5,7 +5,7 @@ ghost use Rattle.zb_node_types.specs.Changes.{model_role};
 ghost use Rattle.zb_model.specs.State.{after_boot};
 ghost use Rattle.zb_record.specs.Ranges.{FitsBytes};
 ghost use Rattle.zb_record.specs.Redoing.{redone};
-ghost use Rattle.zb_record.specs.Sizes.{payloads_room, record_room};
+ghost use Rattle.zb_base.specs.Sizes.{payloads_room, record_room};
 ghost use Rattle.zb_stored_tables.specs.Stored.{behind, is_of_other, state_given, version_in, IsGivenFault};
 
 use std::alloc::Global;

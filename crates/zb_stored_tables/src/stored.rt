@@ -9,7 +9,7 @@ ghost use Rattle.zb_model.specs.Fits.{AllFit};
 ghost use Rattle.zb_model.specs.Record.{record_of};
 ghost use Rattle.zb_model.specs.State.{applied_all, after_hearing, after_sealing, shown};
 ghost use Rattle.zb_record.specs.Ranges.{InRange};
-ghost use Rattle.zb_record.specs.Sizes.{payloads_room, record_room};
+ghost use Rattle.zb_base.specs.Sizes.{payloads_room, record_room};
 ghost use Rattle.zb_stored_tables.specs.Stored.{restored, state_given, IsGivenFault, IsKept};
 
 use crate::restore::restore;

@@ -16,7 +16,6 @@ use Rattle.zb_base.specs.declared.state.Rollover.TheVariants as rollover
 use Rattle.zb_base.specs.declared.state.State.{State}
 use Rattle.zb_base.specs.declared.state.State.TheVariants as state
 use Rattle.zb_text.specs.Pages.{IsWord}
-pub use Rattle.zb_base.specs.Texts.{attribute_text, place_text, rollover_text, state_text}
 
 -- The first of some values whose text is that word.
 abbrev pub value_among : {X : Type 0} → (X → List ℕ) → List X → List ℕ → Option X
@@ -40,6 +39,29 @@ label_text label.Data = codes "data"
 label_text label.Network = codes "network"
 label_text label.Transport = codes "transport"
 label_text label.Load = codes "load"
+
+abbrev pub attribute_text : Attribute → List ℕ
+attribute_text attribute.Provisional = codes "provisional"
+attribute_text attribute.Unverified = codes "unverified"
+attribute_text attribute.Verified = codes "verified"
+
+abbrev pub state_text : State → List ℕ
+state_text state.Fresh = codes "fresh"
+state_text state.Knocked = codes "knocked"
+state_text state.Joined = codes "joined"
+state_text state.Offered = codes "offered"
+state_text state.Confirmed = codes "confirmed"
+state_text state.Rejoining = codes "rejoining"
+state_text state.Gone = codes "gone"
+
+abbrev pub rollover_text : Rollover → List ℕ
+rollover_text rollover.Sending = codes "sending"
+rollover_text rollover.Idle = codes "idle"
+
+abbrev pub place_text : Place → List ℕ
+place_text place.Nwk = codes "nwk"
+place_text place.Aps = codes "aps"
+place_text place.Event = codes "event"
 
 abbrev pub answer_text : Bool → List ℕ
 answer_text true = codes "yes"

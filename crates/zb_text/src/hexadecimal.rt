@@ -1,6 +1,6 @@
 //! Strings of bytes in hexadecimal digits, read in either case and written in upper case.
 
-ghost use Rattle.std.specs.Prelude.{◌≡◌, ◌+◌, ◌≤◌, ◌<◌, ◌/◌, [], ◌∷◌, ◌++◌, length, OnOk, IfSome, vec_len, vec_capacity};
+ghost use Rattle.std.specs.Prelude.{◌≡◌, ◌+◌, ◌≤◌, ◌<◌, ◌/◌, [], ◌∷◌, ◌++◌, length, slice_index, OnOk, IfSome, vec_len, vec_capacity};
 ghost use Rattle.std.specs.Option.{option_map};
 ghost use Rattle.std.specs.Result.{result_ok};
 ghost use Rattle.hex.specs.Hex.{decode_of, encode_upper, hex_digit_value, IsBytes};
@@ -110,16 +110,26 @@ pub fn put_digits(out: &mut Vec<u8>, bytes: &[u8]) -> Result<(), AllocError>
 
 const DIGITS: [u8; 16] = *b"0123456789ABCDEF";
 
-/// Prints a byte in two digits. Requires room for them.
+/// Returns the two digits of a byte, which are ASCII.
 #[tactic(auto, unfolding(hex::specs::Hex::encode_with))]
+pub fn digits_of(byte: u8) -> [u8; 2]
+    ensures digits { result ≡ encode_upper (byte ∷ []) }
+    ensures first { slice_index result 0 < 128 }
+    ensures second { slice_index result 1 < 128 }
+{
+    [DIGITS[(byte >> 4) as usize], DIGITS[(byte & 15) as usize]]
+}
+
+/// Prints a byte in two digits. Requires room for them.
 fn put_pair(out: &mut Vec<u8>, byte: u8)
     requires { vec_len out.old + 2 ≤ vec_capacity out.old }
     ensures items { out.new.items ≡ out.old.items ++ encode_upper (byte ∷ []) }
     ensures len { vec_len out.new ≡ vec_len out.old + 2 }
     ensures room { vec_capacity out.new ≡ vec_capacity out.old }
 {
-    out.push_reserved(DIGITS[(byte >> 4) as usize]);
-    out.push_reserved(DIGITS[(byte & 15) as usize]);
+    let [first, second] = digits_of(byte);
+    out.push_reserved(first);
+    out.push_reserved(second);
 }
 
 /// Prints bytes in two digits each, or `-` for no bytes.

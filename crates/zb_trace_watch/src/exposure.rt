@@ -7,10 +7,7 @@ use crate::holdings::Holdings;
 use crate::keys::Keys;
 use std::alloc::{AllocError, Global};
 use std::collections::BTreeSet;
-use zb_base::{Eui, Key};
-
-/// The link key that everybody knows (ZigBeeAlliance09).
-pub const WELL_KNOWN: Key = Key(*b"ZigBeeAlliance09");
+use zb_base::{Eui, Key, WELL_KNOWN};
 
 /// What outsiders may know: the well-known key, what removed devices ever held, and what all that opens.
 #[derive(Drop)]

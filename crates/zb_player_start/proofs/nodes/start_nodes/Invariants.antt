@@ -7,7 +7,7 @@ use Rattle.zb_model.specs.Play.{start, stations}
 use Rattle.law_schedules.specs.Schedules.{schedule_of}
 use Rattle.zb_player_node.specs.Nodes.{AllStand}
 use Rattle.zb_sched.specs.Schedules.{Schedule}
-use Rattle.zb_store.specs.Sizes.{record_room}
+use Rattle.zb_base.specs.Sizes.{record_room}
 use Rattle.zb_player_start.proofs.nodes.start_nodes.Given as goal
 
 abbrev pub invariant-loop-me : goal.invariant-loop-me

@@ -1,0 +1,20 @@
+//! Gathering what the jobs made.
+ghost use Rattle.std.specs.Prelude.{◌≡◌, map, IfOk, Ok};
+
+use std::alloc::Global;
+use zb_base::NoMemory;
+
+/// Returns the values that the jobs made, in their order.
+///
+/// # Errors
+///
+/// `NoMemory` where one of the jobs lacked memory, or the list does.
+pub fn gather<T: Drop>(alloc: Global, made: Vec<Result<T, NoMemory>>) -> Result<Vec<T>, NoMemory>
+    ensures { IfOk result (λ v. made.items ≡ map (λ value. Ok value) v.items) }
+{
+    let mut values = Vec::with_capacity(alloc, made.len())?;
+    for value in made {
+        values.push(value?)?;
+    }
+    Ok(values)
+}

@@ -1,0 +1,87 @@
+//! The terms of a frame, and the frame controls of the network layer (05-3474-21, 3.3.1.1).
+ghost use Rattle.std.specs.Prelude.{◌≡◌, ◌+◌, length};
+ghost use Rattle.zb_model.specs.Data.{ForData};
+ghost use Rattle.zb_model.specs.Frames.{aps_term, data_front, nwk_term, sealed_command, sealed_data};
+ghost use Rattle.zb_model_real.specs.Terms.{model_label, model_term};
+ghost use Rattle.zb_seal.specs.Wire.{wire_length};
+
+use crate::headers::{
+    aps_control, aps_label, command_header, data_header, joined, low_byte, nwk_auxiliary,
+    nwk_header,
+};
+use zb_base::{Eui, Frame, Key, Label, Layer, Short};
+use zb_seal::Term;
+
+/// The NWK frame control of a sealed data frame.
+pub const SECURED: u16 = 0x0208;
+
+/// The NWK frame control of a sealed command.
+pub const COMMAND: u16 = 0x0209;
+
+/// The NWK frame control of a data frame that isn't sealed.
+pub const CLEAR: u16 = 0x0008;
+
+/// Makes the term of a NWK frame under a network key.
+pub fn nwk_term(
+    control: u16,
+    to: Short,
+    from: Short,
+    source: Eui,
+    key: &Key,
+    sequence: u8,
+    counter: u32,
+    content: Frame,
+) -> Term
+    ensures term { model_term result
+        ≡ nwk_term control to.0 from.0 source.0 key.now.0 sequence counter content.items }
+    ensures len { wire_length result ≡ length content.items + 26 }
+{
+    let header = nwk_header(control, to, from, low_byte(counter));
+    let auxiliary = nwk_auxiliary(counter, source, sequence);
+    Term {
+        layer: Layer::Nwk,
+        base: *key,
+        label: Label::Network,
+        source,
+        counter,
+        control: 0x2d,
+        header: joined(header.as_slice(), auxiliary.as_slice()),
+        content,
+    }
+}
+
+/// Makes the term of an APS command under a link key.
+pub fn command_term(label: Label, key: &Key, source: Eui, counter: u32, content: Frame) -> Term
+    ensures term { model_term result
+        ≡ aps_term sealed_command (model_label label) key.now.0 source.0 counter content.items }
+    ensures len { wire_length result ≡ length content.items + 19 }
+{
+    Term {
+        layer: Layer::Aps,
+        base: *key,
+        label: aps_label(label),
+        source,
+        counter,
+        control: aps_control(label),
+        header: command_header(label, counter, source),
+        content,
+    }
+}
+
+/// Makes the term of application data under a link key.
+pub(crate) fn data_term(key: &Key, source: Eui, counter: u32, content: Frame) -> Term
+    ensures term { model_term result
+        ≡ aps_term (data_front sealed_data) ForData key.now.0 source.0 counter content.items }
+    ensures len { wire_length result ≡ length content.items + 25 }
+{
+    Term {
+        layer: Layer::Aps,
+        base: *key,
+        label: Label::Data,
+        source,
+        counter,
+        control: 0x25,
+        header: data_header(counter, source),
+        content,
+    }
+}
