@@ -208,11 +208,9 @@ fn read_whole(bytes: &[u8]) -> Result<Command, CmdError>
         },
     };
     let command = read_front(&mut reader)?;
-    if !reader.rest.is_empty() {
-        return Err(CmdError::Trailing {
-            count: reader.rest.len() as u32,
-        });
-    }
+    reader.end(CmdError::Trailing {
+        count: reader.rest.len() as u32,
+    })?;
     Ok(command)
 }
 

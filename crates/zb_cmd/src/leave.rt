@@ -60,11 +60,9 @@ fn read_whole(bytes: &[u8]) -> Result<Leave, CmdError>
         },
     };
     let leave = read_front(&mut reader)?;
-    if !reader.rest.is_empty() {
-        return Err(CmdError::Trailing {
-            count: reader.rest.len() as u32,
-        });
-    }
+    reader.end(CmdError::Trailing {
+        count: reader.rest.len() as u32,
+    })?;
     Ok(leave)
 }
 
