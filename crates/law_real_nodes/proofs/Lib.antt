@@ -3,3 +3,4 @@ pub mod Opening
 pub mod Refusing
 pub mod Along
 pub mod Nodes
+pub mod Readings

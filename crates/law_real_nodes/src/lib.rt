@@ -6,6 +6,7 @@ ghost use Rattle.std.specs.Prelude.{◌≡◌, ℕ, Ok, Option, true};
 ghost use Rattle.zb_model_real.specs.Real.{real};
 ghost use Rattle.law_real_nodes.specs.Refusing.{RefusedFor, why_app_request, why_confirm, why_request, why_verify};
 ghost use Rattle.law_real_nodes.specs.Sound.{NodesAreSound};
+ghost use Rattle.law_run_readings.specs.Agreeing.{RunAgrees};
 ghost use Rattle.law_schedules.specs.Schedules.{schedule_of};
 ghost use Rattle.law_tables_suffice.specs.Along.{euis_differ};
 ghost use Rattle.law_answer_storable.specs.Storing.{OpensAsJudged};
@@ -42,6 +43,15 @@ pub fn nodes_are_sound_in_each_run()
 {
     nodes_start_by_their_own_lines();
 }
+
+/// States that in the run of each schedule the last line about each thing says what the states of the nodes say.
+///
+/// This holds after the start and after each whole group: of the active network key, of the stored limits and floors,
+/// and where a node has power of its next counters.
+#[tactic(auto, using(crate::proofs::Readings::agrees))]
+pub fn lines_of_each_run_agree()
+    ensures { (p : Schedule) → IsSchedule p → RunAgrees real (schedule_of p) }
+{}
 
 /// Where a text is a schedule, its nodes are sound in its run.
 pub fn nodes_are_sound_in_each_text(text: &[u8])

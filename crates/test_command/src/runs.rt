@@ -209,7 +209,7 @@ fn worked_runs_have_their_outputs(rt: HostRuntime) -> Result<(), Fail> {
     // the packet of the capture file where the last two bytes of each are its check sequence
     let mut checked = CAPTURE_FILE;
     checked[20] = 195;
-    let runs: [(&[&str], &[u8], &[u8]); 11] = [
+    let runs: [(&[&str], &[u8], &[u8]); 14] = [
         (&["play"], TWO_FRAMES, TWO_FRAMES_PLAYED),
         (&["play"], WITHOUT_A_KEY, WITHOUT_A_KEY_PLAYED),
         // comments, empty lines, carriage returns, and a last line without an end
@@ -234,6 +234,13 @@ fn worked_runs_have_their_outputs(rt: HostRuntime) -> Result<(), Fail> {
         (&["sniff", "1", KEY], &checked, PASSED_OVER),
         (&["sniff", "4", KEY], &checked, PASSED_OVER),
         (&["inspect", "2"], b"", b"end 0 0 1\n"),
+        (&["audit"], TWO_FRAMES_PLAYED, b"sound 2 0 locked\n"),
+        (&["audit"], WITHOUT_A_KEY_PLAYED, b"sound 2 0 locked\n"),
+        (
+            &["admin", "store"],
+            b"centre c 00124B0000000001 4 4\nlist\ninit 000102030405060708090A0B0C0D0E0F\nlist\n",
+            b"refuse 2 empty\nok 3\nnet 0 000102030405060708090A0B0C0D0E0F 0 active\nok 4\n",
+        ),
     ];
     for (words, input, output) in runs {
         let ran = over(&rt, words, input, &[], &[])?;
@@ -258,7 +265,12 @@ fn what_outsiders_send_is_played(rt: HostRuntime) -> Result<(), Fail> {
 
 #[test]
 fn other_words_and_inputs_are_refused(rt: HostRuntime) -> Result<(), Fail> {
-    let runs: [(&[&str], &[u8], &str); 53] = [
+    let runs: [(&[&str], &[u8], &str); 58] = [
+        (&["audit"], b"", "broken 1 6"),
+        (&["audit"], b"boom\n", "refused 1 syntax"),
+        (&["audit"], b"0 node c centre 00124B0000000001 0000 4 2\nend 0 1 0 0 yes yes\n", "broken 2 6"),
+        (&["admin", "store"], b"boom\n", "refused 1 syntax"),
+        (&["admin", "store"], b"", "refused 1 no-centre"),
         (&["play"], b"boom\n", "refused 1 syntax"),
         (&["play"], b"", "refused 1 no-centre"),
         (&["play"], b"# no centre\n", "refused 2 no-centre"),

@@ -162,8 +162,9 @@ module _ {D W : Type 0} (x : Outside D W) (script : Script) (old : D) (before : 
   service_fault centre disk new after Disk count judged h = rose_later (x.state old).faults (x.state disk).faults (x.state new).faults count h
   service_fault centre disk new after NoStore count judged h = λ told. absurd (h told)
   service_fault centre disk new after (BadStore at) count judged h = λ told. absurd (h told)
-  service_fault centre disk new after Worn count judged h = λ told can. h told (tables_in centre) (judged.stands_so told can)
-  service_fault centre disk new after Write count judged h = h
+  service_fault centre disk new after Worn count judged h =
+      λ told. ((tables_in centre, judged.found told), λ can. h told (tables_in centre) (judged.stands_so told can))
+  service_fault centre disk new after Write count judged h = (h, λ told. (tables_in centre, judged.found told))
   service_fault centre disk new after NoMemory count judged h = h ∙ judged.unrisen
 
   moments_of : (disk new : D) (after : W) (result : Ended) (standing : Option NodeState) → LeavesOnly (x.state old) (x.state disk) (WasThereOrEmpty (x.state old))

@@ -81,14 +81,20 @@ abbrev pub IsUnopened : {D W : Type 0} → Outside D W → D → W → Ended →
 IsUnopened x old before result new after =
     ((fault : AdminFault) × (result ≡ Err fault)) × LeavesOnly (x.state old) (x.state new) (WasThereOrEmpty (x.state old)) × (after ≡ before)
 
--- When each fault comes. The two of a store that is no centre's come before anything is written. Where memory is short
--- the disk's count of faults stands.
+-- The store is empty, or a centre's record stands in it.
+abbrev pub IsFound : {D W : Type 0} → Outside D W → D → Type 0
+IsFound x old = (standing : Option NodeState) × (found_on (x.state old).seen ≡ Ok standing)
+
+-- When each fault comes. The two of a store that is no centre's come before anything is written, and the store is
+-- judged good before a command finds it worn or a line can't be written. Where memory is short the disk's count of
+-- faults stands.
 abbrev pub IsAdminFault : {D W : Type 0} → Outside D W → D → W → D → W → AdminFault → Type 0
 IsAdminFault x old before new after Disk = Rose (x.state old).faults (x.state new).faults
 IsAdminFault x old before new after NoStore = IsTrue x.tells.content → (found_on (x.state old).seen ≡ Err NoStore) × (after ≡ before)
 IsAdminFault x old before new after (BadStore at) = IsTrue x.tells.content → (found_on (x.state old).seen ≡ Err (BadStore at)) × (after ≡ before)
-IsAdminFault x old before new after Worn = IsTrue x.tells.content → CanBeServed (x.state old) → (z : Standing) × (stands (x.state new).seen ≡ Some z) × IsWornOut z
-IsAdminFault x old before new after Write = Rose (x.faults before) (x.faults after)
+IsAdminFault x old before new after Worn = IsTrue x.tells.content → IsFound x old
+    × (CanBeServed (x.state old) → (z : Standing) × (stands (x.state new).seen ≡ Some z) × IsWornOut z)
+IsAdminFault x old before new after Write = Rose (x.faults before) (x.faults after) × (IsTrue x.tells.content → IsFound x old)
 IsAdminFault x old before new after NoMemory = Unrisen (x.state old).faults (x.state new).faults
 
 -- A script was served.

@@ -1,5 +1,6 @@
 -- Transcripts that are audited as their lines are taken off a text.
 use Rattle.std.proofs.Common.{◌≡◌, ◌≢◌, ◌∙◌, ℕ, ◌+◌, List, [], ◌∷◌, ◌++◌, length, refl, sym, ap, subst, append_assoc, append-nil, length-append, Option, Some, None, IfSome, Result, Ok, Err, arith}
+use Rattle.zb_audit.proofs.ClaimsHold.{claims_hold}
 use Rattle.zb_audit.specs.Auditing.{Stands}
 use Rattle.zb_audit.specs.Faults.{IsAnswer}
 use Rattle.zb_audit.specs.declared.auditor.Auditor.{Auditor}
@@ -71,11 +72,14 @@ empty_of (x ∷ xs) none = absurd (omega (arith, none))
 
 pub sound_of : (bytes rest : Bytes) (count : ℕ) (a : Auditor) (s : IsAudited bytes rest count a) (r : Result Verdict AuditFault) (v : Verdict) → r ≡ Ok v
     → IsAnswer real s.lines r → length rest ≡ 0 → IsSoundText bytes v
-sound_of bytes rest count a s r v is answer none = record {
-  lines = s.lines;
-  transcript = whole bytes rest count a s (empty_of rest none);
-  sound = subst (λ (x : Result Verdict AuditFault). IsAnswer real s.lines x) is answer;
-}
+sound_of bytes rest count a s r v is answer none =
+    let sound = subst (λ (x : Result Verdict AuditFault). IsAnswer real s.lines x) is answer in
+    record {
+      lines = s.lines;
+      transcript = whole bytes rest count a s (empty_of rest none);
+      sound = sound;
+      claims = claims_hold real v s.lines sound;
+    }
 
 pub broken_of : (bytes rest : Bytes) (count : ℕ) (a : Auditor) (s : IsAudited bytes rest count a) (r : Result Verdict AuditFault) (f : AuditFault) (line clause : ℕ)
     → r ≡ Err f → f ≡ Broken line clause → IsAnswer real s.lines r → length rest ≡ 0 → IsBrokenText bytes line clause

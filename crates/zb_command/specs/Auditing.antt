@@ -1,7 +1,8 @@
 -- How `audit` ends.
-use Rattle.std.specs.Prelude.{◌≡◌, ℕ, Bool, true, false, ◌<◌, ◌∷◌, [], ◌++◌, length, List, codes, decimal, Option, Some, IfSome}
+use Rattle.std.specs.Prelude.{◌≡◌, ℕ, Bool, true, false, ◌<◌, ◌≤◌, ◌∷◌, [], ◌++◌, length, List, codes, decimal, Option, Some, IfSome}
 use Rattle.std.specs.Io.KnownBytes.{Appends, Keeps}
 use Rattle.zb_audit.specs.Auditing.{Stands}
+use Rattle.zb_audit.specs.Claims.{Keeps as KeepsClaims}
 use Rattle.zb_audit.specs.Faults.{IsSound, first_fault}
 use Rattle.zb_audit.specs.declared.auditor.Auditor.{Auditor}
 use Rattle.zb_audit.specs.declared.fault.Verdict.{Verdict}
@@ -32,11 +33,13 @@ pub record IsAudited (bytes rest : Bytes) (count : ℕ) (a : Auditor) : Type 0 w
   pub count_is : count ≡ length lines
   pub stands : Stands real a lines
 
--- They are that of lines on which this is the verdict.
+-- They are that of lines on which this is the verdict, and of which the claims hold: no seal under one key and nonce
+-- twice, no counter accepted twice, only stored keys confirmed, and removed devices locked out where the verdict says so.
 pub record IsSoundText (bytes : Bytes) (v : Verdict) : Type 0 where
   pub lines : List Line
   pub transcript : IsTranscript bytes lines
   pub sound : IsSound real v lines
+  pub claims : KeepsClaims real v lines
 
 -- They are that of lines of which this one is the first bad one, and breaks that claim first.
 pub record IsBrokenText (bytes : Bytes) (line clause : ℕ) : Type 0 where
@@ -66,7 +69,11 @@ IsTold status.NoMemory line before after old new = Keeps before after
 IsTold s line before after old new = ⊥
 
 abbrev pub IsVerdictOn : Bytes → (Bytes → Type 0) → Type 0
-IsVerdictOn input told = (v : Verdict) × IsSoundText input v × told (sound_line v)
+IsVerdictOn input told = (length input ≤ longest) × ((v : Verdict) × IsSoundText input v × told (sound_line v))
+
+-- A fault is told of inputs that aren't too long alone.
+abbrev pub IsFaultIn : Bytes → Type 0 → Type 0
+IsFaultIn input fault = (length input ≤ longest) × fault
 
 -- What each status says of the bytes that the source had to come, where these are known, and of what was written.
 abbrev pub Audits : Status → Option Bytes → Option Bytes → Option Bytes → ℕ → ℕ → Type 0
@@ -74,11 +81,11 @@ Audits status.Ok rest before after old new = IfSome rest (λ input. IsVerdictOn 
 Audits status.Usage rest before after old new = ⊥
 Audits status.ReadFault rest before after old new = Keeps before after
 Audits status.WriteFault rest before after old new = IfSome rest (λ input. IsVerdictOn input (AppendsFront before after)) × Rose old new
-Audits (status.Refused line c) rest before after old new = IfSome rest (λ input. IsFirstBad input line) × (c ≡ cause.Syntax) × Keeps before after
+Audits (status.Refused line c) rest before after old new = IfSome rest (λ input. IsFaultIn input (IsFirstBad input line)) × (c ≡ cause.Syntax) × Keeps before after
 Audits status.NoMemory rest before after old new = Keeps before after
 Audits status.DiskFault rest before after old new = ⊥
 Audits status.NoStore rest before after old new = ⊥
 Audits (status.TooLong limit) rest before after old new = (limit ≡ longest) × IfSome rest (λ input. longest < length input) × Keeps before after
-Audits (status.Broken line clause) rest before after old new = IfSome rest (λ input. IsBrokenText input line clause) × Keeps before after
+Audits (status.Broken line clause) rest before after old new = IfSome rest (λ input. IsFaultIn input (IsBrokenText input line clause)) × Keeps before after
 Audits (status.BadStore at) rest before after old new = ⊥
 Audits status.Worn rest before after old new = ⊥

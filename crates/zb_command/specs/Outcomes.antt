@@ -4,7 +4,10 @@ use Rattle.std.specs.Io.KnownBytes.{Appends, IsAtEnd, Keeps}
 use Rattle.zb_base.specs.Outside.{AppendsFront, Rose}
 use Rattle.zb_gen.specs.Made.{made_schedule}
 use Rattle.zb_model.specs.Data.{Bytes}
+use Rattle.zb_model_real.specs.Real.{real}
+use Rattle.law_real_nodes.specs.Sound.{NodesAreSound}
 use Rattle.law_real_runs.specs.Headline.{Holds}
+use Rattle.law_run_readings.specs.Agreeing.{RunAgrees}
 use Rattle.law_schedules.specs.Schedules.{schedule_of}
 use Rattle.zb_player.specs.Runs.{transcript_text}
 use Rattle.zb_sched.specs.Schedules as sched
@@ -74,12 +77,15 @@ WritesFront status.NoMemory answer before after = IsBegun answer before after
 WritesFront s answer before after = Unit {0}
 
 -- The input is a schedule, and the text of its transcript was written. Everything holds of that transcript that the
--- laws over runs say, and it is the only list of lines that the schedule gives.
+-- laws over runs say, and it is the only list of lines that the schedule gives. No rule's filler decides in it, and what
+-- a node sends may be sealed; what its lines say last of a thing is what the states of its nodes say.
 pub record Played (input : Bytes) (before after : Option Bytes) : Type 0 where
   pub schedule : sched.Schedule
   pub reads : schedule_in input ≡ Ok schedule
   pub written : Appends before after (transcript_text schedule)
   pub holds : Holds (schedule_of schedule)
+  pub nodes : NodesAreSound (schedule_of schedule)
+  pub says : RunAgrees real (schedule_of schedule)
 
 -- A schedule was made, and its printed text was written, which is a text that reads as that schedule.
 pub record Made (count : ℕ) (before after : Option Bytes) : Type 0 where

@@ -1,5 +1,5 @@
 -- How `admin` ends.
-use Rattle.std.specs.Prelude.{◌≡◌, ◌<◌, ◌⊎◌, ℕ, length, Option, IfSome, Ok, Err}
+use Rattle.std.specs.Prelude.{◌≡◌, ◌<◌, ◌≤◌, ◌⊎◌, ℕ, length, Option, IfSome, Ok, Err}
 use Rattle.std.specs.Io.KnownBytes.{Keeps}
 use Rattle.zb_admin.specs.Serving.{Ended, Outside, Serves}
 use Rattle.zb_admin.specs.declared.fault.AdminFault.TheVariants as fault
@@ -15,9 +15,10 @@ use Rattle.zb_command.specs.declared.status.Cause.{Cause}
 use Rattle.zb_command.specs.declared.status.Status.{Status}
 use Rattle.zb_command.specs.declared.status.Status.TheVariants as status
 
--- The input is a script, and it was served so far over a store and a sink.
+-- The input is a script, no longer than inputs may be, and it was served so far over a store and a sink.
 pub record IsServed {D W : Type 0} (x : Outside D W) (rest : Option Bytes) (old : D) (before : W) (result : Ended) (new : D) (after : W) : Type 0 where
   pub script : Script
+  pub short : IfSome rest (λ input. length input ≤ longest)
   pub reads : IfSome rest (λ input. script_in input ≡ Ok (script_of script))
   pub serves : Serves x script old before result new after
 
@@ -25,9 +26,10 @@ pub record IsServed {D W : Type 0} (x : Outside D W) (rest : Option Bytes) (old 
 abbrev pub IsIdle : {D W : Type 0} → D → W → D → W → Type 0
 IsIdle old before new after = (new ≡ old) × (after ≡ before)
 
--- The input is no script: its first bad line, and the first cause of that.
+-- The input is no longer than inputs may be, and no script: its first bad line, and the first cause of that.
 pub record IsNoScript (input : Bytes) (line : ℕ) (c : Cause) : Type 0 where
   pub error : ScriptError
+  pub short : length input ≤ longest
   pub reads : script_in input ≡ Err error
   pub line_is : error.line ≡ line
   pub cause_is : script_cause error.cause ≡ c

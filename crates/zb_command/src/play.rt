@@ -13,6 +13,7 @@ ghost use Rattle.zb_base.specs.Limits.{first_too_long};
 
 use crate::input::{InputFault, LONGEST, read_input};
 use crate::status::{Cause, Status};
+use law_real_nodes::{lines_of_each_run_agree, nodes_are_sound_in_each_run};
 use law_schedules::each_schedule_holds;
 use std::alloc::Global;
 use zb_base::{OrMemory, Sink, Source};
@@ -38,6 +39,8 @@ pub(crate) fn play_input<R: Source, W: Sink>(alloc: Global, input: &mut R, outpu
         Err(InputFault::NoMemory) => return Status::NoMemory,
     };
     each_schedule_holds();
+    nodes_are_sound_in_each_run();
+    lines_of_each_run_agree();
     match read(alloc, bytes.as_slice()) {
         Ok(schedule) => play_schedule(alloc, &schedule, output),
         Err(OrMemory::Fault(fault)) => Status::Refused {

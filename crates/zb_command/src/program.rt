@@ -41,6 +41,10 @@ pub fn run<T: Threads + Sync, R: Source, W: Sink, D: Disk>(
     // `Usage` comes exactly where the words are no command.
     ensures usage { result ≡ Status.Usage → invocation_of (map string_bytes words.now) ≡ None }
     ensures no_command { invocation_of (map string_bytes words.now) ≡ None → result ≡ Status.Usage }
+    // Each command ends as it may, whatever its source tells: no status but its own comes.
+    ensures ends { (job : Invocation) → invocation_of (map string_bytes words.now) ≡ Some job
+        → Finishes job result (R.rest input.old) (W.taken output.old) (W.taken output.new) (W.faults output.old)
+        (W.faults output.new) }
     // At Ok the output that is wanted of the command was written, and its input was read to its end.
     ensures done { (job : Invocation) → invocation_of (map string_bytes words.now) ≡ Some job → result ≡ Status.Ok
         → IfSome (wanted job (R.rest input.old))
