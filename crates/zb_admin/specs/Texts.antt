@@ -1,9 +1,12 @@
 -- The lines that commands write, without their ends.
 use Rattle.std.specs.Prelude.{ℕ, ◌+◌, List, [], ◌∷◌, ◌++◌, codes, decimal, Option}
 use Rattle.hex.specs.Hex.{encode_upper}
-use Rattle.zb_model.specs.Data.{Bytes, Reason, Down, Malformed, NotForMe, Unsecured, NoKey, CounterMax, Stale, BadMic, Policy, NotMember, WrongState, KeyOld, KeysFull, RowsFull, KeyInUse, NoDraw, CounterSpent, WrongHash, NoFrame}
+use Rattle.zb_model.specs.Data.{Bytes, Reason}
 use Rattle.zb_admin.specs.RowWords.{attribute_word, live_word, net_word}
 use Rattle.zb_model.specs.State.{NetKey, LinkKey, NodeState}
+use Rattle.zb_node_types.specs.Reasons.{reason_word, reason_detail}
+use Rattle.zb_node_types.specs.declared.refusal.Detail.{Detail}
+use Rattle.zb_node_types.specs.declared.refusal.Detail.TheVariants as detail
 use Rattle.zb_text.specs.Fields.{eui_text}
 use Rattle.zb_text.specs.Hexadecimal.{bytes_text}
 use Rattle.zb_text.specs.Words.{then}
@@ -20,27 +23,15 @@ refuse_line number why = codes "refuse" ++ (then (decimal number) ++ then why)
 abbrev pub send_line : Bytes → Bytes
 send_line bytes = codes "send" ++ then (bytes_text bytes)
 
+-- what is told beside the word for a reason
+abbrev pub detail_text : Detail → Bytes
+detail_text detail.Nothing = []
+detail_text (detail.Number number) = then (decimal number)
+detail_text (detail.Partner partner) = then (eui_text partner.0)
+
 -- The word for a reason, as transcripts have it, and what is told beside it.
 abbrev pub reason_text : Reason → Bytes
-reason_text Down = codes "down"
-reason_text Malformed = codes "malformed"
-reason_text NotForMe = codes "not-for-me"
-reason_text Unsecured = codes "unsecured"
-reason_text NoKey = codes "no-key"
-reason_text CounterMax = codes "counter-max"
-reason_text (Stale floor) = codes "stale" ++ then (decimal floor)
-reason_text BadMic = codes "bad-mic"
-reason_text Policy = codes "policy"
-reason_text NotMember = codes "not-member"
-reason_text WrongState = codes "wrong-state"
-reason_text (KeyOld place) = codes "key-old" ++ then (decimal place)
-reason_text KeysFull = codes "keys-full"
-reason_text RowsFull = codes "rows-full"
-reason_text (KeyInUse partner) = codes "key-in-use" ++ then (eui_text partner)
-reason_text NoDraw = codes "no-draw"
-reason_text CounterSpent = codes "counter-spent"
-reason_text WrongHash = codes "wrong-hash"
-reason_text NoFrame = codes "no-frame"
+reason_text why = reason_word why ++ detail_text (reason_detail why)
 
 -- ---- what the tables hold
 

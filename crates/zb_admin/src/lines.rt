@@ -1,14 +1,13 @@
 //! The lines that commands write.
-ghost use Rattle.std.specs.Prelude.{◌≡◌, ◌++◌, codes, decimal, OnOk};
-ghost use Rattle.zb_admin.specs.Texts.{ok_line, reason_text, refuse_line, send_line};
+ghost use Rattle.std.specs.Prelude.{◌≡◌, ◌++◌, OnOk};
+ghost use Rattle.zb_admin.specs.Texts.{detail_text, ok_line, reason_text, refuse_line, send_line};
 ghost use Rattle.zb_node_types.specs.Changes.{reason};
-ghost use Rattle.zb_text.specs.Fields.{eui_text};
 ghost use Rattle.zb_text.specs.Pages.{ended};
 ghost use Rattle.zb_text.specs.Words.{then};
 
 use std::alloc::AllocError;
-use zb_base::{Eui, Frame};
-use zb_node_types::Refusal;
+use zb_base::Frame;
+use zb_node_types::{Detail, Refusal};
 use zb_text::page::{add_bytes, add_eui, add_number, add_word, end_line, put};
 
 /// Prints that the command of a line was carried out.
@@ -63,49 +62,22 @@ pub(crate) fn put_sent(page: &mut Vec<u8>, frame: &Frame) -> Result<(), AllocErr
 }
 
 // Prints why an event was refused, after a space.
+#[tactic(auto, using(std::proofs::Common::append_assoc))]
 fn add_reason(page: &mut Vec<u8>, refusal: &Refusal) -> Result<(), AllocError>
     ensures { OnOk result (page.new.items ≡ page.old.items ++ then (reason_text (reason refusal.now))) }
 {
-    match *refusal {
-        Refusal::Down { place: _ } => add_word(page, b"down"),
-        Refusal::Malformed { place: _ } => add_word(page, b"malformed"),
-        Refusal::NotForMe { place: _ } => add_word(page, b"not-for-me"),
-        Refusal::Unsecured { place: _ } => add_word(page, b"unsecured"),
-        Refusal::NoKey { place: _ } => add_word(page, b"no-key"),
-        Refusal::CounterMax { place: _ } => add_word(page, b"counter-max"),
-        Refusal::Stale { place: _, floor } => add_counted(page, b"stale", floor),
-        Refusal::BadMic { place: _ } => add_word(page, b"bad-mic"),
-        Refusal::Policy { place: _ } => add_word(page, b"policy"),
-        Refusal::NotMember { place: _ } => add_word(page, b"not-member"),
-        Refusal::WrongState { place: _ } => add_word(page, b"wrong-state"),
-        Refusal::KeyOld { place: _, at } => add_counted(page, b"key-old", at),
-        Refusal::KeysFull { place: _ } => add_word(page, b"keys-full"),
-        Refusal::RowsFull { place: _ } => add_word(page, b"rows-full"),
-        Refusal::KeyInUse { place: _, partner } => add_user(page, partner),
-        Refusal::NoDraw { place: _ } => add_word(page, b"no-draw"),
-        Refusal::CounterSpent { place: _ } => add_word(page, b"counter-spent"),
-        Refusal::WrongHash { place: _ } => add_word(page, b"wrong-hash"),
-        Refusal::NoFrame { place: _ } => add_word(page, b"no-frame"),
+    add_word(page, refusal.word())?;
+    add_detail(page, refusal.detail())?;
+    Ok(())
+}
+
+// Prints what is reported beside the word of a reason, after a space.
+fn add_detail(page: &mut Vec<u8>, detail: Detail) -> Result<(), AllocError>
+    ensures { OnOk result (page.new.items ≡ page.old.items ++ detail_text detail) }
+{
+    match detail {
+        Detail::Nothing => Ok(()),
+        Detail::Number(number) => add_number(page, number),
+        Detail::Partner(partner) => add_eui(page, partner),
     }
-}
-
-// Prints a reason and the number that is told beside it.
-#[tactic(auto, using(std::proofs::Common::append_assoc))]
-fn add_counted(page: &mut Vec<u8>, why: &[u8], number: u32) -> Result<(), AllocError>
-    ensures { OnOk result (page.new.items ≡ page.old.items ++ then (why.now ++ then (decimal number))) }
-{
-    add_word(page, why)?;
-    add_number(page, number)?;
-    Ok(())
-}
-
-// Prints that another partner's row has the key.
-#[tactic(auto, using(std::proofs::Common::append_assoc))]
-fn add_user(page: &mut Vec<u8>, partner: Eui) -> Result<(), AllocError>
-    ensures { OnOk result
-        (page.new.items ≡ page.old.items ++ then (codes "key-in-use" ++ then (eui_text partner.0))) }
-{
-    add_word(page, b"key-in-use")?;
-    add_eui(page, partner)?;
-    Ok(())
 }

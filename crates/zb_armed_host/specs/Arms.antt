@@ -4,6 +4,7 @@ use Rattle.zb_disk.specs.declared.memory.Arming.TheVariants as disk
 use Rattle.zb_disk.specs.Memory.{Medium, refuses, armed}
 use Rattle.zb_model.specs.Play.{Armed, NotArmed, StopAfter, FailAt, Calls, NoCalls, EntryCalls, RecordCalls, BootCalls, count_of}
 use Rattle.zb_base.specs.Outside.{risen}
+use Rattle.zb_store.specs.Power.{stop_commits, failure_commits}
 use Rattle.zb_armed_host.specs.declared.arms.Arms.{Arms}
 use Rattle.zb_armed_host.specs.declared.arms.Arms.TheVariants as arms
 
@@ -39,6 +40,12 @@ disarmed_medium (FailAt call) m = record m { arming = armed m.arming disk.Unarme
 abbrev pub commit_of : Bool → Calls
 commit_of true = RecordCalls
 commit_of false = EntryCalls
+
+-- whether a commit stands on which this fell
+abbrev pub arms_stand : Armed → Bool
+arms_stand NotArmed = false
+arms_stand (StopAfter calls torn) = stop_commits calls torn
+arms_stand (FailAt call) = failure_commits call
 
 -- the count of a disk's calls after these; it stops at 2^64 - 1
 abbrev pub calls_after : ℕ → Calls → ℕ

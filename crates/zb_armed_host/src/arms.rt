@@ -1,10 +1,11 @@
 //! What is armed on a node's disk.
 ghost use Rattle.std.specs.Prelude.{◌≡◌, false};
 ghost use Rattle.zb_disk.specs.Memory.{is_stopped};
-ghost use Rattle.zb_armed_host.specs.Arms.{armed_of, armed_medium, disarmed_medium};
+ghost use Rattle.zb_armed_host.specs.Arms.{armed_of, armed_medium, arms_stand, disarmed_medium};
 
 use arrayvec::ArrayVec;
 use zb_disk::MemDisk;
+use zb_store::{failure_commits, stop_commits};
 
 /// What is armed on a node's disk: it falls on the first call of the host with so many device calls.
 #[derive(Debug, Drop)]
@@ -55,5 +56,16 @@ pub(crate) fn disarm(disk: &mut MemDisk, arms: &Arms)
     match arms {
         Arms::Unarmed => {}
         Arms::Stop { .. } | Arms::Fail { .. } => disk.disarm(),
+    }
+}
+
+/// Returns whether a commit holds on which what is armed fell.
+pub(crate) fn commits(arms: &Arms) -> bool
+    ensures { result ≡ arms_stand (armed_of arms.now) }
+{
+    match arms {
+        Arms::Unarmed => false,
+        Arms::Stop { calls, torn } => stop_commits(*calls, torn.as_slice()),
+        Arms::Fail { call } => failure_commits(*call),
     }
 }

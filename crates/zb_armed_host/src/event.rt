@@ -1,12 +1,12 @@
 //! One event of a node that is up.
 ghost use Rattle.std.specs.Prelude.{◌≡◌, ◌≢◌, [], None, is_some, IsTrue, IfOk, IfErr, OnOk, OnErr};
 ghost use Rattle.zb_store.specs.Layout.{Standing};
-ghost use Rattle.zb_armed_host.specs.Arms.{armed_of};
+ghost use Rattle.zb_armed_host.specs.Arms.{armed_of, arms_stand};
 ghost use Rattle.zb_armed_host.specs.Driven.{memory_words, IsUp, WasHandled, HasFallen};
 
-use crate::arms::{arm, disarm};
+use crate::arms::{arm, commits, disarm};
 use crate::fall::recover;
-use crate::{Arms, Fall};
+use crate::{Arms, Cut};
 use zb_disk::MemDisk;
 use zb_host::{Core, Host, Plan};
 
@@ -17,14 +17,14 @@ use zb_host::{Core, Host, Plan};
 /// stored.
 ///
 /// # Errors
-/// How it fell.
+/// How it fell, and whether the changes are stored.
 pub fn run<C: Core>(
     host: &mut Host<C>,
     disk: &mut MemDisk,
     arms: &Arms,
     event: &C::Event,
     plan: &mut Plan<C::Out>,
-) -> Result<(), Fall>
+) -> Result<(), Cut>
     requires up { IsTrue (is_some host.old.store) }
 
     // What is written is a plan of the core, and the core is the one after it.
@@ -37,10 +37,11 @@ pub fn run<C: Core>(
         → IsUp (memory_words C.restored C.recorded C.payload) s (armed_of arms.now) host.old disk.old
         → WasHandled (memory_words C.restored C.recorded C.payload) s (armed_of arms.now)
         host.old disk.old plan.new.changes.items host.new disk.new) }
-    ensures fallen { IfErr result (λ fall. (s : Standing)
+    ensures fallen { IfErr result (λ cut. (s : Standing)
         → IsUp (memory_words C.restored C.recorded C.payload) s (armed_of arms.now) host.old disk.old
         → HasFallen (memory_words C.restored C.recorded C.payload) s (armed_of arms.now)
-        host.old disk.old plan.new.changes.items fall host.new disk.new) }
+        host.old disk.old plan.new.changes.items cut.fall host.new disk.new) }
+    ensures stored { IfErr result (λ cut. cut.stored ≡ arms_stand (armed_of arms.now)) }
     ensures up { OnOk result (IsTrue (is_some host.new.store)) }
     ensures down { OnErr result (host.new.store ≡ None) }
 {
@@ -50,6 +51,9 @@ pub fn run<C: Core>(
             disarm(disk, arms);
             Ok(())
         }
-        Err(_) => Err(recover(disk, arms)),
+        Err(_) => Err(Cut {
+            fall: recover(disk, arms),
+            stored: commits(arms),
+        }),
     }
 }

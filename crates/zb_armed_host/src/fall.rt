@@ -18,6 +18,15 @@ pub enum Fall {
     Failed,
 }
 
+/// How an event ended on whose commit what was armed fell, or the disk failed otherwise.
+#[derive(Clone, Copy, Debug, PartialEq, Eq)]
+pub struct Cut {
+    /// How it ended.
+    pub fall: Fall,
+    /// Whether its changes are stored: all of them, or none.
+    pub stored: bool,
+}
+
 /// Brings the power back and takes back what was armed, if anything was. Answers whether the disk was off.
 #[tactic(auto, unfolding(zb_disk::specs::Memory::powered))]
 pub(crate) fn recover(disk: &mut MemDisk, arms: &Arms) -> Fall

@@ -10,4 +10,4 @@ mod refusal;
 
 pub use change::{Change, Changes};
 pub use fault::KeyError;
-pub use refusal::Refusal;
+pub use refusal::{Detail, Refusal};

@@ -46,9 +46,21 @@ pub enum Refusal {
     NoFrame { place: Place },
 }
 
+/// What is reported beside the word of a refusal's reason.
+#[derive(Clone, Copy, Debug, PartialEq, Eq)]
+pub enum Detail {
+    /// Nothing.
+    Nothing,
+    /// A sender's floor, or the place of a row, from 0.
+    Number(u32),
+    /// The partner that has the key.
+    Partner(Eui),
+}
+
 impl Refusal {
     ghost use Rattle.std.specs.Prelude.{◌≡◌};
-    ghost use Rattle.zb_node_types.specs.Changes.{place_of};
+    ghost use Rattle.zb_node_types.specs.Changes.{place_of, reason};
+    ghost use Rattle.zb_node_types.specs.Reasons.{reason_detail, reason_word};
 
     /// Returns where the event is refused.
     pub fn place(&self) -> Place
@@ -74,6 +86,45 @@ impl Refusal {
             Refusal::CounterSpent { place } => place,
             Refusal::WrongHash { place } => place,
             Refusal::NoFrame { place } => place,
+        }
+    }
+
+    /// Returns the word of the reason, as transcripts and a store's answers have it.
+    pub fn word(&self) -> &'static [u8]
+        ensures { result.now ≡ reason_word (reason self.now) }
+    {
+        match self {
+            Refusal::Down { .. } => b"down",
+            Refusal::Malformed { .. } => b"malformed",
+            Refusal::NotForMe { .. } => b"not-for-me",
+            Refusal::Unsecured { .. } => b"unsecured",
+            Refusal::NoKey { .. } => b"no-key",
+            Refusal::CounterMax { .. } => b"counter-max",
+            Refusal::Stale { .. } => b"stale",
+            Refusal::BadMic { .. } => b"bad-mic",
+            Refusal::Policy { .. } => b"policy",
+            Refusal::NotMember { .. } => b"not-member",
+            Refusal::WrongState { .. } => b"wrong-state",
+            Refusal::KeyOld { .. } => b"key-old",
+            Refusal::KeysFull { .. } => b"keys-full",
+            Refusal::RowsFull { .. } => b"rows-full",
+            Refusal::KeyInUse { .. } => b"key-in-use",
+            Refusal::NoDraw { .. } => b"no-draw",
+            Refusal::CounterSpent { .. } => b"counter-spent",
+            Refusal::WrongHash { .. } => b"wrong-hash",
+            Refusal::NoFrame { .. } => b"no-frame",
+        }
+    }
+
+    /// Returns what is reported beside the word of the reason.
+    pub fn detail(&self) -> Detail
+        ensures { result ≡ reason_detail (reason self.now) }
+    {
+        match *self {
+            Refusal::Stale { place: _, floor } => Detail::Number(floor),
+            Refusal::KeyOld { place: _, at } => Detail::Number(at),
+            Refusal::KeyInUse { place: _, partner } => Detail::Partner(partner),
+            _ => Detail::Nothing,
         }
     }
 }

@@ -13,10 +13,11 @@ use Rattle.zb_disk.specs.Memory.{Medium, memory_view}
 use Rattle.zb_disk.specs.MemoryLaws.{image_seen}
 use Rattle.zb_armed_host.proofs.Resets.{one_open}
 use Rattle.zb_armed_host.proofs.Ties.{stop_stands, fail_stands}
-use Rattle.zb_armed_host.specs.Arms.{IsArming, IsUnarmed, armed_of, commit_of, calls_after}
+use Rattle.zb_armed_host.specs.Arms.{arms_stand, IsArming, IsUnarmed, armed_of, commit_of, calls_after}
 use Rattle.zb_armed_host.specs.Driven.{IsAtRest, IsUp, HasFallen, IsDown, calls_in, next_of}
 use Rattle.zb_armed_host.specs.declared.arms.Arms.{Arms}
 use Rattle.zb_armed_host.specs.declared.arms.Arms.TheVariants.{Unarmed}
+use Rattle.zb_armed_host.specs.declared.fall.Cut.{Cut as CutEvent}
 use Rattle.zb_armed_host.specs.declared.fall.Fall.{Fall}
 use Rattle.zb_host.specs.Hosts.{Gives, Hosted, IsCurrent, writes_whole}
 use Rattle.zb_model.specs.Answer.{Answer, answer, answered}
@@ -31,7 +32,7 @@ use Rattle.law_tables_suffice.proofs.Answered.{answered_same, boot_same}
 use Rattle.law_run_steps.specs.Conditions.{Condition, after_arming, after_cut_boot, after_fall, after_power_on, after_reset, after_storing, after_whole, calls_by, commits_with}
 use Rattle.zb_setting.specs.Settings.{setting_for}
 use Rattle.zb_player_node.proofs.Standing.{after_alike, boot_alike, calls_are, same_given, stored_as, stored_later, stored_next, writes_are}
-use Rattle.zb_player_node.specs.Answers.{CanHave, CanStart, HasBooted, HasGiven, HasMade, IsPlanFor, IsStarted, IsStillDown, IsUpAgain, WasAnswered, WasCut, arms_stand, start_condition}
+use Rattle.zb_player_node.specs.Answers.{CanHave, CanStart, HasBooted, HasGiven, HasMade, IsPlanFor, IsStarted, IsStillDown, IsUpAgain, WasAnswered, WasCut, start_condition}
 use Rattle.zb_player_node.specs.Nodes.{IsIn, IsPowered, IsRunning, IsStored, words_for}
 use Rattle.zb_player_node.specs.Tasks.{suits}
 use Rattle.zb_player_node.specs.Values.{NodeValue, Running}
@@ -190,7 +191,7 @@ answered_in x number task node r r' p old new is can role_stays given =
     }
 
 -- what was given of the host's role and of what the node armed is given of the condition
-given_of : (x : Condition) (number : ℕ) (task : model.Task) (node : NodeValue) (r : Running) (old : Medium) (p : CorePlan) (result : Result (Unit {0}) Fall) (after : Hosted CoreValue) (new : Medium)
+given_of : (x : Condition) (number : ℕ) (task : model.Task) (node : NodeValue) (r : Running) (old : Medium) (p : CorePlan) (result : Result (Unit {0}) CutEvent) (after : Hosted CoreValue) (new : Medium)
     → IsIn x number (record node { machine = Some r }) old → CanHave x number task
     → (suits r.role task ≡ true → HasGiven r.role task (armed_of node.arms) r.host old p result after new) → HasGiven x.setting.me.role task x.disk.armed r.host old p result after new
 given_of x number task node r old p result after new is can given =
@@ -244,19 +245,19 @@ cut_now : (x : Condition) (number : ℕ) (node : NodeValue) (s next : Standing) 
 cut_now x number node s next es true both m stored then_stored rest gates setting role = down_now (after_storing es x) number node next both m then_stored rest gates setting role
 cut_now x number node s next es false both m stored then_stored rest gates setting role = down_now x number node s both m stored rest gates setting role
 
-pub was_cut : (task : model.Task) (node : NodeValue) (r : Running) (after : Hosted CoreValue) (p : CorePlan) (fall : Fall) (kept : List Change) (old new : Medium)
-    → (suits r.role task ≡ true → HasGiven r.role task (armed_of node.arms) r.host old p (Err fall) after new) → kept ≡ (if arms_stand (armed_of node.arms) then p.changes.items else [])
+pub was_cut : (task : model.Task) (node : NodeValue) (r : Running) (after : Hosted CoreValue) (p : CorePlan) (cut : CutEvent) (kept : List Change) (old new : Medium)
+    → (suits r.role task ≡ true → HasGiven r.role task (armed_of node.arms) r.host old p (Err cut) after new) → kept ≡ (if arms_stand (armed_of node.arms) then p.changes.items else [])
     → (x : Condition) (number : ℕ) → IsIn x number (record node { machine = Some r }) old → CanHave x number task
-    → WasCut (answer real x.setting x.state task) x number kept fall old (record node { machine = None; arms = Unarmed }) new
-was_cut task node r after p fall kept old new gave kept_are x number is can =
+    → WasCut (answer real x.setting x.state task) x number kept cut.fall old (record node { machine = None; arms = Unarmed }) new
+was_cut task node r after p cut kept old new gave kept_are x number is can =
     let role = x.setting.me.role in
     let armed = x.disk.armed in
     let a = answer real x.setting x.state task in
     let s = is.standing in
-    let given = given_of x number task node r old p (Err fall) after new is can gave in
+    let given = given_of x number task node r old p (Err cut) after new is can gave in
     let items = p.changes.items in
     let run = (running_of x.up x s r old is.powered).0 in
-    let fallen : HasFallen (words_for role) s armed r.host old items fall after new = given.1 s (up_of x number task s r old is.stored run is.unarmed is.arming can) in
+    let fallen : HasFallen (words_for role) s armed r.host old items cut.fall after new = given.1 s (up_of x number task s r old is.stored run is.unarmed is.arming can) in
     let it = went x number task s r p after old is.stored run can given.0 in
     let next = next_of (words_for role) s r.host items after in
     let calls = calls_by x.commits a.edits in

@@ -10,6 +10,7 @@ use Rattle.zb_core.specs.CorePlans.{CorePlan, IsCoreAfter}
 use Rattle.zb_disk.specs.Memory.{Medium, memory_view}
 use Rattle.zb_armed_host.specs.Arms.{IsUnarmed, calls_after, fallen_calls}
 use Rattle.zb_armed_host.specs.Driven.{IsUp, WasHandled, HasFallen, IsDown, WasBooted, HasFallenAtBoot, fall_of}
+use Rattle.zb_armed_host.specs.declared.fall.Cut.{Cut as CutEvent}
 use Rattle.zb_armed_host.specs.declared.fall.Fall.{Fall}
 use Rattle.zb_host.specs.Hosts.{Hosted}
 use Rattle.zb_model.specs.Answer.{Answer, answer}
@@ -31,7 +32,6 @@ use Rattle.zb_node_types.specs.Changes.{edits}
 use Rattle.zb_node_types.specs.declared.change.Change.{Change}
 use Rattle.zb_plan.specs.Answers.{IsAnswer}
 use Rattle.zb_store.specs.Layout.{Standing}
-use Rattle.zb_store.specs.Power.{stop_commits, failure_commits}
 use Rattle.zb_store.specs.Store.{IsHeld}
 use Rattle.zb_stored_tables.specs.Cores.{CoreValue, IsBooted}
 use Rattle.zb_stored_tables.specs.Stored.{IsStorable}
@@ -118,11 +118,11 @@ abbrev pub Changes : Type 0
 Changes = ArrayVec Change 16 (Unit {0})
 
 -- What an event of a host gave: its plan, and what is left of the host and its disk.
-abbrev pub HasGiven : Role → model.Task → Armed → Hosted CoreValue → Medium → CorePlan → Result (Unit {0}) Fall → Hosted CoreValue → Medium → Type 0
+abbrev pub HasGiven : Role → model.Task → Armed → Hosted CoreValue → Medium → CorePlan → Result (Unit {0}) CutEvent → Hosted CoreValue → Medium → Type 0
 HasGiven role task a before old p (Ok u) after new = IsPlanFor role task before.core p after.core
     × ((s : Standing) → IsUp (words_for role) s a before old → WasHandled (words_for role) s a before old p.changes.items after new)
-HasGiven role task a before old p (Err fall) after new = IsPlanFor role task before.core p after.core
-    × ((s : Standing) → IsUp (words_for role) s a before old → HasFallen (words_for role) s a before old p.changes.items fall after new)
+HasGiven role task a before old p (Err cut) after new = IsPlanFor role task before.core p after.core
+    × ((s : Standing) → IsUp (words_for role) s a before old → HasFallen (words_for role) s a before old p.changes.items cut.fall after new)
 
 -- what a boot made: a host with the core of what stands, or nothing
 abbrev pub HasMade : Role → Config → Armed → Medium → Result Running (OrMemory Fall) → Medium → Type 0
@@ -135,9 +135,3 @@ HasMade role config a old (Err NoMemory) new = ⊤
 abbrev pub made : Result Machine (OrMemory Fall) → Result Running (OrMemory Fall)
 made (Ok machine) = Ok (running machine)
 made (Err fault) = Err fault
-
--- Whether a commit stands on which what is armed fell.
-abbrev pub arms_stand : Armed → Bool
-arms_stand NotArmed = false
-arms_stand (StopAfter calls torn) = stop_commits calls torn
-arms_stand (FailAt call) = failure_commits call

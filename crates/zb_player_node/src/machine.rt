@@ -1,9 +1,9 @@
 //! The host of a node, of whichever role it is.
-ghost use Rattle.std.specs.Prelude.{◌≡◌, ◌≤◌, ℕ, List, true, is_some, length, option_map, IfOk, IsTrue, OnOk};
+ghost use Rattle.std.specs.Prelude.{◌≡◌, ◌≤◌, ℕ, List, true, is_some, length, option_map, IfOk, IfErr, IsTrue, OnOk};
 ghost use Rattle.zb_base.specs.Config.{IsConfig};
 ghost use Rattle.zb_disk.specs.View.{IsStill};
 ghost use Rattle.zb_disk.specs.Memory.{memory_view};
-ghost use Rattle.zb_armed_host.specs.Arms.{IsUnarmed, armed_of};
+ghost use Rattle.zb_armed_host.specs.Arms.{IsUnarmed, armed_of, arms_stand};
 ghost use Rattle.zb_armed_host.specs.Driven.{IsShown};
 ghost use Rattle.zb_host.specs.Hosts.{Gives};
 ghost use Rattle.zb_model.specs.Data as model;
@@ -19,7 +19,7 @@ ghost use Rattle.zb_stored_tables.specs.Stored.{restored};
 use crate::roles::{centre_event, device_event, router_event};
 use crate::task::Task;
 use std::alloc::Global;
-use zb_armed_host::{Arms, Fall, boot_armed, dump, run};
+use zb_armed_host::{Arms, Cut, Fall, boot_armed, dump, run};
 use zb_base::{Config, NoMemory, OrMemory, Place, Role};
 use zb_centre::Centre;
 use zb_disk::MemDisk;
@@ -58,10 +58,11 @@ fn handle_centre(
     arms: &Arms,
     task: Task,
     plan: &mut NodePlan,
-) -> Result<(), Fall>
+) -> Result<(), Cut>
     requires up { IsTrue (is_some host.old.store) }
     ensures given { suits model.Centre (model_task task) ≡ true → HasGiven model.Centre (model_task task)
         (armed_of arms.now) host.old disk.old plan.new result host.new disk.new }
+    ensures stored { IfErr result (λ cut. cut.stored ≡ arms_stand (armed_of arms.now)) }
     ensures up { OnOk result (IsTrue (is_some host.new.store)) }
 {
     match centre_event(task) {
@@ -80,10 +81,11 @@ fn handle_router(
     arms: &Arms,
     task: Task,
     plan: &mut NodePlan,
-) -> Result<(), Fall>
+) -> Result<(), Cut>
     requires up { IsTrue (is_some host.old.store) }
     ensures given { suits model.Router (model_task task) ≡ true → HasGiven model.Router (model_task task)
         (armed_of arms.now) host.old disk.old plan.new result host.new disk.new }
+    ensures stored { IfErr result (λ cut. cut.stored ≡ arms_stand (armed_of arms.now)) }
     ensures up { OnOk result (IsTrue (is_some host.new.store)) }
 {
     match router_event(task) {
@@ -102,10 +104,11 @@ fn handle_device(
     arms: &Arms,
     task: Task,
     plan: &mut NodePlan,
-) -> Result<(), Fall>
+) -> Result<(), Cut>
     requires up { IsTrue (is_some host.old.store) }
     ensures given { suits model.Device (model_task task) ≡ true → HasGiven model.Device (model_task task)
         (armed_of arms.now) host.old disk.old plan.new result host.new disk.new }
+    ensures stored { IfErr result (λ cut. cut.stored ≡ arms_stand (armed_of arms.now)) }
     ensures up { OnOk result (IsTrue (is_some host.new.store)) }
 {
     match device_event(task) {
@@ -158,11 +161,12 @@ impl Machine {
         arms: &Arms,
         task: Task,
         plan: &mut NodePlan,
-    ) -> Result<(), Fall>
+    ) -> Result<(), Cut>
         requires up { IsTrue (is_some (running self.old).host.store) }
         ensures given { suits (running self.old).role (model_task task) ≡ true
             → HasGiven (running self.old).role (model_task task) (armed_of arms.now)
             (running self.old).host disk.old plan.new result (running self.new).host disk.new }
+        ensures stored { IfErr result (λ cut. cut.stored ≡ arms_stand (armed_of arms.now)) }
         ensures role { (running self.new).role ≡ (running self.old).role }
         ensures up { OnOk result (IsTrue (is_some (running self.new).host.store)) }
     {

@@ -2,19 +2,17 @@
 ghost use Rattle.std.specs.Prelude.{◌≡◌, ◌+◌, ◌≤◌, ℕ, List, [], true, None, if◌then◌else◌, is_some, IfOk};
 ghost use Rattle.zb_base.specs.Config.{IsConfig};
 ghost use Rattle.zb_disk.specs.Memory.{Medium};
-ghost use Rattle.zb_armed_host.specs.Arms.{armed_of};
 ghost use Rattle.zb_armed_host.specs.Driven.{IsShown};
 ghost use Rattle.zb_model.specs.Play.{FailAt, StopAfter};
 ghost use Rattle.zb_model.specs.Record.{record_of};
 ghost use Rattle.zb_model.specs.Rules.{Setting};
 ghost use Rattle.zb_model.specs.State.{NodeState};
 ghost use Rattle.law_run_steps.specs.Conditions.{Condition, after_arming, after_reset};
-ghost use Rattle.zb_player_node.specs.Answers.{CanStart, HasBooted, HasHandled, IsStarted, arms_stand};
+ghost use Rattle.zb_player_node.specs.Answers.{CanStart, HasBooted, HasHandled, IsStarted};
 ghost use Rattle.zb_player_node.specs.Nodes.{IsIn};
 ghost use Rattle.zb_player_node.specs.Tasks.{model_task};
 ghost use Rattle.zb_node_types.specs.Changes.{model_role};
-ghost use Rattle.zb_store.specs.Layout.{Standing, open_gate};
-ghost use Rattle.zb_store.specs.Power.{reads_open, stop_commits};
+ghost use Rattle.zb_store.specs.Layout.{Standing};
 ghost use Rattle.zb_stored_tables.specs.Cores.{IsOfRole};
 
 use crate::machine::{Machine, NodePlan};
@@ -71,42 +69,11 @@ impl Model for Node {
     }) };
 }
 
-// Whether a commit stands on which what is armed fell.
-fn stands(arms: &Arms) -> bool
-    ensures { result ≡ arms_stand (armed_of arms.now) }
+// Keeps the changes of a cut event where they are stored.
+fn keep_stored(stored: bool, changes: &mut Changes)
+    ensures { changes.new.items ≡ (if stored then changes.old.items else []) }
 {
-    match arms {
-        Arms::Unarmed => false,
-        Arms::Stop { calls, torn } => stop_stands(*calls, torn.as_slice()),
-        Arms::Fail { call } => *call > 3,
-    }
-}
-
-// Whether one stands that a stop ended after so many calls, where it left these bytes.
-fn stop_stands(calls: u8, torn: &[u8]) -> bool
-    ensures { result ≡ stop_commits calls torn.now }
-{
-    if calls == 3 {
-        return opens(torn);
-    }
-    calls > 3
-}
-
-// Whether a gate that was written open and not synced reads open after a stop.
-fn opens(torn: &[u8]) -> bool
-    ensures { result ≡ reads_open torn.now open_gate }
-{
-    match torn {
-        [] => true,
-        [first, ..] => *first == 0xa5,
-    }
-}
-
-// Keeps the changes of a fallen event that are stored: all or none.
-fn keep_stored(arms: &Arms, changes: &mut Changes)
-    ensures { changes.new.items ≡ (if arms_stand (armed_of arms.now) then changes.old.items else []) }
-{
-    if !stands(arms) {
+    if !stored {
         changes.clear();
     }
 }
@@ -210,11 +177,11 @@ impl Node {
             None => None,
             Some(machine) => match machine.handle(disk, &self.arms, task, plan) {
                 Ok(()) => Some(Handled::Whole),
-                Err(fall) => {
-                    keep_stored(&self.arms, &mut plan.changes);
+                Err(cut) => {
+                    keep_stored(cut.stored, &mut plan.changes);
                     self.machine = None;
                     self.arms = Arms::Unarmed;
-                    Some(Handled::Cut { fall })
+                    Some(Handled::Cut { fall: cut.fall })
                 }
             },
         }

@@ -3,8 +3,11 @@ use Rattle.std.specs.Prelude.{◌≡◌, ◌<◌, ◌≤◌, ◌⊎◌, ℕ, Lis
 use Rattle.std.specs.List.{AllByRecursion, flat_map}
 use Rattle.hex.specs.Hex.{encode_upper, IsBytes}
 use Rattle.zb_base.specs.declared.place.Place.{Place}
+use Rattle.zb_node_types.specs.Changes.{place_of, reason as reason_of}
+use Rattle.zb_node_types.specs.Reasons.{reason_word, reason_detail}
+use Rattle.zb_node_types.specs.declared.refusal.Detail.{Detail}
+use Rattle.zb_node_types.specs.declared.refusal.Detail.TheVariants as detail
 use Rattle.zb_node_types.specs.declared.refusal.Refusal.{Refusal}
-use Rattle.zb_node_types.specs.declared.refusal.Refusal.TheVariants as refusal
 use Rattle.zb_seal.specs.declared.term.Term.{Term}
 pub use Rattle.zb_text.specs.Choices.{role_text, layer_text, label_text, attribute_text, state_text, rollover_text, place_text, answer_text}
 use Rattle.zb_text.specs.Choices as choices
@@ -123,26 +126,14 @@ term_words t =
 abbrev pub reason : Place → List ℕ → List Word
 reason at text = Chosen places (place_text at) ∷ Fixed text ∷ []
 
+-- what is reported beside the word of a reason
+abbrev pub detail_words : Detail → List Word
+detail_words detail.Nothing = []
+detail_words (detail.Number number) = counted number ∷ []
+detail_words (detail.Partner partner) = Address partner.0 ∷ []
+
 unfoldable pub refusal_words : Refusal → List Word
-refusal_words (refusal.Down at) = reason at (codes "down")
-refusal_words (refusal.Malformed at) = reason at (codes "malformed")
-refusal_words (refusal.NotForMe at) = reason at (codes "not-for-me")
-refusal_words (refusal.Unsecured at) = reason at (codes "unsecured")
-refusal_words (refusal.NoKey at) = reason at (codes "no-key")
-refusal_words (refusal.CounterMax at) = reason at (codes "counter-max")
-refusal_words (refusal.Stale at floor) = Chosen places (place_text at) ∷ Fixed (codes "stale") ∷ counted floor ∷ []
-refusal_words (refusal.BadMic at) = reason at (codes "bad-mic")
-refusal_words (refusal.Policy at) = reason at (codes "policy")
-refusal_words (refusal.NotMember at) = reason at (codes "not-member")
-refusal_words (refusal.WrongState at) = reason at (codes "wrong-state")
-refusal_words (refusal.KeyOld at row) = Chosen places (place_text at) ∷ Fixed (codes "key-old") ∷ counted row ∷ []
-refusal_words (refusal.KeysFull at) = reason at (codes "keys-full")
-refusal_words (refusal.RowsFull at) = reason at (codes "rows-full")
-refusal_words (refusal.KeyInUse at partner) = Chosen places (place_text at) ∷ Fixed (codes "key-in-use") ∷ Address partner.0 ∷ []
-refusal_words (refusal.NoDraw at) = reason at (codes "no-draw")
-refusal_words (refusal.CounterSpent at) = reason at (codes "counter-spent")
-refusal_words (refusal.WrongHash at) = reason at (codes "wrong-hash")
-refusal_words (refusal.NoFrame at) = reason at (codes "no-frame")
+refusal_words r = Chosen places (place_text (place_of r)) ∷ Fixed (reason_word (reason_of r)) ∷ detail_words (reason_detail (reason_of r))
 
 -- the beginning of a line: the number of its event and its kind, and the node that it speaks of
 abbrev pub begun : ℕ → List ℕ → List Word → List Word

@@ -1,3 +1,4 @@
 pub mod Choosing
+pub mod PlainRefusals
 pub mod Printed
 pub mod Taking
