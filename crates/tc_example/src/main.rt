@@ -20,7 +20,10 @@ use zb_install::InstallCode;
 use zb_keys::Tables;
 use zb_node_types::Refusal;
 use zb_seal::Term;
-use zb_store::{RECORD_ROOM, Store};
+use zb_store::Store;
+
+/// The room that a record needs.
+const ROOM: usize = 49_152;
 
 fn main(rt: HostRuntime) -> io::Result<()> {
     match env::args(&rt)?.nth(1) {
@@ -74,7 +77,7 @@ fn open<D: Disk>(alloc: Global, config: &Config, disk: &mut D) -> Option<Host<Ce
 fn init<D: Disk>(alloc: Global, disk: &mut D) -> Option<()> {
     let tables = Tables::from_declaration(alloc, &first_keys()).ok()?;
     let mut room = Vec::new(alloc);
-    room.resize(RECORD_ROOM, 0).ok()?;
+    room.resize(ROOM, 0).ok()?;
     let len = tables.record_bytes(&mut room) as usize;
     let _ = Store::format(alloc, disk, &room[..len]).ok()?;
     Some(())
