@@ -24,8 +24,6 @@ pub record Raising (carriers : Holdings Key) (old now : Lateness) (start left : 
       → ((k b : List ℕ) → S k ≡ true → is_carried carriers k b ≡ true → S b ≡ true)
       → ((k : List ℕ) → is_among raised k ≡ true → S k ≡ true) × ((k : List ℕ) → is_among left k ≡ true → S k ≡ true)
 
-}
-
 module _ (carriers : Holdings Key) (old now new : Lateness) (start left : List Key) (number : ℕ) (raised : List Key) (key : Key)
     (becomes : (k : List ℕ) → late_of new k ≡ (if bytes_eq k key.0 && nat_lt (late_of now key.0) number then number else late_of now k))
     (l : Raising carriers old now start (left ++ key ∷ []) number raised) where

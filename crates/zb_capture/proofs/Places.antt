@@ -69,8 +69,6 @@ lines_found least at text some is =
     lines_cut (n + at) text within (sym (get_or-drop n text at 0) ∙ byte)
     ∙ ap (λ k. lines (take k text) ++ lines (drop k text)) place
 
-)
-
 -- a relation that holds place by place
 pub zip_from_index : {A B : Type 0} (R : A → B → Type 0) (xs : List A) (ys : List B) → length xs ≡ length ys
     → ((i : ℕ) (d : A) (e : B) → i < length xs → R (get_or xs i d) (get_or ys i e)) → AllZip R xs ys

@@ -29,8 +29,6 @@ with_part : {A : Type 0} (f : List ℕ → List A) (done : List Found) (piece : 
     → flat_map f (all_found (done ++ piece ∷ [])) ≡ flat_map f (all_found done) ++ f piece.text.now
 with_part f done piece = parts_of f done (piece ∷ []) ∙ ap (λ zs. flat_map f (all_found done) ++ zs) (append-nil (f piece.text.now))
 
-}
-
 -- there is room for the next
 pub has_room : (old now : Reading) (text : List ℕ) (done left more : List Found) (piece : Found) (most : ℕ) → IsUnderWay old now text done left
     → left ≡ piece ∷ more → old.lines + length text < most → now.lines + length piece.text.now < most

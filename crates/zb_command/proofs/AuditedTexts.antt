@@ -46,8 +46,6 @@ taken bytes rest after count a b l s proper cut goes = record {
   stands = goes real s.lines readers_find s.stands;
 }
 
-}
-
 -- nothing is left
 pub whole : (bytes rest : Bytes) (count : ℕ) (a : Auditor) (s : IsAudited bytes rest count a) → rest ≡ [] → IsTranscript bytes s.lines
 whole bytes rest count a s none = record {

@@ -81,8 +81,6 @@ joined_shown frames addrs keys front back joined j e f next within shown also =
     ∙ ap (λ n. frames_text front.first x ++ frames_text n y) (sym place) ∙ sym (shown_append front.first x y)
     ∙ ap (λ n. frames_text n (x ++ y)) (sym j.first)) (both_settled x y a.1 b.1))
 
-}
-
 -- where the last two of some blocks stand
 record LastTwo (frame : ℕ) (rest : List Block) (last block : Block) : Type 0 where
   rest_numbers : Numbered frame rest

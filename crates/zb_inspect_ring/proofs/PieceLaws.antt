@@ -14,8 +14,6 @@ use Rattle.zb_inspect_ring.specs.declared.piece.Piece.{Piece}
 use Rattle.zb_inspect_ring.specs.declared.ring.Lead.{Lead}
 use Rattle.zb_inspect_ring.proofs.PieceLists.{counts_append, next_shown, same_counts, same_numbers}
 
-}
-
 pub next_piece : (frames : List (ArrayVec ℕ)) (addrs : List (Short × Eui)) (keys : List Key) (old new : Piece) → new.number ≡ old.number
     → AllZip (IsNext frames addrs keys) old.blocks.items new.blocks.items → new.leads.items ≡ all_fresh frames addrs keys old.blocks.items
     → IsNextPiece frames addrs keys old new

@@ -46,12 +46,23 @@ pub floor_found : (r : NetRow) (sender : ℕ) (f : SenderFloor) → Some f ≡ f
 unfolding sender_floor
 floor_found r sender f found = ap (λ o. floor_of_sender sender o) (ap (option_map heard_floor) found ∙ sym (find_map (λ (x : model.SenderFloor). nat_eq x.sender sender) heard_floor r.floors.items))
 
+same_rules_declared : (s : NodeState) (n : ℕ) → keeps_rules s ≡ true → keeps_rules (record s { declared = n }) ≡ true
+unfolding keeps_rules rows_have_room keys_differ at_most_two_live active_is_live partners_agree links_are_marked floors_are_kept limits_are_started role_is_kept pairs_are_kept
+same_rules_declared s n kept = kept
+
 same_rules_aps : (s : NodeState) (n : ℕ) → keeps_rules s ≡ true → keeps_rules (record s { aps_next = n }) ≡ true
 unfolding keeps_rules rows_have_room keys_differ at_most_two_live active_is_live partners_agree links_are_marked floors_are_kept limits_are_started role_is_kept pairs_are_kept
 same_rules_aps s n kept = kept
 
+pub declared_sound : (a : Contents) (n : ℕ) → IsSound a → IsSound (record a { declared = n })
+declared_sound a n sound = record { rules = same_rules_declared (state_of a) n sound.rules; forgets = sound.forgets; nets_room = sound.nets_room; links_room = sound.links_room; pairs_room = sound.pairs_room }
+
 pub aps_sound : (a : Contents) (n : ℕ) → IsSound a → IsSound (record a { aps_next = n })
 aps_sound a n sound = record { rules = same_rules_aps (state_of a) n sound.rules; forgets = sound.forgets; nets_room = sound.nets_room; links_room = sound.links_room; pairs_room = sound.pairs_room }
+
+pub declared_state : (s : NodeState) (n : ℕ) → s.nets ≡ [] → record s { declared = n } ≡ with_declared Nwk n s
+unfolding with_declared
+declared_state s n none = ap (λ l. record s { declared = n; nets = l }) (none ∙ sym (ap (map (declared_at n)) none))
 
 pub few_nets : (s : NodeState) → keeps_rules s ≡ true → length s.nets ≤ 256
 unfolding rows_have_room

@@ -98,6 +98,16 @@ impl Contents {
         }
     }
 
+    /// Sets the outgoing NWK counter of the start, before there is a network key.
+    pub(crate) fn declare(&mut self, start: u32)
+        requires sound { IsSound self.old }
+        requires empty { (state_of self.old).nets ≡ [] }
+        ensures state { state_of self.new ≡ with_declared Nwk start (state_of self.old) }
+        ensures sound { IsSound self.new }
+    {
+        self.declared = start;
+    }
+
     /// Goes on after a term that was sealed under a key of a layer with its next counter.
     pub(crate) fn seal(&mut self, layer: Layer, key: &Key)
         requires sound { IsSound self.old }

@@ -333,8 +333,6 @@ boot_fell node fall old new made0 x number is off =
 
 -- ---- a reset, arming, a later event
 
-}
-
 pub in_later : (x : Condition) (number : ℕ) (node : NodeValue) (m : Medium) → IsIn x number node m → IsIn x (number + 1) node m
 in_later x number node m is = record {
   standing = is.standing;

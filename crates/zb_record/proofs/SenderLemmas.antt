@@ -40,8 +40,6 @@ is_here floors sender i d lt here so = record {
       rw (← e) here;
 }
 
-}
-
 -- a floor that stands there is raised
 pub raised : (floors : List SenderFloor) (sender place value : ℕ) (d : SenderFloor) (m : ℕ) → place < length floors → (get_or floors place d).sender.0 ≡ sender
     → m ≡ max (get_or floors place d).stored value

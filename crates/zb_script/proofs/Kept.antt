@@ -93,8 +93,6 @@ with_peer peers new p out_block in_block steps s view is kept has free joins =
     ap (λ (t : Script). list_any (λ station. is_taken p.name.bytes p.eui.0 p.short.0 station) t.stations) view ∙ free in
     subst (λ stations. IsSoFar (record { stations = stations; out_block = out_block; in_block = in_block; steps = steps })) (sym seen) (peer_kept old (station_of p) kept (ap has_centre view ∙ has) apart joins)
 
-}
-
 -- ---- the whole
 
 all_seen : {X Y : Type 0} (view : X → Y) (P : Y → Type 0) (xs : List X) → AllByRecursion P (map view xs) → AllByRecursion (λ x. P (view x)) xs

@@ -20,10 +20,6 @@ pub record Learning (carried : Holdings Key) (old now : Keys) (start left : List
       → ((b k : List ℕ) → S b ≡ true → is_carried carried b k ≡ true → S k ≡ true)
       → ((k : List ℕ) → has now k ≡ true → S k ≡ true) × ((k : List ℕ) → is_among left k ≡ true → S k ≡ true)
 
-}
-
-}
-
 module _ (carried : Holdings Key) (old now new : Keys) (start left : List Key) (key : Key)
     (adds : (k : List ℕ) → has new k ≡ (has now k || bytes_eq k key.0)) (l : Learning carried old now start (left ++ key ∷ [])) where
   up : (k : List ℕ) → has now k ≡ true → has new k ≡ true
