@@ -1,7 +1,6 @@
 pub mod Completeness
 pub mod Finishing
 pub mod AuditedTexts
-pub mod DigitLemmas
 pub mod PlayedRuns
 pub mod Fronts
 mod PartLaws

@@ -1,5 +1,5 @@
 //! How the program ends.
-ghost use Rattle.std.specs.Prelude.{◌≡◌, ◌+◌, ◌<◌, ◌≤◌, ◌++◌, ◌∷◌, [], length, decimal, slice_index};
+ghost use Rattle.std.specs.Prelude.{◌≡◌, ◌+◌, ◌≤◌, ◌++◌, ◌∷◌, [], length, decimal};
 ghost use Rattle.hex.specs.Hex.{encode_upper};
 ghost use Rattle.arrayvec.specs.ArrayString.{array_string_len};
 ghost use Rattle.zb_text.specs.Fields.{short_text};
@@ -12,6 +12,7 @@ use zb_install::CodeError;
 use zb_pcap::PcapCause;
 use zb_sched::SchedCause;
 use zb_script::ScriptCause;
+use zb_text::hexadecimal::digits_of;
 
 /// How a run ended. Its number is the status of the process.
 #[derive(Clone, Copy, Debug, PartialEq, Eq)]
@@ -358,18 +359,7 @@ fn add_pair(text: &mut ArrayString<64>, byte: u8)
     ensures bytes { text.new.bytes ≡ text.old.bytes ++ encode_upper (byte ∷ []) }
     ensures len { array_string_len text.new ≡ array_string_len text.old + 2 }
 {
-    let [first, second] = pair(byte);
+    let [first, second] = digits_of(byte);
     text.push(char::from(first));
     text.push(char::from(second));
-}
-
-const DIGITS: [u8; 16] = *b"0123456789ABCDEF";
-
-#[tactic(auto, unfolding(hex::specs::Hex::encode_with))]
-fn pair(byte: u8) -> [u8; 2]
-    ensures digits { result ≡ encode_upper (byte ∷ []) }
-    ensures first { slice_index result 0 < 128 }
-    ensures second { slice_index result 1 < 128 }
-{
-    [DIGITS[(byte >> 4) as usize], DIGITS[(byte & 15) as usize]]
 }
