@@ -58,9 +58,3 @@ reason_detail NoDraw = detail.Nothing
 reason_detail CounterSpent = detail.Nothing
 reason_detail WrongHash = detail.Nothing
 reason_detail NoFrame = detail.Nothing
-
--- the reasons beside which nothing is reported: those of frames, and those of the policy
-abbrev pub plain_reasons : List Reason
-plain_reasons =
-    Down ∷ Malformed ∷ NotForMe ∷ Unsecured ∷ NoKey ∷ CounterMax ∷ BadMic ∷ Policy
-    ∷ NotMember ∷ WrongState ∷ KeysFull ∷ RowsFull ∷ NoDraw ∷ CounterSpent ∷ WrongHash ∷ NoFrame ∷ []

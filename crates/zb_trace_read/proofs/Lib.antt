@@ -1,4 +1,3 @@
 pub mod Choosing
-pub mod PlainRefusals
 pub mod Printed
 pub mod Taking

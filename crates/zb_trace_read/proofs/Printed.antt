@@ -32,7 +32,7 @@ use Rattle.zb_text.proofs.ReadAgain.{number_again, fixed_again, bytes_again, eui
 use Rattle.zb_trace.specs.Text.{Word, Fixed, Chosen, Number, CalledOrNobody, Address, ShortAddress, Secret, Octet, Octets, AllOctets, MayStand, spelled, counted, sequenced, begun, begun_of, roles, layers, labels, attributes, states, rollovers, places, answers, role_text, layer_text, label_text, attribute_text, state_text, rollover_text, place_text, answer_text, term_words, refusal_words, reason, words}
 use Rattle.zb_trace.specs.declared.line.Line.{Line}
 use Rattle.zb_trace.specs.declared.line.Line.TheVariants as line
-use Rattle.zb_trace_read.specs.Grammar.{behind_reason, Field, OneOf, ANameOrDash, AnAddress, AShort, AKey, AByte, SomeBytes, AllBytes, octet_of, value_of, shaped, a_count, a_sequence, a_layer, a_term, two_forms, a_refusal, plain_reason}
+use Rattle.zb_trace_read.specs.Grammar.{behind_reason, Field, OneOf, ANameOrDash, AnAddress, AShort, AKey, AByte, SomeBytes, AllBytes, octet_of, value_of, shaped, a_count, a_sequence, a_layer, a_term, two_forms, a_refusal, policy_reason, plain_reason}
 use Rattle.zb_trace_read.specs.Reading.{of_start, of_change, of_node, of_nobody, of_event, read_words}
 
 -- A word reads as itself in its place, and is a word.
@@ -206,7 +206,7 @@ refused_with at word f detail fit suit known = (
 )
 
 refusal_again : (r : Refusal) → AllByRecursion MayStand (refusal_words r) → Refused r
-unfolding refusal_words plain_reason
+unfolding refusal_words plain_reason policy_reason
 refusal_again (refusal.Down at) fits = refused_plainly at (codes "down") refl refl
 refusal_again (refusal.Malformed at) fits = refused_plainly at (codes "malformed") refl refl
 refusal_again (refusal.NotForMe at) fits = refused_plainly at (codes "not-for-me") refl refl

@@ -1,15 +1,13 @@
 //! What many lines share: terms and refusals.
-ghost use Rattle.std.specs.Prelude.{◌≡◌, ◌∷◌, [], IfSome, bytes_eq, find};
+ghost use Rattle.std.specs.Prelude.{◌∷◌, [], codes, IfSome};
 ghost use Rattle.std.specs.List.{AllByRecursion};
 ghost use Rattle.std.specs.Option.{option_map, option_and_then};
-ghost use Rattle.zb_node_types.specs.Changes.{reason};
-ghost use Rattle.zb_node_types.specs.Reasons.{key_in_use_word, key_old_word, reason_word, stale_word};
 ghost use Rattle.zb_text.specs.Words.{left, Shows};
 ghost use Rattle.zb_trace.specs.Text.{Chosen, Fixed, MayStand, place_text, places, refusal_words, term_words};
-ghost use Rattle.zb_trace_read.specs.Grammar.{AnAddress, a_count, a_refusal, a_term, plain_reason, shaped};
+ghost use Rattle.zb_trace_read.specs.Grammar.{AnAddress, a_count, a_refusal, a_term, plain_reason, policy_reason, shaped};
 
 use crate::fields::{count, eui, key, label, layer, octet, place, some_bytes};
-use zb_base::{Eui, Place};
+use zb_base::Place;
 use zb_node_types::Refusal;
 use zb_seal::Term;
 use zb_text::words::Words;
@@ -49,17 +47,11 @@ pub(crate) fn read_refusal(reader: &mut Words<'_>) -> Option<Refusal>
 {
     let place = place(reader)?;
     let reason = reader.word()?;
-    if reason == (Refusal::Stale { place, floor: 0 }).word() {
+    if reason == b"stale".as_slice() {
         read_stale(place, reader)
-    } else if reason == (Refusal::KeyOld { place, at: 0 }).word() {
+    } else if reason == b"key-old".as_slice() {
         read_key_old(place, reader)
-    } else if reason
-        == (Refusal::KeyInUse {
-            place,
-            partner: Eui(0),
-        })
-        .word()
-    {
+    } else if reason == b"key-in-use".as_slice() {
         read_key_in_use(place, reader)
     } else {
         read_plain(place, reason, reader)
@@ -70,7 +62,7 @@ pub(crate) fn read_refusal(reader: &mut Words<'_>) -> Option<Refusal>
 #[tactic(auto, unfolding(zb_trace::specs::Text::refusal_words))]
 fn read_stale(place: Place, reader: &mut Words<'_>) -> Option<Refusal>
     ensures value { Shows refusal_words result
-        (option_map (λ behind. Chosen places (place_text place) ∷ Fixed stale_word ∷ behind)
+        (option_map (λ behind. Chosen places (place_text place) ∷ Fixed (codes "stale") ∷ behind)
         (shaped (a_count ∷ []) (left reader.old))) }
     ensures fits { IfSome result (λ r. AllByRecursion MayStand (refusal_words r)) }
 {
@@ -83,7 +75,7 @@ fn read_stale(place: Place, reader: &mut Words<'_>) -> Option<Refusal>
 #[tactic(auto, unfolding(zb_trace::specs::Text::refusal_words))]
 fn read_key_old(place: Place, reader: &mut Words<'_>) -> Option<Refusal>
     ensures value { Shows refusal_words result
-        (option_map (λ behind. Chosen places (place_text place) ∷ Fixed key_old_word ∷ behind)
+        (option_map (λ behind. Chosen places (place_text place) ∷ Fixed (codes "key-old") ∷ behind)
         (shaped (a_count ∷ []) (left reader.old))) }
     ensures fits { IfSome result (λ r. AllByRecursion MayStand (refusal_words r)) }
 {
@@ -96,7 +88,7 @@ fn read_key_old(place: Place, reader: &mut Words<'_>) -> Option<Refusal>
 #[tactic(auto, unfolding(zb_trace::specs::Text::refusal_words))]
 fn read_key_in_use(place: Place, reader: &mut Words<'_>) -> Option<Refusal>
     ensures value { Shows refusal_words result
-        (option_map (λ behind. Chosen places (place_text place) ∷ Fixed key_in_use_word ∷ behind)
+        (option_map (λ behind. Chosen places (place_text place) ∷ Fixed (codes "key-in-use") ∷ behind)
         (shaped (AnAddress ∷ []) (left reader.old))) }
     ensures fits { IfSome result (λ r. AllByRecursion MayStand (refusal_words r)) }
 {
@@ -118,38 +110,56 @@ fn read_plain(place: Place, reason: &[u8], reader: &mut Words<'_>) -> Option<Ref
 }
 
 /// Reads the refusal of a reason without a detail.
+#[tactic(auto, unfolding(zb_trace::specs::Text::refusal_words, crate::specs::Grammar::plain_reason))]
 fn plain_refusal(place: Place, reason: &[u8]) -> Option<Refusal>
     ensures value { Shows refusal_words result
         (option_map (λ word. Chosen places (place_text place) ∷ word ∷ []) (plain_reason reason.now)) }
     ensures fits { IfSome result (λ r. AllByRecursion MayStand (refusal_words r)) }
 {
-    let plain = [
-        Refusal::Down { place },
-        Refusal::Malformed { place },
-        Refusal::NotForMe { place },
-        Refusal::Unsecured { place },
-        Refusal::NoKey { place },
-        Refusal::CounterMax { place },
-        Refusal::BadMic { place },
-        Refusal::Policy { place },
-        Refusal::NotMember { place },
-        Refusal::WrongState { place },
-        Refusal::KeysFull { place },
-        Refusal::RowsFull { place },
-        Refusal::NoDraw { place },
-        Refusal::CounterSpent { place },
-        Refusal::WrongHash { place },
-        Refusal::NoFrame { place },
-    ];
-    with_word(reason, &plain)
+    if reason == b"down".as_slice() {
+        Some(Refusal::Down { place })
+    } else if reason == b"malformed".as_slice() {
+        Some(Refusal::Malformed { place })
+    } else if reason == b"not-for-me".as_slice() {
+        Some(Refusal::NotForMe { place })
+    } else if reason == b"unsecured".as_slice() {
+        Some(Refusal::Unsecured { place })
+    } else if reason == b"no-key".as_slice() {
+        Some(Refusal::NoKey { place })
+    } else if reason == b"counter-max".as_slice() {
+        Some(Refusal::CounterMax { place })
+    } else if reason == b"bad-mic".as_slice() {
+        Some(Refusal::BadMic { place })
+    } else if reason == b"policy".as_slice() {
+        Some(Refusal::Policy { place })
+    } else {
+        policy_refusal(place, reason)
+    }
 }
 
-/// Returns the first of the refusals that has the word.
-fn with_word(word: &[u8], refusals: &[Refusal]) -> Option<Refusal>
-    ensures { result ≡ find (λ r. bytes_eq word.now (reason_word (reason r))) refusals.now }
+#[tactic(auto, unfolding(zb_trace::specs::Text::refusal_words, crate::specs::Grammar::policy_reason))]
+fn policy_refusal(place: Place, reason: &[u8]) -> Option<Refusal>
+    ensures value { Shows refusal_words result
+        (option_map (λ word. Chosen places (place_text place) ∷ word ∷ []) (policy_reason reason.now)) }
+    ensures fits { IfSome result (λ r. AllByRecursion MayStand (refusal_words r)) }
 {
-    refusals
-        .iter()
-        .find(|refusal| word == refusal.word())
-        .copied()
+    if reason == b"not-member".as_slice() {
+        Some(Refusal::NotMember { place })
+    } else if reason == b"wrong-state".as_slice() {
+        Some(Refusal::WrongState { place })
+    } else if reason == b"keys-full".as_slice() {
+        Some(Refusal::KeysFull { place })
+    } else if reason == b"rows-full".as_slice() {
+        Some(Refusal::RowsFull { place })
+    } else if reason == b"no-draw".as_slice() {
+        Some(Refusal::NoDraw { place })
+    } else if reason == b"counter-spent".as_slice() {
+        Some(Refusal::CounterSpent { place })
+    } else if reason == b"wrong-hash".as_slice() {
+        Some(Refusal::WrongHash { place })
+    } else if reason == b"no-frame".as_slice() {
+        Some(Refusal::NoFrame { place })
+    } else {
+        None
+    }
 }
