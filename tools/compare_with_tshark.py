@@ -146,7 +146,9 @@ def compare_made(program, count, start):
     finish(total, *sums)
 
 def main(words):
-    if len(words) == 2:
+    if words in (['-h'], ['--help']):
+        print(__doc__)
+    elif len(words) == 2:
         compare_transcript(*words)
     elif len(words) == 4 and words[1] == '--made' and words[2].isdecimal() and words[3].isdecimal():
         compare_made(words[0], int(words[2]), int(words[3]))

@@ -95,6 +95,9 @@ def made(start, n):
 
 
 if __name__ == '__main__':
+    if sys.argv[1:] in (['-h'], ['--help']):
+        print(__doc__)
+        sys.exit()
     if len(sys.argv) != 3 or not all(it.isdecimal() for it in sys.argv[1:]) or not 1 <= int(sys.argv[2]) <= 60 or int(sys.argv[1]) > MASK:
         sys.exit(__doc__)
     print('\n'.join(made(int(sys.argv[1]), int(sys.argv[2]))))

@@ -31,11 +31,6 @@ maybe_fits : (change : ℕ → Edit) (o : Option ℕ) (s : NodeState) → ((valu
 maybe_fits change None s k = fit_none s
 maybe_fits change (Some value) s k = fit_then (change value) [] s (k value refl) (fit_none (applied (change value) s))
 
-maybe_bare : (change : ℕ → Edit) (o : Option ℕ) (s : NodeState) → ((value : ℕ) → bare (applied (change value) s) ≡ bare s) → bare (applied_all (maybe change o) s) ≡ bare s
-unfolding applied_all
-maybe_bare change None s k = refl
-maybe_bare change (Some value) s k = k value
-
 few_maybe : (change : ℕ → Edit) (o : Option ℕ) → length (maybe change o) ≤ 1
 few_maybe change None = omega arith
 few_maybe change (Some value) = omega arith

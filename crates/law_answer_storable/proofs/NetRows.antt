@@ -54,16 +54,6 @@ has_live (Some r) = refl
 pub live_found : (key : Bytes) (nets : List NetKey) → all_apart nets_alike nets ≡ true → list_any (λ (r : NetKey). r.live && same_key r.key key) nets ≡ true → row_is_live (find (λ (r : NetKey). same_key r.key key) nets) ≡ true
 live_found key nets apart some = sym (has_live (find (λ (r : NetKey). same_key r.key key) nets)) ∙ found_has (λ (r : NetKey). r.live) key nets apart some
 
--- one row less is live after a live one was dropped
-live_any : (key : Bytes) (nets : List NetKey) → row_is_live (find (of_key key) nets) ≡ true → list_any (λ (r : NetKey). r.live && same_key r.key key) nets ≡ true
-live_any key [] e = e
-live_any key (x ∷ xs) e = by_test (same_key x.key key) e (live_any key xs)
-  where
-    by_test : (b : Bool) → row_is_live (if b then Some x else find (of_key key) xs) ≡ true → (row_is_live (find (of_key key) xs) ≡ true → list_any (λ (r : NetKey). r.live && same_key r.key key) xs ≡ true)
-        → ((x.live && b) || list_any (λ (r : NetKey). r.live && same_key r.key key) xs) ≡ true
-    by_test true e later = rw e refl
-    by_test false e later = or_true (x.live && false) _ (later e)
-
 abbrev alive : NetKey → Bool
 alive r = r.live
 

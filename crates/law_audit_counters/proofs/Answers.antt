@@ -45,10 +45,6 @@ in_map f x [] i = absurd i
 in_map f x (z ∷ xs) (inl e) = inl (ap f e)
 in_map f x (z ∷ xs) (inr i) = inr (in_map f x xs i)
 
-pub first_in : {X : Type 0} (x : X) (xs : List X) → In x (x ∷ xs)
-unfolding In
-first_in x xs = inl refl
-
 in_flat : {X Y : Type 0} (f : X → List Y) (y : Y) (x : X) (xs : List X) → In y (f x) → In x xs → In y (flat_map f xs)
 unfolding In
 in_flat f y x [] there i = absurd i

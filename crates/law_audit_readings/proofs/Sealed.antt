@@ -18,11 +18,6 @@ use Rattle.zb_trace_model.specs.Said.{IsOfNodes, line_for}
 use Rattle.zb_trace.specs.declared.line.Line.{Line}
 use Rattle.zb_trace.specs.declared.line.Line.TheVariants as line
 
--- which key the seals are under: at NWK one, at APS any
-abbrev pub key_at : model.Layer → Bytes → Option Bytes
-key_at model.Nwk key = Some key
-key_at model.Aps key = None
-
 bytes_turned : (a b : Bytes) → bytes_eq a b ≡ bytes_eq b a
 bytes_turned a b =
     bool_same (bytes_eq a b) (bytes_eq b a) (λ e. (bytes_eq-Decides b a).1 (sym ((bytes_eq-Decides a b).0 e))) (λ e. (bytes_eq-Decides a b).1 (sym ((bytes_eq-Decides b a).0 e)))

@@ -19,10 +19,6 @@ same_bool_sym true false = refl
 same_bool_sym false true = refl
 same_bool_sym false false = refl
 
-same_bool_refl : (b : Bool) → same_bool b b ≡ true
-same_bool_refl true = refl
-same_bool_refl false = refl
-
 -- The rows of a partner in use are reported as the partner is.
 
 -- a row of the partner in use that isn't told so

@@ -3,12 +3,6 @@ use Rattle.std.proofs.Common.{◌≡◌, ℕ, zero, suc, ◌<◌, List, [], ◌�
 use Rattle.std.specs.List.{Any}
 use Rattle.law_run.proofs.Judged.{In}
 
-pub any-first : {X : Type 0} (P : X → Type 0) (x : X) (xs : List X) → P x → Any P (x ∷ xs)
-any-first P x xs p = (0, x, zero-lt-suc (length xs), refl, p)
-
-pub any-later : {X : Type 0} (P : X → Type 0) (x : X) (xs : List X) → Any P xs → Any P (x ∷ xs)
-any-later P x xs a = (suc a.0, a.1, suc-le-suc a.2, a.3, a.4)
-
 at-place : {X : Type 0} (xs : List X) (k : ℕ) (x : X) → k < length xs → get_or xs k x ≡ x → In x xs
 unfolding In
 at-place [] k x lt e = absurd (not-suc-le-zero lt)

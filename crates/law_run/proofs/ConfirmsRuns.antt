@@ -247,10 +247,6 @@ seals-claim : (tools : Tools) (c number n : ℕ) (h : List Line) (ts : List Term
 seals-claim tools c number n h [] a = tt
 seals-claim tools c number n h (t ∷ ts) a = (a.0, seals-claim tools c number n (h ++ Seal number n t ∷ []) ts (all-map (Claim tools c n h) (Claim tools c n (h ++ Seal number n t ∷ [])) (λ u k. claim-line tools c number n h u t k) ts a.1))
 
--- what a Confirm-Key needs, as the plan has it
-abbrev Ready : Setting → NodeState → List Move → Bytes → Command → Type 0
-Ready c s moves base model_command = CommandFits c s None moves base model_command
-
 abbrev IsNwk : Layer → Type 0
 IsNwk Nwk = Unit {0}
 IsNwk Aps = ⊥

@@ -35,29 +35,4 @@ unfolding HoldsOf
 finds-append P test [] ys h = absurd h
 finds-append P test (x ∷ xs) ys h = holds-cons P x (test x) (find test xs) (find test (xs ++ ys)) (finds-append P test xs ys) h
 
-pub finds-add : {X : Type 0} (P : X → Type 0) (test : X → Bool) (b : Bool) (xs ys : List X) → Finds P test xs → Finds P test (cond b xs (xs ++ ys))
-finds-add P test true xs ys h = h
-finds-add P test false xs ys h = finds-append P test xs ys h
-
-holds-both : {X : Type 0} (P Q : X → Type 0) (o : Option X) → HoldsOf P o → HoldsOf Q o → HoldsOf (λ x. P x × Q x) o
-unfolding HoldsOf
-holds-both P Q None p q = absurd p
-holds-both P Q (Some x) p q = (p, q)
-
-pub finds-both : {X : Type 0} (P Q : X → Type 0) (test : X → Bool) (xs : List X) → Finds P test xs → Finds Q test xs → Finds (λ x. P x × Q x) test xs
-finds-both P Q test xs p q = holds-both P Q (find test xs) p q
-
--- an update of what the other test finds
-pub update : {X : Type 0} → (X → Bool) → (X → X) → X → X
-update other f x = cond (other x) (f x) x
-
 -- elements
-
-pub In : {X : Type 0} → X → List X → Type 0
-In x [] = ⊥
-In x (y ∷ ys) = (y ≡ x) ⊎ In x ys
-
-pub in-append : {X : Type 0} (x : X) (xs ys : List X) → In x (xs ++ ys) → In x xs ⊎ In x ys
-unfolding In
-in-append x [] ys i = inr i
-in-append x (z ∷ xs) ys i = ⊎_elim (λ e. inl (inl e)) (λ j. ⊎_elim (λ k. inl (inr k)) (λ k. inr k) (in-append x xs ys j)) i

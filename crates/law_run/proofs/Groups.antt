@@ -148,9 +148,6 @@ ready-accepted s0 send t s r = record {
 
 -- What a plan that may seal has
 
-some-is : {X : Type 0} (d x : X) (o : Option X) → o ≡ Some x → Rattle.std.specs.Prelude.unwrap_or o d ≡ x
-some-is d x o e = ap (λ p. Rattle.std.specs.Prelude.unwrap_or p d) e
-
 next-is : (s : NodeState) (r : NetKey) → active_row s ≡ Some r → next_counter Nwk s ≡ r.next
 unfolding next_counter
 next-is s r e = ap (λ o. next_of s.declared o) e

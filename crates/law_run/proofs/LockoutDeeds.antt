@@ -231,14 +231,6 @@ of-member c b e = not-true (is_centre c.me.role) (needs (is_member c) b e).0
 of-centre : (c : Setting) (b : Bool) → not (is_centre c.me.role && b) ≡ false → is_centre c.me.role ≡ true
 of-centre c b e = (needs (is_centre c.me.role) b e).0
 
-router-member : (d : Role) → is_router d ≡ true → is_centre d ≡ false
-router-member Centre e = absurd (false≢true e)
-router-member Router e = refl
-router-member Device e = refl
-
-of-router : (c : Setting) (b : Bool) → not (is_router c.me.role && b) ≡ false → is_centre c.me.role ≡ false
-of-router c b e = router-member c.me.role (needs (is_router c.me.role) b e).0
-
 -- Rows that are found
 
 live-of : (p : ℕ) (r : LinkKey) → is_live_of p r ≡ true → (r.live ≡ true) × (r.partner ≡ p)

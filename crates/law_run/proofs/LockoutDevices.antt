@@ -55,10 +55,6 @@ unfolding other_user
 user-is s p k e q r = sym r.partner ∙ eqb-true r.row.partner p (not-other (same_key r.row.key k) (nat_eq r.row.partner p) (subst (λ y. same_key r.row.key y ≡ true) r.key (same_key-refl r.row.key))
     (none-found (λ (y : LinkKey). same_key y.key k && not (nat_eq y.partner p)) s.links e r.row r.among))
 
-none-left : (k : Bytes) (xs ys : List Bytes) → IsNoneOf (xs ++ ys) k → IsNoneOf xs k
-none-left k [] ys a = tt
-none-left k (z ∷ xs) ys a = (a.0, none-left k xs ys a.1)
-
 none-right : (k : Bytes) (xs ys : List Bytes) → IsNoneOf (xs ++ ys) k → IsNoneOf ys k
 none-right k [] ys a = a
 none-right k (z ∷ xs) ys a = none-right k xs ys a.1
@@ -308,14 +304,6 @@ named-role ps c n h (Some p) e q one same other = joins-by h n p p.role e refl (
     found = found-element (λ (y : Station). nat_eq y.eui n) ps p (subst (λ ss. find (λ (y : Station). nat_eq y.eui n) ss ≡ Some p) same e)
 
 -- keys that a device had are among those that it ever had
-
-flat-in : {X : Type 0} (f : X → List Bytes) (k : Bytes) (xs : List X) → In k (flat_map f xs) → (y : X) × In y xs × In k (f y)
-unfolding In
-flat-in f k [] i = absurd i
-flat-in f k (x ∷ xs) i = ⊎_elim (λ a. (x, inl refl, a)) (λ a. later (flat-in f k xs a)) (in-append' k (f x) (flat_map f xs) i)
-  where
-    later : ((y : _) × In y xs × In k (f y)) → (y : _) × In y (x ∷ xs) × In k (f y)
-    later o = (o.0, inr o.1, o.2)
 
 base-ever : (known : List Station) (d : ℕ) (l : Line) (k : Bytes) → In k (base_in d l) → In k (ever_in known d l)
 base-ever known d (GivenLink m p key) k i = i

@@ -394,10 +394,6 @@ live-kept x h e n p k g = (
   ledger-step (centre x) x.schedule.draws (InNet x) (InNets x) h (Changed e n (Moved (Live p))) g (bare-books x h (Changed e n (Moved (Live p))) (live-bare x h e n p) (λ j i. nowhere j i)),
 )
 
-removed-gone : (d p : ℕ) (a : Away) (b : Bool) → nat_eq p d ≡ b → (p ≡ d → ⊥) ⊎ (p ≡ d)
-removed-gone d p a true e = inr (eqb-true p d e)
-removed-gone d p a false e = inl (λ q. false≢true (sym e ∙ eq-eqb p d q))
-
 pub removed-step : (x : Case) (h : List Line) (e n p : ℕ) → (p ≡ x.device → NoLive (state_of h (centre x)) x.device) → Whole x h → Whole x (h ++ Changed e n (Moved (Removed p)) ∷ [])
 removed-step x h e n p none w = whole-step x h (Changed e n (Moved (Removed p))) w
     (bare-fits x h (Changed e n (Moved (Removed p))) (removed-bare x h e n p) (λ j i. nowhere j i))

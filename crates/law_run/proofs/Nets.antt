@@ -151,14 +151,6 @@ gives-closed c = record {
 pub gives-started : (c value : ℕ) → value ≤ c → Keeps (Gives c) (started_at value)
 gives-started c value le = record { key = λ r. refl; kept = λ r h. (refl, omega (arith, h.1, le), omega (arith, h.2)) }
 
--- the found row, changed under its own key
-found-changed : (P Q : NetKey → Type 0) (f : NetKey → NetKey) (b : Bool) (r : NetKey) → b ≡ true → ((r : NetKey) → P r → Q (f r)) → P r → Q (cond b (f r) r)
-found-changed P Q f true r e k h = k r h
-found-changed P Q f false r e k h = absurd (false-true e)
-  where
-    false-true : false ≡ true → ⊥
-    false-true e = Rattle.std.proofs.lemmas.Bool.false≢true e
-
 pub on-map-found : (P Q : NetKey → Type 0) (f : NetKey → NetKey) (base : Bytes) (nets : List NetKey) → ((r : NetKey) → (f r).key ≡ r.key) → ((r : NetKey) → P r → Q (f r)) → On P base nets → On Q base (at_net base f nets)
 unfolding Holds
 on-map-found P Q f base [] same k h = absurd h

@@ -70,14 +70,6 @@ pub hidden-declared : (w : Schedule) (n d : ℕ) → is_declared (setting_of w n
 unfolding setting_of
 hidden-declared w n d = ap is_some (hidden-station (stations w) d) ∙ some-map without_blocks (station_of (stations w) d)
 
-hidden-eui : (o : Option Station) → eui_or nobody (option_map without_blocks o) ≡ eui_or nobody o
-hidden-eui None = refl
-hidden-eui (Some p) = refl
-
-pub hidden-centre : (w : Schedule) (n : ℕ) → centre_of (setting_of w n).stations ≡ centre_of (stations w)
-unfolding centre_of setting_of
-hidden-centre w n = ap (eui_or nobody) (find-map (λ (p : Station). is_centre p.role) without_blocks (λ p. refl) (stations w)) ∙ hidden-eui (find (λ (p : Station). is_centre p.role) (stations w))
-
 -- The lines of a step
 
 either : (P : List Line → Type 0) (b : Bool) (x y : Step) → P x.lines → P y.lines → P (cond b x y).lines

@@ -70,9 +70,6 @@ edit_stands known event n (model.Moved (model.Roll b)) s w = (w.0, (w.1.0, (s, w
 edit_stands known event n (model.Moved (model.Told d)) s w = w
 edit_stands known event n (model.Moved (model.Untold d)) s w = w
 
-abbrev spelled_name : Station → Type 0
-spelled_name p = is_name p.name ≡ true
-
 pub line_stands : (known : List Station) → AreNamed known → (m : log.Line) → IsOfSchedule known m → IsWide m → Stands known m
 unfolding IsWide line_for term_words
 line_stands known fits (log.Declared p) is w = (w.0, (w.1.0, (is.1 (λ (q : Station). is_name q.name) fits.names, w.1.1.1)))

@@ -6,13 +6,6 @@ use Rattle.zb_model.specs.Lines as log
 use Rattle.zb_trace_model.specs.Said.{line_for}
 use Rattle.zb_trace.specs.Text.{Word, Called, CalledOrNobody, MayStand, words}
 
--- the bytes of a key, and those of a frame
-abbrev pub IsKey : List ℕ → Type 0
-IsKey key = IsBytes key × (length key ≡ 16)
-
-abbrev pub IsShort : List ℕ → Type 0
-IsShort bytes = IsBytes bytes × (length bytes ≤ 127)
-
 -- which words may stand in a line, but for names
 abbrev pub MayBe : Word → Type 0
 MayBe (Called name) = Unit {0}

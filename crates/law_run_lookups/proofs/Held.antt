@@ -296,9 +296,6 @@ removed-none kk s s1 same p k h = gone (drops-back kk s p k true (filter (is_liv
     gone : Has p k true s1.links × AllByRecursion (Missed p k) (filter (is_live_of p) s.links) → ⊥
     gone f = at ((same p k true).1 f.0) f.1
 
-OfPartner : ℕ → LinkKey → Type 0
-OfPartner p r = r.partner ≡ p
-
 partner-only : (p : ℕ) (rs : List LinkKey) (more : List Move) → AllByRecursion (OnlyOf p) more → AllByRecursion (OnlyOf p) (map drop_link (filter (is_live_of p) rs) ++ more)
 partner-only p [] more a = a
 partner-only p (r ∷ rs) more a = by-test (is_live_of p r) refl (partner-only p rs more a)

@@ -87,9 +87,6 @@ bo s rest f = ue s (spent Nwk s || spent Aps s) CounterSpent rest (λ e. f (neit
 
 -- Rows that are there
 
-some-of : {A : Type 0} (o : Option A) (a : A) → o ≡ Some a → is_some o ≡ true
-some-of o a e = ap is_some e
-
 usable-by : (b : Bool) (o : Option NetKey) → is_some (cond b o None) ≡ true → is_some o ≡ true
 usable-by true o e = e
 usable-by false o e = absurd (false≢true e)

@@ -120,9 +120,6 @@ nets-add : (c : Setting) (b : Bool) (key : Bytes) (q : ℕ) (nets : List NetKey)
 nets-add c true key q nets a = a
 nets-add c false key q nets a = all-append (FloorsOf c) nets (new_net key q ∷ []) a (tt, tt)
 
-IsOf : Setting → SenderFloor → Type 0
-IsOf c f = is_declared c f.sender ≡ true
-
 stored-of : (c : Setting) (sender value : ℕ) → is_declared c sender ≡ true → (fs : List SenderFloor) → AllByRecursion (λ (f : SenderFloor). is_declared c f.sender ≡ true) fs → AllByRecursion (λ (f : SenderFloor). is_declared c f.sender ≡ true) (floor_stored sender value fs)
 stored-of c sender value d [] a = (d, tt)
 stored-of c sender value d (f ∷ fs) a = by-tests (nat_lt sender f.sender) (nat_eq sender f.sender) (stored-of c sender value d fs a.1)

@@ -122,12 +122,6 @@ member-deed c s task moves e (pairs m a b k new la lb q) = absurd (false≢true 
 member-deed c s task moves e (enters m p k by dead none q) = absurd (false≢true (sym e ∙ m))
 member-deed c s task moves e (removes m p live q) = absurd (false≢true (sym e ∙ m))
 
--- of a node with the setting c and the state s, with the plan p
-record Answering (w : Schedule) (h : List Line) (n : ℕ) (task : Task) (s : NodeState) (kk : Counting) (p : Plan) : Type 0 where
-  is : TaskOf (EntersOwn w) w h n task
-  deed : Deed (setting_of w n) s task (moves_of p.outcome)
-  state : s ≡ state_of h n
-
 -- the state after reserves and floors
 middle : NodeState → Counting → Plan → NodeState
 middle s kk p = applied_all (rest_edits kk p.accepts) s

@@ -79,10 +79,6 @@ payload_in f (Some term) b t = t.content
 
 -- ---- the APS part
 
-abbrev EuiOf : Option Station → Option ℕ
-EuiOf None = None
-EuiOf (Some p) = Some p.eui
-
 declared_by : (c : Setting) (f : NwkShown) (l : Label) (n : ℕ) (o : Option Station) → station_at c.stations f.source ≡ o → IfSome o StationHasEui → IfSome (aps_source c f (record { label = l; counter = n; source = None })) IsEui
 declared_by c f l n None e is = rw e tt
 declared_by c f l n (Some p) e is = rw e is

@@ -43,7 +43,3 @@ pub item : {X : Type 0} (P : X → Type 0) (xs : List X) (i : ℕ) → AllByRecu
 item P [] i all = tt
 item P (x ∷ xs) zero all = all.0
 item P (x ∷ xs) (suc i) all = item P xs i all.1
-
-pub if_any : {X : Type 0} (o : Option X) → IfSome o (λ (x : X). Unit {0})
-if_any None = tt
-if_any (Some x) = tt

@@ -17,10 +17,6 @@ pub active_in : (s : NodeState) → StateInRange s → IfSome (active_row s) Net
 unfolding active_row
 active_in s is = in_active_row s.active s is
 
-pub usable_active_in : (s : NodeState) → StateInRange s → IfSome (usable_active s) NetInRange
-unfolding usable_active
-usable_active_in s is = if_then (λ (o : Option NetKey). IfSome o NetInRange) (may_use s) (active_row s) None (active_in s is) tt
-
 live_in : (s : NodeState) → StateInRange s → AllByRecursion NetInRange (live_nets s)
 live_in s is = filtered NetInRange (λ (r : NetKey). r.live) s.nets is.0
 

@@ -104,10 +104,6 @@ stands_more tools opens judged w i before disks number event named ready s =
 
 -- ---- the start
 
-abbrev IsThere : Option Node → Type 0
-IsThere None = ⊥
-IsThere (Some m) = Unit {0}
-
 found_as : {C : Type 0} (n : ℕ) (ms : List Node) → is_some (find (λ (p : Station). nat_eq p.eui n) (map (λ (m : Node). m.station) ms)) ≡ true → ((m : Node) → find (has_eui n) ms ≡ Some m → has_eui n m ≡ true → C) → C
 found_as n [] named k = absurd (false≢true named)
 found_as {C} n (m ∷ ms) named k = by_test (has_eui n m) refl named k (λ more j. found_as n ms more j)

@@ -244,9 +244,6 @@ start_is s0 key v e = by_test (is_started_key s0 key) refl e
     by_test true f g = absurd (subst is_some_none (sym g) tt)
     by_test false f g = (f, subst (λ n. n ≤ greatest_counter) (ap (λ o. Rattle.std.specs.Prelude.unwrap_or o 0) g) (first_small (nat_le half (next_counter Nwk s0)) refl))
 
-abbrev Unstarted : Bytes → NodeState → Type 0
-Unstarted key s = started key s.nets ≡ false
-
 start_fits : (was : Bytes → Bool) (k : Bytes) (v : ℕ) (s : NodeState) → started k s.nets ≡ false → v ≤ greatest_counter → fits (Start k v) s ≡ true → FitsStart k v s
 start_fits was k v s unstarted small e =
     let may = may_start k v s e in

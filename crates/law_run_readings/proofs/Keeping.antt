@@ -130,14 +130,6 @@ only_link f test k = record { keeps = record { partner = λ r. partner_ (test r)
 pub plain_link : (f : LinkKey → LinkKey) → ((r : LinkKey) → (f r).partner ≡ r.partner) → ((r : LinkKey) → (f r).key ≡ r.key) → ((r : LinkKey) → (f r).stored ≡ r.stored) → LeavesLink f
 plain_link f partner key stored = record { keeps = record { partner = partner; key = key }; stored = stored }
 
-absent_link : (p : ℕ) (key : Bytes) (links : List LinkKey) → has_link p key links ≡ false → link_at p key links ≡ None
-absent_link p key [] e = refl
-absent_link p key (r ∷ rs) e = by_test (is_link p key r) e (absent_link p key rs)
-  where
-    by_test : (b : Bool) → (b || has_link p key rs) ≡ false → (has_link p key rs ≡ false → link_at p key rs ≡ None) → cond b (Some r) (link_at p key rs) ≡ None
-    by_test true e k = absurd (false≢true (sym e))
-    by_test false e k = k e
-
 -- a row more with no floor
 more_link : (x : LinkKey) → x.stored ≡ 0 → (p : ℕ) (key : Bytes) (links : List LinkKey) → link_stored (link_at p key (links ++ x ∷ [])) ≡ link_stored (link_at p key links)
 more_link x zero_is p key [] = by_test (is_link p key x)

@@ -35,14 +35,6 @@ other_row f same a key nets other = changed_at f same a key nets ∙ by_row (row
     by_row None e = refl
     by_row (Some r) e = ap (λ b. Some (cond b (f r) r)) (ap (λ k. same_key k a) (same_key-eq r.key key (found-key key nets r e)) ∙ other)
 
-pub has_row : (key : Bytes) (nets : List NetKey) → row_at key nets ≡ None → has_net key nets ≡ false
-has_row key [] e = refl
-has_row key (r ∷ rs) e = by_test (same_key r.key key) e (has_row key rs)
-  where
-    by_test : (b : Bool) → cond b (Some r) (row_at key rs) ≡ None → (row_at key rs ≡ None → has_net key rs ≡ false) → (b || has_net key rs) ≡ false
-    by_test true e k = absurd (none-some r (sym e))
-    by_test false e k = k e
-
 -- one row more
 pub new_row_other : (x : NetKey) (key : Bytes) (nets : List NetKey) → same_key x.key key ≡ false → row_at key (nets ++ x ∷ []) ≡ row_at key nets
 new_row_other x key [] other = ap (λ b. cond b (Some x) None) other
@@ -63,9 +55,6 @@ absent_row key (r ∷ rs) e = by_test (same_key r.key key) e (absent_row key rs)
     by_test : (b : Bool) → (b || has_net key rs) ≡ false → (has_net key rs ≡ false → row_at key rs ≡ None) → cond b (Some r) (row_at key rs) ≡ None
     by_test true e k = absurd (false≢true (sym e))
     by_test false e k = k e
-
-pub there_row : (key : Bytes) (nets : List NetKey) → has_net key nets ≡ true → row_at key nets ≡ None → ⊥
-there_row key nets there none = false≢true (sym (has_row key nets none) ∙ there)
 
 -- ---- the floors of a row
 

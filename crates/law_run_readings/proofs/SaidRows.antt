@@ -139,11 +139,6 @@ installed_row k q lim sealed d key nets is = by_has (has_net k nets) refl
             subst (RowIs lim sealed d) (ap (λ x. Some (new_net k q)) at ∙ sym (ap (λ x. row_at x (nets ++ new_net k q ∷ [])) (sym at) ∙ new_row_own (new_net k q) nets e))
             (subst (λ o. SaysRow o sealed d (new_net k q)) (sym says.0) (subst (λ o. SaysRow None o d (new_net k q)) (sym says.1) (new_says k q d)))
 
--- the row of the active key is reserved
-abbrev pub HasStarted : Option NetKey → Type 0
-HasStarted None = ⊥
-HasStarted (Some r) = r.started ≡ true
-
 by_own : (f : NetKey → NetKey) (lim lim' sealed sealed' : Option ℕ) (d : ℕ) (o : Option NetKey) → (o ≡ None → ⊥) → ((r : NetKey) → o ≡ Some r → SaysRow lim sealed d r → SaysRow lim' sealed' d (f r))
     → RowIs lim sealed d o → RowIs lim' sealed' d (option_map f o)
 by_own f lim lim' sealed sealed' d None there k is = absurd (there refl)

@@ -48,9 +48,6 @@ wire_length_in t is =
 
 -- ---- commands
 
-eight : (n : ℕ) → length (to_le_bytes w64 n) ≡ 8
-eight n = refl
-
 pub spelled_in : (c : Command) → CommandInRange c → AreBytes (real.spelled c)
 unfolding real
 spelled_in (TransportNet key sequence destination source) r = (

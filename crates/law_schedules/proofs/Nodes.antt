@@ -11,10 +11,6 @@ use Rattle.zb_sched.specs.Valid.{Pairwise}
 abbrev pub first_by : (Station → Bool) → List Station → ℕ
 first_by test ps = eui_or nobody (find test ps)
 
--- a node that is found is a declared one
-hit : (n : ℕ) (p : Station) (o : Option Station) (b : Bool) → (b ≡ true) → is_some (cond b (Some p) o) ≡ true
-hit n p o b e = rw e refl
-
 or_later : (p : Station) (o : Option Station) (b : Bool) → is_some o ≡ true → is_some (cond b (Some p) o) ≡ true
 or_later p o true e = refl
 or_later p o false e = e

@@ -21,9 +21,6 @@ each_found (Some a) reason rest more same = same a
 pub in_active : (s : NodeState) (reason : Reason) (rest more : NetKey → Outcome) → ((r : NetKey) → rest (shown_net r) ≡ more r) → found_or (active_row (shown s)) reason rest ≡ found_or (active_row s) reason more
 in_active s reason rest more same = ap (λ o. found_or o reason rest) (active_same s) ∙ row_shown (active_row s) reason rest more same
 
-in_usable : (s : NodeState) (reason : Reason) (rest more : NetKey → Outcome) → ((r : NetKey) → rest (shown_net r) ≡ more r) → found_or (usable_active (shown s)) reason rest ≡ found_or (usable_active s) reason more
-in_usable s reason rest more same = ap (λ o. found_or o reason rest) (usable_active_same s) ∙ row_shown (usable_active s) reason rest more same
-
 -- ---- of every node, of routers and devices
 
 -- ---- of every node, of routers and devices

@@ -156,9 +156,6 @@ module _ (n : ℕ) (m : Node) (is : has_eui n m ≡ true) where
       fold-append (heard_line n) s (limit_line m.station.eui Nwk m.start_nwk) (limit_line m.station.eui Aps m.start_aps)
       ∙ ap (λ t. fold (heard_line n) t (limit_line m.station.eui Aps m.start_aps)) (limit_read Nwk m.start_nwk s) ∙ limit_read Aps m.start_aps (with_limit Nwk m.start_nwk s)
 
-abbrev node_of : Schedule → ℕ → Option Node
-node_of w n = find (has_eui n) w.nodes
-
 pub start_read : (w : Schedule) → euis_differ w ≡ true → (n : ℕ) (m : Node) → find (has_eui n) w.nodes ≡ Some m → has_eui n m ≡ true → state_of (start w) n ≡ first_state (centre_of (stations w)) m
 unfolding state_of start euis_differ
 start_read w differ n m found is =

@@ -268,7 +268,11 @@ fn other_words_and_inputs_are_refused(rt: HostRuntime) -> Result<(), Fail> {
     let runs: [(&[&str], &[u8], &str); 58] = [
         (&["audit"], b"", "broken 1 6"),
         (&["audit"], b"boom\n", "refused 1 syntax"),
-        (&["audit"], b"0 node c centre 00124B0000000001 0000 4 2\nend 0 1 0 0 yes yes\n", "broken 2 6"),
+        (
+            &["audit"],
+            b"0 node c centre 00124B0000000001 0000 4 2\nend 0 1 0 0 yes yes\n",
+            "broken 2 6",
+        ),
         (&["admin", "store"], b"boom\n", "refused 1 syntax"),
         (&["admin", "store"], b"", "refused 1 no-centre"),
         (&["play"], b"boom\n", "refused 1 syntax"),

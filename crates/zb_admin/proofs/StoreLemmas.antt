@@ -122,10 +122,6 @@ module _ (tells : Telling) (config : Config) (old new : View) (centre : Hosted C
 
 -- ---- the judgement of a store
 
-abbrev NoByte : List ℕ → Type 0
-NoByte [] = Unit {0}
-NoByte (b ∷ bs) = ⊥
-
 none_of : (bytes : List ℕ) → length bytes ≡ 0 → bytes ≡ []
 none_of [] e = refl
 none_of (b ∷ bs) e = absurd (omega (arith, e))

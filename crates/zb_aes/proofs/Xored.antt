@@ -9,14 +9,6 @@ length-xored [] ys h = refl
 length-xored (x ∷ xs) [] h = absurd (omega arith)
 length-xored (x ∷ xs) (y ∷ ys) h = ap suc (length-xored xs ys (omega arith))
 
-pub get_or-xored : (xs ys : List ℕ) (k : ℕ) → k < length xs → k < length ys
-    → get_or (xored xs ys) k 0 ≡ bit_xor (get_or xs k 0) (get_or ys k 0)
-unfolding xored
-get_or-xored [] ys k h g = absurd (omega arith)
-get_or-xored (x ∷ xs) [] k h g = absurd (omega arith)
-get_or-xored (x ∷ xs) (y ∷ ys) zero h g = refl
-get_or-xored (x ∷ xs) (y ∷ ys) (suc k) h g = get_or-xored xs ys k (omega arith) (omega arith)
-
 pub xored-append : (xs bs ys ds : List ℕ) → length xs ≡ length ys
     → xored (xs ++ bs) (ys ++ ds) ≡ xored xs ys ++ xored bs ds
 unfolding xored
@@ -24,12 +16,6 @@ xored-append [] bs [] ds h = refl
 xored-append [] bs (y ∷ ys) ds h = absurd (omega arith)
 xored-append (x ∷ xs) bs [] ds h = absurd (omega arith)
 xored-append (x ∷ xs) bs (y ∷ ys) ds h = ap (λ l. bit_xor x y ∷ l) (xored-append xs bs ys ds (omega arith))
-
-pub xored-append_right : (xs ys ds : List ℕ) → length xs ≤ length ys → xored xs (ys ++ ds) ≡ xored xs ys
-unfolding xored
-xored-append_right [] ys ds h = refl
-xored-append_right (x ∷ xs) [] ds h = absurd (omega arith)
-xored-append_right (x ∷ xs) (y ∷ ys) ds h = ap (λ l. bit_xor x y ∷ l) (xored-append_right xs ys ds (omega arith))
 
 pub xored_twice : (xs ys : List ℕ) → length xs ≤ length ys → xored (xored xs ys) ys ≡ xs
 unfolding xored

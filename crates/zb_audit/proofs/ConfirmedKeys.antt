@@ -55,16 +55,6 @@ row_written rows new partner key number centre is none updates p k =
     by true false e f = refl
     by false b e f = cc
 
-pub row_there : (rows : BTreeMap LinkRow ℕ) (partner : Eui) (key : Key) (number : ℕ) (centre : Bool)
-    → (centre && not (is_some (get row_cmp rows (record { partner = partner; key = key })))) ≡ false
-    → (p : ℕ) (k : Bytes) → get row_cmp rows (record { partner = record { 0 = p }; key = record { 0 = k } })
-    ≡ (if centre && is_row p k partner.0 key.0 then option_or (get row_cmp rows (record { partner = record { 0 = p }; key = record { 0 = k } })) (Some number)
-    else get row_cmp rows (record { partner = record { 0 = p }; key = record { 0 = k } }))
-row_there rows partner key number centre is p k = by centre (is_row p k partner.0 key.0) refl is
-  where
-    q : LinkRow
-    q = record { partner = record { 0 = p }; key = record { 0 = k } }
-
     stays : (o : Option ℕ) → (true && not (is_some o)) ≡ false → o ≡ option_or o (Some number)
     stays None e = cc
     stays (Some n) e = refl

@@ -57,10 +57,6 @@ unfolding accepted
 accepted_more h l n ly key sender =
     flat_map-append (accepted_in n ly key sender) h (l ∷ []) ∙ ap (λ (xs : List ℕ). flat_map (accepted_in n ly key sender) h ++ xs) (append-nil (accepted_in n ly key sender l))
 
-pub declared_more : (h : List Line) (l : Line) → declared_in (h ++ l ∷ []) ≡ declares (declared_in h) l
-unfolding declared_in
-declared_more h l = fold-append declares [] h (l ∷ [])
-
 -- Groups as one list of lines
 
 pub flat_more : (before : List (List Line)) (front : List Line) → flat (before ++ front ∷ []) ≡ flat before ++ front

@@ -90,29 +90,6 @@ floor_put old new s floor updates q =
 pub same_key : (a b : Key) → bytes_eq a.0 b.0 ≡ true → a ≡ b
 same_key a b e = λ i. record { 0 = same_bytes a.0 b.0 e i }
 
-same_layers : (a b : Layer) → same_layer a b ≡ true → a ≡ b
-same_layers layer.Nwk layer.Nwk e = refl
-same_layers layer.Nwk layer.Aps e = cc
-same_layers layer.Aps layer.Nwk e = cc
-same_layers layer.Aps layer.Aps e = refl
-
-both_left : (a b : Bool) → (a && b) ≡ true → a ≡ true
-both_left true b e = refl
-both_left false b e = e
-
-both_right : (a b : Bool) → (a && b) ≡ true → b ≡ true
-both_right true b e = e
-both_right false b e = cc
-
-sender_of_parts : (a b : Sender) → a.layer ≡ b.layer → a.key ≡ b.key → a.eui.0 ≡ b.eui.0 → a ≡ b
-sender_of_parts a b layers keys euis = λ i. record { layer = layers i; key = keys i; eui = record { 0 = euis i } }
-
-pub same_senders : (a b : Sender) → same_sender a b ≡ true → a ≡ b
-same_senders a b e =
-    let more = both_right (same_layer a.layer b.layer) (bytes_eq a.key.0 b.key.0 && nat_eq a.eui.0 b.eui.0) e in
-    sender_of_parts a b (same_layers a.layer b.layer (both_left (same_layer a.layer b.layer) (bytes_eq a.key.0 b.key.0 && nat_eq a.eui.0 b.eui.0) e))
-    (same_key a.key b.key (both_left (bytes_eq a.key.0 b.key.0) (nat_eq a.eui.0 b.eui.0) more)) (same_number a.eui.0 b.eui.0 (both_right (bytes_eq a.key.0 b.key.0) (nat_eq a.eui.0 b.eui.0) more))
-
 -- What was put for a key is what a change makes of what stood there.
 
 pub key_changed : (old new : BTreeMap Key KeyCounters) (key : Key) (f : KeyCounters → KeyCounters) → PutsKey old new key (f (key_in old key))
@@ -121,12 +98,4 @@ key_changed old new key f puts q = puts q ∙ chosen (bytes_eq key.0 q.0) refl
   where
     chosen : (b : Bool) → bytes_eq key.0 q.0 ≡ b → (if b then f (key_in old key) else key_in old q) ≡ (if b then f (key_in old q) else key_in old q)
     chosen true e = ap (λ (k : Key). f (key_in old k)) (same_key key q e)
-    chosen false e = refl
-
-pub floor_changed : (old new : BTreeMap Sender Floor) (s : Sender) (f : Floor → Floor) → PutsFloor old new s (f (floor_of old s))
-    → (q : Sender) → floor_of new q ≡ (if same_sender s q then f (floor_of old q) else floor_of old q)
-floor_changed old new s f puts q = puts q ∙ chosen (same_sender s q) refl
-  where
-    chosen : (b : Bool) → same_sender s q ≡ b → (if b then f (floor_of old s) else floor_of old q) ≡ (if b then f (floor_of old q) else floor_of old q)
-    chosen true e = ap (λ (k : Sender). f (floor_of old k)) (same_senders s q e)
     chosen false e = refl

@@ -274,10 +274,6 @@ module _ (count g : ℕ) (within : g ≤ count + 1) (f : Floor) (xs : List ℕ) 
   order_more true = let low = min-le_right f.least c in let high = le-max_right f.greatest c in omega arith
   order_more false = omega arith
 
-is_stored : (g : ℕ) (cs : List ℕ) (f : Floor) → (with_accepted g cs f).stored ≡ f.stored
-is_stored g [] f = refl
-is_stored g (c ∷ cs) f = refl
-
 accepted_as : (n : Bytes) (ly : Layer) (key : Bytes) (sender : ℕ) (l : Line) → (b : Bool) × (c : ℕ) × (accepted_in n ly key sender l ≡ (if b then c ∷ [] else []))
 accepted_as n ly key sender (line.Accept e m t) = (_, t.counter, refl)
 accepted_as n ly key sender _ = (false, 0, refl)

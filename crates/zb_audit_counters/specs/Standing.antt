@@ -221,9 +221,6 @@ abbrev pub true_if : Bool → Option Bool
 true_if true = Some true
 true_if false = None
 
-abbrev pub key_of : Bytes → Key
-key_of bytes = record { 0 = bytes }
-
 -- the active key, where `activated` tells whether an `active` line stands before
 abbrev pub active_said : Bytes → Bool → Line → Option (Option Key)
 active_said n activated (line.Active e m key) = if bytes_eq m.bytes n then Some (Some key) else None

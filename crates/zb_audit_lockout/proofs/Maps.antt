@@ -31,14 +31,6 @@ first_number old new device number none updates d =
     ∙ (ap (λ (b : Bool). cond b (Some number) (number_in old.entries d)) (number_alike device.0 d)
     ∙ first_value (nat_eq d device.0) (number_in old.entries d) number (λ same. ap (number_in old.entries) (same_number d device.0 same) ∙ none))
 
-pub same_first : (old : BTreeMap Eui ℕ) (device : Eui) (number : ℕ) → is_some (number_in old.entries device.0) ≡ true → (d : ℕ) → number_in old.entries d ≡ option_or (number_in old.entries d) (if nat_eq d device.0 then Some number else None)
-same_first old device number there d = by (number_in old.entries d) (nat_eq d device.0) refl (λ same. ap (λ (x : ℕ). is_some (number_in old.entries x)) (same_number d device.0 same) ∙ there)
-  where
-    by : (o : Option ℕ) (b : Bool) → nat_eq d device.0 ≡ b → (b ≡ true → is_some o ≡ true) → o ≡ option_or o (if b then Some number else None)
-    by (Some x) b is some = refl
-    by None true is some = cc (some refl)
-    by None false is some = refl
-
 pub taken_out : (old new : BTreeMap Eui ℕ) (device : Eui) → ((q : Eui) → get eui_cmp new q ≡ cond (is_at (eui_cmp device) q) None (get eui_cmp old q))
     → (d : ℕ) → number_in new.entries d ≡ (if nat_eq d device.0 then None else number_in old.entries d)
 taken_out old new device updates d = updates (record { 0 = d }) ∙ ap (λ (b : Bool). cond b None (number_in old.entries d)) (number_alike device.0 d)

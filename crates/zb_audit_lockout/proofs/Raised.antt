@@ -24,28 +24,6 @@ pub record Raising (carriers : Holdings Key) (old now : Lateness) (start left : 
       → ((k b : List ℕ) → S k ≡ true → is_carried carriers k b ≡ true → S b ≡ true)
       → ((k : List ℕ) → is_among raised k ≡ true → S k ≡ true) × ((k : List ℕ) → is_among left k ≡ true → S k ≡ true)
 
-pub begins : (carriers : Holdings Key) (old : Lateness) (start raised : List Key) (number : ℕ) → raised ≡ [] → Raising carriers old old start start number raised
-begins carriers old start raised number none =
-    record {
-      told = λ k. inl refl;
-      only = λ k there. absurd (nobody k there);
-      reached = λ k there. inr there;
-      bases = λ k b there carried. absurd (nobody k there);
-      least = λ S more closed. ((λ k there. absurd (nobody k there)), more);
-    }
-  where
-    nobody : (k : List ℕ) → is_among raised k ≡ true → ⊥
-    nobody k there = true≢false (sym there ∙ ap (λ (keys : List Key). is_among keys k) none)
-
-pub ends : (carriers : Holdings Key) (old now : Lateness) (start : List Key) (number : ℕ) (raised : List Key) → Raising carriers old now start [] number raised → Raises carriers old now start number raised
-ends carriers old now start number raised l = record {
-  told = l.told;
-  only = l.only;
-  reached = λ k there. elim (l.reached k there) [ inl it ↦ it | inr none ↦ cc ];
-  bases = λ k b there carried. elim (l.bases k b there carried) [ inl it ↦ it | inr none ↦ cc ];
-  least = λ S more closed. (l.least S more closed).0;
-}
-
 module _ (carriers : Holdings Key) (old now new : Lateness) (start left : List Key) (number : ℕ) (raised : List Key) (key : Key)
     (becomes : (k : List ℕ) → late_of new k ≡ (if bytes_eq k key.0 && nat_lt (late_of now key.0) number then number else late_of now k))
     (l : Raising carriers old now start (left ++ key ∷ []) number raised) where

@@ -69,12 +69,3 @@ any_within p q (k ∷ keys) within h =
       | inl here ↦ or_left _ _ (within k here)
       | inr later ↦ or_right _ _ (any_within p q keys within later)
     ]
-
--- the item of a list that passes a test
-pub found_any : {A : Type 0} (C : Type 0) (p : A → Bool) (xs : List A) → ((x : A) → p x ≡ true → C) → list_any p xs ≡ true → C
-found_any C p [] go h = cc
-found_any C p (x ∷ xs) go h =
-    elim (either (p x) (list_any p xs) h) [
-      | inl here ↦ go x here
-      | inr later ↦ found_any C p xs go later
-    ]

@@ -100,9 +100,6 @@ AreJoined played i ends =
     (wanted : List (Result (List Line) SchedError)) → AreAnswered played wanted
     → joined wanted ≡ behind (map last_line ends) (joined (drop i wanted))
 
-pub none_joined : (played : List Came) (ends : List Summary) → ends ≡ [] → AreJoined played 0 ends
-none_joined played ends none = λ wanted all. rw none (sym (behind_none (joined wanted)))
-
 pub one_joined_more : (played : List Came) (i : ℕ) (old new : List Summary) (d : Came) (ends : Vec Summary Global) → i < length played
     → get_or played i d ≡ Ok ends → new ≡ old ++ ends.items → AreJoined played i old → AreJoined played (i + 1) new
 one_joined_more played i old new d ends within is more so_far = λ wanted all.

@@ -69,20 +69,6 @@ lines_found least at text some is =
     lines_cut (n + at) text within (sym (get_or-drop n text at 0) ∙ byte)
     ∙ ap (λ k. lines (take k text) ++ lines (drop k text)) place
 
--- one part more
-parts_more : {A : Type 0} (f : List ℕ → List A) (parts : List (List ℕ)) (part : List ℕ) → flat_map f (parts ++ part ∷ []) ≡ flat_map f parts ++ f part
-parts_more f [] part = append-nil (f part)
-parts_more f (p ∷ parts) part = ap (λ zs. f p ++ zs) (parts_more f parts part) ∙ sym (append_assoc (f p) (flat_map f parts) (f part))
-
-pub cut_more : (text rest part more : List ℕ) (parts : List (List ℕ)) → flat_map (λ part. part) parts ++ rest ≡ text → flat_map lines parts ++ lines rest ≡ lines text
-    → part ++ more ≡ rest → lines part ++ lines more ≡ lines rest
-    → (flat_map (λ part. part) (parts ++ part ∷ []) ++ more ≡ text) × (flat_map lines (parts ++ part ∷ []) ++ lines more ≡ lines text)
-cut_more text rest part more parts whole all is also = (
-  ap (λ zs. zs ++ more) (parts_more (λ x. x) parts part) ∙ append_assoc (flat_map (λ x. x) parts) part more ∙ ap (λ zs. flat_map (λ x. x) parts ++ zs) is ∙ whole,
-  ap (λ zs. zs ++ lines more) (parts_more lines parts part) ∙ append_assoc (flat_map lines parts) (lines part) (lines more)
-      ∙ ap (λ zs. flat_map lines parts ++ zs) also ∙ all,
-)
-
 -- a relation that holds place by place
 pub zip_from_index : {A B : Type 0} (R : A → B → Type 0) (xs : List A) (ys : List B) → length xs ≡ length ys
     → ((i : ℕ) (d : A) (e : B) → i < length xs → R (get_or xs i d) (get_or ys i e)) → AllZip R xs ys

@@ -29,15 +29,6 @@ with_part : {A : Type 0} (f : List ℕ → List A) (done : List Found) (piece : 
     → flat_map f (all_found (done ++ piece ∷ [])) ≡ flat_map f (all_found done) ++ f piece.text.now
 with_part f done piece = parts_of f done (piece ∷ []) ∙ ap (λ zs. flat_map f (all_found done) ++ zs) (append-nil (f piece.text.now))
 
--- none was taken yet
-pub begins : (old : Reading) (text : List ℕ) (found : List Found) → AreCut text (all_found found) → AllByRecursion IsFound found → IsUnderWay old old text [] found
-begins old text found cut all = record {
-  lead = record { gives = refl; count = omega arith };
-  count = omega arith;
-  cut = cut;
-  found = all;
-}
-
 -- there is room for the next
 pub has_room : (old now : Reading) (text : List ℕ) (done left more : List Found) (piece : Found) (most : ℕ) → IsUnderWay old now text done left
     → left ≡ piece ∷ more → old.lines + length text < most → now.lines + length piece.text.now < most
@@ -91,12 +82,6 @@ pub not_taken : (old now then : Reading) (text : List ℕ) (done left more : Lis
     → IsUnderWay old now text done left → left ≡ piece ∷ more → AreRead (Err fault) now then piece.text.now → AreRead (Err fault) old then text
 not_taken old now then text done left more piece (error.Fault fault) is next bad = bad_next old now text done left more piece fault is next bad
 not_taken old now then text done left more piece error.NoMemory is next bad = tt
-
--- all were taken
-pub all_taken : (old now : Reading) (text : List ℕ) (done left : List Found) → IsUnderWay old now text done left → left ≡ [] → Lead old (lines text) now
-all_taken old now text done left is none =
-    let L : List (List ℕ) → Type 0 = λ ls. Lead old ls now in
-    subst L (ap (λ (ps : List Found). flat_map lines (all_found ps)) (sym (append-nil done) ∙ ap (λ ps. done ++ ps) (sym none)) ∙ is.cut.lines) is.lead
 
 pub passed_on : (r : Result (Unit {0}) (OrMemory CaptureError)) (fault : OrMemory CaptureError) (P : Result (Unit {0}) (OrMemory CaptureError) → Type 0)
     → IsErrAnd r (λ e. e ≡ fault) → P (Err fault) → P r

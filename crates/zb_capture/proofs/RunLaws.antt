@@ -129,19 +129,3 @@ run_passed runs last i left n d rest within is long some same =
       within = omega (arith, is, some, long, ap (length {A = ArrayVec ℕ}) on, length-append here behind);
       same = ap (λ k. drop (left - k) behind) is ∙ sym (past here behind left (omega (arith, is, long))) ∙ ap (drop left) (sym on) ∙ same;
     }
-
--- the place is in a run
-take_front : (xs ys : Run) → take (length xs) (xs ++ ys) ≡ xs
-take_front [] ys = refl
-take_front (x ∷ xs) ys = ap (λ zs. x ∷ zs) (take_front xs ys)
-
-pub in_run : (runs : List Run) (last : Run) (i left : ℕ) (d found rest : Run) → i < length runs → left < length (get_or runs i d) → found ≡ drop left (get_or runs i d)
-    → drop left (all_runs (drop i runs) ++ last) ≡ rest → found ≡ take (length found) rest
-in_run runs last i left d found rest within some is same =
-    let here = get_or runs i d in
-    let behind = all_runs (drop (i + 1) runs) ++ last in
-    let on : all_runs (drop i runs) ++ last ≡ here ++ behind =
-    ap (λ zs. zs ++ last) (runs_on runs i d within ∙ ap (λ k. here ++ all_runs (drop k runs)) (sym (add-one i)))
-    ∙ append_assoc here (all_runs (drop (i + 1) runs)) last in
-    let whole : rest ≡ found ++ behind = sym same ∙ ap (drop left) on ∙ drop-append-le left here behind (omega (arith, some)) ∙ ap (λ zs. zs ++ behind) (sym is) in
-    sym (take_front found behind) ∙ ap (take (length found)) (sym whole)

@@ -46,19 +46,6 @@ taken bytes rest after count a b l s proper cut goes = record {
   stands = goes real s.lines readers_find s.stands;
 }
 
--- what is left begins with no line
-pub stuck : (bytes rest : Bytes) (count : ℕ) (a : Auditor) → IsAudited bytes rest count a → rest ≢ []
-    → ((l : Line) (more : Bytes) → IsProper l → rest ≡ text l ++ more → ⊥) → IsFirstBad bytes (count + 1)
-stuck bytes rest count a s some bad = record {
-  before = s.lines;
-  rest = rest;
-  proper = s.proper;
-  parts = s.parts;
-  place = ap (λ n. n + 1) s.count_is;
-  some = some;
-  bad = bad;
-}
-
 -- nothing is left
 pub whole : (bytes rest : Bytes) (count : ℕ) (a : Auditor) (s : IsAudited bytes rest count a) → rest ≡ [] → IsTranscript bytes s.lines
 whole bytes rest count a s none = record {
@@ -90,7 +77,3 @@ broken_of bytes rest count a s r f line clause is fault answer none =
       transcript = whole bytes rest count a s (empty_of rest none);
       fault = at;
     }
-
-pub found_some : {X : Type 0} (P : X → Type 0) (o : Option X) (x : X) → o ≡ Some x → IfSome o P → P x
-found_some P None x is h = absurd (cc)
-found_some P (Some y) x is h = let same : y ≡ x = cc in subst P same h

@@ -30,22 +30,10 @@ nothing_taken : (old : Option (List ℕ)) → Consumes old old []
 nothing_taken None = tt
 nothing_taken (Some xs) = refl
 
--- no more than so many bytes were taken
-pub takes_none : (old : Option (List ℕ)) (limit : ℕ) → TakesAtMost old old limit
-takes_none old limit = ([], nothing_taken old, omega arith)
-
-pub takes_less : (old new : Option (List ℕ)) (few limit : ℕ) → TakesAtMost old new few → few ≤ limit → TakesAtMost old new limit
-takes_less old new few limit takes less = (takes.0, takes.1, omega (arith, takes.2, less))
-
 pub takes_then : (old mid new : Option (List ℕ)) (first more limit : ℕ) → TakesAtMost old mid first → TakesAtMost mid new more → first + more ≤ limit
     → TakesAtMost old new limit
 takes_then old mid new first more limit one two room =
     (one.0 ++ two.0, taken_both old mid new one.0 two.0 one.1 two.1, omega (arith, length-append one.0 two.0, one.2, two.2, room))
-
-pub takes_grown : (old new : Option (List ℕ)) (before after : List ℕ) (limit : ℕ) → Grows old new before after → length after ≤ limit
-    → TakesAtMost old new (limit - length before)
-takes_grown old new before after limit grown within =
-    (grown.0, grown.1, omega (arith, ap (length {A = ℕ}) grown.2, length-append before grown.0, within))
 
 pub takes_more : (old mid new : Option (List ℕ)) (before now more : List ℕ) (limit : ℕ) → Grows old mid before now → Consumes mid new more
     → length now + length more ≤ limit → TakesAtMost old new (limit - length before)

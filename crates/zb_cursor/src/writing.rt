@@ -87,17 +87,6 @@ pub fn put_number32(out: &mut Frame, value: u32) -> Result<(), TooLong>
     Ok(())
 }
 
-/// Puts a number of 8 bytes at the end of the frame.
-///
-/// # Errors
-/// `TooLong` where it doesn't fit.
-pub fn put_number64(out: &mut Frame, value: u64) -> Result<(), TooLong>
-    ensures { Appends out.old.items (number w64 value) out.new.items result }
-{
-    put(out, &value.to_le_bytes())?;
-    Ok(())
-}
-
 /// Puts a short address at the end of the frame.
 ///
 /// # Errors

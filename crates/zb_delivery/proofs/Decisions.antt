@@ -115,18 +115,6 @@ sealed_decides c s key nwk part aux u effect n a k outcome = decides c key (λ d
 
 -- a sealed part that is judged
 
-pub secured_refused : (c : Setting) (s : NodeState) (key : Option Key) (f : NwkShown) (nwk : Option Term) (a : ApsShown) (aux : ApsAuxiliary) (refusal : Refusal) → IsNwk nwk
-    → judged unsealed_seen (Err refusal) ≡ judge_aps real c s f (payload_of f (option_map model_term nwk)) aux
-    → Decides c key (λ d. by_security real c s d f (option_map model_term nwk) a (Some aux)) (record { nwk = nwk; aps = None; effect = Err refusal })
-secured_refused c s key f nwk a aux refusal n e = subst (λ (v : Verdict judging.Unsealed). Decides c key (λ d. sealed_part real c s d (option_map model_term nwk) a aux v) (record { nwk = nwk; aps = None; effect = Err refusal })) e
-    (record { decision = λ d of. record { accepts = refl; outcome = refl; place = refl }; sound = record { small = tt; nwk = n; aps = tt } })
-
-pub secured_taken : (c : Setting) (s : NodeState) (key : Option Key) (f : NwkShown) (nwk : Option Term) (a : ApsShown) (aux : ApsAuxiliary) (u : Unsealed) (r : Decision)
-    → judged unsealed_seen (Ok u) ≡ judge_aps real c s f (payload_of f (option_map model_term nwk)) aux
-    → Decides c key (λ d. sealed_part real c s d (option_map model_term nwk) a aux (Good (unsealed_seen u))) r
-    → Decides c key (λ d. by_security real c s d f (option_map model_term nwk) a (Some aux)) r
-secured_taken c s key f nwk a aux u r e g = subst (λ (v : Verdict judging.Unsealed). Decides c key (λ d. sealed_part real c s d (option_map model_term nwk) a aux v) r) e g
-
 -- the NWK command
 
 leave_accepts : (c : Setting) (t : model.Term) (shown : LeaveShown) → (t ∷ []) ≡ (nwk_command c t shown).accepts
@@ -145,16 +133,6 @@ leave_decides c key t effect n k outcome = decides c key (λ d. nwk_command c (m
     (λ d. leave_accepts c (model_term t) (real.read_leave t.content.items)) (λ d. leave_place c (model_term t) (real.read_leave t.content.items)) (λ d of. outcome)
 
 -- the whole payload
-
-pub part_clear : (c : Setting) (s : NodeState) (key : Option Key) (f : NwkShown) (nwk : Option Term) (t : Term) (part : ApsFrame) (r : Decision) → nwk ≡ Some t → part.aux ≡ None
-    → Decides c key (λ d. clear_part real c s d (Some (model_term t)) (aps_frame_shown part)) r
-    → Decides c key (λ d. aps_part real c s d f (option_map model_term nwk) (Some (aps_frame_shown part))) r
-part_clear c s key f nwk t part r n x g = rw (n, x) g
-
-pub part_secured : (c : Setting) (s : NodeState) (key : Option Key) (f : NwkShown) (nwk : Option Term) (part : ApsFrame) (aux : ApsAux) (r : Decision) → part.aux ≡ Some aux
-    → Decides c key (λ d. by_security real c s d f (option_map model_term nwk) (aps_frame_shown part) (Some (auxiliary aux))) r
-    → Decides c key (λ d. aps_part real c s d f (option_map model_term nwk) (Some (aps_frame_shown part))) r
-part_secured c s key f nwk part aux r x g = rw x g
 
 pub payload_read : (c : Setting) (s : NodeState) (key : Option Key) (f : NwkShown) (nwk : Option Term) (shown read : Option ApsShown) (r : Decision) → read ≡ shown
     → Decides c key (λ d. aps_part real c s d f (option_map model_term nwk) shown) r → Decides c key (λ d. aps_part real c s d f (option_map model_term nwk) read) r

@@ -113,14 +113,6 @@ accepted_nwk c s bytes f t e = of_term t (passed c s bytes f t e).0
 pub passes_in_clear : (c : Setting) (s : NodeState) (bytes : Bytes) (f : NwkFrame) (t : Option program.Term) → Good (carrier_seen f t) ≡ judge_nwk real c s bytes → PassesInClear t (real.read_aps f.body.items)
 passes_in_clear c s bytes f t e = in_clear t (real.read_aps f.body.items) (passed c s bytes f t e).1
 
--- what is sealed for transport is secured
-pub no_clear_part : (part : ApsFrame) → part.aux ≡ None → PassesInClear None (Some (aps_frame_shown part)) → ⊥
-no_clear_part part none e = by_test (is_command part.header.control) (rw none at e)
-  where
-    by_test : (b : Bool) → (b && false) ≡ true → ⊥
-    by_test true e = absurd cc
-    by_test false e = absurd cc
-
 -- the APS layer
 
 pub read_is : (bytes : Bytes) (part : ApsFrame) → frame_of bytes ≡ Ok part → real.read_aps bytes ≡ Some (aps_frame_shown part)

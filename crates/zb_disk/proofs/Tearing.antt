@@ -162,10 +162,6 @@ tear_down p phase bytes new written i whole in_bytes in_new in_written down same
     at_front : (l : List ℕ) (i : ℕ) → get_or l i 0 ≡ get_or (drop i l) 0 0
     at_front l i = let here : i + 0 ≡ i = omega arith in ap (λ (j : ℕ). get_or l j 0) (sym here) ∙ sym (get_or-drop i l 0 0)
 
-length-torn_some : (p bytes : List ℕ) (written : List Bool) (some : Bool) → length (if some then tear p 0 bytes written else bytes) ≡ length bytes
-length-torn_some p bytes written true = length-tear p 0 bytes written
-length-torn_some p bytes written false = refl
-
 torn_by_image : (p : List ℕ) (bytes : List ℕ) (written : List Bool) (grown : ℕ) (some : Bool) → IsImage bytes written grown (if some then tear p 0 bytes written else bytes)
 torn_by_image p bytes written grown true = image_torn p bytes written grown
 torn_by_image p bytes written grown false = image_seen bytes written grown

@@ -7,6 +7,9 @@ use std::io::{self, ErrorKind, Write};
 use std::os::fd::AsRawFd;
 use std::os::unix::fs::{MetadataExt, OpenOptionsExt};
 
+/// The number of blocks of 4,096 bytes of a disk.
+const BLOCKS: usize = DISK_ROOM / 4096;
+
 /// Opens and makes the files of stores.
 pub trait StoreFiles: Files {
     /// Opens the file of a store for this process alone, or returns None where nothing has that name.
@@ -111,7 +114,7 @@ fn locked(file: File) -> io::Result<File> {
 fn filled(made: File) -> io::Result<File> {
     let mut file = locked(made)?;
     let zeros = [0; 4096];
-    for _ in 0..DISK_ROOM / 4096 {
+    for _ in 0..BLOCKS {
         file.write_all(&zeros)?;
     }
     Ok(file)

@@ -59,21 +59,6 @@ pub code_text : (start i : ℕ) → bytes_text (code_bytes start i) ≡ code_wor
 unfolding encode_with
 code_text start i = refl
 
--- one key more
-key_by_place : (start n : ℕ) (keys : List Key) (key : Key) → AreKeysOf start keys → n ≡ length keys → key.0 ≡ key_at start (4 * n)
-    → (i : ℕ) (other : Key) → (i < length keys) ⊎ (length keys ≤ i) → i < length keys + 1 → (get_or (keys ++ key ∷ []) i other).0 ≡ key_at start (4 * i)
-key_by_place start n keys key are long is i other (inl lt) within = ap (λ (k : Key). k.0) (get_or_append_left keys (key ∷ []) other i lt) ∙ are i other lt
-key_by_place start n keys key are long is i other (inr ge) within =
-    let here : i ≡ length keys = omega (arith, ge, within) in
-    ap (λ (x : ℕ). (get_or (keys ++ key ∷ []) x other).0) here ∙ ap (λ (k : Key). k.0) (get_or-append_seam keys key [] other)
-    ∙ is ∙ ap (λ (x : ℕ). key_at start (4 * x)) (long ∙ sym here)
-
-pub keys_more : (start n : ℕ) (keys more : List Key) (key : Key) → AreKeysOf start keys → n ≡ length keys → key.0 ≡ key_at start (4 * n) → more ≡ keys ++ key ∷ []
-    → AreKeysOf start more
-keys_more start n keys more key are long is e =
-    subst (λ (ks : List Key). AreKeysOf start ks) (sym e)
-    (λ i other lt. key_by_place start n keys key are long is i other (cases_lt i (length keys)) (omega (arith, lt, length-append keys (key ∷ []))))
-
 -- a key and its CRC, one after the other
 pub put_together : (key none one two slice sum : List ℕ) (number : ℕ) → none ≡ [] → one ≡ none ++ key → two ≡ one ++ sum → slice ≡ two → sum ≡ to_le_bytes w16 number → number ≡ crc key
     → slice ≡ key ++ to_le_bytes w16 (crc key)

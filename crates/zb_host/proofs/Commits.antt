@@ -82,11 +82,6 @@ commit_moments restored old new s next w content before after leaves = weakened 
     each c (inl is) = inl (s, is, before)
     each c (inr is) = inr (next, is, after)
 
--- no call, and the core's record is as it was
-pub idle_moments : (restored : Restoring) (v : View) (s : Standing) (w content : List ℕ) → ((c : List ℕ) → v.since v.moment c → v.images c) → IsHeld s v → Gives restored s w
-    → LeavesOnly v v (StandsForEither restored w content)
-idle_moments restored v s w content only_now held before = started v (StandsForEither restored w content) only_now (λ c is. inl (s, held.whole c is, before))
-
 -- one store of a host that is up
 pub some_is : (p q : Place) (o : Option Place) → o ≡ Some p → o ≡ Some q → p ≡ q
 some_is p q o first second = some_inj (sym first ∙ second)
@@ -155,17 +150,6 @@ pub host_stopped : {C : Type 0} (restored : Restoring) (recorded : C → List �
     → CommitStop tells (writes_whole host) s (recorded core) payload old new
 host_stopped restored recorded tells s host core store payload old new f is disk commit current told steady =
     commit.stopped (ap (λ (g : StoreFault). Err g) disk) s (host_ready restored recorded s host store old is current) told steady
-
--- the changes of a fault
-abbrev pub changes_of : HostFault → List Change
-changes_of (disk_of changes) = changes.items
-changes_of no_memory = []
-changes_of no_record = []
-changes_of (bad_record at) = []
-changes_of worn_out = []
-
-pub same_changes : (d e : HostFault) → d ≡ e → changes_of d ≡ changes_of e
-same_changes d e same = ap changes_of same
 
 -- a commit for which there is no generation doesn't go through, and its fault isn't the disk's
 abbrev Went : Result Place StoreFault → Type 0

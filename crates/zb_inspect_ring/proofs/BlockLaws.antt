@@ -37,11 +37,6 @@ unopened_frames addrs keys (f ∷ frames) all =
     ap (λ s. s ∷ frames_shown addrs [] frames) (sym (unopened_same addrs keys f.items parts.0))
     ∙ ap (λ zs. frame_shown addrs keys f.items ∷ zs) (unopened_frames addrs keys frames parts.1)
 
-pub unopened_before : (known : ℕ) (frames : List (ArrayVec ℕ)) (addrs : List (Short × Eui)) (keys : List Key) (b : Block) → Unopened ≡ b.seen
-    → Sees frames addrs (take known keys) b → list_all is_unopened (found_in frames addrs (take known keys) b) ≡ true
-unopened_before known frames addrs keys b is seen =
-    let P : Seen → Type 0 = λ s. MayStandFor b.first (found_in frames addrs (take known keys) b) s in subst P (sym is) seen
-
 -- one block more that is looked at
 pub next_half : (frames : List (ArrayVec ℕ)) (addrs : List (Short × Eui)) (keys : List Key) (i : ℕ) (old now : List Block) (d y : Block) → i < length old
     → Half (IsNext frames addrs keys) i old now → SameFrames (get_or now i d) y → IsShown frames addrs keys y → Half (IsNext frames addrs keys) (i + 1) old (slice_set now i y)

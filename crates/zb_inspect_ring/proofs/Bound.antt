@@ -229,9 +229,6 @@ rounds_add c ring is (suc n) within =
     let grew : ring_after c (suc n) ≢ ring_after c n = λ e. is.first (suc n) (omega arith) within (e ∙ ap (ring_after c) (omega arith)) in
     omega (arith, before, grown_length c n grew)
 
-before_last : (n : ℕ) → 0 < n → suc (n - 1) ≡ n
-before_last n some = omega arith
-
 rounds_most : (c : Capture) (ring : Ring) → IsRing c ring → ring.rounds ≤ length c.keys + 3 * length c.frames + 1
 rounds_most c ring is =
     let n = ring.rounds - 1 in

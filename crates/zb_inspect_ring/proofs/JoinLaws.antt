@@ -81,14 +81,6 @@ joined_shown frames addrs keys front back joined j e f next within shown also =
     ∙ ap (λ n. frames_text front.first x ++ frames_text n y) (sym place) ∙ sym (shown_append front.first x y)
     ∙ ap (λ n. frames_text n (x ++ y)) (sym j.first)) (both_settled x y a.1 b.1))
 
--- a block that is put after others, as it is or joined with the last one
-pub added_alone : (old new : List Block) (block : Block) → new ≡ old ++ block ∷ [] → IsAdded old block new
-added_alone old new block is = record {
-  numbers = λ frame numbers. (let P : List Block → Type 0 = λ bs. Numbered frame bs in subst P (sym is) numbers);
-  count = ap count_of is;
-  shown = λ frames addrs keys frame some numbers room all. (let P : List Block → Type 0 = λ bs. AreShown frames addrs keys bs in subst P (sym is) all);
-}
-
 -- where the last two of some blocks stand
 record LastTwo (frame : ℕ) (rest : List Block) (last block : Block) : Type 0 where
   rest_numbers : Numbered frame rest

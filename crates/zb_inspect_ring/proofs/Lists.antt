@@ -61,12 +61,6 @@ half_end R (suc i) [] now most half = let P : List _ → Type 0 = λ zs. AllZip 
 half_end R (suc i) (x ∷ old) [] most half = absurd half
 half_end R (suc i) (x ∷ old) (y ∷ now) most half = (half.0, half_end R i old now (omega arith) half.1)
 
-pub half_length : {A : Type 0} (R : A → A → Type 0) (i : ℕ) (old now : List A) → Half R i old now → length now ≡ length old
-half_length {A} R zero old now half = ap (length {A = A}) half
-half_length {A} R (suc i) [] now half = ap (length {A = A}) half
-half_length R (suc i) (x ∷ old) [] half = absurd half
-half_length R (suc i) (x ∷ old) (y ∷ now) half = ap suc (half_length R i old now half.1)
-
 -- what holds of all items holds of each
 pub all_at : {A : Type 0} (P : A → Type 0) (xs : List A) (i : ℕ) (d : A) → i < length xs → AllByRecursion P xs → P (get_or xs i d)
 all_at P [] i d within all = absurd (omega arith)

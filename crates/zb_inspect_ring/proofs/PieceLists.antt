@@ -94,10 +94,6 @@ frames_count frames b within =
 
 -- Blocks of pieces
 
-pub blocks_more : (pieces : List Piece) (p : Piece) → all_blocks (pieces ++ p ∷ []) ≡ all_blocks pieces ++ p.blocks.items
-blocks_more pieces p =
-    flat_map-append (λ (piece : Piece). piece.blocks.items) pieces (p ∷ []) ∙ ap (λ zs. all_blocks pieces ++ zs) (append-nil p.blocks.items)
-
 -- what holds of all blocks holds of those of each piece
 pub in_pieces : (P : Block → Type 0) (pieces : List Piece) → AllByRecursion P (all_blocks pieces)
     → AllByRecursion (λ (p : Piece). AllByRecursion P p.blocks.items) pieces

@@ -71,9 +71,6 @@ goes_on es s i d a b lt so sound is =
       fit = subst (λ x. all_fit (drop (i + 1) es) x ≡ true) (sym after) (first_fit es s i d a lt so).1;
     }
 
-pub ends : (es : List Edit) (s : NodeState) (n : ℕ) (a : Contents) → length es ≤ n → Applying es s n a → state_of a ≡ shown (applied_all es s)
-ends es s n a long so = so.state ∙ ap (λ l. shown (applied_all l s)) (take_all n es long)
-
 -- the same, of the program's changes
 same_change : (cs : List Change) (i : ℕ) (d : Change) → i < length cs → get_or (edits cs) i (edit d) ≡ edit (get_or cs i d)
 same_change cs i d lt = get_or-map edit cs i d (edit d) lt

@@ -45,7 +45,7 @@ impl Contents {
 impl Tables {
     /// Writes the record of the tables, and returns its length.
     ///
-    /// Requires room for `RECORD_ROOM` bytes. The greatest record has `GREATEST_RECORD`.
+    /// Requires room for `RECORD_ROOM` bytes. The greatest record has 46,358.
     pub fn record_bytes(&self, into: &mut [u8]) -> u32
         requires { record_room ≤ length into.old }
         ensures bytes { take result into.new ≡ record_of self.now }

@@ -7,7 +7,7 @@ use Rattle.zb_model.specs.Tools.{Tools, verify_hash}
 use Rattle.zb_model.specs.Rules.{Secret, Tunnelled, Leaving, Relayed, Outcome, Stop, Does, Setting, unless, found_or, choose, sends, centre_of, short_of, is_declared, acts_as_router, from_centre, is_router, spent, both_spent, in_rejoining, waits_for_key, nets_full, links_full, pairs_full, unless_held, drop_row, drop_partner, drop_old}
 
 -- A command as it came. `sender` is the source of the sealed layer: that of the APS term where the command was sealed,
--- else that of the NWK term. `sealed_with` is the label and the row that opened it; `nwk_source` that of the NWK term.
+-- else that of the NWK term. `label` and `row` are what opened it; `nwk_source` is the source of the NWK term.
 pub record Heard : Type 0 where
   pub sender : ℕ
   pub label : Option Label

@@ -144,8 +144,5 @@ unfoldable pub all_fit : List Edit → NodeState → Bool
 all_fit [] s = true
 all_fit (e ∷ es) s = fits e s && all_fit es (applied e s)
 
-abbrev pub Fits : Edit → NodeState → Type 0
-Fits e s = fits e s ≡ true
-
 abbrev pub AllFit : List Edit → NodeState → Type 0
 AllFit es s = all_fit es s ≡ true

@@ -53,9 +53,6 @@ sends to secured body = Some (record { to = to; secured = secured; body = body }
 
 -- Who is declared
 
-abbrev pub is_device_or_router : Role → Bool
-is_device_or_router role = not (is_centre role)
-
 abbrev pub is_router : Role → Bool
 is_router Router = true
 is_router _ = false
@@ -85,10 +82,6 @@ short_of c eui = short_or 0xffff (station_of c.stations eui)
 
 abbrev pub is_declared : Setting → ℕ → Bool
 is_declared c eui = is_some (station_of c.stations eui)
-
-abbrev pub role_or : Role → Option Station → Role
-role_or other None = other
-role_or other (Some p) = p.role
 
 abbrev pub acts_as_router : Setting → ℕ → Bool
 acts_as_router c eui = is_some (find (λ (p : Station). nat_eq p.eui eui && is_router p.role) c.stations)

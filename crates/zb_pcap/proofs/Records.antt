@@ -18,10 +18,6 @@ abbrev pub prepended : List Record → Result (List Record) PcapError → Result
 prepended xs (Ok ys) = Ok (xs ++ ys)
 prepended xs (Err e) = Err e
 
-pub prepended_none : (r : Result (List Record) PcapError) → prepended [] r ≡ r
-prepended_none (Ok ys) = refl
-prepended_none (Err e) = refl
-
 prepended_one : (xs : List Record) (x : Record) (r : Result (List Record) PcapError) → prepended xs (behind x r) ≡ prepended (xs ++ x ∷ []) r
 prepended_one xs x (Ok ys) = ap (λ zs. Ok zs) (sym (append_assoc xs (x ∷ []) ys))
 prepended_one xs x (Err e) = refl

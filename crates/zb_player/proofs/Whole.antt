@@ -51,10 +51,6 @@ whole_text p =
     ∙ ap (λ t. t ++ text_in p (last p ∷ [])) (text_append known (begin p) (middle p))
     ∙ append_assoc (text_in p (begin p)) (text_in p (middle p)) (text_in p (last p ∷ []))
 
--- nothing is written yet
-pub nothing_written : (p : sched.Schedule) (before : Option Bytes) → IsFront p before before
-nothing_written p before = subst (AppendsFront before before) refl (0, Appends-nil before)
-
 -- the start isn't taken whole
 pub front_start : (p : sched.Schedule) (before after : Option Bytes) → AppendsFront before after (text_in p (begin p)) → IsFront p before after
 front_start p before after out =

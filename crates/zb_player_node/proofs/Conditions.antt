@@ -88,11 +88,6 @@ down_by true x s o m off none rest = absurd (false≢true (sym off))
 down_by false x s (Some r) m off none rest = absurd (some_none r none)
 down_by false x s None m off none rest = rest
 
-held_of : (up : Bool) (x : Condition) (s : Standing) (o : Option Running) (m : Medium) → up ≡ true → IsPowered up x s o m → IsHeld s (memory_view m)
-held_of true x s (Some r) m on is = is.current.held
-held_of true x s None m on is = absurd is
-held_of false x s o m on is = absurd (false≢true on)
-
 -- of the condition a host has the setting and the state
 powered_as : (up : Bool) (x y : Condition) (s : Standing) (o : Option Running) (m : Medium) → x.setting ≡ y.setting → shown x.state ≡ shown y.state → IsPowered up x s o m → IsPowered up y s o m
 powered_as true x y s (Some r) m same alike is = record {
@@ -337,36 +332,6 @@ boot_fell node fall old new made0 x number is off =
     }
 
 -- ---- a reset, arming, a later event
-
-pub was_reset : (node : NodeValue) (old new : Medium) → ((s : Standing) → IsHeld s (memory_view old) → IsUnarmed old → IsAtRest s new) → (IsUnarmed old → new.bytes ≡ old.bytes)
-    → (x : Condition) (number : ℕ) → IsIn x number node old → x.up ≡ true → IsIn (after_reset x) (number + 1) (record node { machine = None }) new
-was_reset node old new rest bytes x number is on =
-    let s = is.standing in
-    let at_rest = rest s (held_of x.up x s node.machine old on is.powered) is.unarmed in
-    record {
-      standing = s;
-      stored = stored_later x.setting.me.role x.state x.commits number s is.stored;
-      powered = at_rest;
-      unarmed = at_rest.unarmed;
-      gates = ap both_gates_open (bytes is.unarmed) ∙ is.gates;
-      armed = is.armed;
-      arming = is.arming;
-      setting = is.setting;
-      role = is.role;
-    }
-
-pub was_armed : (node : NodeValue) (arms : Arms) (m : Medium) → IsArming (armed_of arms) → (x : Condition) (number : ℕ) → IsIn x number node m → IsIn (after_arming (armed_of arms) x) (number + 1) (record node { arms = arms }) m
-was_armed node arms m arming x number is = record {
-  standing = is.standing;
-  stored = stored_later x.setting.me.role x.state x.commits number is.standing is.stored;
-  powered = powered_as x.up x (after_arming (armed_of arms) x) is.standing node.machine m refl refl is.powered;
-  unarmed = is.unarmed;
-  gates = is.gates;
-  armed = refl;
-  arming = arming;
-  setting = is.setting;
-  role = is.role;
-}
 
 pub in_later : (x : Condition) (number : ℕ) (node : NodeValue) (m : Medium) → IsIn x number node m → IsIn x (number + 1) node m
 in_later x number node m is = record {

@@ -132,13 +132,6 @@ impl Node {
         self.peer.eui
     }
 
-    /// Returns the node's role.
-    pub fn role(&self) -> Role
-        ensures { result ≡ self.now.peer.role }
-    {
-        self.peer.role
-    }
-
     /// Returns whether the node has power.
     pub fn is_up(&self) -> bool
         ensures { result ≡ is_some self.now.machine }

@@ -17,12 +17,6 @@ map_at f [] i x at = absurd (cc)
 map_at f (y ∷ xs) zero x at = let same : y ≡ x = cc in ap (λ z. Some (f z)) same
 map_at f (y ∷ xs) (suc i) x at = map_at f xs i x at
 
--- what stands at a place of a mapped list is an item mapped
-pub at_map : {X Y : Type 0} (f : X → Y) (xs : List X) (i : ℕ) (y : Y) → slice_get (map f xs) i ≡ Some y → (x : X) × (slice_get xs i ≡ Some x) × (f x ≡ y)
-at_map f [] i y at = absurd (cc)
-at_map f (x ∷ xs) zero y at = (x, refl, cc)
-at_map f (x ∷ xs) (suc i) y at = at_map f xs i y at
-
 pub mapped_pairs : {X Y : Type 0} (R : X → X → Type 0) (S : Y → Y → Type 0) (f : X → Y) → ((a b : X) → R a b → S (f a) (f b)) → (xs : List X) → Pairwise R xs → Pairwise S (map f xs)
 mapped_pairs R S f each [] pairs = tt
 mapped_pairs {X} {Y} R S f each (x ∷ xs) pairs = (others xs pairs.0, mapped_pairs R S f each xs pairs.1)

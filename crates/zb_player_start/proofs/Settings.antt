@@ -72,9 +72,6 @@ found_by_eui ds apart me s at =
 
 -- the setting of a configuration
 
-abbrev settings : Setting → List Station → Setting
-settings c ps = record c { stations = ps }
-
 me_at : (ds : List CodeNode) (me : ℕ) (s : Station) (out_block in_block : ℕ) → slice_get (stations_in ds) me ≡ Some s → out_block ≡ s.out_block → in_block ≡ s.in_block
     → own out_block in_block (slice_get (map peer_of ds) me) ≡ s
 me_at [] me s out_block in_block at a b = absurd (cc)

@@ -21,10 +21,6 @@ pub one_made : (v : Version) (bytes rest : List ℕ) (s : NodeState) (c : Change
 unfolding change_redone
 one_made v bytes rest s c read fit = ap (change_made v s (length bytes)) read ∙ rw fit refl
 
--- what is left of some bytes is no longer than they are
-pub shorter : (piece rest bytes : List ℕ) → bytes ≡ piece ++ rest → length rest ≤ length bytes
-shorter piece rest bytes parts = omega (arith, ap (length {A = ℕ}) parts, length-append piece rest)
-
 -- so many changes: those that are left give the whole
 module _ (v : Version) (count i : ℕ) (bytes rest : List ℕ) (s t : NodeState) (total : Redone) (lt : i < count) (so : changes_redone v (count - i) bytes s ≡ total) where
   pub go_on : change_redone v bytes s ≡ (t, Ok rest) → changes_redone v (count - (i + 1)) rest t ≡ total

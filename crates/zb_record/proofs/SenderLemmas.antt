@@ -40,15 +40,6 @@ is_here floors sender i d lt here so = record {
       rw (← e) here;
 }
 
-pub is_end : (floors : List SenderFloor) (sender : ℕ) → Passed floors sender (length floors) → IsPlace floors sender (length floors)
-is_end floors sender so = record {
-  within = omega arith;
-  before = so.before;
-  here = λ f rest at. let none : drop (length floors) floors ≡ [] = drop_all (length floors) floors (omega arith) in
-      let clash : [] ≡ f ∷ rest = sym none ∙ at in
-      absurd (cc);
-}
-
 -- a floor that stands there is raised
 pub raised : (floors : List SenderFloor) (sender place value : ℕ) (d : SenderFloor) (m : ℕ) → place < length floors → (get_or floors place d).sender.0 ≡ sender
     → m ≡ max (get_or floors place d).stored value

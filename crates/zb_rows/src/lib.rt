@@ -14,7 +14,7 @@ pub use counters::{
 };
 pub use links::{
     code_row, has_link, has_row_as, is_known, is_live, is_told, link_of, links_full, live_link,
-    other_user, pairs_full, unless_held, uses_key, verified_current,
+    other_user, pairs_full, unless_held, uses_key,
 };
 pub use moves::{add_drop_old, add_drop_others, add_drop_partner};
 pub use nets::{

@@ -6,7 +6,6 @@ ghost use Rattle.zb_node_types.specs.Changes.{model_attribute, model_role};
 ghost use Rattle.zb_record.specs.RowViews.{link_key, pair_key};
 ghost use Rattle.zb_rows.specs.Asking.{is_row_as, key_is_used};
 ghost use Rattle.zb_model.specs.Answer.{changes};
-ghost use Rattle.zb_model.specs.Commands.{verified_current};
 ghost use Rattle.zb_model.specs.Data.{Row};
 ghost use Rattle.zb_model.specs.Fits.{most_links, most_pairs};
 ghost use Rattle.zb_model.specs.Rules.{links_full, pairs_full, unless_held};
@@ -38,16 +37,6 @@ pub fn live_link(tables: &Tables, partner: Eui) -> Option<&LinkRow>
     ensures { option_map link_key (option_copied result) ≡ find (is_live_of partner.0) tables.now.links }
 {
     live_row(tables.links(), partner)
-}
-
-/// Returns the current row of a partner, if it is verified.
-pub fn verified_current(tables: &Tables, partner: Eui) -> Option<&LinkRow>
-    ensures { option_map link_key (option_copied result) ≡ verified_current tables.now partner.0 }
-{
-    match tables.current(partner) {
-        Some(row) => { if row.is_verified() { Some(row) } else { None } }
-        None => None,
-    }
 }
 
 /// Returns the row of the node's own install code: the first one of the centre that comes from a code.

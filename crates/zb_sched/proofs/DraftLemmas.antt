@@ -65,14 +65,3 @@ entries_same name change es none =
     let all_before : nat_lt (position_or_len (λ x. has_name name (seat_of x)) es) (length es) ≡ false = none_test _ _ none in
     let whole : length es ≤ position_or_len (λ x. has_name name (seat_of x)) es = grind (arith, nat_tests) in
     nowhere name change es (λ k d lt. fails_before_first (λ x. has_name name (seat_of x)) es k d (omega arith))
-
--- one entry replaced by a linked one
-pub linked_set : (es : List Entry) (i : ℕ) (e : Entry) → AllByRecursion IsLinked es → IsLinked e → AllByRecursion IsLinked (set es i e)
-linked_set [] i e all one = all
-linked_set (x ∷ es) zero e all one = (one, all.1)
-linked_set (x ∷ es) (suc i) e all one = (all.0, linked_set es i e all.1 one)
-
-pub linked_at : (es : List Entry) (i : ℕ) (d : Entry) → AllByRecursion IsLinked es → i < length es → IsLinked (get_or es i d)
-linked_at [] i d all lt = absurd (omega arith)
-linked_at (x ∷ es) zero d all lt = all.0
-linked_at (x ∷ es) (suc i) d all lt = linked_at es i d all.1 (omega arith)

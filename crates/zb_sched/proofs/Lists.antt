@@ -45,8 +45,3 @@ unequal xs ys no_match same = cc (sym ((bytes_eq-Decides xs ys).1 same) ∙ no_m
 
 pub unequal_number : (m n : ℕ) → (m == n) ≡ false → m ≡ n → ⊥
 unequal_number m n no_match same = grind (arith, nat_tests, no_match, same)
-
--- what an Ok after a test shows
-pub passed : {X E : Type 0} (b : Bool) (e : E) (r : Result X E) (x : X) → (if b then Err e else r) ≡ Ok x → (b ≡ false) × (r ≡ Ok x)
-passed true e r x h = cc h
-passed false e r x h = (refl, h)

@@ -23,9 +23,6 @@ pub more_known : (s n : BTreeSet (List ℕ)) (keys : List (List ℕ)) (key : Lis
 more_known s n keys key same updates q =
     updates.0 q ∙ rw (same q, is_eq-slice_cmp key q) (by_either (bytes_eq key q) (is_drawn q keys)) ∙ sym (list_any-append (λ draw. bytes_eq draw q) keys (key ∷ []))
 
-pub as_known : (s n : BTreeSet (List ℕ)) (keys : List (List ℕ)) → HasTheSame s keys → n.keys ≡ s.keys → HasTheSame n keys
-as_known s n keys same unchanged q = ap (list_any (λ k. is_at (slice_cmp nat_cmp q) k)) unchanged ∙ same q
-
 -- the keys of a list with one more, as bytes
 pub key_bytes_more : (keys : List Key) (key : Key) → map (λ (k : Key). k.0) (keys ++ key ∷ []) ≡ map (λ (k : Key). k.0) keys ++ key.0 ∷ []
 key_bytes_more keys key = map-append (λ (k : Key). k.0) keys (key ∷ [])

@@ -38,30 +38,6 @@ apart_push reading (y ∷ ys) x apart others = (all_push (λ other. reading y �
 
 -- ---- the lines
 
-nothing_has : has_centre start ≡ true → are_blocks start.out_block start.in_block ≡ true
-nothing_has h = absurd (false≢true h)
-
-pub start_kept : IsSoFar start
-start_kept = record { names = tt; euis = tt; shorts = tt; led = tt; blocks = nothing_has; few = omega arith; steps = tt }
-
-nobody : (stations : List Station) → not (length stations == 0) ≡ false → stations ≡ []
-nobody [] h = refl
-nobody (x ∷ xs) h = let none : length (x ∷ xs) ≡ 0 = eqb-true (length (x ∷ xs)) 0 (not-false _ h) in absurd (omega (arith, none))
-
-pub centre_kept : (s : Script) (x : Station) (out_block in_block : ℕ) → IsSoFar s → has_centre s ≡ false → x.role ≡ Centre → are_blocks out_block in_block ≡ true
-    → IsSoFar (record { stations = s.stations ++ x ∷ []; out_block = out_block; in_block = in_block; steps = s.steps })
-centre_kept s x out_block in_block kept none centre blocks =
-    let first : s.stations ≡ [] = nobody s.stations none in
-    record {
-      names = rw first (tt, tt);
-      euis = rw first (tt, tt);
-      shorts = rw first (tt, tt);
-      led = rw first (centre, tt);
-      blocks = λ h. blocks;
-      few = kept.few;
-      steps = kept.steps;
-    }
-
 -- the new node differs from each one before it
 pub record AreFree (name : Bytes) (eui short : ℕ) (stations : List Station) : Type 0 where
   pub names : AllByRecursion (λ (y : Station). y.name ≢ name) stations
@@ -116,17 +92,6 @@ with_peer peers new p out_block in_block steps s view is kept has free joins =
     let apart : list_any (λ station. is_taken p.name.bytes p.eui.0 p.short.0 station) old.stations ≡ false =
     ap (λ (t : Script). list_any (λ station. is_taken p.name.bytes p.eui.0 p.short.0 station) t.stations) view ∙ free in
     subst (λ stations. IsSoFar (record { stations = stations; out_block = out_block; in_block = in_block; steps = steps })) (sym seen) (peer_kept old (station_of p) kept (ap has_centre view ∙ has) apart joins)
-
-pub step_kept : (s : Script) (step : Step) → IsSoFar s → length s.steps < 10000 → IsStep step → IsSoFar (record s { steps = s.steps ++ step ∷ [] })
-step_kept s step kept room is = record {
-  names = kept.names;
-  euis = kept.euis;
-  shorts = kept.shorts;
-  led = kept.led;
-  blocks = kept.blocks;
-  few = omega (arith, room, length-append s.steps (step ∷ []));
-  steps = all_push IsStep s.steps step kept.steps is;
-}
 
 -- ---- the whole
 

@@ -41,9 +41,6 @@ pub nwk_front : (bytes : List ℕ) (f : NwkFrame) (a : NwkAux) → nwk_shape.Spe
 nwk_front bytes f a spells is =
     front_leveled (nwk.header f.header) (number w32 a.counter ++ eui a.source ++ byte a.key_sequence) f.body.items f.mic bytes a.control 14 refl (nwk_text bytes f a spells is) spells.is_frame.in_range.mic
 
-pub nwk_room : (bytes : List ℕ) (f : NwkFrame) (a : NwkAux) → nwk_shape.Spells bytes f → f.aux ≡ Some a → 14 + length f.body.items + 4 ≤ length bytes
-nwk_room bytes f a spells is = omega (arith, parts_length (nwk.header f.header) (nwk.aux a) f.body.items f.mic bytes (nwk_text bytes f a spells is) spells.is_frame.in_range.mic)
-
 pub aps_text : (bytes : List ℕ) (f : ApsFrame) (a : ApsAux) → aps_shape.Spells bytes f → f.aux ≡ Some a → bytes ≡ aps.header f.header ++ ((aps.aux a ++ f.body.items) ++ f.mic)
 aps_text bytes f a spells is = spells.is_frame.text ∙ ap (λ (o : Option ApsAux). aps.header f.header ++ aps.content o f.body.items f.mic) is
 
@@ -60,9 +57,3 @@ aps_front bytes f a spells is =
     let tl : List ℕ = number w32 a.counter ++ optional eui a.source in
     let size : aps_size a.source ≡ length (a.control ∷ tl) = sym (length-source a.source) ∙ omega (arith, length-append (number w32 a.counter) (optional eui a.source)) in
     front_leveled (aps.header f.header) tl f.body.items f.mic bytes a.control (aps_size a.source) size (aps_text bytes f a spells is) spells.is_frame.in_range.mic
-
-pub aps_room : (bytes : List ℕ) (f : ApsFrame) (a : ApsAux) → aps_shape.Spells bytes f → f.aux ≡ Some a → aps_size a.source + length f.body.items + 4 ≤ length bytes
-aps_room bytes f a spells is =
-    let tl : List ℕ = number w32 a.counter ++ optional eui a.source in
-    let size : aps_size a.source ≡ length (a.control ∷ tl) = sym (length-source a.source) ∙ omega (arith, length-append (number w32 a.counter) (optional eui a.source)) in
-    omega (arith, size, parts_length (aps.header f.header) (aps.aux a) f.body.items f.mic bytes (aps_text bytes f a spells is) spells.is_frame.in_range.mic)

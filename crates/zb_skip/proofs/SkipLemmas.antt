@@ -133,9 +133,6 @@ start_made by active s before r after kept forgets is small =
 abbrev pub half_way : ℕ → ℕ → ℕ → List NetKey → List NetKey
 half_way by active i rows = map (raised by active) (take i rows) ++ drop i rows
 
-pub begun : (by active : ℕ) (s : NodeState) → s ≡ record s { nets = half_way by active 0 s.nets }
-begun by active s = refl
-
 module _ (by active i : ℕ) (rows : List NetKey) (d : NetKey) (lt : i < length rows) where
   split : half_way by active i rows ≡ map (raised by active) (take i rows) ++ get_or rows i d ∷ drop (i + 1) rows
   split = ap (λ l. map (raised by active) (take i rows) ++ l) (drop_more rows i d lt)

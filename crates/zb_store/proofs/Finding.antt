@@ -312,9 +312,6 @@ module _ (f : Found) (seen : List ℕ) (is : IsFoundIn f seen) where
       let none : drop (extent ps) region ≡ [] = drop_all (extent ps) region (omega (arith, ap length r, length-take (extent ps) b)) in
       payloads_split 32 b region front ∙ ap (λ (l : List ℕ). ps ++ payloads_of (32 - length ps) l) none ∙ ap (λ (l : List (List ℕ)). ps ++ l) (no_entry (32 - length ps) [] (entry_short [] (omega arith))) ∙ append-nil ps
 
-  pub found_standing : stands seen ≡ Some (standing_in f.second (fields_of (slot f.second seen)))
-  found_standing = is.stands
-
 -- all that was read
 pub read_as : (f : Found) (seen content payloads region : List ℕ) (start room entries taken end : ℕ) → IsFoundIn f seen → start ≡ base_of f.second + 13 + f.size → room ≡ f.room - (13 + f.size) → taken ≤ 15488
     → ((b : List ℕ) → IsBehind b start room 15616 seen → (entries ≡ length (payloads_of 32 b)) × (taken ≡ extent (payloads_of 32 b)))

@@ -16,12 +16,6 @@ use Rattle.zb_store.proofs.Going.{one_through, one_stopped, through_then, stoppe
 
 -- what a `format` writes: a body from the second byte on, a closed gate further on, and then the first byte
 module _ (h : ℕ) (seen bytes : List ℕ) (some : 0 < length bytes) (fits : 1 + length bytes ≤ h) where
-  x1 : List ℕ
-  x1 = overwrite seen 1 bytes
-
-  x2 : List ℕ
-  x2 = overwrite (overwrite seen 1 bytes) h (0 ∷ [])
-
   laid : List ℕ
   laid = overwrite (overwrite (overwrite seen 1 bytes) h (0 ∷ [])) 0 (165 ∷ [])
 
@@ -219,9 +213,6 @@ both_are seen s is = by_slot s.second (eq-eqb (gate_of (slot s.second seen)) ope
 
 -- an `open`, after its reads
 module _ (tells : Telling) (v0 v1 v2 : View) (still : IsStill v0 v1) (reads : IsTrue tells.content → v0.images v0.seen) (only_now : (c : List ℕ) → v0.since v0.moment c → v0.images c) where
-  pub read_moments : AllWhole v0 → LeavesOnly v0 v1 (WasThere v0)
-  read_moments all = still_leaves v0 v1 (WasThere v0) still only_now (λ c image. let w = all c image in (w.0, w.1, (c, image, w.1)))
-
   whole_seen : (s : Standing) → AllWhole v0 → IsTrue tells.content → stands v0.seen ≡ Some s → IsWhole s v1.seen
   whole_seen s all told is =
       let w = all v0.seen (reads told) in

@@ -162,11 +162,6 @@ boot_of_accepted t s = boot_of_heard t.layer t.base t.source t.counter s
 
 -- ---- the role stays
 
-pub role_of_counted : (layer : Layer) (s : NodeState) → (after_counting layer s).role ≡ s.role
-unfolding after_counting
-role_of_counted Nwk s = refl
-role_of_counted Aps s = refl
-
 role_of_sealed_at : (layer : Layer) (t : Term) (s : NodeState) → (sealed_at layer t s).role ≡ s.role
 role_of_sealed_at Nwk t s = refl
 role_of_sealed_at Aps t s = refl

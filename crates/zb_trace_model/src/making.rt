@@ -77,7 +77,6 @@ pub fn counter_line(node: Name, layer: Layer, limit: u32) -> Line
 /// Makes the line of a change of a node's stable state.
 ///
 /// The lines of draws, and of devices that are live, removed, told or not, name no node: those are the centre's.
-
 pub fn change_line(event: u32, node: Name, change: Change) -> Line
     ensures is { result ≡ edit_line event node (edit change) }
     ensures says { (known : List Station) (n : ℕ) → IsCalled known n node.bytes → IsOfCentre known n (edit change)
@@ -211,7 +210,6 @@ pub fn forge_line(event: u32, term: Term) -> Line
 }
 
 /// Makes the line of a frame that went on the air. The name of an outsider, who forged it, is `-`.
-
 pub fn send_line(event: u32, node: Name, frame: u32, bytes: Frame) -> Line
     ensures node { (known : List Station) (n : ℕ) → IsCalled known n node.bytes → is_name node.bytes ≡ true
         → IsLineOf known result (model.Send event (Some n) frame bytes.items) }

@@ -170,18 +170,6 @@ is_front bytes line page after read l more proper e taken reads printed =
 
 -- The steps of reading lines
 
-append_texts : (ls : List Line) (l : Line) → texts (ls ++ l ∷ []) ≡ texts ls ++ text l
-append_texts [] l = append-nil (text l)
-append_texts (k ∷ ls) l = ap (λ rest. text k ++ rest) (append_texts ls l) ∙ sym (append_assoc (text k) (texts ls) (text l))
-
-pub one_more : (bytes rest after : List ℕ) (ls : List Line) (l : Line) → bytes ≡ texts ls ++ rest → rest ≡ text l ++ after → bytes ≡ texts (ls ++ l ∷ []) ++ after
-one_more bytes rest after ls l e front =
-    e ∙ (ap (λ behind. texts ls ++ behind) front ∙ (sym (append_assoc (texts ls) (text l) after) ∙ ap (λ done. done ++ after) (sym (append_texts ls l))))
-
-pub all_proper : (ls : List Line) (l : Line) → AllProper ls → IsProper l → AllProper (ls ++ l ∷ [])
-all_proper [] l proper last = (last, tt)
-all_proper (k ∷ ls) l proper last = (proper.0, all_proper ls l proper.1 last)
-
 -- A text that is the text of lines has no first bad line.
 pub no_bad : (before ls : List Line) (bytes rest : List ℕ) → AllProper before → AllProper ls → bytes ≡ texts before ++ rest → (rest ≡ [] → ⊥)
     → ((l : Line) (more : List ℕ) → IsProper l → rest ≡ text l ++ more → ⊥) → bytes ≡ texts ls → ⊥

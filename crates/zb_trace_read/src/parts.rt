@@ -53,7 +53,13 @@ pub(crate) fn read_refusal(reader: &mut Words<'_>) -> Option<Refusal>
         read_stale(place, reader)
     } else if reason == (Refusal::KeyOld { place, at: 0 }).word() {
         read_key_old(place, reader)
-    } else if reason == (Refusal::KeyInUse { place, partner: Eui(0) }).word() {
+    } else if reason
+        == (Refusal::KeyInUse {
+            place,
+            partner: Eui(0),
+        })
+        .word()
+    {
         read_key_in_use(place, reader)
     } else {
         read_plain(place, reason, reader)
@@ -142,5 +148,8 @@ fn plain_refusal(place: Place, reason: &[u8]) -> Option<Refusal>
 fn with_word(word: &[u8], refusals: &[Refusal]) -> Option<Refusal>
     ensures { result ≡ find (λ r. bytes_eq word.now (reason_word (reason r))) refusals.now }
 {
-    refusals.iter().find(|refusal| word == refusal.word()).copied()
+    refusals
+        .iter()
+        .find(|refusal| word == refusal.word())
+        .copied()
 }

@@ -102,10 +102,6 @@ pub some_more : (keys more all : List Bytes) (o : Option Bytes) → ((k : Bytes)
 some_more keys more all None so = refl
 some_more keys more all (Some k) so = so k
 
-some_none : (o : Option Bytes) → holds_some [] o ≡ false
-some_none None = refl
-some_none (Some k) = refl
-
 same_some : (keys all : List Bytes) → ((k : Bytes) → holds all k ≡ holds keys k) → (o : Option Bytes) → holds_some all o ≡ holds_some keys o
 same_some keys all so None = refl
 same_some keys all so (Some k) = so k

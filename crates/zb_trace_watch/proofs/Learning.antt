@@ -20,22 +20,6 @@ pub record Learning (carried : Holdings Key) (old now : Keys) (start left : List
       → ((b k : List ℕ) → S b ≡ true → is_carried carried b k ≡ true → S k ≡ true)
       → ((k : List ℕ) → has now k ≡ true → S k ≡ true) × ((k : List ℕ) → is_among left k ≡ true → S k ≡ true)
 
-pub begins : (carried : Holdings Key) (old : Keys) (start : List Key) → Learning carried old old start start
-begins carried old start = record {
-  keeps = λ k h. h;
-  learns = λ k h. or_right _ _ h;
-  opens = λ b k unknown known there. cc;
-  least = λ S known more closed. (known, more);
-}
-
-pub ends : (carried : Holdings Key) (old now : Keys) (start : List Key) → Learning carried old now start [] → Learns carried old now start
-ends carried old now start l = record {
-  keeps = l.keeps;
-  learns = λ k h. none_left _ (l.learns k h);
-  opens = λ b k unknown known there. none_left _ (l.opens b k unknown known there);
-  least = λ S known more closed. (l.least S known more closed).0;
-}
-
 module _ (carried : Holdings Key) (old now new : Keys) (start left : List Key) (key : Key)
     (adds : (k : List ℕ) → has new k ≡ (has now k || bytes_eq k key.0)) (l : Learning carried old now start (left ++ key ∷ [])) where
   up : (k : List ℕ) → has now k ≡ true → has new k ≡ true

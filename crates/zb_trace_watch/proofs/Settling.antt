@@ -133,17 +133,6 @@ module _ (e : Exposure) (removed : BTreeSet Eui) (device : Eui)
       (λ b k before there. or_left _ _ (settled.covers.carried b k before there))
       (λ S covers old k there. covers.removed device.0 k (removes device.0 ∙ or_right _ _ (itself_number device.0)) there)
 
-  pub settled_by_removal_again : was_removed e device.0 ≡ true → IsSettled e → IsSettled (removing e.known)
-  settled_by_removal_again gone_already settled =
-      settles_again e (removing e.known) [] settled (learns_nothing e.carried e.known) (λ d k gone did. (removes d ∙ or_left _ _ gone, did)) (λ b k there. there)
-      (λ d k gone did.
-      elim (either (was_removed e d) (nat_eq d device.0) (sym (removes d) ∙ gone)) [
-        | inl before ↦ or_left _ _ (settled.covers.removed d k before did)
-        | inr it ↦ or_left _ _ (settled.covers.removed device.0 k gone_already (ap (λ (x : ℕ). node_has e.ever x k) (sym (same_number d device.0 it)) ∙ did))
-      ])
-      (λ b k before there. or_left _ _ (settled.covers.carried b k before there))
-      (λ S covers old k there. cc)
-
 -- At the start only the well-known key is known.
 pub settled_at_first : (e : Exposure) (none : Keys) (key : Key) → key.0 ≡ well_known → ((k : List ℕ) → has none k ≡ false) → ((d : ℕ) → was_removed e d ≡ false)
     → Learns e.carried none e.known (key ∷ []) → IsSettled e
