@@ -12,7 +12,7 @@ mod network;
 use crate::network::{DEVICE, config, first_keys};
 use std::alloc::Global;
 use std::{env, io};
-use zb_base::{Config, Key};
+use zb_base::{Config, Key, RECORD_ROOM};
 use zb_centre::{Centre, CentreEvent};
 use zb_disk::{Disk, MemDisk};
 use zb_host::{Host, Outcome, Plan};
@@ -21,9 +21,6 @@ use zb_keys::Tables;
 use zb_node_types::Refusal;
 use zb_seal::Term;
 use zb_store::Store;
-
-/// The room that a record needs.
-const ROOM: usize = 49_152;
 
 fn main(rt: HostRuntime) -> io::Result<()> {
     match env::args(&rt)?.nth(1) {
@@ -77,7 +74,7 @@ fn open<D: Disk>(alloc: Global, config: &Config, disk: &mut D) -> Option<Host<Ce
 fn init<D: Disk>(alloc: Global, disk: &mut D) -> Option<()> {
     let tables = Tables::from_declaration(alloc, &first_keys()).ok()?;
     let mut room = Vec::new(alloc);
-    room.resize(ROOM, 0).ok()?;
+    room.resize(RECORD_ROOM, 0).ok()?;
     let len = tables.record_bytes(&mut room) as usize;
     let _ = Store::format(alloc, disk, &room[..len]).ok()?;
     Some(())
