@@ -1,4 +1,4 @@
--- The lines of a run that break the third clause of the audit: none.
+-- The lines of a run that break the third claim of the audit: none.
 use Rattle.std.specs.Prelude.{◌≡◌, []}
 use Rattle.zb_audit.specs.Confirming.{is_confirmable}
 use Rattle.zb_audit.specs.Failing.{failing}
@@ -7,6 +7,6 @@ use Rattle.zb_model.specs.Play.{Schedule, stations}
 use Rattle.zb_model.specs.Transcript.{transcript}
 use Rattle.zb_model_real.specs.Real.{real}
 
--- the third clause, of real frames: only stored keys are confirmed
+-- the third claim, of real frames: only stored keys are confirmed
 abbrev pub KeepsThird : Schedule → Type 0
 KeepsThird w = failing is_confirmable (printed (stations w) (transcript real w)) ≡ []

@@ -1,4 +1,4 @@
-//! The lines of each run keep the third clause of the audit: only stored keys are confirmed. The law stands as the
+//! The lines of each run keep the third claim of the audit: only stored keys are confirmed. The law is the
 //! contract of a function with an empty body; docs/THEOREMS.md says it in words.
 #![tactic(auto)]
 
@@ -9,7 +9,7 @@ ghost use Rattle.law_run.specs.Premises.{Premises};
 ghost use Rattle.law_tables_suffice.specs.Along.{euis_differ};
 ghost use Rattle.zb_trace_model.specs.Naming.{AreNamed};
 
-/// States that no line of a run breaks the third clause of the audit: a key is confirmed by the centre alone, which
+/// States that no line of a run breaks the third claim of the audit: a key is confirmed by the centre alone, which
 /// has stored it as the device's verified one.
 #[tactic(auto, using(crate::proofs::Confirmable::keeps_third))]
 pub fn runs_keep_the_third_claim()

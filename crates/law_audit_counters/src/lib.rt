@@ -1,4 +1,4 @@
-//! That no line of a run breaks the fourth clause of the audit. The law is the contract of a function with an
+//! That no line of a run breaks the fourth claim of the audit. The law is the contract of a function with an
 //! empty body; docs/THEOREMS.md says it in words.
 #![tactic(auto)]
 
@@ -13,7 +13,7 @@ ghost use Rattle.law_tables_suffice.specs.Along.{euis_differ};
 ghost use Rattle.law_answer_storable.specs.Storing.{OpensAsJudged};
 ghost use Rattle.zb_trace_model.specs.Naming.{AreNamed};
 
-/// States that no line of a run breaks the fourth clause of the audit: all its counters add up.
+/// States that no line of a run breaks the fourth claim of the audit: all its counters add up.
 ///
 /// Each seal has the next counter, each reserve, floor and start stands where it must, with its value, and nothing
 /// else does, whatever is delivered, and whichever disk stops or fails.

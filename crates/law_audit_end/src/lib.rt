@@ -1,4 +1,4 @@
-//! The lines of each run keep the sixth clause of the audit: the last one is the only end line, and sums up the
+//! The lines of each run keep the sixth claim of the audit: the last one is the only end line, and sums up the
 //! others. The law is the contract of a function with an empty body; docs/THEOREMS.md says it in words.
 #![tactic(auto)]
 
@@ -12,7 +12,7 @@ ghost use Rattle.law_tables_suffice.specs.Along.{euis_differ};
 ghost use Rattle.law_answer_storable.specs.Storing.{OpensAsJudged};
 ghost use Rattle.zb_trace_model.specs.Naming.{AreNamed};
 
-/// States that no line of a run breaks the sixth clause of the audit: the last line ends it well, and no other ends
+/// States that no line of a run breaks the sixth claim of the audit: the last line ends it well, and no other ends
 /// it.
 ///
 /// Its number of events is at least that of each event, its counts are right, and its two words are those that the

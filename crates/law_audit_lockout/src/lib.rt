@@ -31,7 +31,7 @@ pub fn groups_of_a_run_begin_with_their_events()
     ensures { (tools : Tools) (w : Schedule) → RunBegins tools w }
 {}
 
-/// States that no line of a run breaks the fifth clause of the audit, which is lockout.
+/// States that no line of a run breaks the fifth claim of the audit, which is lockout.
 ///
 /// Where both words of the end line hold, removed devices are locked out of the printed lines and of each prefix of
 /// them. `ShowsKeys` is of the frames: what a node's own frame shows of a key is the key of the command that is in it.

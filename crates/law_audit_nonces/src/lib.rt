@@ -1,4 +1,4 @@
-//! Which clauses of the audit the lines of each run keep. The laws stand as the contracts of functions with empty
+//! Which claims of the audit the lines of each run keep. The laws are the contracts of functions with empty
 //! bodies; docs/THEOREMS.md says them in words.
 #![tactic(auto)]
 
@@ -10,13 +10,13 @@ ghost use Rattle.law_run.specs.Commanding.{OneCentre};
 ghost use Rattle.law_run.specs.Opening.{Opens};
 ghost use Rattle.zb_trace_model.specs.Naming.{AreNamed};
 
-/// States that no line of a run breaks the first clause of the audit: no node seals twice under one key and nonce.
+/// States that no line of a run breaks the first claim of the audit: no node seals twice under one key and nonce.
 #[tactic(auto, using(crate::proofs::Fresher::keeps_first))]
 pub fn runs_keep_the_first_claim()
     ensures { (w : Schedule) → IsSchedule w → KeepsFirst w }
 {}
 
-/// States that no line of a run breaks the second clause of the audit: no receiver accepts a sender's counter twice
+/// States that no line of a run breaks the second claim of the audit: no receiver accepts a sender's counter twice
 /// under one key.
 #[tactic(auto, using(crate::proofs::Later::keeps_second))]
 pub fn runs_keep_the_second_claim()

@@ -1,4 +1,4 @@
-//! What the audit reads from the printed lines of a run is what the states of its nodes say. The law stands as the
+//! What the audit reads from the printed lines of a run is what the states of its nodes say. The law is the
 //! contract of a function with an empty body; docs/THEOREMS.md says it in words.
 #![tactic(auto)]
 

@@ -1,4 +1,4 @@
--- All clauses of the audit, of a run.
+-- All claims of the audit, of a run.
 use Rattle.std.proofs.Common.{◌≡◌, ℕ, List, [], Option, Some, None, refl, ap, ◌∙◌}
 use Rattle.std.specs.Prelude.{unwrap_or}
 use Rattle.zb_audit.specs.Confirming.{is_confirmable}

@@ -30,7 +30,7 @@ IsVerdict w (Ok v) = v ≡ verdict_of w
 IsVerdict w (Err (Broken line clause)) = ⊥
 IsVerdict w (Err NoMemory) = ⊤
 
--- No line of the run breaks a clause, so an audit of its lines answers the verdict on it.
+-- No line of the run breaks a claim, so an audit of its lines answers the verdict on it.
 pub record IsSound (w : Schedule) : Type 0 where
   pub whole : first_fault real (lines_of w) ≡ None
   pub answer : (result : Result Verdict AuditFault) → IsAnswer real (lines_of w) result → IsVerdict w result

@@ -1,6 +1,6 @@
 //! Audits transcripts: worked runs, which are sound, and transcripts that were changed in one place. For each file it
 //! writes what the audit answers: how many terms were sealed and accepted and whether removed devices are locked out,
-//! the first bad line and the clause that it breaks, or the first line that is no text of a line.
+//! the first bad line and the claim that it breaks, or the first line that is no text of a line.
 #![tactic(auto)]
 
 use std::{env, fs, io};
@@ -30,7 +30,7 @@ fn report(rt: &(impl Print + AllocGlobal), bytes: &[u8]) -> io::Result<()> {
     }
 }
 
-/// What is wrong with a text: a line that is none, or one that breaks a clause.
+/// What is wrong with a text: a line that is none, or one that breaks a claim.
 enum Fault {
     Line(u32),
     Broken(u32, u8),

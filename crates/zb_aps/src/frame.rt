@@ -35,7 +35,7 @@ impl ApsFrame {
     /// Returns whether this value is a frame that the reader can answer.
     ///
     /// The reader takes the type, the delivery and the key identifier, the options agree with the control byte, and
-    /// the code is zero where there is no security.
+    /// the MIC is zero where there is no security.
     pub fn shape_ok(&self) -> bool
         ensures { IsTrue result ↔ IsShaped self.now }
     {

@@ -1,4 +1,4 @@
--- The third clause: only stored keys are confirmed.
+-- The third claim: only stored keys are confirmed.
 use Rattle.std.specs.Prelude.{ℕ, Bool, true, false, ◌&&◌, if◌then◌else◌, List, [], ◌∷◌, bytes_eq, nat_eq, Option, Some, None, Result, Ok, Err}
 use Rattle.std.specs.Option.{option_map}
 use Rattle.zb_base.specs.declared.address.Eui.{Eui}

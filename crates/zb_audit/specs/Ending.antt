@@ -1,4 +1,4 @@
--- The sixth clause: the last line is an end line that sums up the others, and no other line is an end line.
+-- The sixth claim: the last line is an end line that sums up the others, and no other line is an end line.
 use Rattle.std.specs.Prelude.{ℕ, ◌+◌, max, Bool, true, false, not, ◌&&◌, if◌then◌else◌, List, [], ◌∷◌, ◌++◌, length, fold, nat_eq, nat_le, Option, Some, None}
 use Rattle.zb_audit.specs.Failing.{failing}
 use Rattle.zb_audit_names.specs.Groups.{event_of}

@@ -1,4 +1,4 @@
--- Which line is the first bad one, and by which clause.
+-- Which line is the first bad one, and by which claim.
 use Rattle.std.specs.Prelude.{◌≡◌, ℕ, Bool, ◌&&◌, if◌then◌else◌, List, nat_le, Option, Some, None, Result, Ok, Err}
 use Rattle.zb_audit.specs.Confirming.{is_confirmable}
 use Rattle.zb_audit.specs.Ending.{accepts_in, ill_ended, seals_in}
@@ -20,18 +20,18 @@ use Rattle.zb_trace.specs.declared.line.Line.{Line}
 unfoldable pub unlocked : Tools → List Line → Option ℕ
 unlocked tools lines = if ideal tools lines && private tools lines then first_unlocked tools lines else None
 
--- the first line that breaks a clause
+-- the first line that breaks a claim
 abbrev pub by : ℕ → Option ℕ → Option BadLine
 by clause None = None
 by clause (Some number) = Some (record { line = number; clause = clause })
 
--- the one of the smaller number, and of one line that of the smaller clause, which stands first
+-- the one of the smaller number, and of one line that of the smaller claim, which stands first
 abbrev pub sooner : Option BadLine → Option BadLine → Option BadLine
 sooner None later = later
 sooner (Some bad) None = Some bad
 sooner (Some bad) (Some other) = if nat_le bad.line other.line then Some bad else Some other
 
--- The first bad line, and the first clause that it breaks.
+-- The first bad line, and the first claim that it breaks.
 unfoldable pub first_fault : Tools → List Line → Option BadLine
 first_fault tools lines =
     sooner (by 1 (head (failing is_fresh lines)))

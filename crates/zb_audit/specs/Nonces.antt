@@ -1,4 +1,4 @@
--- The first clause: no node seals twice under one key and nonce.
+-- The first claim: no node seals twice under one key and nonce.
 use Rattle.std.specs.Prelude.{Bool, true, false, not, ◌&&◌, List, bytes_eq, nat_eq}
 use Rattle.std.specs.List.{list_any}
 use Rattle.zb_seal.specs.Keys.{sealing_key}

@@ -1,4 +1,4 @@
--- The second clause: no receiver accepts a sender's counter twice under one key.
+-- The second claim: no receiver accepts a sender's counter twice under one key.
 use Rattle.std.specs.Prelude.{Bool, true, false, not, ◌&&◌, List, bytes_eq, nat_eq, nat_le}
 use Rattle.std.specs.List.{list_any}
 use Rattle.zb_base.specs.declared.label.Layer.{Layer}

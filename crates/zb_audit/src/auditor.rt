@@ -1,4 +1,4 @@
-//! All clauses, line by line.
+//! All claims, line by line.
 ghost use Rattle.std.specs.Prelude.{◌≡◌, ◌++◌, ◌∷◌, [], ◌&&◌, List, IfOk, OnOk, true};
 ghost use Rattle.zb_audit.specs.Auditing.{LocksOn, Stands};
 ghost use Rattle.zb_audit.specs.Claims.{Keeps};
@@ -32,17 +32,17 @@ pub struct Auditor {
     pub directory: Directory,
     /// The two words of the end line.
     pub words: EndWords,
-    /// The first clause: nonces.
+    /// The first claim: nonces.
     pub nonces: Nonces,
-    /// The second clause: counters taken.
+    /// The second claim: counters taken.
     pub taking: Taking,
-    /// The third clause: confirmed keys.
+    /// The third claim: confirmed keys.
     pub confirming: Confirming,
-    /// The fourth clause: counters, limits and floors.
+    /// The fourth claim: counters, limits and floors.
     pub recount: Recount,
-    /// The fifth clause: lockout. It isn't carried on once one of the two words is no.
+    /// The fifth claim: lockout. It isn't carried on once one of the two words is no.
     pub lockout: Lockout,
-    /// The sixth clause: the end line.
+    /// The sixth claim: the end line.
     pub ending: Ending,
 }
 
@@ -95,7 +95,7 @@ impl Auditor {
         Ok(())
     }
 
-    /// Ends the transcript: answers the verdict, or the first bad line and the first clause that it breaks.
+    /// Ends the transcript: answers the verdict, or the first bad line and the first claim that it breaks.
     pub fn end(&self) -> Result<Verdict, AuditFault>
         ensures { (tools : Tools) (h : List AnyLine) → Stands tools self.now h → IsAnswer tools h result }
     {
@@ -160,7 +160,7 @@ fn carry_on(
     Ok(())
 }
 
-/// Returns the sooner of two bad lines, of which the first is of a smaller clause.
+/// Returns the sooner of two bad lines, of which the first is of a smaller claim.
 fn sooner(line: Option<u32>, clause: u8, other: Option<BadLine>) -> Option<BadLine>
     ensures { result ≡ sooner_of (by clause line) other }
 {
@@ -174,7 +174,7 @@ fn sooner(line: Option<u32>, clause: u8, other: Option<BadLine>) -> Option<BadLi
 /// Judges the lines of a transcript.
 ///
 /// # Errors
-/// `Broken` with the first bad line and the first clause that it breaks; or out of memory.
+/// `Broken` with the first bad line and the first claim that it breaks; or out of memory.
 pub fn audit(alloc: Global, lines: &[Line]) -> Result<Verdict, AuditFault>
     ensures answer { IsAnswer real lines.now result }
     ensures claims { IfOk result (λ verdict. Keeps real verdict lines.now) }

@@ -1,4 +1,4 @@
-//! The third clause: only stored keys are confirmed.
+//! The third claim: only stored keys are confirmed.
 ghost use Rattle.std.specs.Prelude.{◌≡◌, ◌+◌, ◌≤◌, ◌++◌, ◌∷◌, [], ◌||◌, ◌&&◌, ℕ, List, OnOk, Some, None, length, if◌then◌else◌};
 ghost use Rattle.std.specs.Option.{option_or};
 ghost use Rattle.zb_audit.specs.Confirming.{confirmed as confirmed_by, confirmed_in as confirmed_bytes, is_kept, is_row};

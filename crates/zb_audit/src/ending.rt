@@ -1,4 +1,4 @@
-//! The sixth clause: the last line is the end line, no other is, and it sums up.
+//! The sixth claim: the last line is the end line, no other is, and it sums up.
 ghost use Rattle.std.specs.Prelude.{◌≡◌, ◌+◌, ◌++◌, ◌∷◌, [], ◌&&◌, List, OnOk, length, not};
 ghost use Rattle.zb_audit.specs.Ending.{accept_count, agree, greater_event, ill_ended, is_no_end, refuse_count, seal_count};
 ghost use Rattle.zb_audit.specs.Failing.{head};

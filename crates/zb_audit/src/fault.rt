@@ -14,17 +14,17 @@ pub struct Verdict {
 /// Why there is no verdict.
 #[derive(Clone, Copy, Debug, PartialEq, Eq)]
 pub enum AuditFault {
-    /// The first bad line, from 1, and the first clause that it breaks, from 1.
+    /// The first bad line, from 1, and the first claim that it breaks, from 1.
     Broken { line: u32, clause: u8 },
     /// Memory is lacking.
     NoMemory,
 }
 
-/// A bad line, by its number from 1, and a clause that it breaks.
+/// A bad line, by its number from 1, and a claim that it breaks.
 #[derive(Clone, Copy)]
 pub struct BadLine {
     /// The number of the line.
     pub line: u32,
-    /// The clause, from 1.
+    /// The claim, from 1.
     pub clause: u8,
 }

@@ -2,7 +2,7 @@
 //! sound.
 //!
 //! It goes by the lines alone, whoever wrote them, and never by what this program would have done. A line is bad by
-//! one of six clauses: a nonce comes again, a counter is taken twice, a key is confirmed that isn't stored, a counter
+//! one of six claims: a nonce comes again, a counter is taken twice, a key is confirmed that isn't stored, a counter
 //! isn't the one that the lines before it ask for, a removed device isn't locked out, or the end line doesn't sum up.
 #![tactic(auto)]
 

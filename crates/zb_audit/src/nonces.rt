@@ -1,4 +1,4 @@
-//! The first clause: no node seals twice under one key and nonce.
+//! The first claim: no node seals twice under one key and nonce.
 ghost use Rattle.std.specs.Prelude.{◌≡◌, ◌+◌, ◌++◌, ◌∷◌, [], ◌||◌, List, OnOk, Some, None, length, not, if◌then◌else◌};
 ghost use Rattle.std.specs.Option.{option_or};
 ghost use Rattle.zb_audit.specs.Nonces.{same_stamp};

@@ -1,4 +1,4 @@
-//! The second clause: no receiver accepts a sender's counter twice under one key.
+//! The second claim: no receiver accepts a sender's counter twice under one key.
 ghost use Rattle.std.specs.Prelude.{◌≡◌, ◌+◌, ◌++◌, ◌∷◌, [], ◌||◌, ◌&&◌, ℕ, List, OnOk, Some, None, length, nat_eq, nat_le, not, if◌then◌else◌};
 ghost use Rattle.std.specs.BTreeMap.{get};
 ghost use Rattle.std.specs.Option.{option_or};

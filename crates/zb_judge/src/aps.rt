@@ -108,7 +108,7 @@ fn chosen<'a>(
 ///
 /// # Errors
 ///
-/// No source or no link key of it, the greatest counter, a counter below the key's floor and a wrong code, in this
+/// No source or no link key of it, the greatest counter, a counter below the key's floor and a wrong MIC, in this
 /// order.
 #[tactic(auto, unfolding(crate::specs::Steps::judge_aps, crate::specs::Steps::need, crate::specs::Steps::reject))]
 pub fn judge_aps(

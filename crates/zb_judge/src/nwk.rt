@@ -96,7 +96,7 @@ fn was_removed(network: &Network, tables: &Tables, source: Eui) -> bool
 ///
 /// # Errors
 ///
-/// No key of that sequence, the greatest counter, a counter below the sender's floor, a wrong code, a sender that
+/// No key of that sequence, the greatest counter, a counter below the sender's floor, a wrong MIC, a sender that
 /// isn't declared or was removed, and no room for the sender's floor, in this order.
 #[tactic(auto, unfolding(crate::specs::Steps::judge_net, crate::specs::Steps::need, crate::specs::Steps::reject))]
 fn judge_net(

@@ -35,7 +35,7 @@ impl NwkFrame {
     /// Returns whether this value is a frame that the reader can answer.
     ///
     /// The reader takes the type, the version and the auxiliary control, the options agree with the control word, and
-    /// the code is zero where there is no security.
+    /// the MIC is zero where there is no security.
     pub fn shape_ok(&self) -> bool
         ensures { IsTrue result ↔ IsShaped self.now }
     {
