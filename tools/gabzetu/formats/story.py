@@ -148,9 +148,8 @@ def check_schedule(story, path):
                        'give the schedule that was played')
 
 
-def read_story(path, schedule_path=None):
-    """Returns the story of a transcript, and of the schedule that was played where it is given."""
-    transcript = transcripts.read_transcript(path)
+def make_story(transcript, schedule_path=None):
+    """Returns the story of a transcript, with the schedule that was played where its path is given."""
     if schedule_path is None:
         return Story(transcript)
     story = Story(transcript, read_schedule(schedule_path))
