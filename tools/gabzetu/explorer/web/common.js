@@ -93,9 +93,13 @@ function makeKey(key) {
   return element;
 }
 
+const colours = new Map();
+matchMedia('(prefers-color-scheme: dark)').addEventListener('change', () => colours.clear());
+
 /** Returns the value of a colour of the style. */
 function colour(name) {
-  return getComputedStyle(document.documentElement).getPropertyValue(`--${name}`).trim();
+  if (!colours.has(name)) colours.set(name, getComputedStyle(document.documentElement).getPropertyValue(`--${name}`).trim());
+  return colours.get(name);
 }
 
 /** Returns a canvas's context in which a unit is a dot of the page, cleared. */
@@ -108,21 +112,18 @@ function clearCanvas(canvas) {
   return context;
 }
 
-/** Tabs at the side: each has a name and a function that fills the panel. The chosen one is filled again by show(). */
+/** Tabs at the side: each has a name and a function that fills the panel. choose(name) is called for a click. */
 class Tabs {
-  constructor(names, fill) {
+  constructor(fill, choose) {
     this.fill = fill;
-    this.buttons = new Map(names.map((name) => [name, makeButton(name, () => this.choose(name))]));
+    this.buttons = new Map(Object.keys(fill).map((name) => [name, makeButton(name, () => choose(name))]));
     place('tabs').append(...this.buttons.values());
-    [this.name] = names;
+    [this.name] = Object.keys(fill);
   }
 
-  choose(name) {
-    this.name = name;
-    this.show();
-  }
-
-  show() {
+  /** Fills the panel by the chosen tab, or by another one. */
+  show(name) {
+    this.name = name || this.name;
     for (const [name, button] of this.buttons) button.classList.toggle('chosen', name === this.name);
     place('panel').replaceChildren(...this.fill[this.name]());
     place('panel').scrollTop = 0;

@@ -1,10 +1,10 @@
 // The picture in the middle: a lane for each node, a row for each thing that happened. Only the rows around those that are seen
 // are elements of the page, so that any number of rows can be scrolled. The height of each row is known without drawing it.
 //
-// A row: mark and note (the first column), target (its place in the address), boxes {lane, kind, lines} and frames
-// {from, label, tone, arrows: [{to, fate, tone, isLost}]}. Lanes are places among the heads.
+// A row: mark, note and outcome (the first column), target (its place in the address), boxes {lane, kind, lines}, whether they are side by
+// side (isFlat), and frames {from, label, tone, arrows: [{to, fate, tone, isLost}]}. Lanes are places among the heads.
 
-const EVENT_WIDTH = 168;
+const MANY = 12; // from so many lanes on, they are narrow, and the first column has the outcome of each row
 const LINE = 15;
 const LABEL = 17;
 const ARROW = 16;
@@ -12,10 +12,10 @@ const AROUND = 120; // rows that are drawn above and below those that are seen
 const RIGHT_ROOM = 330; // for labels of frames of the last lane
 
 const measure = document.createElement('canvas').getContext('2d');
+measure.font = '11.5px system-ui, "Segoe UI", "DejaVu Sans", sans-serif';
 
 /** Breaks a text into lines that a box of this width has room for. */
 function breakText(text, width) {
-  measure.font = '11.5px system-ui, "Segoe UI", "DejaVu Sans", sans-serif';
   const lines = [];
   let line = '';
   for (const word of text.split(' ')) {
@@ -34,10 +34,15 @@ function heightOfBox(box) {
   return box.lines.length * LINE + 6;
 }
 
-function heightOfRow(row) {
-  const boxes = row.boxes.reduce((sum, box) => sum + heightOfBox(box) + 3, 0);
+function heightOfBoxes(row) {
+  const heights = row.boxes.map((box) => heightOfBox(box) + 3);
+  return row.isFlat ? Math.max(0, ...heights) : heights.reduce((sum, it) => sum + it, 0);
+}
+
+function heightOfRow(row, least) {
+  const boxes = heightOfBoxes(row);
   const frames = row.frames.reduce((sum, frame) => sum + LABEL + ARROW * Math.max(1, frame.arrows.length), 0);
-  return Math.max(25, boxes + frames + 7);
+  return Math.max(least, boxes + frames + 7);
 }
 
 class Lanes {
@@ -60,11 +65,14 @@ class Lanes {
   set(heads, count, makeRowAt) {
     this.heads = heads;
     this.count = count;
-    this.width = heads.length > 12 ? 150 : heads.length > 6 ? 180 : 230;
-    this.total = EVENT_WIDTH + heads.length * this.width + RIGHT_ROOM;
+    this.isMany = heads.length > MANY;
+    this.width = this.isMany ? 136 : heads.length > 6 ? 180 : 230;
+    this.margin = this.isMany ? 320 : 168;
+    document.documentElement.style.setProperty('--event', `${this.margin}px`);
+    this.total = this.margin + heads.length * this.width + RIGHT_ROOM;
     this.rowAt = (i) => makeRowAt(i, this.width - 26);
     this.tops = new Float64Array(count + 1);
-    for (let i = 0; i < count; i += 1) this.tops[i + 1] = this.tops[i] + heightOfRow(this.rowAt(i));
+    for (let i = 0; i < count; i += 1) this.tops[i + 1] = this.tops[i] + heightOfRow(this.rowAt(i), this.isMany ? 38 : 25);
     this.first = this.last = -1;
     this.drawHeads();
     this.box.style.height = `${this.tops[count]}px`;
@@ -75,7 +83,7 @@ class Lanes {
   }
 
   middle(lane) {
-    return EVENT_WIDTH + lane * this.width + this.width / 2;
+    return this.margin + lane * this.width + this.width / 2;
   }
 
   drawHeads() {
@@ -84,7 +92,7 @@ class Lanes {
     box.replaceChildren(make('div', 'corner', data.kind === 'run' ? 'event' : 'packet'), ...this.heads.map((head, lane) => {
       const element = make('div', 'head', make('b', '', head.name), make('span', '', head.more));
       element.title = head.title;
-      element.style.left = `${EVENT_WIDTH + lane * this.width}px`;
+      element.style.left = `${this.margin + lane * this.width}px`;
       element.style.width = `${this.width}px`;
       element.addEventListener('click', head.act);
       return element;
@@ -135,16 +143,17 @@ class Lanes {
   makeRow(i) {
     const row = this.rowAt(i);
     const mark = make('div', 'mark', make('b', '', row.mark), make('span', '', row.note));
-    mark.title = row.note;
+    if (this.isMany) mark.append(make('div', `outcome tone-${row.tone}`, row.outcome));
+    mark.title = `${row.note}\n${row.outcome}`;
     const element = make('div', 'row', mark);
     element.dataset.target = row.target;
     element.style.top = `${this.tops[i]}px`;
     element.style.height = `${this.tops[i + 1] - this.tops[i]}px`;
-    element.classList.toggle('chosen', row.targets ? row.targets.includes(this.chosen) : row.target === this.chosen);
+    element.classList.toggle('chosen', row.target === this.chosen);
     let top = 4;
     for (const box of row.boxes) {
       element.append(this.makeBox(box, top));
-      top += heightOfBox(box) + 3;
+      if (!row.isFlat) top += heightOfBox(box) + 3;
     }
     for (const frame of row.frames) {
       element.append(...this.makeFrame(frame, top));
@@ -156,7 +165,7 @@ class Lanes {
   makeBox(box, top) {
     const element = make('div', `box ${box.kind}`, box.lines.join('\n'));
     element.title = box.lines.join('\n');
-    element.style.left = `${EVENT_WIDTH + box.lane * this.width + 5}px`;
+    element.style.left = `${this.margin + box.lane * this.width + 5}px`;
     element.style.width = `${this.width - 10}px`;
     element.style.top = `${top}px`;
     element.style.height = `${heightOfBox(box)}px`;
@@ -193,18 +202,27 @@ class Lanes {
     return element;
   }
 
-  /** Marks the row of a target, and brings it into view. */
+  /** Marks the row of a target, and brings it into view, and of its lanes the first. */
   mark(target, i) {
     this.chosen = target;
     for (const row of this.box.querySelectorAll('.row.chosen')) row.classList.remove('chosen');
-    if (i >= 0) {
-      const [top, bottom] = [this.tops[i], this.tops[i + 1]];
-      const room = this.scroller.clientHeight - 40;
-      if (top < this.scroller.scrollTop) this.scroller.scrollTop = Math.max(0, top - room / 3);
-      else if (bottom > this.scroller.scrollTop + room) this.scroller.scrollTop = bottom - (room * 2) / 3;
-      this.drawSeen();
-      const row = this.box.children[this.lives + i - this.first];
-      if (row) row.classList.add('chosen');
-    }
+    if (i < 0) return;
+    const [top, bottom] = [this.tops[i], this.tops[i + 1]];
+    const room = this.scroller.clientHeight - 40;
+    if (top < this.scroller.scrollTop) this.scroller.scrollTop = Math.max(0, top - room / 3);
+    else if (bottom > this.scroller.scrollTop + room) this.scroller.scrollTop = Math.min(top, bottom - (room * 2) / 3);
+    this.showLane(this.rowAt(i));
+    this.drawSeen();
+    const row = this.box.children[this.lives + i - this.first];
+    if (row) row.classList.add('chosen');
+  }
+
+  showLane(row) {
+    const lanes = [...row.boxes.map((it) => it.lane), ...row.frames.flatMap((it) => [it.from, ...it.arrows.map((arrow) => arrow.to)])];
+    if (!lanes.length) return;
+    const [left, right] = [this.middle(lanes[0]) - this.margin - this.width / 2, this.middle(lanes[0]) + this.width / 2];
+    const seen = this.scroller.scrollLeft;
+    if (left < seen) this.scroller.scrollLeft = left;
+    else if (right > seen + this.scroller.clientWidth) this.scroller.scrollLeft = right - this.scroller.clientWidth + this.width;
   }
 }

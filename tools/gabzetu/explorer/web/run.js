@@ -150,8 +150,8 @@ function foldedRow(row, lane, width) {
   const [first, last] = [events[row.events[0]].number, events[row.events[row.events.length - 1]].number];
   const boxes = countNodes(row).map(([node, count]) => ({ lane: lane.get(node), kind: 'refusal', lines: broke(`${count} x ${data.texts[row.fold]}`, width) }));
   return {
-    mark: `${first}-${last}`, note: `${row.events.length} refusals, click to open`, target: `e${first}`,
-    targets: row.events.map((i) => `e${events[i].number}`), boxes, frames: [],
+    mark: `${first}-${last}`, note: `${row.events.length} refusals`, target: `e${first}`, isFlat: true, tone: 'bad',
+    outcome: `${row.events.length} x ${data.texts[row.fold]}`, boxes, frames: [],
   };
 }
 
@@ -178,9 +178,21 @@ function eventRow(event, lane, width) {
     return { lane: lane.get(event.node), kind, lines: texts.flatMap((text) => broke(data.texts[text], width)) };
   });
   return {
-    mark: String(event.number), note: event.words, target: `e${event.number}`, boxes,
+    mark: String(event.number), note: event.words, target: `e${event.number}`, boxes, outcome: outcomeOf(event), tone: toneOfOutcome(event),
     frames: event.frames.map((it) => frameRow(frames[it], lane)),
   };
+}
+
+/** Returns an event in one line: what its node did, and what it sent. */
+function outcomeOf(event) {
+  const deeds = event.boxes.flatMap((it) => data.boxes[it][1].map((text) => data.texts[text]));
+  const sent = event.frames.map((it) => `sends ${frames[it].number} ${frames[it].words}`);
+  return `${event.node < 0 ? '' : nodeNames[event.node]} ${[...deeds, ...sent].join('; ')}`;
+}
+
+function toneOfOutcome(event) {
+  if (kindsOf(event).some((it) => it === 'refusal' || it === 'stop')) return 'bad';
+  return KINDS.lost(event) ? 'lost' : 'plain';
 }
 
 /** Returns the colour of a row in the strip. */
@@ -332,42 +344,56 @@ function clearFilters() {
   draw();
 }
 
-/** Chooses the event of the address. Where a filter hides it, the filters are cleared. */
+/** Shows what the address names: an event, a tab, or both, as in #e12-state. Filters that hide the event are cleared. */
 function readAddress() {
-  const found = /^#e(\d+)$/.exec(location.hash);
-  if (!found || !eventPlaces.has(Number(found[1]))) return;
-  chosen = Number(found[1]);
-  if (rowOf(chosen) < 0) clearFilters();
-  else if (shown[rowOf(chosen)].isFolded) draw();
-  else lanes.mark(`e${chosen}`, rowOf(chosen));
-  if (tabs.name !== 'State') tabs.name = 'Event';
-  tabs.show();
+  const found = /^#(?:e(\d+))?-?([a-z]*)$/.exec(location.hash) || [];
+  const number = Number(found[1]);
+  const tab = Object.keys(tabs.fill).find((it) => it.toLowerCase() === found[2]);
+  if (found[1] && eventPlaces.has(number)) {
+    chosen = number;
+    if (rowOf(chosen) < 0) clearFilters();
+    else if (shown[rowOf(chosen)].isFolded) draw();
+    else lanes.mark(`e${chosen}`, rowOf(chosen));
+  }
+  tabs.show(tab || 'Event');
 }
 
+/** Returns the address of an event with a tab. */
+function addressOf(number, tab) {
+  const event = number === null ? '' : `e${number}`;
+  return tab === 'Event' ? event : [event, tab.toLowerCase()].filter(Boolean).join('-');
+}
+
+/** Goes to an event, with the same tab where it has to do with events. */
 function choose(target) {
-  const row = shown[rowOf(Number(target.slice(1)))];
+  const number = Number(target.slice(1));
+  const row = shown[rowOf(number)];
   if (row && row.isFolded) {
     unfolded.add(row.events[0]);
     draw();
   }
-  if (location.hash === `#${target}`) readAddress(); else location.hash = target;
+  location.hash = addressOf(number, tabs.name === 'State' ? 'State' : 'Event');
+}
+
+function chooseTab(name) {
+  location.replace(`#${addressOf(chosen, name)}`);
+  tabs.show(name);
 }
 
 /** Goes some rows on from the chosen one. */
 function step(count) {
   const i = rowOf(chosen);
   const next = i < 0 ? 0 : Math.min(shown.length - 1, Math.max(0, i + count));
-  if (shown[next]) location.replace(`#e${events[shown[next].events[0]].number}`);
+  if (shown[next]) location.replace(`#${addressOf(events[shown[next].events[0]].number, tabs.name === 'State' ? 'State' : 'Event')}`);
 }
 
-const tabs = new Tabs(['Event', 'State', 'Keys', 'Counters'], { Event: showEvent, State: makeStates, Keys: makeKeys, Counters: makeCounters });
+const tabs = new Tabs({ Event: showEvent, State: makeStates, Keys: makeKeys, Counters: makeCounters }, chooseTab);
 const lanes = new Lanes(choose);
 const strip = new Strip((i) => { if (shown[i]) lanes.scroller.scrollTop = Math.max(0, lanes.tops[i] - 80); });
 lanes.onSeen = (first, last) => strip.see(first, last);
 const filters = makeFilters();
 fillBar();
 draw();
-tabs.show();
 readAddress();
 window.addEventListener('hashchange', readAddress);
 onKeys({ j: () => step(1), k: () => step(-1), '/': () => filters.text.focus() });

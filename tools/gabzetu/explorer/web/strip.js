@@ -21,32 +21,42 @@ class Strip {
   see(first, last) {
     this.first = first;
     this.last = last;
-    this.draw();
+    this.drawSeen();
   }
 
-  /** Draws the ticks of each colour over those of the colours before it, so that the rare ones are seen. */
+  /** Draws the ticks, and keeps them, so that scrolling draws no more than the frame of the part that is seen. */
   draw() {
     const context = clearCanvas(this.canvas);
     const [width, height] = [this.canvas.clientWidth, this.canvas.clientHeight];
-    const step = width / Math.max(1, this.tones.length);
-    context.fillStyle = colour('chosen');
-    context.fillRect(this.first * step, 0, Math.max(3, (this.last + 1 - this.first) * step), height);
-    for (const [tone, top] of [['plain-edge', 14], ['lost', 14], ['refusal-edge', 8], ['boot-edge', 4], ['keys-edge', 4]]) {
-      context.fillStyle = colour(tone);
-      this.drawTicks(context, tone, step, top, height);
+    const columns = Math.max(1, Math.min(width, this.tones.length));
+    const edges = Array.from({ length: columns + 1 }, (_, i) => Math.round((i * this.tones.length) / columns));
+    for (let i = 0; i < columns; i += 1) {
+      drawTick(context, this.tones.slice(edges[i], edges[i + 1]), (i * width) / columns, width / columns, height);
     }
-    context.strokeStyle = colour('link');
-    context.strokeRect(this.first * step + 0.5, 0.5, Math.max(3, (this.last + 1 - this.first) * step), height - 1);
+    this.ticks = context.getImageData(0, 0, this.canvas.width, this.canvas.height);
+    this.drawSeen();
   }
 
-  drawTicks(context, tone, step, top, height) {
-    let last = -1;
-    for (let i = 0; i < this.tones.length; i += 1) {
-      const x = Math.floor(i * step);
-      if (this.tones[i] === tone && x !== last) {
-        context.fillRect(x, top, Math.max(1, step - 1), height - top - 3);
-        last = x;
-      }
-    }
+  drawSeen() {
+    if (!this.ticks || !this.tones.length) return;
+    const context = this.canvas.getContext('2d');
+    const step = this.canvas.clientWidth / this.tones.length;
+    context.putImageData(this.ticks, 0, 0);
+    context.strokeStyle = colour('link');
+    context.lineWidth = 2;
+    context.strokeRect(this.first * step + 1, 1, Math.max(4, (this.last + 1 - this.first) * step - 2), this.canvas.clientHeight - 2);
+  }
+}
+
+/** Draws the rows of one tick: a part of its height for each colour, as many as there are of it. */
+function drawTick(context, tones, x, width, height) {
+  let bottom = height - 2;
+  for (const tone of ['plain-edge', 'lost', 'refusal-edge', 'boot-edge', 'keys-edge']) {
+    const count = tones.filter((it) => it === tone).length;
+    const room = (tone === 'plain-edge' ? 0.35 : 1) * (height - 4) * (count / tones.length);
+    const part = count ? Math.max(2, room) : 0;
+    context.fillStyle = colour(tone);
+    context.fillRect(x, bottom - part, width > 3 ? width - 1 : width, part);
+    bottom -= part;
   }
 }
