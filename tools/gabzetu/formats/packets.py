@@ -3,6 +3,8 @@ import collections
 import gzip
 import io
 import logging
+import os
+import stat
 import sys
 import time
 import zlib
@@ -12,6 +14,8 @@ from ..errors import MISSING, UNREADABLE, Stop, reason_of
 DEBIAN = '/usr/lib/python3/dist-packages'
 PAUSE = 0.1
 LONGEST = 1 << 24
+BUFFER = 1 << 16
+GZIP = b'\x1f\x8b'
 
 # number: from 1, as other tools count; time: in seconds; link: the link type; kept: the bytes that are there; whole: how many
 # bytes the packet had
@@ -37,19 +41,23 @@ def import_scapy():
 
 
 class Source:
-    """A file that is read in whole pieces. One that is followed waits for more at its end, until it is stopped."""
+    """A file that is read in whole pieces. One that waits goes on at its end when the file has grown."""
 
-    def __init__(self, file, is_followed):
-        self.file, self.is_followed, self.is_stopped, self.position = file, is_followed, False, 0
+    def __init__(self, file, waits=False):
+        self.file, self.waits, self.position = file, waits, 0
 
     def read(self, size):
         """Returns the next bytes: fewer than `size` at the end of the file only."""
         if size > LONGEST:
             raise ValueError(f'a piece of {size} bytes is in it')
-        data = self.file.read(size)
-        while len(data) < size and self.is_followed and not self.is_stopped:
-            time.sleep(PAUSE)
-            data += self.file.read(size - len(data))
+        data = self.file.read(size) or b''
+        while len(data) < size:
+            more = self.file.read(size - len(data))
+            if not more and not self.waits:
+                break
+            if not more:
+                time.sleep(PAUSE)
+            data += more or b''
         self.position += len(data)
         return data
 
@@ -58,27 +66,29 @@ class Peeked(io.RawIOBase):
     """A stream whose first bytes were read already, as that of a pipe, which can't go back."""
 
     def __init__(self, first, file):
+        super().__init__()
         self.first, self.file = first, file
 
     def readable(self):
         return True
 
     def readinto(self, buffer):
-        data = self.first[:len(buffer)] or self.file.read(len(buffer)) or b''
+        data = self.first[:len(buffer)] or self.file.read1(len(buffer))
         self.first = self.first[len(data):]
         buffer[:len(data)] = data
         return len(data)
 
 
-def open_source(path, is_followed):
-    """Returns the source of a path, `-` for standard input. What gzip packed is unpacked."""
+def open_source(path, is_followed=False):
+    """Returns the source of a path, `-` for standard input. What gzip packed is unpacked. A file that is followed may grow."""
     try:
         file = sys.stdin.buffer if path == '-' else open(path, 'rb')
-        first = Source(file, is_followed).read(2)
+        waits = is_followed and stat.S_ISREG(os.fstat(file.fileno()).st_mode)
+        first = Source(file, waits).read(2)
     except OSError as error:
         raise Stop(f'{path}: cannot be read: {reason_of(error)}', UNREADABLE) from error
-    whole = io.BufferedReader(Peeked(first, file), 1 << 16) if not is_followed else Peeked(first, file)
-    return Source(gzip.GzipFile(fileobj=whole) if first == b'\x1f\x8b' else whole, is_followed)
+    whole = io.BufferedReader(Peeked(first, file), BUFFER)
+    return Source(gzip.GzipFile(fileobj=whole), False) if first == GZIP else Source(whole, waits)
 
 
 def readers_of(scapy):
@@ -111,12 +121,14 @@ def open_reader(path, source):
     """Returns scapy's reader of a capture, whose magic number tells the format."""
     scapy = import_scapy()
     magic = source.read(4)
+    if magic[:1] in (b'#', b'k', b'c', b'a', b'f') and magic.isascii():
+        raise Stop(f'{path}: this is text, and no capture file. `gabzetu inspect` reads text captures.', UNREADABLE)
     kind = readers_of(scapy)[magic == b'\n\r\r\n']
     reader = kind.__new__(kind)
     try:
         kind.__init__(reader, path, source, magic)
     except scapy.error.Scapy_Exception as error:
-        raise Stop(f'{path}: this is no capture file of pcap or pcapng: {error}', UNREADABLE) from error
+        raise Stop(f'{path}: this is no capture file of pcap or pcapng, for it begins with {magic!r}', UNREADABLE) from error
     return reader
 
 
