@@ -1,15 +1,18 @@
 """gabzetu install: the link key of an install code."""
-from ..output import write_output
-from ..program import run_tc
+from .. import program
+from ..formats.fields import read_key_line
+from ..runs import add_output, finish, tell
 
-SUMMARY = 'print the link key of an install code'
+SUMMARY = 'write the link key of an install code'
 
 
 def add_arguments(parser):
-    parser.add_argument('code', metavar='CODE', help='the digits of the install code, its CRC included')
+    parser.add_argument('code', metavar='CODE', help='the digits of the install code, those of its CRC included')
+    add_output(parser)
 
 
 def run(arguments):
-    ran = run_tc(['install', arguments.code])
-    write_output('-', ran.output)
-    return ran.status
+    ran = program.run_tc(['install', arguments.code])
+    status = finish(arguments, ran, read_key_line)
+    tell('code', repr(arguments.code), ran, b'')
+    return status
