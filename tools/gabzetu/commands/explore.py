@@ -3,11 +3,14 @@ import hashlib
 import os
 
 from .. import program
-from ..errors import Stop
-from ..explorer import pages, runs
-from ..formats import story as stories
-from ..formats import transcripts
-from ..output import say, write_output
+from ..errors import UNREADABLE, Stop
+from ..explorer import pages
+from ..explorer.reports import make_report
+from ..explorer.runs import explain_verdict, make_run
+from ..formats.reports import is_report, parse_report, read_heard
+from ..formats.story import make_story
+from ..formats.transcripts import parse_transcript
+from ..output import read_input, say, write_output
 
 SUMMARY = 'make one page of a transcript or a report, to look around in it by a browser'
 DESCRIPTION = """Makes one page of a transcript or a report. It opens from the disk in any browser, and lets it fetch nothing.
@@ -16,7 +19,11 @@ Of a transcript, the page has a lane for each node and a row for each event; at 
 node holds after the event, the keys and the counters. With --schedule it shows each event's words, and of which frame each
 refusal is. The verdict on the page is that of `tc audit`.
 
-j and k go to the next and the previous row, / to the field for text; #e12 in the address is event 12."""
+Of a report of `inspect` or `sniff`, it has a lane for each short address and a row for each packet, the keys that opened it,
+and a tree of where each key came from. With --capture, the capture that the report is of, it shows the packets' numbers in the
+file, their times, PANs and addresses, and the frames field by field.
+
+j and k go to the next and the previous row, / to the field for text; #e12 in the address is event 12, #p28 packet 28."""
 
 NO_AUDIT = ['', None, 'not audited, since tc is missing', 0]
 
@@ -25,6 +32,7 @@ def add_arguments(parser):
     parser.add_argument('input', metavar='FILE', help='the transcript or report, - for the standard input')
     parser.add_argument('out', metavar='OUT.html', help='the page, - for the standard output')
     parser.add_argument('--schedule', metavar='S', help='the schedule that was played')
+    parser.add_argument('--capture', metavar='P', help='the capture that the report is of')
 
 
 def audit(text):
@@ -40,16 +48,33 @@ def title_of(path):
     return 'standard input' if path == '-' else os.path.basename(path)
 
 
-def explore_transcript(arguments):
+def explore_transcript(text, arguments):
     """Returns the data of the page of a transcript."""
-    transcript = transcripts.read_transcript(arguments.input)
-    story = stories.make_story(transcript, arguments.schedule)
-    digest = hashlib.sha256(transcript.text.encode()).hexdigest()
-    return {**runs.make_run(story), 'text': transcript.text, 'digest': digest, 'verdict': audit(transcript.text)}
+    if arguments.capture:
+        raise Stop('--capture is for a report, and this is a transcript (--schedule)')
+    story = make_story(parse_transcript(text, arguments.input), arguments.schedule)
+    return {**make_run(story), 'verdict': audit(text)}
+
+
+def explore_report(text, arguments):
+    """Returns the data of the page of a report."""
+    if arguments.schedule:
+        raise Stop('--schedule is for a transcript, and this is a report (--capture)')
+    heard = read_heard(arguments.capture) if arguments.capture else None
+    return make_report(parse_report(text, arguments.input), heard, arguments.capture)
+
+
+def read_text(path):
+    """Returns the text of a file, or stops where it isn't ASCII."""
+    try:
+        return read_input(path).decode('ascii')
+    except UnicodeDecodeError as error:
+        raise Stop(f'{path}: byte {error.start + 1} is not ASCII; this is no transcript and no report', UNREADABLE) from error
 
 
 def run(arguments):
-    data = explore_transcript(arguments)
-    title = title_of(arguments.input)
-    write_output(arguments.out, pages.make_page({**data, 'title': title}, title))
+    text = read_text(arguments.input)
+    data = explore_report(text, arguments) if is_report(text) else explore_transcript(text, arguments)
+    title, digest = title_of(arguments.input), hashlib.sha256(text.encode()).hexdigest()
+    write_output(arguments.out, pages.make_page({**data, 'title': title, 'text': text, 'digest': digest}, title))
     return 0

@@ -218,10 +218,17 @@ class Anatomy:
             self.cursor.rest('data')
         self.close()
 
-    def take_all(self):
-        """Returns the sections. Bytes that are no whole frame end as a field `cut` or `more bytes`."""
+    def take_command(self):
+        """Takes an APS command without its header."""
+        if take_command(self.cursor):
+            self.take_aps('inner APS')
+        else:
+            self.close()
+
+    def take_all(self, take):
+        """Returns the sections, beginning with `take`. Bytes that are no whole frame end as a field `cut` or `more bytes`."""
         try:
-            self.take_nwk()
+            take()
         except frames.Malformed:
             self.cursor.rest('more bytes')
             self.close()
@@ -230,4 +237,12 @@ class Anatomy:
 
 def take_apart(reader, event, data):
     """Returns the sections of a frame that was sent in an event, as `reader` shows their contents."""
-    return Anatomy(reader, event, data).take_all()
+    it = Anatomy(reader, event, data)
+    return it.take_all(it.take_nwk)
+
+
+def take_content_apart(reader, event, title, content, is_command):
+    """Returns the sections of the content of a layer alone: an APS frame, or an APS command without its header."""
+    it = Anatomy(reader, event, content)
+    it.cursor = Cursor('content', title, content)
+    return it.take_all(it.take_command if is_command else lambda: it.take_aps('APS'))

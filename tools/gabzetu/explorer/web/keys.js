@@ -50,8 +50,8 @@ class Keys {
   read([number, kind, ...words]) {
     const event = Number(number);
     if (kind === 'draw') this.key(words[0], event, '', 'drawn by the centre');
-    if (kind === 'given' && words[1] === 'net') this.hold(this.key(words[2], event, 'network key', 'from the start'), words[0], event);
-    if (kind === 'given' && words[1] === 'link') this.hold(this.key(words[3], event, 'link key', 'install code'), words[0], event);
+    if (kind === 'given' && words[1] === 'net') this.hold(this.key(words[2], event, 'network key', 'held by a node'), words[0], event);
+    if (kind === 'given' && words[1] === 'link') this.hold(this.key(words[3], event, 'link key', 'an install code'), words[0], event);
     if (kind === 'install') this.hold(this.key(words[1], event, 'network key', 'taken in'), words[0], event);
     if (kind === 'row') this.readRow(event, words);
     if (kind === 'pair') this.readPair(event, words);
@@ -156,7 +156,7 @@ function makeSeries(series, nameOf, events) {
   const low = counters.reduce((a, b) => Math.min(a, b), Infinity);
   const high = counters.reduce((a, b) => Math.max(a, b), -Infinity);
   const title = make('h3', '', `${series.layer} ${series.label} `, makeKey(series.base), ` by ${nameOf(series.source)}`);
-  const text = make('p', series.again.length ? 'bad' : 'quiet', `${counters.length} counters, ${low} to ${high}`
+  const text = make('p', series.again.length ? 'bad' : 'quiet', `${counters.length} counter${counters.length === 1 ? `, ${low}` : `s, ${low} to ${high}`}`
     + (series.again.length ? `; a nonce comes again at ${series.again.join(', ')}` : ', no nonce twice'));
   const canvas = make('canvas', '');
   requestAnimationFrame(() => drawSeries(canvas, series.points, events));
