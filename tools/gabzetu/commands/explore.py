@@ -38,7 +38,7 @@ def add_arguments(parser):
 def audit(text):
     """Returns the verdict of tc on a transcript, for the page; a page is made without it where tc is missing."""
     try:
-        return runs.explain_verdict(program.run_tc(['audit'], text.encode()))
+        return explain_verdict(program.run_tc(['audit'], text.encode()))
     except Stop as stop:
         say(f'gabzetu: the page has no verdict: {stop.message}')
         return NO_AUDIT

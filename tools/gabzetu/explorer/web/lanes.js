@@ -174,7 +174,7 @@ class Lanes {
 
   /** Returns the label of a frame, and below it an arrow for each receiver. */
   makeFrame(frame, top) {
-    const ends = [frame.from, ...frame.arrows.map((it) => it.to)].map((lane) => this.middle(lane));
+    const ends = [frame.from, ...frame.arrows.map((it) => it.to).filter((it) => it !== null)].map((lane) => this.middle(lane));
     const left = Math.min(...ends);
     const span = make('div', 'span', make('span', `label tone-${frame.tone}`, frame.label));
     span.firstChild.title = frame.label;
