@@ -6,6 +6,7 @@ import time
 
 from .formats import mac
 from .formats.checks import Checks
+from .formats.headers import try_nwk
 from .formats.links import Links, LeftOut
 from .formats.packets import Ended, open_source, read_packets
 from .opening import MOST_FRAMES, Frame
@@ -131,7 +132,7 @@ class Capture:
             if given:
                 self.associations.append(given)
             header = mac.read_data(body, size)
-            return Frame(packet.number, packet.time, header.pan, header.to, header.source, header.payload)
+            return Frame(packet.number, packet.time, header.pan, header.to, header.source, header.payload, try_nwk(header.payload))
         except LeftOut as why:
             self.left_out.add(str(why), packet.number)
             return None

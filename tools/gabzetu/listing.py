@@ -3,7 +3,6 @@ import collections
 
 from .capture import Tally
 from .formats.contents import describe
-from .formats.headers import Malformed, read_nwk
 from .formats.reasons import Known, why_closed
 from .opening import is_closed, opened_layers
 
@@ -17,11 +16,7 @@ NO_KEY = 'No network key is known: give one by --key, --code or --keys-from, or 
 
 def addresses_of(frame):
     """Returns the short addresses of the NWK header, source and destination, or those of the MAC where it isn't read."""
-    try:
-        nwk = read_nwk(frame.payload)
-        return nwk.source, nwk.to
-    except Malformed:
-        return frame.source, frame.to
+    return (frame.nwk.source, frame.nwk.to) if frame.nwk else (frame.source, frame.to)
 
 
 def layer_words(layer, ring):

@@ -10,8 +10,9 @@ MOST_FRAMES, MOST_KEYS, MOST_NETWORK_KEYS, MOST_CLOSED = 100000, 256, 64, 100000
 WELL_KNOWN = '5A6967426565416C6C69616E63653039'
 CLOSED = ('no-key', 'no-source')
 
-# number, time: of the packet; pan, to, source: of its MAC header; payload: the bytes of the NWK frame
-Frame = collections.namedtuple('Frame', 'number time pan to source payload')
+# number, time: of the packet; pan, to, source: of its MAC header; payload: the bytes of the NWK frame; nwk: its header, or none
+# where they have none of version 2
+Frame = collections.namedtuple('Frame', 'number time pan to source payload nwk')
 
 # A layer as tc reports it. kind: nwk, aps or inner; key: which opened it, or none; reason: why it didn't open, or none
 Layer = collections.namedtuple('Layer', 'kind key label source counter content reason')

@@ -54,9 +54,8 @@ class Addresses:
 
     def learn_from_header(self, frame):
         """Learns from the headers that every frame shows. The NWK seal is that of the node that sent the packet."""
-        try:
-            nwk = headers.read_nwk(frame.payload)
-        except headers.Malformed:
+        nwk = frame.nwk
+        if nwk is None:
             return
         if nwk.source_eui:
             self.learn(frame.pan, nwk.source, nwk.source_eui)
@@ -67,11 +66,11 @@ class Addresses:
 
     def learn_from_layers(self, frame, layers):
         """Learns from what tc opened of a frame."""
+        nwk = frame.nwk
+        payload = payload_of(nwk, layers) if nwk and nwk.kind == headers.DATA else None
+        if payload is None:
+            return
         try:
-            nwk = headers.read_nwk(frame.payload)
-            payload = payload_of(nwk, layers) if nwk.kind == headers.DATA else None
-            if payload is None:
-                return
             aps = headers.read_aps(payload)
         except headers.Malformed:
             return

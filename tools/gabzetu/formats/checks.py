@@ -11,7 +11,7 @@ from .links import LeftOut
 MIRROR = bytes(int(f'{byte:08b}'[::-1], 2) for byte in range(256))
 MODES = ('auto', 'crc', 'ti', 'none', 'ignore')
 COMMAND_SIZES = {1: 2, 2: 4, 3: 2, 4: 1, 5: 1, 6: 1, 7: 1, 9: 1}
-FEW = 8
+FEW, ENOUGH = 8, 2000
 
 # What was seen of packets that are alike. right: with a right check sequence; ok: with the bit of a TI chip that says so; same: how
 # often their last two bytes are which; longer: how many packets of a known size are longer by how many bytes
@@ -77,8 +77,8 @@ class Checks:
 
     def learn(self, wrapped):
         """Takes a packet as evidence on those of its kind."""
-        if self.mode == 'auto' and 3 <= wrapped.whole == len(wrapped.kept):
-            before = self.seen.get(wrapped.kind) or Evidence(0, 0, 0, collections.Counter(), collections.Counter())
+        before = self.seen.get(wrapped.kind) or Evidence(0, 0, 0, collections.Counter(), collections.Counter())
+        if self.mode == 'auto' and before.packets < ENOUGH and 3 <= wrapped.whole == len(wrapped.kept):
             self.seen[wrapped.kind], self.said[wrapped.kind] = note(before, wrapped.kept), wrapped.check
             self.decided.pop(wrapped.kind, None)
 

@@ -32,11 +32,10 @@ def payload_words(payload, layers):
 def describe(frame, layers):
     """Says what a frame carries as far as it is open, or nothing where its NWK layer is closed or is none."""
     try:
-        nwk = headers.read_nwk(frame.payload)
-        payload = payload_of(nwk, layers)
+        payload = payload_of(frame.nwk, layers) if frame.nwk else None
         if payload is None:
             return ''
-        if nwk.kind == headers.COMMAND:
+        if frame.nwk.kind == headers.COMMAND:
             return NWK_COMMANDS.get(payload[0], f'NWK command {payload[0]:02X}') if payload else 'empty command'
         return payload_words(payload, layers)
     except headers.Malformed:

@@ -68,6 +68,14 @@ def read_nwk(data):
     return Nwk(control & 3, VERSION, f'{to:04X}', f'{source:04X}', to_eui, source_eui, auxiliary, data[at:])
 
 
+def try_nwk(data):
+    """Returns the header of a NWK frame, or none where read_nwk raises."""
+    try:
+        return read_nwk(data)
+    except Malformed:
+        return None
+
+
 def read_aps(data):
     """Returns the header of an APS frame. Raises Malformed where it isn't whole or of another type."""
     fixed, at = take(data, 0, 1)

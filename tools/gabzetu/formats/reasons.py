@@ -16,10 +16,9 @@ class Known:
 
     def note(self, frame, layers):
         """Takes the layers of a frame into account."""
-        if layers and layers[0].key:
+        if layers and layers[0].key and frame.nwk:
             self.opened += 1
-            nwk = headers.read_nwk(frame.payload)
-            self.sequences[frame.pan].add(nwk.auxiliary.sequence)
+            self.sequences[frame.pan].add(frame.nwk.auxiliary.sequence)
 
 
 def level_words(auxiliary):
@@ -39,7 +38,7 @@ def why_malformed(payload):
 
 def why_nwk(frame, known):
     """Says why the NWK layer of a frame has no key."""
-    auxiliary = headers.read_nwk(frame.payload).auxiliary
+    auxiliary = frame.nwk.auxiliary
     if auxiliary.identifier != 1:
         return f'NWK layer under a {KINDS[auxiliary.identifier]}, which is not read'
     if level_words(auxiliary):
@@ -54,7 +53,7 @@ def why_nwk(frame, known):
 
 def why_aps(frame, layers, reason):
     """Says why the APS layer of a frame did not open."""
-    nwk = headers.read_nwk(frame.payload)
+    nwk = frame.nwk
     if reason == 'no-source':
         return f'APS: the EUI of {nwk.source} is not known'
     payload = payload_of(nwk, layers)
@@ -66,6 +65,8 @@ def why_aps(frame, layers, reason):
 
 def why_closed(frame, layers, known):
     """Returns the words for the first layer of a frame that tc did not open, or none where all are open."""
+    if frame.nwk is None:
+        return why_malformed(frame.payload)
     try:
         for it in layers:
             if it.reason == 'malformed':
