@@ -1,4 +1,4 @@
-"""Writes the story of a run as a message sequence chart, in the language of mscgen.
+"""Writes the history of a run as a message sequence chart, in the language of mscgen.
 
 Nodes are columns, and before them is a column of the events' numbers. A frame has a row for each node that judged it, so that no
 arrow lies over another. The heads come again after each screenful of rows."""
@@ -7,7 +7,7 @@ import sys
 import textwrap
 
 from .errors import WRONG_USE, Stop
-from .formats import story as stories
+from .formats import history as histories
 
 GREEN, RED, GREY, BLUE, YELLOW, PALE_RED, PALE = '#006000', '#b00000', '#707070', '#d8e8ff', '#fff4b0', '#ffd8d8', '#f4f4f4'
 HEAD, HEAD_EDGE = '#e4e8ee', '#a0a8b4'
@@ -26,15 +26,15 @@ Shown = collections.namedtuple('Shown', 'event node frames boxes')
 Row = collections.namedtuple('Row', 'arcs lines')
 
 
-def shown_events(story, first, last, only):
+def shown_events(history, first, last, only):
     """Yields the events from the first to the last that have anything to draw, of some nodes where these are given."""
     sent = collections.defaultdict(list)
-    for frame in story.frames:
+    for frame in history.frames:
         sent[frame.event].append(frame)
-    for event in sorted(it for it in story.events if max(first, 1) <= it <= last):
-        node = story.node_of(story.events[event])
-        frames = [it for it in sent[event] if not only or {it.sender, *story.targets(it)} & set(only)]
-        boxes = [] if node not in story.names.values() or (only and node not in only) else stories.boxes(story, event)
+    for event in sorted(it for it in history.events if max(first, 1) <= it <= last):
+        node = history.node_of(history.events[event])
+        frames = [it for it in sent[event] if not only or {it.sender, *history.targets(it)} & set(only)]
+        boxes = [] if node not in history.names.values() or (only and node not in only) else histories.boxes(history, event)
         if frames or boxes:
             yield Shown(event, node, frames, boxes)
 
@@ -76,8 +76,8 @@ def around_arrow(above, below):
 class Chart:
     """The rows of one chart."""
 
-    def __init__(self, story, shown, names):
-        self.story, self.shown = story, shown
+    def __init__(self, history, shown, names):
+        self.history, self.shown = history, shown
         self.columns = {name: place for place, name in enumerate(names)}
 
     def name(self, node):
@@ -86,26 +86,26 @@ class Chart:
 
     def fate(self, frame, node):
         """Returns in words what a node made of a frame."""
-        return [f'{stories.deed(it.reason)} at {it.event}' + ('' if it.reason is None else f': {it.reason}')
-                for it in self.story.verdicts[frame.number] if it.node == node]
+        return [f'{histories.deed(it.reason)} at {it.event}' + ('' if it.reason is None else f': {it.reason}')
+                for it in self.history.verdicts[frame.number] if it.node == node]
 
     def frame_rows(self, frame):
         """Returns the rows of a frame: one for each node to which an arrow goes, with what it carries in the first."""
-        (first, *more), counters = self.story.reader.describe(frame.event, frame.data)
+        (first, *more), counters = self.history.reader.describe(frame.event, frame.data)
         texts = [f'{frame.number} {KINDS[frame.kind]}{first}', *more]
-        targets = self.story.targets(frame)
+        targets = self.history.targets(frame)
         if not targets:
-            lines = wrap([*texts, '; '.join([*counters, self.story.fate(frame)])], 1)
+            lines = wrap([*texts, '; '.join([*counters, self.history.fate(frame)])], 1)
             source = self.name(frame.sender)
-            return [Row([arc(source, 'rbox', source, lines, textcolour=colour_of(self.story.verdicts[frame.number]))], len(lines))]
+            return [Row([arc(source, 'rbox', source, lines, textcolour=colour_of(self.history.verdicts[frame.number]))], len(lines))]
         heads = [(texts, counters)] + [([f'{frame.number}'], [])] * (len(targets) - 1)
         return [self.arrow_row(frame, node, *head) for node, head in zip(targets, heads)]
 
     def arrow_row(self, frame, node, texts, counters):
         """Returns the row of a frame to one node: what it carries is above the arrow, what became of it below."""
         span = abs(self.columns[node] - self.columns[frame.sender])
-        verdicts = [it for it in self.story.verdicts[frame.number] if it.node == node]
-        fate = ', '.join(self.fate(frame, node)) if verdicts else self.story.unjudged(frame)
+        verdicts = [it for it in self.history.verdicts[frame.number] if it.node == node]
+        fate = ', '.join(self.fate(frame, node)) if verdicts else self.history.unjudged(frame)
         lines = around_arrow(wrap(texts, span), wrap(['; '.join([*counters, fate])], span))
         colour = colour_of(verdicts)
         sign = '=>' if verdicts else '-x'
@@ -119,14 +119,14 @@ class Chart:
     def event_rows(self, shown):
         """Returns the rows of an event. The first has its number, and its words where the schedule is known."""
         rows = [self.box_row(shown.node, box) for box in shown.boxes] + [row for it in shown.frames for row in self.frame_rows(it)]
-        words = self.story.schedule.events.get(shown.event, []) if self.story.schedule else []
+        words = self.history.schedule.events.get(shown.event, []) if self.history.schedule else []
         lines = wrap([' '.join([str(shown.event), *(cut(word) for word in words)])], 1)
         mark = arc('event', 'box', 'event', lines, linecolour='white')
         return [Row([mark, *rows[0].arcs], max(rows[0].lines, len(lines))), *rows[1:]]
 
     def head(self, node):
         """Returns the lines of the head of a column."""
-        it = next((it for it in self.story.nodes if it.name == node), None)
+        it = next((it for it in self.history.nodes if it.name == node), None)
         return ['outside', 'forged, injected'] if it is None else [it.name, f'{it.role} {it.short}']
 
     def head_row(self):
@@ -155,20 +155,20 @@ class Chart:
         return 'msc {\n  ' + '\n  '.join(lines) + '\n}\n'
 
 
-def column_names(story, shown, only):
+def column_names(history, shown, only):
     """Returns the nodes that are drawn, none for nobody: all, or those that have to do with the ones that are asked for."""
     used = {name for it in shown for name in
-            ([it.node] if it.boxes else []) + [name for frame in it.frames for name in (frame.sender, *story.targets(frame))]}
-    names = [node.name for node in story.nodes if not only or node.name in used or node.name in only]
+            ([it.node] if it.boxes else []) + [name for frame in it.frames for name in (frame.sender, *history.targets(frame))]}
+    names = [node.name for node in history.nodes if not only or node.name in used or node.name in only]
     return names + ([None] if None in used else [])
 
 
-def make_chart(story, first=1, last=sys.maxsize, only=None):
+def make_chart(history, first=1, last=sys.maxsize, only=None):
     """Returns the chart of the events from the first to the last, of some nodes where these are given, as mscgen reads it."""
-    unknown = sorted(set(only or []) - {node.name for node in story.nodes})
+    unknown = sorted(set(only or []) - {node.name for node in history.nodes})
     if unknown:
-        raise Stop(f'there is no node {unknown[0]}; the nodes are {", ".join(node.name for node in story.nodes)}', WRONG_USE)
-    shown = list(shown_events(story, first, last, only))
+        raise Stop(f'there is no node {unknown[0]}; the nodes are {", ".join(node.name for node in history.nodes)}', WRONG_USE)
+    shown = list(shown_events(history, first, last, only))
     if not shown:
         raise Stop('none of these events have anything to draw', WRONG_USE)
-    return Chart(story, shown, column_names(story, shown, only)).text()
+    return Chart(history, shown, column_names(history, shown, only)).text()

@@ -7,7 +7,7 @@ import tempfile
 
 from ..charts import make_chart
 from ..errors import MISSING, UNWRITABLE, WRONG_USE, Stop
-from ..formats.story import make_story
+from ..formats.history import make_history
 from ..formats.transcripts import read_transcript
 from ..output import read_input, write_output
 
@@ -71,8 +71,8 @@ def draw(text, out):
 
 def run(arguments):
     check_outs(arguments.out)
-    story = make_story(read_transcript(arguments.transcript), arguments.schedule)
-    text = make_chart(story, arguments.first, arguments.last, arguments.node)
+    history = make_history(read_transcript(arguments.transcript), arguments.schedule)
+    text = make_chart(history, arguments.first, arguments.last, arguments.node)
     failures = []
     for out in arguments.out:
         try:

@@ -8,7 +8,7 @@ from ..explorer import pages
 from ..explorer.reports import make_report
 from ..explorer.runs import explain_verdict, make_run
 from ..formats.reports import is_report, parse_report, read_heard
-from ..formats.story import make_story
+from ..formats.history import make_history
 from ..formats.transcripts import parse_transcript
 from ..output import read_input, say, write_output
 
@@ -52,8 +52,8 @@ def explore_transcript(text, arguments):
     """Returns the data of the page of a transcript."""
     if arguments.capture:
         raise Stop('--capture is for a report, and this is a transcript (--schedule)')
-    story = make_story(parse_transcript(text, arguments.input), arguments.schedule)
-    return {**make_run(story), 'verdict': audit(text)}
+    history = make_history(parse_transcript(text, arguments.input), arguments.schedule)
+    return {**make_run(history), 'verdict': audit(text)}
 
 
 def explore_report(text, arguments):

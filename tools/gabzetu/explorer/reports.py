@@ -69,7 +69,7 @@ class ReportPage:
         try:
             return (self.reader.describe_command if is_command else self.reader.describe_aps)(place, content, [])
         except (frames.Malformed, IndexError):
-            return [frames.count_bytes(len(content))], []
+            return [frames.counted(len(content))], []
 
     def layer(self, fields):
         """Returns a layer: kind, the key that opened it or 0, the place of the words."""

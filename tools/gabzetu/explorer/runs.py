@@ -1,50 +1,23 @@
 """Makes the data of a transcript's page: its text, and in words what became of its frames and what its nodes did."""
-from ..formats import story as stories
+from ..formats import fields, policy, stories
+from ..formats import history as histories
+from ..formats.causes import CLAIMS
 from .tables import Anatomies, Table
-
-REASONS = {
-    'down': 'the node has no power',
-    'no-frame': 'no such frame was sent',
-    'malformed': 'the bytes are no frame, or no command',
-    'not-for-me': 'the frame is the node\'s own, or its destination is another node',
-    'unsecured': 'the frame has no security at NWK, and the node waits for no network key',
-    'no-key': 'the node has no key that it may use for this',
-    'counter-max': 'the counter is the greatest one, which is never accepted',
-    'stale': 'the counter is below the floor, which is the number behind the word: such a frame was accepted before',
-    'bad-mic': 'the frame does not open under the key: it was changed, or sealed under another one',
-    'policy': 'the node does not take this command in this form',
-    'not-member': 'the device is not declared, or is not live at the centre',
-    'wrong-state': 'the state of the node does not allow it',
-    'key-old': 'the node dropped this network key before',
-    'keys-full': 'there is no room for another network key',
-    'rows-full': 'there is no room for another row',
-    'key-in-use': 'the key is that of another row',
-    'no-draw': 'the supply of keys is used up',
-    'counter-spent': 'an outgoing counter is at its end',
-    'wrong-hash': 'the hash is not that of the offered key',
-}
-CLAIMS = {
-    1: 'no nonce comes twice under one key',
-    2: 'no counter is accepted twice',
-    3: 'a key is confirmed only after it was stored as verified',
-    4: 'the lines of each event add up with those before them',
-    5: 'removed devices are locked out',
-    6: 'the end line is the last one and counts right',
-}
 
 
 class Run:
     """The data of one page, as it is put together."""
 
-    def __init__(self, story):
-        self.story = story
+    def __init__(self, history):
+        self.history = history
+        self.centre = next((node.name for node in history.nodes if node.role == 'centre'), None)
         self.texts, self.boxes = Table(), Table()
         self.anatomies = Anatomies(self.texts)
-        self.places = {node.name: place for place, node in enumerate(story.nodes)}
+        self.places = {node.name: place for place, node in enumerate(history.nodes)}
         self.sent = {}
-        for place, frame in enumerate(story.frames):
+        for place, frame in enumerate(history.frames):
             self.sent.setdefault(frame.event, []).append(place)
-        self.frame_places = {frame.number: place for place, frame in enumerate(story.frames)}
+        self.frame_places = {frame.number: place for place, frame in enumerate(history.frames)}
 
     def place_of(self, name):
         """Returns the place of a node, or -1 of nobody and of a name that no line declares."""
@@ -57,42 +30,55 @@ class Run:
         """Returns the place of the text under which equal refusals in a row are folded, or -1."""
         if event in self.sent or len(boxes) != 1 or boxes[0].kind != 'refusal':
             return -1
-        words = next(words for words in self.story.events[event] if words[0] == 'refuse')
+        words = next(words for words in self.history.events[event] if words[0] == 'refuse')
         return self.texts.place(f'refuses ({words[2]}): {words[3]}')
 
+    def refusal(self, event, words):
+        """Returns the place of the sentence of the policy on the refusal of an event, or -1."""
+        lines = self.history.events.get(event, [])
+        if not any(it[0] == 'refuse' for it in lines):
+            return -1
+        numbered = [stories.Line(0, '', fields.read_transcript_line([str(event), *it])) for it in lines]
+        story = stories.Story(stories.Group(event, numbered), self.centre, words or None)
+        refused, rule = story.refusal(), story.rule()
+        if refused is None:
+            return -1
+        return self.texts.place(refused['reason'] + ': ' + policy.sentence_of_refusal(
+            rule and rule.refused, refused['layer'], refused['reason'], story.is_judged()))
+
     def event(self, event):
-        """Returns an event: number, node, boxes, frames that it sends, the frame that it delivers, words, fold."""
-        lines, boxes = self.story.events.get(event, []), stories.boxes(self.story, event)
-        words = self.story.schedule.events.get(event, []) if self.story.schedule else []
-        delivered = self.frame_places.get(self.story.frame_at.get(event), -1)
-        return [event, self.place_of(self.story.node_of(lines)), [self.box(it) for it in boxes], self.sent.get(event, []),
-                delivered, self.texts.place(' '.join(words)), self.fold(event, boxes)]
+        """Returns an event: number, node, boxes, frames that it sends, the frame that it delivers, words, fold, sentence on its refusal."""
+        lines, boxes = self.history.events.get(event, []), histories.boxes(self.history, event)
+        words = self.history.schedule.events.get(event, []) if self.history.schedule else []
+        delivered = self.frame_places.get(self.history.frame_at.get(event), -1)
+        return [event, self.place_of(self.history.node_of(lines)), [self.box(it) for it in boxes], self.sent.get(event, []),
+                delivered, self.texts.place(' '.join(words)), self.fold(event, boxes), self.refusal(event, words)]
 
     def events(self):
         """Returns the events that have lines or words, in order."""
-        numbers = set(self.story.events) | set(self.story.schedule.events if self.story.schedule else [])
+        numbers = set(self.history.events) | set(self.history.schedule.events if self.history.schedule else [])
         return [self.event(event) for event in sorted(numbers - {0})]
 
     def verdict(self, verdict):
         """Returns what a node made of a frame: event, node, the place of the text."""
-        text = stories.deed(verdict.reason) + f' at {verdict.event}' + ('' if verdict.reason is None else f': {verdict.reason}')
+        text = histories.deed(verdict.reason) + f' at {verdict.event}' + ('' if verdict.reason is None else f': {verdict.reason}')
         return [verdict.event, self.place_of(verdict.node), self.texts.place(text), 1 if verdict.reason is None else 0]
 
     def frame(self, frame):
         """Returns a frame: number, event, sender, kind, words, counters, destination, the word where nobody judged it, verdicts,
         sections."""
-        words, counters = self.story.reader.describe(frame.event, frame.data)
+        words, counters = self.history.reader.describe(frame.event, frame.data)
         return [frame.number, frame.event, self.place_of(frame.sender), frame.kind, self.texts.place(', '.join(words)),
-                self.texts.place(', '.join(counters)), self.place_of(self.story.destination(frame)),
-                self.texts.place(self.story.unjudged(frame)), [self.verdict(it) for it in self.story.verdicts[frame.number]],
-                self.anatomies.sections(self.story.reader, frame.event, frame.data)]
+                self.texts.place(', '.join(counters)), self.place_of(self.history.destination(frame)),
+                self.texts.place(self.history.unjudged(frame)), [self.verdict(it) for it in self.history.verdicts[frame.number]],
+                self.anatomies.sections(self.history.reader, frame.event, frame.data)]
 
     def data(self):
         """Returns what the page gets, but for its title, text and verdict."""
-        events, frames = self.events(), [self.frame(it) for it in self.story.frames]
+        events, frames = self.events(), [self.frame(it) for it in self.history.frames]
         return {
-            'kind': 'run', 'nodes': [list(node) for node in self.story.nodes], 'events': events, 'frames': frames,
-            'end': explain_end(self.story.end), 'hasSchedule': self.story.schedule is not None, 'reasons': REASONS,
+            'kind': 'run', 'nodes': [list(node) for node in self.history.nodes], 'events': events, 'frames': frames,
+            'end': explain_end(self.history.end), 'hasSchedule': self.history.schedule is not None,
             'texts': self.texts.things(), 'boxes': self.boxes.things(), 'layouts': self.anatomies.layouts.things(),
         }
 
@@ -119,6 +105,6 @@ def explain_verdict(ran):
     return [text, False, f'tc ended with status {ran.status}', 0]
 
 
-def make_run(story):
-    """Returns the data of the page of a story."""
-    return Run(story).data()
+def make_run(history):
+    """Returns the data of the page of a history."""
+    return Run(history).data()

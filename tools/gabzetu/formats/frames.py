@@ -57,7 +57,7 @@ def read_aps(data):
     return layer(kind, None, data, size, bool(control & 0x20))
 
 
-def count_bytes(size):
+def counted(size):
     """Returns a number of bytes in words."""
     return f'{size} byte' + ('' if size == 1 else 's')
 
@@ -112,7 +112,7 @@ class Reader:
                 return ['Leave' if content[:1] == bytes([LEAVE]) else f'NWK command {content[:1].hex()}'], counters
             return self.describe_aps(event, content, counters)
         except (Malformed, IndexError) as why:
-            return [f'{count_bytes(len(data))}, ' + (str(why) if isinstance(why, Malformed) else 'command cut')], []
+            return [f'{counted(len(data))}, ' + (str(why) if isinstance(why, Malformed) else 'command cut')], []
 
     def describe_aps(self, event, data, counters):
         """Returns the same of an APS frame."""
@@ -122,7 +122,7 @@ class Reader:
         if content is None:
             return ['sealed'], counters
         if aps.kind != COMMAND:
-            return [f'data, {count_bytes(len(content))}' if aps.kind == DATA else 'acknowledgement'], counters
+            return [f'data, {counted(len(content))}' if aps.kind == DATA else 'acknowledgement'], counters
         return self.describe_command(event, content, counters)
 
     def describe_command(self, event, it, counters):

@@ -5,7 +5,7 @@ import shutil
 import unittest
 
 from gabzetu import charts
-from gabzetu.formats import story, transcripts
+from gabzetu.formats import history, transcripts
 from gabzetu.test.support import Folder, example, needs_tc, run
 
 LOST = re.compile(r'-x \S+ \[label="(?:\\n)*(\d+ [A-Za-z-]+).*; lost')
@@ -95,7 +95,7 @@ class Labels(unittest.TestCase):
         self.assertEqual(charts.around_arrow(['a'], ['b', 'c']), ['', 'a', '', 'b', 'c'])
 
     def test_labels_fit(self):
-        it = story.make_story(transcripts.read_transcript(example('join.transcript')))
+        it = history.make_history(transcripts.read_transcript(example('join.transcript')))
         for label in re.findall(r'label="([^"]*)"', charts.make_chart(it)):
             for line in label.split('\\n'):
                 self.assertLessEqual(len(line), charts.LETTERS * charts.LONGEST_SPAN)

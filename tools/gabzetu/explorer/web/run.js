@@ -7,8 +7,8 @@ const OUTSIDE = data.nodes.length; // the lane of whoever forges and injects
 const byEui = new Map(data.nodes.map(([name, , eui]) => [eui, name]));
 const byShort = new Map(data.nodes.map(([name, , , short]) => [short, name]));
 const nameOfEui = (eui) => byEui.get(eui) || eui;
-const events = data.events.map(([number, node, boxes, frames, delivered, words, fold]) => ({
-  number, node, boxes, frames, delivered, words: data.texts[words], fold,
+const events = data.events.map(([number, node, boxes, frames, delivered, words, fold, refusal]) => ({
+  number, node, boxes, frames, delivered, words: data.texts[words], fold, refusal: data.texts[refusal],
 }));
 const frames = data.frames.map(([number, event, sender, kind, words, counters, destination, unjudged, verdicts, sections]) => ({
   number, event, sender, kind, words: data.texts[words], counters: data.texts[counters], destination, unjudged: data.texts[unjudged],
@@ -241,9 +241,7 @@ function makeFrame(frame) {
 function makeEvent(event) {
   const elements = [make('h2', '', `Event ${event.number}${event.node < 0 ? '' : ` of ${nodeNames[event.node]}`}`)];
   if (event.words) elements.push(make('p', 'digits', event.words));
-  const refusal = linesOf(event.number).find((it) => it.startsWith('refuse '));
-  const reason = refusal && data.reasons[refusal.split(' ')[3]];
-  if (reason) elements.push(make('p', 'bad', `${refusal.split(' ')[3]}: ${reason}`));
+  if (event.refusal) elements.push(make('p', 'bad', `Refused as ${event.refusal}`));
   elements.push(make('h3', '', 'Its lines'), make('pre', 'digits', linesOf(event.number).join('\n') || 'none'));
   if (event.delivered >= 0) elements.push(make('h3', '', 'It delivers'), ...makeFrame(frames[event.delivered]));
   if (event.frames.length) elements.push(make('h3', '', 'It sends'), ...event.frames.flatMap((it) => makeFrame(frames[it])));

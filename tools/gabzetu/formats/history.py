@@ -52,7 +52,7 @@ def seal_of(data):
         return None
 
 
-class Story:
+class History:
     """A transcript with what became of its frames."""
 
     def __init__(self, transcript, schedule=None):
@@ -133,31 +133,31 @@ def deed(reason):
     return 'accepted' if reason is None else 'cut off' if reason in POWER.values() else 'refused'
 
 
-def check_schedule(story, path):
-    """Stops where a schedule can't be the one whose run a story is of."""
-    declared = [[*words[1:]] for words in story.events[0] if words[0] == 'node']
-    if story.schedule.nodes != declared:
+def check_schedule(history, path):
+    """Stops where a schedule can't be the one whose run a history is of."""
+    declared = [[*words[1:]] for words in history.events[0] if words[0] == 'node']
+    if history.schedule.nodes != declared:
         raise Stop(f'{path}: its node lines are not those of the transcript; give the schedule that was played')
-    if len(story.schedule.events) != int(story.end[0]):
-        raise Stop(f'{path}: it has {len(story.schedule.events)} events, and the transcript has {story.end[0]}; '
+    if len(history.schedule.events) != int(history.end[0]):
+        raise Stop(f'{path}: it has {len(history.schedule.events)} events, and the transcript has {history.end[0]}; '
                    'give the schedule that was played')
-    for event, words in story.schedule.events.items():
-        place, node = NODE_PLACES.get(words[0], 0), story.node_of(story.events.get(event, []))
+    for event, words in history.schedule.events.items():
+        place, node = NODE_PLACES.get(words[0], 0), history.node_of(history.events.get(event, []))
         if node is not None and place and words[place:place + 1] != [node]:
             raise Stop(f'{path}: event {event} is `{" ".join(words)}`, and in the transcript it is of {node}; '
                        'give the schedule that was played')
 
 
-def make_story(transcript, schedule_path=None):
-    """Returns the story of a transcript, with the schedule that was played where its path is given."""
+def make_history(transcript, schedule_path=None):
+    """Returns the history of a transcript, with the schedule that was played where its path is given."""
     if schedule_path is None:
-        return Story(transcript)
-    story = Story(transcript, read_schedule(schedule_path))
-    check_schedule(story, schedule_path)
-    return story
+        return History(transcript)
+    history = History(transcript, read_schedule(schedule_path))
+    check_schedule(history, schedule_path)
+    return history
 
 
-def key_change(story, lines, words):
+def key_change(history, lines, words):
     """Returns the words on one change of keys, or none where a line is no such change."""
     kind, key = words[0], frames.short_key(words[-1])
     if kind == 'install':
@@ -166,25 +166,25 @@ def key_change(story, lines, words):
     if kind == 'active' and not any(it[0] == 'install' and it[2] == words[2] for it in lines):
         return f'network key {key}: active'
     if kind == 'row':
-        return f'key {frames.short_key(words[3])} with {story.names.get(words[2], words[2])}: {words[4]}'
+        return f'key {frames.short_key(words[3])} with {history.names.get(words[2], words[2])}: {words[4]}'
     if kind == 'drop':
-        what = 'network key' if words[2] == 'net' else f'key with {story.names.get(words[3], words[3])}'
+        what = 'network key' if words[2] == 'net' else f'key with {history.names.get(words[3], words[3])}'
         return f'{what} {key}: dropped'
     if kind == 'pair':
-        return f'key {key} of {story.names.get(words[2], words[2])} and {story.names.get(words[3], words[3])}'
+        return f'key {key} of {history.names.get(words[2], words[2])} and {history.names.get(words[3], words[3])}'
     return None
 
 
-def other_change(story, words):
+def other_change(history, words):
     """Returns the words on one change of a state, or none where a line is no such change."""
     if words[0] == 'state':
         return f'state: {words[2]}'
     if words[0] in ('live', 'removed', 'told', 'untold'):
-        return f'{story.names.get(words[1], words[1])} is {words[0]}'
+        return f'{history.names.get(words[1], words[1])} is {words[0]}'
     return f'rollover: {words[2]}' if words[0] == 'roll' else None
 
 
-def stored(story, lines):
+def stored(history, lines):
     """Returns the words on what an event stores: limits of outgoing counters, and floors of incoming ones by their sender."""
     if not any(words[0] == 'commit' for words in lines):
         return []
@@ -192,7 +192,7 @@ def stored(story, lines):
     floors = collections.defaultdict(list)
     for words in lines:
         if words[0] == 'floor':
-            floors[story.names.get(words[4], words[4])].append(f'{words[2]} {words[5]}')
+            floors[history.names.get(words[4], words[4])].append(f'{words[2]} {words[5]}')
     texts = ['limits ' + ', '.join(limits)] if limits else []
     texts += [f'floors of {name} ' + ', '.join(values) for name, values in floors.items()]
     return ['stored' + (': ' if texts else '') + '; '.join(texts)]
@@ -209,15 +209,15 @@ def special_box(words):
     return Box('dump', [f'record: {len(words[2]) // 2} bytes']) if words[0] == 'dump' else None
 
 
-def boxes(story, event):
+def boxes(history, event):
     """Returns the boxes of an event at its node."""
-    lines, number = story.events.get(event, []), story.frame_at.get(event)
+    lines, number = history.events.get(event, []), history.frame_at.get(event)
     found = [it for it in map(special_box, lines) if it is not None]
     which = '' if number is None else f' {number}'
     if number is not None:
         found = [it._replace(texts=[it.texts[0].replace('refuses', f'refuses{which}', 1)]) if it.kind == 'refusal' else it for it in found]
     is_accepted = any(words[0] == 'accept' for words in lines) and not any(it.kind == 'refusal' for it in found)
-    keys = [text for text in (key_change(story, lines, words) for words in lines) if text]
-    others = [text for text in (other_change(story, words) for words in lines) if text]
-    texts = ([f'accepts{which}'] if is_accepted else []) + others + keys + stored(story, lines)
+    keys = [text for text in (key_change(history, lines, words) for words in lines) if text]
+    others = [text for text in (other_change(history, words) for words in lines) if text]
+    texts = ([f'accepts{which}'] if is_accepted else []) + others + keys + stored(history, lines)
     return ([Box('keys' if keys else 'plain', texts)] if texts else []) + found
