@@ -34,7 +34,7 @@ def shown_events(history, first, last, only):
     for event in sorted(it for it in history.events if max(first, 1) <= it <= last):
         node = history.node_of(history.events[event])
         frames = [it for it in sent[event] if not only or {it.sender, *history.targets(it)} & set(only)]
-        boxes = [] if node not in history.names.values() or (only and node not in only) else histories.boxes(history, event)
+        boxes = [] if node is None or (only and node not in only) else histories.boxes(history, event)
         if frames or boxes:
             yield Shown(event, node, frames, boxes)
 

@@ -11,7 +11,7 @@ class Run:
     def __init__(self, history):
         self.history = history
         self.centre = next((node.name for node in history.nodes if node.role == 'centre'), None)
-        self.texts, self.boxes = Table(), Table()
+        self.texts, self.boxes, self.refusals = Table(), Table(), {}
         self.anatomies = Anatomies(self.texts)
         self.places = {node.name: place for place, node in enumerate(history.nodes)}
         self.sent = {}
@@ -34,17 +34,23 @@ class Run:
         return self.texts.place(f'refuses ({words[2]}): {words[3]}')
 
     def refusal(self, event, words):
-        """Returns the place of the sentence of the policy on the refusal of an event, or -1."""
+        """Returns the place of the sentence of the policy on the refusal of an event, or -1. Events of a lone refusal share it."""
         lines = self.history.events.get(event, [])
-        if not any(it[0] == 'refuse' for it in lines):
+        refused = next((it for it in lines if it[0] == 'refuse'), None)
+        if refused is None:
             return -1
+        kind = (refused[1] == self.centre, tuple(refused[2:4]), tuple(words[:1])) if len(lines) == 1 else event
+        if kind not in self.refusals:
+            self.refusals[kind] = self.texts.place(self.sentence(event, lines, words))
+        return self.refusals[kind]
+
+    def sentence(self, event, lines, words):
+        """Returns what the policy says of the refusal of an event."""
         numbered = [stories.Line(0, '', fields.read_transcript_line([str(event), *it])) for it in lines]
         story = stories.Story(stories.Group(event, numbered), self.centre, words or None)
         refused, rule = story.refusal(), story.rule()
-        if refused is None:
-            return -1
-        return self.texts.place(refused['reason'] + ': ' + policy.sentence_of_refusal(
-            rule and rule.refused, refused['layer'], refused['reason'], story.is_judged()))
+        text = policy.sentence_of_refusal(rule and rule.refused, refused['layer'], refused['reason'], story.is_judged())
+        return f'{refused["reason"]}: {text}'
 
     def event(self, event):
         """Returns an event: number, node, boxes, frames that it sends, the frame that it delivers, words, fold, sentence on its refusal."""

@@ -7,10 +7,11 @@ from . import frames, transcripts
 from ..errors import UNREADABLE, Stop
 from ..output import read_input
 
-RANKS = {'centre': 0, 'router': 1, 'device': 2}
+RANKS = {'centre': 0, 'router': 1, 'device': 2, 'undeclared': 3}
 DECLARATIONS = ('node', 'code', 'netkey', 'counter', 'draw')
 POWER = {'stopped': 'power is cut', 'down reset': 'reset', 'down disk': 'the disk fails'}
 AT_THE_CENTRE = ('draw', 'live', 'removed', 'told', 'untold')
+OF_NOBODY = ('forge', 'inject')
 # The place of the node among the words of an event of a schedule; those of events that aren't here are of the centre or of nobody.
 NODE_PLACES = {'say': 1, 'deliver': 2, 'timer': 1, 'knock': 1, 'rejoin': 1, 'child': 1, 'ask': 1, 'tell': 1, 'reset': 1, 'boot': 1,
                'dump': 1, 'stop': 1, 'fail': 1}
@@ -52,16 +53,25 @@ def seal_of(data):
         return None
 
 
+def named_nodes(events):
+    """Returns the nodes in the order of centre, routers and devices. In a foreign transcript a line may name one without a node line."""
+    declared = transcripts.read_nodes(events)
+    names = {words[1] for lines in events.values() for words in lines if words[0] not in AT_THE_CENTRE + OF_NOBODY} - {'-'}
+    others = sorted(names - {node.name for node in declared})
+    nodes = declared + [transcripts.Node(name, 'undeclared', '', '') for name in others]
+    return sorted(nodes, key=lambda node: RANKS[node.role])
+
+
 class History:
     """A transcript with what became of its frames."""
 
     def __init__(self, transcript, schedule=None):
         self.events, self.end, self.schedule = transcript.events, transcript.end, schedule
-        self.nodes = sorted(transcripts.read_nodes(self.events), key=lambda node: RANKS[node.role])
+        self.nodes = named_nodes(self.events)
         self.frames = transcripts.read_frames(self.events)
         self.reader = frames.Reader(self.events, self.nodes)
-        self.names = {node.eui: node.name for node in self.nodes}
-        self.by_short = {node.short: node.name for node in reversed(self.nodes)}
+        self.names = {node.eui: node.name for node in self.nodes if node.eui}
+        self.by_short = {node.short: node.name for node in reversed(self.nodes) if node.short}
         self.sent_at = {frame.number: frame.event for frame in self.frames}
         self.by_seal = collections.defaultdict(list)
         for frame in self.frames:
@@ -73,7 +83,7 @@ class History:
         """Returns the node that an event is of, or none."""
         if any(words[0] in AT_THE_CENTRE for words in lines):
             return self.nodes[0].name if self.nodes else None
-        named = [words[1] for words in lines if words[0] not in ('forge', 'inject') and words[1] != '-']
+        named = [words[1] for words in lines if words[0] not in OF_NOBODY and words[1] != '-']
         return named[0] if named else None
 
     def judge(self, event, lines):

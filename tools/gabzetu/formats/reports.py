@@ -18,6 +18,7 @@ Report = collections.namedtuple('Report', 'text layers keys end')
 # where no capture shows it
 Heard = collections.namedtuple('Heard', 'number time pan data')
 
+MOST_FRAMES = 100000
 END = re.compile(r'^end \d+ \d+ \d+$', re.MULTILINE | re.ASCII)
 MAGICS = {b'\xd4\xc3\xb2\xa1': '<', b'\xa1\xb2\xc3\xd4': '>', b'\x4d\x3c\xb2\xa1': '<', b'\xa1\xb2\x3c\x4d': '>'}
 NANOSECONDS = (b'\x4d\x3c\xb2\xa1', b'\xa1\xb2\x3c\x4d')
@@ -42,8 +43,10 @@ def parse_report(text, path):
             keys.append(fields)
         elif fields['kind'] == 'end':
             end = fields
-    if end is None:
-        raise Stop(f'{path}: there is no end line', UNREADABLE)
+    if end is None or end['frames'] > MOST_FRAMES:
+        raise Stop(f'{path}: ' + ('there is no end line' if end is None else f'a report is of at most {MOST_FRAMES} frames'), UNREADABLE)
+    if not all(1 <= place <= end['frames'] for place in layers):
+        raise Stop(f'{path}: a line is of a frame that the end line does not count', UNREADABLE)
     return Report(text, dict(layers), keys, end)
 
 

@@ -62,3 +62,11 @@ def open_page(path, mark=''):
         ran = subprocess.run([find_browser(), f'--user-data-dir={folder}', *WORDS, pathlib.Path(path).resolve().as_uri() + mark],
                              capture_output=True, text=True, timeout=120, check=True)
     return Page(ran.stdout), re.findall(r'CONSOLE.*', ran.stderr)
+
+
+def add_script(path, script):
+    """Adds a program of a test to a page, whose policy would forbid it and is taken out."""
+    with open(path, encoding='utf-8') as file:
+        page = re.sub('<meta http-equiv="Content-Security-Policy"[^>]*>', '', file.read())
+    with open(path, 'w', encoding='utf-8') as file:
+        file.write(page.replace('</body>', f'<script>{script}</script></body>'))

@@ -1,6 +1,7 @@
 """Tests of explore: pages that a browser opens, and what is in them."""
 import contextlib
 import io
+import json
 import os
 import re
 import time
@@ -13,6 +14,40 @@ from gabzetu.test.support import Folder, example, needs_tc
 
 NAMES = {'r': '<img/src=x/onerror=alert(1)>', 'd': '<script>document.title="taken"</script>'}
 REPORT = os.path.join(TOP, 'tools', 'data', 'join.report')
+
+
+# Presses keys and fills filters as a user does, and notes after each what the page shows.
+USER = """
+const notes = [];
+const wait = () => new Promise((done) => setTimeout(done, 50));
+const press = async (key) => {
+  document.body.dispatchEvent(new KeyboardEvent('keydown', { key, bubbles: true }));
+  await wait();
+  notes.push(`${key} ${location.hash} ${document.activeElement.placeholder || ''}`.trim());
+};
+const fill = (name, value) => {
+  const label = [...document.querySelectorAll('#filters label')].find((it) => it.textContent.startsWith(name));
+  const field = label.querySelector('input, select');
+  field.value = value;
+  field.dispatchEvent(new Event(field.tagName === 'SELECT' ? 'change' : 'input'));
+  notes.push(`${name} ${value}: ${document.getElementById('count').textContent}`);
+  field.value = '';
+};
+(async () => {
+  for (const key of ['j', 'j', 'k', 'j', 'j']) await press(key);
+  fill('show', 'lost');
+  fill('show', 'keys');
+  fill('frame', '8');
+  fill('text', 'verify-key');
+  fill('key', 'A0A1A2A3A4A5A6A7A8A9AAABACADAEAF');
+  fill('node', '1');
+  await press('/');
+  document.documentElement.dataset.notes = JSON.stringify(notes);
+})();
+"""
+SHOWN = ['j #e1', 'j #e2', 'k #e1', 'j #e2', 'j #e3', 'show lost: 3 of 17 events', 'show keys: 6 of 17 events', 'frame 8: 2 of 17 events',
+         'text verify-key: 2 of 17 events', 'key A0A1A2A3A4A5A6A7A8A9AAABACADAEAF: 6 of 17 events', 'node 1: 3 of 17 events',
+         '/ #e3 word, address, digits (/)']
 
 
 def play(schedule):
@@ -75,6 +110,12 @@ class Browsed(Explored):
             self.assertIn(text, side)
         self.assertEqual(sum('lost' in it[1].get('class', '').split() for it in page.elements), 3)
         self.assertEqual(page.tags('title')[0][2], 'join.transcript')
+
+    def test_keyboard_and_filters(self):
+        path = self.explore(example('join.transcript'), '--schedule', example('join.sched'))
+        browser.add_script(path, USER)
+        page, said = browser.open_page(path)
+        self.assertEqual((json.loads(page.tags('html')[0][1]['data-notes']), said), (SHOWN, []))
 
     @needs_tc
     def test_verdict(self):

@@ -102,11 +102,11 @@ function colour(name) {
   return colours.get(name);
 }
 
-/** Returns a canvas's context in which a unit is a dot of the page, cleared. */
-function clearCanvas(canvas) {
+/** Returns the context of a canvas in which a unit is a dot of the page, cleared. */
+function clearCanvas(canvas, width = canvas.clientWidth, height = canvas.clientHeight) {
   const ratio = window.devicePixelRatio || 1;
-  canvas.width = Math.max(1, Math.round(canvas.clientWidth * ratio));
-  canvas.height = Math.max(1, Math.round(canvas.clientHeight * ratio));
+  canvas.width = Math.max(1, Math.round(width * ratio));
+  canvas.height = Math.max(1, Math.round(height * ratio));
   const context = canvas.getContext('2d');
   context.scale(ratio, ratio);
   return context;

@@ -259,7 +259,7 @@ function makeHint() {
       + 'Make the page with --schedule to see it.')])];
 }
 
-function makeNodeState(node, i, after, before, isOpen) {
+function makeNodeState(i, after, before, isOpen) {
   const [rows, old] = [describeNode(after, nameOfEui), before ? describeNode(before, nameOfEui) : []];
   const [name, role, eui, short] = data.nodes[i];
   const summary = make('summary', '', `${name} `, make('span', 'quiet', `${role} ${short} ${eui}${isChanged(rows, old) ? ', changed' : ''}`));
@@ -277,8 +277,8 @@ function makeStates() {
   const before = structuredClone(states.after(chosen === null ? group.after : group.first));
   const after = states.after(group.after);
   const event = events[eventPlaces.get(chosen)];
-  const elements = data.nodes.filter(([name]) => after.has(name)).map(([name], i) => (
-    makeNodeState(name, i, after.get(name), before.get(name), data.nodes.length < 4 || (event && event.node === i))));
+  const elements = data.nodes.flatMap(([name], i) => (
+    after.has(name) ? [makeNodeState(i, after.get(name), before.get(name), data.nodes.length < 4 || (event && event.node === i))] : []));
   const title = chosen === null ? 'At the start' : `After event ${chosen}`;
   return [make('h2', '', title), make('p', 'quiet', 'Marked cells are what this event changed. Struck rows are dropped.'), ...elements];
 }
