@@ -4,7 +4,7 @@
 // A row: mark, note and outcome (the first column), target (its place in the address), boxes {lane, kind, lines}, whether they are side by
 // side (isFlat), and frames {from, label, tone, arrows: [{to, fate, tone, isLost}]}. Lanes are places among the heads.
 
-const MANY = 12; // from so many lanes on, they are narrow, and the first column has the outcome of each row
+const MANY = 6; // with more lanes than these, they are narrow, and the first column has the outcome of each row
 const LINE = 15;
 const LABEL = 17;
 const ARROW = 16;
@@ -66,8 +66,8 @@ class Lanes {
     this.heads = heads;
     this.count = count;
     this.isMany = heads.length > MANY;
-    this.width = this.isMany ? 136 : heads.length > 6 ? 180 : 230;
-    this.margin = this.isMany ? 320 : 168;
+    this.width = heads.length > 12 ? 136 : this.isMany ? 170 : 230;
+    this.margin = this.isMany ? 310 : 168;
     document.documentElement.style.setProperty('--event', `${this.margin}px`);
     this.total = this.margin + heads.length * this.width + RIGHT_ROOM;
     this.rowAt = (i) => makeRowAt(i, this.width - 26);
