@@ -45,9 +45,20 @@ const fill = (name, value) => {
   document.documentElement.dataset.notes = JSON.stringify(notes);
 })();
 """
-SHOWN = ['j #e1', 'j #e2', 'k #e1', 'j #e2', 'j #e3', 'show lost: 3 of 17 events', 'show keys: 6 of 17 events', 'frame 8: 2 of 17 events',
-         'text verify-key: 2 of 17 events', 'key A0A1A2A3A4A5A6A7A8A9AAABACADAEAF: 6 of 17 events', 'node 1: 3 of 17 events',
-         '/ #e3 word, address, digits (/)']
+SHOWN = [
+    'j #e1',
+    'j #e2',
+    'k #e1',
+    'j #e2',
+    'j #e3',
+    'show lost: 3 of 17 events',
+    'show keys: 6 of 17 events',
+    'frame 8: 2 of 17 events',
+    'text verify-key: 2 of 17 events',
+    'key A0A1A2A3A4A5A6A7A8A9AAABACADAEAF: 6 of 17 events',
+    'node 1: 3 of 17 events',
+    '/ #e3 word, address, digits (/)',
+]
 
 
 def play(schedule):
@@ -106,7 +117,12 @@ class Browsed(Explored):
         self.assertEqual(len(page.of_class('row')), 17)
         self.assertEqual(page.of_id('count'), '17 of 17 events')
         side = page.of_id('panel')
-        for text in ('Event 12 of d', 'deliver 8 d', 'Frame 8: Transport-Key, link key A0A1A2A3..', 'Nonce of the APS layer, 13 bytes'):
+        for text in (
+            'Event 12 of d',
+            'deliver 8 d',
+            'Frame 8: Transport-Key, link key A0A1A2A3..',
+            'Nonce of the APS layer, 13 bytes',
+        ):
             self.assertIn(text, side)
         self.assertEqual(sum('lost' in it[1].get('class', '').split() for it in page.elements), 3)
         self.assertEqual(page.tags('title')[0][2], 'join.transcript')
@@ -176,15 +192,48 @@ class Browsed(Explored):
         self.assertEqual(head[3], str(record['aps_limit']))
         if node != 'c':
             self.assertEqual(head[0], record['state'])
-        nets = [[it[0], it[1], 'live' in it[2], 'active' in it[2], it[4]] for it in rows.get((node, 'key sequence'), [])]
-        self.assertEqual(nets, [[it['key'][:8] + '..', str(it['sequence']), bool(it['flags'] & 1), place == record['active'], str(it['limit'])]
-                                for place, it in enumerate(record['nets'])])
+        nets = [
+            [it[0], it[1], 'live' in it[2], 'active' in it[2], it[4]] for it in rows.get((node, 'key sequence'), [])
+        ]
+        self.assertEqual(
+            nets,
+            [
+                [
+                    it['key'][:8] + '..',
+                    str(it['sequence']),
+                    bool(it['flags'] & 1),
+                    place == record['active'],
+                    str(it['limit']),
+                ]
+                for place, it in enumerate(record['nets'])
+            ],
+        )
         floors = [[it[0], it[1], it[3]] for it in rows.get((node, 'key sender'), [])]
-        self.assertEqual(floors, [[it['key'][:8] + '..', names[sender], str(floor)] for it in record['nets'] if it['flags'] & 1
-                                  for sender, floor in it['floors']])
-        links = [[it[0], it[1], it[2].split(',')[0], 'told' in it[2], it[4]] for it in rows.get((node, 'partner key'), [])]
-        self.assertEqual(links, [[names[it['partner']], it['key'][:8] + '..', it['attribute'] if it['flags'] & 1 else 'dropped',
-                                  bool(it['flags'] & 4), str(it['floor'])] for it in record['links']])
+        self.assertEqual(
+            floors,
+            [
+                [it['key'][:8] + '..', names[sender], str(floor)]
+                for it in record['nets']
+                if it['flags'] & 1
+                for sender, floor in it['floors']
+            ],
+        )
+        links = [
+            [it[0], it[1], it[2].split(',')[0], 'told' in it[2], it[4]] for it in rows.get((node, 'partner key'), [])
+        ]
+        self.assertEqual(
+            links,
+            [
+                [
+                    names[it['partner']],
+                    it['key'][:8] + '..',
+                    it['attribute'] if it['flags'] & 1 else 'dropped',
+                    bool(it['flags'] & 4),
+                    str(it['floor']),
+                ]
+                for it in record['links']
+            ],
+        )
         self.assertEqual(len(rows.get((node, 'first second'), [])), len(record['pairs']))
 
     @needs_tc
@@ -197,7 +246,9 @@ class Browsed(Explored):
             rows = self.state_rows(self.open(f'#e{last}-state', self.write(f'{name}.transcript', text)))
             for node, record in re.findall(r'(?m)^\d+ dump (\S+) (\S+)', text):
                 with self.subTest(name=name, node=node):
-                    self.check_record(node, rows, records.read_record(bytes.fromhex(record)), {eui: it for it, eui in nodes})
+                    self.check_record(
+                        node, rows, records.read_record(bytes.fromhex(record)), {eui: it for it, eui in nodes}
+                    )
 
 
 if __name__ == '__main__':

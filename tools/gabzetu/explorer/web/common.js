@@ -98,7 +98,9 @@ matchMedia('(prefers-color-scheme: dark)').addEventListener('change', () => colo
 
 /** Returns the value of a colour of the style. */
 function colour(name) {
-  if (!colours.has(name)) colours.set(name, getComputedStyle(document.documentElement).getPropertyValue(`--${name}`).trim());
+  if (!colours.has(name)) {
+    colours.set(name, getComputedStyle(document.documentElement).getPropertyValue(`--${name}`).trim());
+  }
   return colours.get(name);
 }
 
@@ -134,7 +136,8 @@ class Tabs {
 function onKeys(acts) {
   document.addEventListener('keydown', (event) => {
     if (event.key === 'Escape') document.activeElement.blur();
-    if (/^(INPUT|SELECT|TEXTAREA)$/.test(event.target.tagName) || event.ctrlKey || event.metaKey || event.altKey) return;
+    const isWriting = /^(INPUT|SELECT|TEXTAREA)$/.test(event.target.tagName);
+    if (isWriting || event.ctrlKey || event.metaKey || event.altKey) return;
     if (acts[event.key]) {
       event.preventDefault();
       acts[event.key]();

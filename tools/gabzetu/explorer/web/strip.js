@@ -25,7 +25,10 @@ class Strip {
     this.drawSeen();
   }
 
-  /** Draws the ticks on a canvas that is kept, so that scrolling draws no more than the frame of the part that is seen. */
+  /**
+   * Draws the ticks on a canvas that is kept, so that scrolling draws no more than the frame of the part that is
+   * seen.
+   */
   draw() {
     const [width, height] = [this.canvas.clientWidth, this.canvas.clientHeight];
     const context = clearCanvas(this.ticks, width, height);
