@@ -18,6 +18,12 @@ def command_words(content):
     return name
 
 
+def tunnel_words(layers):
+    """Says what a Tunnel is, and what is in it as far as it is open."""
+    inner = [it.content for it in layers if it.kind == 'inner' and it.content not in (None, '-')]
+    return f'Tunnel of {command_words(bytes.fromhex(inner[0]))}' if inner else 'Tunnel'
+
+
 def payload_words(payload, layers):
     """Says what an APS frame carries."""
     aps = headers.read_aps(payload)
@@ -25,6 +31,8 @@ def payload_words(payload, layers):
     if aps.kind == headers.ACK:
         return 'acknowledgement'
     if aps.kind == headers.COMMAND:
+        if content and content[0] == headers.TUNNEL:
+            return tunnel_words(layers)
         return command_words(content) if content else 'sealed command'
     return f'data, cluster {aps.cluster:04X}, ' + ('sealed' if content is None else f'{len(content)} bytes')
 

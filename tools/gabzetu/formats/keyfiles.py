@@ -101,9 +101,9 @@ def keys_of_wireshark(text):
 def keys_of_report(lines):
     """Yields the keys of the lines of a report, each with a word on where it comes from."""
     for words in lines:
-        if words[0] == 'key' and words[3:4] == ['given']:
+        if words[0] == 'key' and words[3:] == ['given']:
             yield words[2], f'key {words[1]}, given'
-        elif words[0] == 'key' and words[3:4] == ['found'] and len(words) > 4:
+        elif words[0] == 'key' and words[3:4] == ['found'] and words[4:5] and words[4].isdigit():
             yield words[2], f'key {words[1]}, found in frame {words[4]}'
 
 
@@ -123,9 +123,12 @@ def keys_of_transcript(lines):
 
 
 def keys_of_opened(text):
-    """Yields the keys of the listing that `gabzetu open` writes."""
-    for key, words in re.findall(r'^  key +\d+  ([0-9A-F]{32})  (.+)$', text, re.M):
-        yield key, words
+    """Yields the keys of what `gabzetu open` writes: its listing, or its JSON lines."""
+    for number, key, words in re.findall(r'^  key +(\d+) +([0-9A-F]{32})  (.+)$', text, re.M):
+        yield key, f'key {number}, {words.split(", which key")[0]}'
+    for line in re.findall(r'^\{"kind": "key", .*\}$', text, re.M):
+        fields = json.loads(line)
+        yield fields.get('key'), f'key {fields.get("k")}, {fields.get("origin")}'
 
 
 def keys_of_text(text):

@@ -1,11 +1,10 @@
-#!/usr/bin/env python3
-"""made.py START N: writes the made schedule of a start value for N routers and devices, as docs/FORMATS.md has it ("Made schedules").
+"""Writes made schedules, as docs/FORMATS.md has them ("Made schedules").
 
-`tc make N` writes that of the start value 0. Run i of `tc campaign COUNT START JOBS` plays the one of START + i for 1 + i mod 8."""
+`tc make N` writes that of the start value 0. Run i of `tc campaign COUNT START JOBS` plays that of START + i for 1 + i mod 8."""
 import struct
-import sys
 
 MASK = 0xFFFFFFFF
+MOST = 60
 
 
 def rotated(word, count):
@@ -31,6 +30,7 @@ def block(start, number):
 
 
 def words_of(start):
+    """Yields the words of the generator without an end."""
     number = 0
     while True:
         yield from block(start, number)
@@ -39,12 +39,10 @@ def words_of(start):
 
 def crc(data):
     """Returns the CRC of an install code: polynomial 1021, reflected, first value and last sum FFFF."""
-    sum = 0xFFFF
-    for byte in data:
-        sum ^= byte
-        for _ in range(8):
-            sum = sum >> 1 ^ (0x8408 if sum & 1 else 0)
-    return sum ^ 0xFFFF
+    rest = 0xFFFF
+    for bit in (byte >> place & 1 for byte in data for place in range(8)):
+        rest = rest >> 1 ^ (0x8408 if (rest ^ bit) & 1 else 0)
+    return rest ^ 0xFFFF
 
 
 def name(i):
@@ -52,12 +50,14 @@ def name(i):
 
 
 def join_lines(i, code):
+    """Returns the events by which device i joins."""
     f, d = 5 * (i - 1), name(i)
     return [f'provision {d} {code}', f'knock {d}', f'child c {d} join', f'deliver {f + 1} {d}', f'timer {d}', f'deliver {f + 2} c',
             f'deliver {f + 3} {d}', f'timer {d}', f'deliver {f + 4} c', f'deliver {f + 5} {d}']
 
 
 def step_lines(n, a, b, p, q):
+    """Returns the events of one step among n devices, by four words."""
     kind, x = a % 8, name(b % (n + 1))
     if kind < 2:
         return [f'say {x} FFFF {p % 256:02X}']
@@ -70,31 +70,32 @@ def step_lines(n, a, b, p, q):
     return [f'stop {x} {p % 6} {q % 256:02X}', f'say {x} FFFF 00', f'boot {x}']
 
 
+def declarations(words, n):
+    """Returns the declarations for n devices, and their install codes."""
+    def key():
+        return b''.join(struct.pack('<I', next(words)) for _ in range(4))
+
+    lines = ['node c centre 00124B0000000001 0000 8 4']
+    lines += [f'node {name(i)} {"router" if i % 5 == 1 else "device"} {0x00124B0000000100 + i:016X} {0x1000 + i:04X} 8 4'
+              for i in range(1, n + 1)]
+    codes = [(it + struct.pack('<H', crc(it))).hex().upper() for it in [key() for _ in range(n)]]
+    lines += [f'code {name(i)} {code}' for i, code in enumerate(codes, 1)]
+    lines += [f'netkey c {key().hex().upper()} 0', *(f'draw {key().hex().upper()}' for _ in range(n + 1))]
+    return lines, codes
+
+
+def last_lines(words, n):
+    """Returns the events from the removal on."""
+    deliveries = [(next(words), next(words)) for _ in range(10 * n)]
+    return ['remove d1 via c', 'roll', *['timer c'] * (n - 1), 'switch',
+            *(f'deliver {1 + p % (20 * n)} {name(b % (n + 1))}' for b, p in deliveries)]
+
+
 def made(start, n):
     """Returns the lines of the made schedule for n routers and devices. It may clash, which `tc play` says."""
     words = words_of(start)
-    key = lambda: b''.join(struct.pack('<I', next(words)) for _ in range(4))
-    devices = range(1, n + 1)
-    lines = ['node c centre 00124B0000000001 0000 8 4']
-    for i in devices:
-        lines.append(f'node {name(i)} {"router" if i % 5 == 1 else "device"} {0x00124B0000000100 + i:016X} {0x1000 + i:04X} 8 4')
-    keys = [key() for _ in devices]
-    codes = [(it + struct.pack('<H', crc(it))).hex().upper() for it in keys]
-    lines += [f'code {name(i)} {code}' for i, code in zip(devices, codes)]
-    lines.append(f'netkey c {key().hex().upper()} 0')
-    lines += [f'draw {key().hex().upper()}' for _ in range(n + 1)]
-    for i, code in zip(devices, codes):
+    lines, codes = declarations(words, n)
+    for i, code in enumerate(codes, 1):
         lines += join_lines(i, code)
-    for _ in range(20 * n):
-        lines += step_lines(n, next(words), next(words), next(words), next(words))
-    lines += ['remove d1 via c', 'roll', *['timer c'] * (n - 1), 'switch']
-    for _ in range(10 * n):
-        b, p = next(words), next(words)
-        lines.append(f'deliver {1 + p % (20 * n)} {name(b % (n + 1))}')
-    return lines
-
-
-if __name__ == '__main__':
-    if len(sys.argv) != 3 or not all(it.isdecimal() for it in sys.argv[1:]) or not 1 <= int(sys.argv[2]) <= 60 or int(sys.argv[1]) > MASK:
-        sys.exit(__doc__)
-    print('\n'.join(made(int(sys.argv[1]), int(sys.argv[2]))))
+    steps = [step_lines(n, next(words), next(words), next(words), next(words)) for _ in range(20 * n)]
+    return [*lines, *(line for step in steps for line in step), *last_lines(words, n)]
