@@ -6,7 +6,7 @@ from .. import listing
 from ..capture import Capture
 from ..errors import WRONG_USE, Stop
 from ..formats.checks import MODES
-from ..formats.keyfiles import normal_key, read_key_file
+from ..formats.keyfiles import normal_key, printable, read_key_file
 from ..opening import MOST_FRAMES, WELL_KNOWN, Opener, Ring
 from ..output import is_watched, open_output, say
 from ..program import run_tc
@@ -64,7 +64,7 @@ def read_ring(arguments):
         ring.add(normal_key(text), 'given')
     for path in arguments.keys_from:
         for key, label in read_key_file(path).items():
-            ring.add(key, f'{path}: {label}')
+            ring.add(key, printable(f'{path}: {label}'))
     ring.add(WELL_KNOWN, 'the well-known key')
     return ring
 

@@ -15,7 +15,7 @@ DESCRIPTION = '''Hands to Wireshark what tc found.
   gabzetu wireshark frames TRANSCRIPT OUT   the frames of a transcript as a pcap
   gabzetu wireshark packets CAPTURE OUT     the packets of a sniffer's capture as a plain pcap, which `sniff` reads too'''
 
-BROADCASTS, NETWORK, MOST_LABEL = (0xFFFC, 0xFFFD, 0xFFFF), 0x1A62, 100
+BROADCASTS, NETWORK = (0xFFFC, 0xFFFD, 0xFFFF), 0x1A62
 
 
 def add_arguments(parser):
@@ -54,7 +54,7 @@ def run(arguments):
 
 def label_of(words):
     """Returns a text that can stand in quotes in a line of zigbee_pc_keys."""
-    return ''.join(it for it in f'tc: {words}' if it.isprintable() and it not in '"\\')[:MOST_LABEL]
+    return 'tc: ' + ''.join(it for it in words if it not in '"\\')
 
 
 def packet_numbers(path):

@@ -7,9 +7,14 @@ from ..output import read_input
 
 KEY = re.compile('[0-9A-F]{32}')
 SEPARATORS = re.compile(r'[:\-\s]')
-FORMAT = 'zigpy/open-coordinator-backup'
+MOST_LABEL = 100
 KNOWN = ('a coordinator backup of zigpy, ZHA or Zigbee2MQTT, a backup of `gabzetu admin`, configuration.yaml of Zigbee2MQTT, '
          'zigbee_pc_keys of Wireshark, a report of inspect or sniff, and a transcript')
+
+
+def printable(value):
+    """Returns a foreign text in one line that a terminal takes, cut where it is long."""
+    return ''.join(it for it in str(value) if it.isprintable())[:MOST_LABEL]
 
 
 def normal_key(text):
@@ -20,36 +25,44 @@ def normal_key(text):
 
 
 def members(value, name):
-    """Returns the list or object that a member of a JSON object is, or an empty one."""
-    found = value.get(name) if isinstance(value, dict) else None
-    return found if isinstance(found, (list, dict)) else []
+    """Returns the object that a member of a JSON object is, or an empty one."""
+    found = value.get(name)
+    return found if isinstance(found, dict) else {}
+
+
+def objects(value, name):
+    """Returns the objects in the list that a member of a JSON object is."""
+    found = value.get(name)
+    return [it for it in found if isinstance(it, dict)] if isinstance(found, list) else []
+
+
+def key_in(value, name):
+    """Returns the member `key` of the object that a member is, or none."""
+    return members(value, name).get('key')
 
 
 def keys_of_coordinator(backup):
     """Yields the keys of an open coordinator backup: of the network, of its devices, and of the trust centre."""
-    network = backup.get('network_key') or {}
-    yield network.get('key'), f'network key {network.get("sequence_number", 0)}'
-    for device in filter(lambda it: isinstance(it, dict), members(backup, 'devices')):
-        link = device.get('link_key')
-        if isinstance(link, dict):
-            yield link.get('key'), f'link key of {str(device.get("ieee_address")).upper()}'
+    yield key_in(backup, 'network_key'), f'network key {members(backup, "network_key").get("sequence_number", 0)}'
+    for device in objects(backup, 'devices'):
+        yield key_in(device, 'link_key'), f'link key of {str(device.get("ieee_address")).upper()}'
     inside = members(members(backup, 'metadata'), 'internal')
-    yield members(members(inside, 'network'), 'tc_link_key') and inside['network']['tc_link_key'].get('key'), 'trust centre link key'
+    yield key_in(members(inside, 'network'), 'tc_link_key'), 'trust centre link key'
 
 
 def keys_of_zha(backup):
     """Yields the keys of a backup as ZHA keeps it: network_info with network_key, tc_link_key and key_table."""
-    info = backup['network_info']
+    info = members(backup, 'network_info')
     for name, words in (('network_key', 'network key'), ('tc_link_key', 'trust centre link key')):
-        yield members(info, name) and info[name].get('key'), words
-    for entry in members(info, 'key_table'):
-        yield members(entry, 'key') or entry.get('key'), f'link key of {entry.get("partner_ieee")}'
+        yield key_in(info, name), words
+    for entry in objects(info, 'key_table'):
+        yield entry.get('key'), f'link key of {entry.get("partner_ieee")}'
 
 
 def keys_of_centre(backup):
     """Yields the keys of a backup of `tc admin` (docs/BACKUP.md)."""
     for name, words in (('nets', 'network key {sequence}'), ('links', 'link key of {partner}'), ('pairs', 'key of {first} with {second}')):
-        for row in members(backup, name):
+        for row in objects(backup, name):
             yield row.get('key'), words.format_map({'sequence': '', 'partner': '', 'first': '', 'second': '', **row})
 
 
@@ -154,7 +167,7 @@ def read_key_file(path):
     for text_of_key, label in keys_of_text(text):
         key = normal_key(text_of_key)
         if key:
-            labels.setdefault(key, label)
+            labels.setdefault(key, printable(label))
     if not labels:
         raise Stop(f'{path}: no keys are in it: known are {KNOWN}', UNREADABLE)
     return labels
