@@ -43,6 +43,11 @@ def make_parser():
     return parser
 
 
+def parsers_of(parser):
+    """Returns the parsers of the commands by their names."""
+    return next(it.choices for it in parser._actions if isinstance(it, argparse._SubParsersAction))
+
+
 def describe(module):
     """Returns what `--help` says first of a command: its DESCRIPTION where it has one, else its summary."""
     return getattr(module, 'DESCRIPTION', module.SUMMARY[:1].upper() + module.SUMMARY[1:] + '.')

@@ -1,6 +1,7 @@
 """How a command stops: with a message for people and an exit status."""
 
 WRONG_USE = 64
+WRONG_INPUT = 65
 UNREADABLE = 66
 MISSING = 69
 UNWRITABLE = 74

@@ -5,7 +5,7 @@ from ..runs import add_output, run_file
 SUMMARY = 'judge a transcript that anybody wrote'
 DESCRIPTION = """Judges a transcript: `sound SEALS ACCEPTS WORD`, or `broken LINE CLAIM` with status 10.
 
-`gabzetu explain TRANSCRIPT --broken` says what a broken line and its claim are about."""
+`gabzetu explain TRANSCRIPT` says what a broken line and its claim are about."""
 
 
 def add_arguments(parser):

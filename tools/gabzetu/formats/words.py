@@ -164,6 +164,16 @@ class Literal:
         return None if word == self.word else f"the word '{self.word}' belongs here"
 
 
+class Seed:
+    """A word of any letters and digits, from which keys and codes are made."""
+
+    name = 'SEED'
+    wanted = 'a word of letters and digits'
+
+    def fault(self, word):
+        return None if word.isalnum() else f'SEED is {self.wanted}'
+
+
 class Rest:
     """All that is left of a line."""
 
