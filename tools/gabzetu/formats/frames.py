@@ -10,13 +10,16 @@ KEY_TYPES = {1: 'network key', 3: 'application key', 4: 'link key'}
 # digits; counter: none where it isn't sealed; payload: none where it is sealed
 Layer = collections.namedtuple('Layer', 'kind to header counter payload')
 
+# What a line shows of a sealed layer: its base key, the source in its nonce, and the content, all in digits
+Term = collections.namedtuple('Term', 'base source content')
+
 
 class Malformed(Exception):
     """Why bytes are no frame."""
 
 
 def layer(kind, to, data, size, is_secured):
-    """Returns the layer whose header has `size` bytes, behind which the auxiliary header stands where it is secured."""
+    """Returns the layer whose header has `size` bytes. The auxiliary header follows it where the layer is secured."""
     if len(data) < size + (5 if is_secured else 0):
         raise Malformed('NWK header cut' if to is not None else 'APS header cut')
     if not is_secured:
@@ -28,6 +31,7 @@ def layer(kind, to, data, size, is_secured):
 
 
 def read_nwk(data):
+    """Returns the NWK layer of a frame."""
     if len(data) < 8:
         raise Malformed('NWK header cut')
     control, to = struct.unpack_from('<HH', data)
@@ -40,6 +44,7 @@ def read_nwk(data):
 
 
 def read_aps(data):
+    """Returns the APS layer of a NWK payload."""
     if not data:
         raise Malformed('no APS frame')
     control = data[0]
@@ -53,10 +58,12 @@ def read_aps(data):
 
 
 def counted(size):
+    """Returns a number of bytes in words."""
     return f'{size} byte' + ('' if size == 1 else 's')
 
 
 def short_key(key):
+    """Returns the first digits of a key, by which people know it."""
     return key[:8] + '..'
 
 
@@ -65,20 +72,28 @@ class Reader:
 
     def __init__(self, events, nodes):
         self.names = {node.eui: node.name for node in nodes}
-        self.here = {event: self.terms_of(lines) for event, lines in events.items()}
-        self.anywhere = {header: text for event in sorted(self.here, reverse=True) for header, text in self.here[event].items()}
+        self.set_terms({event: self.terms_of(lines) for event, lines in events.items()})
+
+    def set_terms(self, here):
+        """Takes the terms of each event by their headers. Of a term that comes again, the first is taken elsewhere."""
+        self.here = collections.defaultdict(dict, here)
+        self.anywhere = {header: term for event in sorted(here, reverse=True) for header, term in here[event].items()}
 
     @staticmethod
     def terms_of(lines):
-        """Returns the contents of the terms of an event by their headers."""
-        return {words[-2]: words[-1] for words in lines if words[0] in ('seal', 'forge', 'accept')}
+        """Returns the terms of an event by their headers."""
+        return {words[-2]: Term(words[-6], words[-5], words[-1]) for words in lines if words[0] in ('seal', 'forge', 'accept')}
+
+    def term(self, event, part):
+        """Returns the term of a sealed layer, or none where no line shows it."""
+        return self.here[event].get(part.header) or self.anywhere.get(part.header)
 
     def content(self, event, part):
         """Returns the content of a layer, or none where no line shows it."""
         if part.payload is not None:
             return part.payload
-        text = self.here[event].get(part.header) or self.anywhere.get(part.header)
-        return None if text is None else bytes.fromhex(text.replace('-', ''))
+        term = self.term(event, part)
+        return None if term is None else bytes.fromhex(term.content.replace('-', ''))
 
     def name(self, address):
         """Returns the name of the node with an address as it stands in a frame, or the address."""
@@ -100,6 +115,7 @@ class Reader:
             return [f'{counted(len(data))}, ' + (str(why) if isinstance(why, Malformed) else 'command cut')], []
 
     def describe_aps(self, event, data, counters):
+        """Returns the same of an APS frame."""
         aps = read_aps(data)
         counters = counters if aps.counter is None else counters + [f'aps {aps.counter}']
         content = self.content(event, aps)
@@ -110,6 +126,7 @@ class Reader:
         return self.describe_command(event, content, counters)
 
     def describe_command(self, event, it, counters):
+        """Returns the same of an APS command."""
         kind = it[0]
         if kind == TUNNEL:
             (first, *more), counters = self.describe_aps(event, it[9:], counters)
