@@ -26,7 +26,8 @@ class Tally:
 
     def rows(self):
         """Returns reason, count and first packet, the greatest count first."""
-        return [(reason, count, self.firsts[reason]) for reason, count in self.counts.most_common()]
+        rows = [(reason, count, self.firsts[reason]) for reason, count in self.counts.items()]
+        return sorted(rows, key=lambda row: (-row[1], row[2]))
 
 
 def parts_of_file(packets):

@@ -4,6 +4,7 @@ import collections
 from .capture import Tally
 from .formats.contents import describe
 from .formats.reasons import Known, why_closed
+from .formats.words import counted
 from .opening import is_closed, opened_layers
 
 WIDTH = 70
@@ -60,10 +61,6 @@ def key_object(key, ring):
     by = ring.keys[key.by].number if key.by else None
     fields = {'kind': 'key', 'k': key.number, 'key': key.key, 'origin': key.origin, 'packet': key.packet, 'by': by}
     return {name: value for name, value in fields.items() if value is not None}
-
-
-def counted(count, one):
-    return f'{count} {one}' + ('' if count == 1 else 's')
 
 
 def row_lines(title, tally):

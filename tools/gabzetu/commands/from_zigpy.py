@@ -4,8 +4,8 @@ import datetime
 import json
 
 from ..errors import WRONG_USE, Stop
+from ..formats.words import counted
 from ..formats.zigpy import MOST_COUNTER, parse_backup
-from ..listing import counted
 from ..opening import WELL_KNOWN
 from ..output import read_input, say
 from ..stores import is_restored, try_script, write_private

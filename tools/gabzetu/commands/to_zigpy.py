@@ -5,8 +5,8 @@ import re
 
 from .. import read_version
 from ..errors import UNREADABLE, WRONG_USE, Stop
+from ..formats.words import counted
 from ..formats.zigpy import MOST_COUNTER, NO_EUI, NO_PAN, Backup, Device, Link, object_of, parse_json
-from ..listing import counted
 from ..opening import WELL_KNOWN
 from ..output import read_input, say
 from ..stores import is_restored, try_script, write_private
