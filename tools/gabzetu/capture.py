@@ -65,7 +65,8 @@ def next_of(waiting, seconds):
 
 
 def live_part(waiting):
-    """Returns the packets that come until it is quiet for a moment, and what ended them: an empty text where they go on."""
+    """Returns the packets that come until it is quiet for a moment, and what ended them: an empty text where they go
+    on."""
     part, begun = [], time.monotonic()
     while len(part) < MOST_FRAMES:
         packet = next_of(waiting, min(QUIET, LONGEST_WAIT - (time.monotonic() - begun)))
@@ -117,7 +118,8 @@ class Capture:
             yield frames
 
     def bodies(self):
-        """Yields time and bytes of each packet in parts, without check sequences, and no bytes where there are none."""
+        """Yields time and bytes of each packet in parts, without check sequences, and no bytes where there are
+        none."""
         for packets in self.packet_parts():
             bodies = {packet.number: body for packet, body, _ in self.stripped(packets)}
             yield [(packet.time, bodies.get(packet.number, b'')) for packet in packets]
@@ -139,8 +141,11 @@ class Capture:
             return None
 
     def stripped(self, packets):
-        """Returns each packet that is whole, its bytes, and the size of its check sequence. These are judged together."""
-        wrapped = [(packet, it) for packet, it in ((packet, self.unwrap(packet)) for packet in packets) if it is not None]
+        """Returns each packet that is whole, its bytes, and the size of its check sequence. These are judged
+        together."""
+        wrapped = [
+            (packet, it) for packet, it in ((packet, self.unwrap(packet)) for packet in packets) if it is not None
+        ]
         for _, it in wrapped:
             self.checks.learn(it)
         return [it for it in (self.strip(*pair) for pair in wrapped) if it is not None]
@@ -155,4 +160,6 @@ class Capture:
         except LeftOut as why:
             self.left_out.add(str(why), packet.number)
             return None
-        return Frame(packet.number, packet.time, header.pan, header.to, header.source, header.payload, try_nwk(header.payload))
+        return Frame(
+            packet.number, packet.time, header.pan, header.to, header.source, header.payload, try_nwk(header.payload)
+        )

@@ -15,14 +15,15 @@ SUMMARY = 'play many made runs, or open a folder of captures, on all processors'
 DESCRIPTION = '''Plays any number of made runs, or opens each capture of a folder, by GNU parallel.
 
   gabzetu campaigns runs COUNT START RESULTS   plays COUNT made schedules from START on, a thousand a call of tc
-  gabzetu campaigns captures FOLDER RESULTS    opens each file of FOLDER: `gabzetu open` with the keys for captures of packets,
-                                               `gabzetu inspect` for text captures
+  gabzetu campaigns captures FOLDER RESULTS    opens each file of FOLDER with the keys, as `gabzetu open` does, and
+                                               text captures as `gabzetu inspect` does
   gabzetu campaigns schedule START N           writes the made schedule of START for N routers and devices
 
-The calls may go on other machines, by parallel's option --sshlogin, which have the same programs and files in the same places. The folder
-RESULTS gets what each call wrote, and the log of the jobs. After a break the same words go on where it stopped; calls
-that failed are tried again. At the end the totals of all calls are added up, or the reports counted, and the first run that ended with
-`no` is named, with its schedule in RESULTS/first.sched, or the first call that ended with another status than 0.
+The calls may go on other machines, by parallel's option --sshlogin, which have the same programs and files in the
+same places. The folder RESULTS gets what each call wrote, and the log of the jobs. After a break the same words go on
+where it stopped; calls that failed are tried again. At the end the totals of all calls are added up, or the reports
+counted, and the first run that ended with `no` is named, with its schedule in RESULTS/first.sched, or the first call
+that ended with another status than 0.
 
 The status is 0 where there is none, 1 where there is one, and another where the calls couldn't be made.'''
 
@@ -43,8 +44,13 @@ def add_arguments(parser):
     for kind, do in ((runs, do_runs), (captures, do_captures)):
         kind.add_argument('results', metavar='RESULTS', help='the folder for what the calls write')
         kind.add_argument('-j', '--jobs', metavar='JOBS', help='how many calls go on at once (one for each processor)')
-        kind.add_argument('--parallel', metavar='WORDS', action='append', default=[],
-                          help="further options of parallel: --parallel='--bar --sshlogin other'")
+        kind.add_argument(
+            '--parallel',
+            metavar='WORDS',
+            action='append',
+            default=[],
+            help="further options of parallel: --parallel='--bar --sshlogin other'",
+        )
         kind.set_defaults(do=do)
     schedule = kinds.add_parser('schedule', help='write a made schedule')
     schedule.add_argument('start', metavar='START', type=int)
@@ -70,7 +76,8 @@ def do_schedule(arguments):
 
 
 def shares_of(count, start):
-    """Returns how many runs each call plays, and its start value. Its runs are numbered from 0, so their sizes are 1 to 8 in turn."""
+    """Returns how many runs each call plays, and its start value. Its runs are numbered from 0, so their sizes are 1
+    to 8 in turn."""
     return [(min(SHARE, count - done), start + done) for done in range(0, count, SHARE)]
 
 
@@ -93,8 +100,8 @@ def options_of(arguments):
 
 
 def call_all(results, options, command, columns):
-    """Has parallel make a call for each row of columns, and returns how each ended. What it writes comes into the file of the row's
-    last column."""
+    """Has parallel make a call for each row of columns, and returns how each ended. What it writes comes into the
+    file of the row's last column."""
     words = ['parallel', '--will-cite', '--joblog', f'{results}/jobs', '--resume-failed', '--colsep', '\t']
     words += ['--results', f'{results}/calls/{{{len(columns[0])}/}}', *options, command]
     rows = ''.join('\t'.join(map(str, row)) + '\n' for row in columns)
@@ -106,7 +113,8 @@ def call_all(results, options, command, columns):
 
 
 def statuses_of(results, count):
-    """Returns how each call ended by the log: by a status, or by a signal as 128 and its number. A later try counts."""
+    """Returns how each call ended by the log: by a status, or by a signal as 128 and its number. A later try
+    counts."""
     statuses = {}
     with open(f'{results}/jobs', encoding='utf-8') as file:
         for words in [line.split('\t') for line in file.readlines()[1:]]:
@@ -131,8 +139,10 @@ def read_campaign(name, count):
 def name_run(results, runs, start, number):
     """Writes the schedule of a run, and says which one it is."""
     write_output(f'{results}/first.sched', ''.join(f'{line}\n' for line in made(start + number, 1 + number % 8)))
-    print(f'the first run that ended with no: run {number} of campaign {runs} {start}, made of {start + number} for {1 + number % 8}, '
-          f'in {results}/first.sched')
+    print(
+        f'the first run that ended with no: run {number} of campaign {runs} {start}, '
+        f'made of {start + number} for {1 + number % 8}, in {results}/first.sched'
+    )
 
 
 def do_runs(arguments):
@@ -159,7 +169,8 @@ def do_runs(arguments):
 
 
 def command_for(path):
-    """Returns the command that reads a file: `open` for a capture of packets, also one packed by gzip, else `inspect`."""
+    """Returns the command that reads a file: `open` for a capture of packets, also one packed by gzip, else
+    `inspect`."""
     with open(path, 'rb') as file:
         first = file.read(4)
     return 'open' if first in CAPTURES or first[:2] == b'\x1f\x8b' else 'inspect'
@@ -175,7 +186,9 @@ def key_words(arguments):
 
 def do_captures(arguments):
     folder, results = os.path.abspath(arguments.folder), arguments.results
-    files = sorted(name for name in os.listdir(folder) if os.path.isfile(os.path.join(folder, name)) and NAME.fullmatch(name))
+    files = sorted(
+        name for name in os.listdir(folder) if os.path.isfile(os.path.join(folder, name)) and NAME.fullmatch(name)
+    )
     if not files:
         raise Stop(f'{arguments.folder}: no files are in it', UNREADABLE)
     keys = key_words(arguments)

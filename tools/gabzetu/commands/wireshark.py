@@ -13,7 +13,7 @@ DESCRIPTION = '''Hands to Wireshark what tc found.
 
   gabzetu wireshark keys FILE               the keys of FILE as lines of Wireshark's file zigbee_pc_keys
   gabzetu wireshark frames TRANSCRIPT OUT   the frames of a transcript as a pcap
-  gabzetu wireshark packets CAPTURE OUT     the packets of a sniffer's capture as a plain pcap, which `sniff` reads too'''
+  gabzetu wireshark packets CAPTURE OUT     the packets of a sniffer's capture as a pcap, which `sniff` reads too'''
 
 BROADCASTS, NETWORK = (0xFFFC, 0xFFFD, 0xFFFF), 0x1A62
 
@@ -21,15 +21,31 @@ BROADCASTS, NETWORK = (0xFFFC, 0xFFFD, 0xFFFF), 0x1A62
 def add_arguments(parser):
     kinds = parser.add_subparsers(metavar='KIND', dest='kind', required=True)
     add_keys(kinds.add_parser('keys', help='write keys as lines of zigbee_pc_keys'))
-    add_frames(kinds.add_parser('frames', help='write the frames of a transcript as a pcap of link type 230. Frame N is packet N, and '
-                                               'the seconds of its time are its event'))
-    add_packets(kinds.add_parser('packets', help="write a sniffer's packets as a pcap of link type 230. Packet N is packet N of CAPTURE, "
-                                                 'and empty where CAPTURE has no whole packet of IEEE 802.15.4 there'))
+    add_frames(
+        kinds.add_parser(
+            'frames',
+            help='write the frames of a transcript as a pcap of link type 230. Frame N is packet N, and '
+            'the seconds of its time are its event',
+        )
+    )
+    add_packets(
+        kinds.add_parser(
+            'packets',
+            help="write a sniffer's packets as a pcap of link type 230. Packet N is packet N of CAPTURE, "
+            'and empty where CAPTURE has no whole packet of IEEE 802.15.4 there',
+        )
+    )
 
 
 def add_keys(parser):
-    parser.add_argument('file', metavar='FILE', help='what `open`, `inspect` or `sniff` wrote, a transcript, or a backup; - for standard input')
-    parser.add_argument('--capture', metavar='PCAP', help='the capture file that `sniff` read: keys get the numbers of its packets')
+    parser.add_argument(
+        'file',
+        metavar='FILE',
+        help='what `open`, `inspect` or `sniff` wrote, a transcript, or a backup; - for standard input',
+    )
+    parser.add_argument(
+        '--capture', metavar='PCAP', help='the capture file that `sniff` read: keys get the numbers of its packets'
+    )
     parser.add_argument('-o', '--output', metavar='OUT', help='write to this file, and not to standard output')
     parser.set_defaults(do=write_keys)
 
@@ -68,7 +84,10 @@ def with_packet(label, numbers):
     if not is_found:
         return label
     if not frame.isdigit() or int(frame) > len(numbers):
-        raise Stop(f'the capture has {len(numbers)} frames, and a key was found in frame {frame}: the report is of another one')
+        raise Stop(
+            f'the capture has {len(numbers)} frames, and a key was found in frame {frame}: '
+            'the report is of another one'
+        )
     return f'{head}, found in packet {numbers[int(frame) - 1]}'
 
 
@@ -82,12 +101,19 @@ def write_keys(arguments):
 
 
 def mac_header(frame, nodes):
-    """Returns the header of a data packet between short addresses; it asks for an acknowledgement unless it is for all."""
+    """Returns the header of a data packet between short addresses; it asks for an acknowledgement unless it is for
+    all."""
     to, source = struct.unpack('<HH', frame.data[2:6].ljust(4, b'\0'))
     sender = int(nodes[frame.sender].short, 16) if frame.sender in nodes else source
     is_broadcast = to in BROADCASTS
-    return struct.pack('<HBHHH', 0x8841 if is_broadcast else 0x8861, frame.number & 255, NETWORK,
-                       0xFFFF if is_broadcast else to, sender)
+    return struct.pack(
+        '<HBHHH',
+        0x8841 if is_broadcast else 0x8861,
+        frame.number & 255,
+        NETWORK,
+        0xFFFF if is_broadcast else to,
+        sender,
+    )
 
 
 def read_transcript(path):
@@ -107,7 +133,10 @@ def write_frames(arguments):
     nodes, frames = read_transcript(arguments.transcript)
     if not frames:
         raise Stop(f'{arguments.transcript}: no frames are in it', UNREADABLE)
-    write_output(arguments.out, pcap.HEADER + b''.join(pcap.record(it.event, 0, mac_header(it, nodes) + it.data) for it in frames))
+    write_output(
+        arguments.out,
+        pcap.HEADER + b''.join(pcap.record(it.event, 0, mac_header(it, nodes) + it.data) for it in frames),
+    )
     return 0
 
 

@@ -2,11 +2,33 @@
 from . import headers
 from .addresses import content_of, payload_of
 
-NWK_COMMANDS = {1: 'Route Request', 2: 'Route Reply', 3: 'Network Status', 4: 'Leave', 5: 'Route Record', 6: 'Rejoin Request',
-                7: 'Rejoin Response', 8: 'Link Status', 9: 'Network Report', 10: 'Network Update', 11: 'End Device Timeout Request',
-                12: 'End Device Timeout Response', 13: 'Link Power Delta', 14: 'Commissioning Request', 15: 'Commissioning Response'}
-APS_COMMANDS = {5: 'Transport-Key', 6: 'Update-Device', 7: 'Remove-Device', 8: 'Request-Key', 9: 'Switch-Key', 0x0E: 'Tunnel',
-                0x0F: 'Verify-Key', 0x10: 'Confirm-Key'}
+NWK_COMMANDS = {
+    1: 'Route Request',
+    2: 'Route Reply',
+    3: 'Network Status',
+    4: 'Leave',
+    5: 'Route Record',
+    6: 'Rejoin Request',
+    7: 'Rejoin Response',
+    8: 'Link Status',
+    9: 'Network Report',
+    10: 'Network Update',
+    11: 'End Device Timeout Request',
+    12: 'End Device Timeout Response',
+    13: 'Link Power Delta',
+    14: 'Commissioning Request',
+    15: 'Commissioning Response',
+}
+APS_COMMANDS = {
+    5: 'Transport-Key',
+    6: 'Update-Device',
+    7: 'Remove-Device',
+    8: 'Request-Key',
+    9: 'Switch-Key',
+    0x0E: 'Tunnel',
+    0x0F: 'Verify-Key',
+    0x10: 'Confirm-Key',
+}
 KEY_TYPES = {1: 'network key', 3: 'application key', 4: 'link key'}
 
 

@@ -1,4 +1,5 @@
-"""Reads keys from files of other programs: coordinator backups, settings of Zigbee2MQTT, keys of Wireshark, reports and transcripts."""
+"""Reads keys from files of other programs: coordinator backups, settings of Zigbee2MQTT, keys of Wireshark, reports
+and transcripts."""
 import json
 import re
 
@@ -8,8 +9,10 @@ from ..output import read_input
 KEY = re.compile('[0-9A-F]{32}')
 SEPARATORS = re.compile(r'[:\-\s]')
 MOST_LABEL = 100
-KNOWN = ('a coordinator backup of zigpy, ZHA or Zigbee2MQTT, a backup of `gabzetu admin`, configuration.yaml of Zigbee2MQTT, '
-         'zigbee_pc_keys of Wireshark, a report of inspect or sniff, and a transcript')
+KNOWN = (
+    'a coordinator backup of zigpy, ZHA or Zigbee2MQTT, a backup of `gabzetu admin`, '
+    'configuration.yaml of Zigbee2MQTT, zigbee_pc_keys of Wireshark, a report of inspect or sniff, and a transcript'
+)
 
 
 def printable(value):
@@ -61,7 +64,11 @@ def keys_of_zha(backup):
 
 def keys_of_centre(backup):
     """Yields the keys of a backup of `tc admin` (docs/BACKUP.md)."""
-    for name, words in (('nets', 'network key {sequence}'), ('links', 'link key of {partner}'), ('pairs', 'key of {first} with {second}')):
+    for name, words in (
+        ('nets', 'network key {sequence}'),
+        ('links', 'link key of {partner}'),
+        ('pairs', 'key of {first} with {second}'),
+    ):
         for row in objects(backup, name):
             yield row.get('key'), words.format_map({'sequence': '', 'partner': '', 'first': '', 'second': '', **row})
 
@@ -89,7 +96,11 @@ def listed_numbers(text):
     inline = re.match(r'\[([^\]]*)\]', text)
     block = re.match(r'[^\n]*\n((?:[ \t]*-[ \t]*\w+[ \t]*(?:#[^\n]*)?(?:\n|$))+)', text)
     found = inline or block
-    return [number_of(it) for it in re.findall(r'\b(?:0[xX][0-9A-Fa-f]+|\d+)\b', re.sub('#.*', '', found[1]))] if found else []
+    return (
+        [number_of(it) for it in re.findall(r'\b(?:0[xX][0-9A-Fa-f]+|\d+)\b', re.sub('#.*', '', found[1]))]
+        if found
+        else []
+    )
 
 
 def keys_of_settings(text):
@@ -97,7 +108,7 @@ def keys_of_settings(text):
     place = re.search(r'^[ \t]*network_key:[ \t]*(.*)$', text, re.M)
     if not place:
         return
-    numbers = listed_numbers(text[place.start(1):])
+    numbers = listed_numbers(text[place.start(1) :])
     if len(numbers) == 16 and max(numbers) < 256:
         yield bytes(numbers).hex(), 'network key of the settings'
     elif not numbers:
@@ -152,8 +163,13 @@ def keys_of_text(text):
     except ValueError:
         pass
     lines = [words for words in map(str.split, text.splitlines()) if words]
-    for reader, value in ((keys_of_wireshark, text), (keys_of_report, lines), (keys_of_transcript, lines), (keys_of_opened, text),
-                          (keys_of_settings, text)):
+    for reader, value in (
+        (keys_of_wireshark, text),
+        (keys_of_report, lines),
+        (keys_of_transcript, lines),
+        (keys_of_opened, text),
+        (keys_of_settings, text),
+    ):
         yield from reader(value)
 
 

@@ -12,8 +12,8 @@ MOST_COUNTER, LEVEL = 0xFFFFFFFF, 5
 NO_EUI, NO_PAN = 'F' * 16, 'FFFF'
 KEPT_AS_SEEDS = {'hashed_tclk', 'tclk_seed'}
 
-# coordinator: its EUI; key, sequence, counter: of the network; made: when the backup was made, or none; devices: in their order;
-# seeds: names of what link keys are derived from; notes: what else it says, as text by name
+# coordinator: its EUI; key, sequence, counter: of the network; made: when the backup was made, or none; devices: in
+# their order; seeds: names of what link keys are derived from; notes: what else it says, as text by name
 Backup = collections.namedtuple('Backup', 'coordinator key sequence counter made source devices seeds notes')
 
 # short: none where it is not known; link: its link key, or none
@@ -64,8 +64,15 @@ def read_device(value, place):
     if value.get('link_key') is None:
         return Device(eui, short, None)
     link, place = get_object(value, 'link_key', f'{place}.'), f'{place}.link_key.'
-    return Device(eui, short, Link(get_digits(link, 'key', 32, place), get_count(link, 'tx_counter', MOST_COUNTER, place),
-                                   get_count(link, 'rx_counter', MOST_COUNTER, place)))
+    return Device(
+        eui,
+        short,
+        Link(
+            get_digits(link, 'key', 32, place),
+            get_count(link, 'tx_counter', MOST_COUNTER, place),
+            get_count(link, 'rx_counter', MOST_COUNTER, place),
+        ),
+    )
 
 
 def read_time(text):
@@ -89,15 +96,23 @@ def metadata_of(value):
 
 def notes_of(value):
     """Returns what a backup says of the network that a centre's store doesn't keep."""
-    names = {'pan_id': 'PAN', 'extended_pan_id': 'extended PAN', 'channel': 'channel', 'nwk_update_id': 'update identifier'}
+    names = {
+        'pan_id': 'PAN',
+        'extended_pan_id': 'extended PAN',
+        'channel': 'channel',
+        'nwk_update_id': 'update identifier',
+    }
     return {word: printable(value[name]).upper() for name, word in names.items() if value.get(name) is not None}
 
 
 def seeds_of(value):
     """Returns the names of the seeds of link keys that a backup has for a stack."""
     stacks = value.get('stack_specific') or {}
-    return sorted({name for stack in stacks.values() if isinstance(stack, dict) for name in stack if name in KEPT_AS_SEEDS}
-                  if isinstance(stacks, dict) else [])
+    return sorted(
+        {name for stack in stacks.values() if isinstance(stack, dict) for name in stack if name in KEPT_AS_SEEDS}
+        if isinstance(stacks, dict)
+        else []
+    )
 
 
 def read_backup(value):
@@ -109,11 +124,17 @@ def read_backup(value):
         raise Bad('devices should be a list')
     if value.get('security_level') not in (None, LEVEL):
         raise Bad(f'security_level is {json.dumps(value.get("security_level"))[:40]}, and tc has level {LEVEL} alone')
-    return Backup(get_digits(value, 'coordinator_ieee', 16), get_digits(network, 'key', 32, 'network_key.'),
-                  get_count(network, 'sequence_number', 255, 'network_key.'),
-                  get_count(network, 'frame_counter', MOST_COUNTER, 'network_key.'),
-                  read_time(inside.get('creation_time') or inside.get('date')), printable(metadata.get('source') or 'unknown'),
-                  [read_device(it, f'devices[{place}]') for place, it in enumerate(devices)], seeds_of(value), notes_of(value))
+    return Backup(
+        get_digits(value, 'coordinator_ieee', 16),
+        get_digits(network, 'key', 32, 'network_key.'),
+        get_count(network, 'sequence_number', 255, 'network_key.'),
+        get_count(network, 'frame_counter', MOST_COUNTER, 'network_key.'),
+        read_time(inside.get('creation_time') or inside.get('date')),
+        printable(metadata.get('source') or 'unknown'),
+        [read_device(it, f'devices[{place}]') for place, it in enumerate(devices)],
+        seeds_of(value),
+        notes_of(value),
+    )
 
 
 def parse_json(text, path):
@@ -130,7 +151,10 @@ def parse_backup(data, path):
     if isinstance(value, dict) and isinstance(value.get('backup'), dict):
         value = value['backup']
     if isinstance(value, dict) and 'network_info' in value:
-        raise Stop(f"{path}: this is a backup as zigpy's database keeps it. Save it as an open coordinator backup first.", UNREADABLE)
+        raise Stop(
+            f"{path}: this is a backup as zigpy's database keeps it. Save it as an open coordinator backup first.",
+            UNREADABLE,
+        )
     try:
         return read_backup(value)
     except Bad as why:
@@ -139,9 +163,17 @@ def parse_backup(data, path):
 
 def object_of_device(device):
     """Returns the object of a device, as zigpy writes it."""
-    value = {'ieee_address': device.eui.lower(), 'nwk_address': device.short.lower() if device.short else None, 'is_child': False}
+    value = {
+        'ieee_address': device.eui.lower(),
+        'nwk_address': device.short.lower() if device.short else None,
+        'is_child': False,
+    }
     if device.link:
-        value['link_key'] = {'key': device.link.key.lower(), 'tx_counter': device.link.sent, 'rx_counter': device.link.received}
+        value['link_key'] = {
+            'key': device.link.key.lower(),
+            'tx_counter': device.link.sent,
+            'rx_counter': device.link.received,
+        }
     return value
 
 
@@ -150,9 +182,20 @@ def internal_of(backup, well_known):
     coordinator = backup.coordinator.lower()
     return {
         'creation_time': backup.made.isoformat(timespec='seconds'),
-        'node': {'ieee': coordinator, 'nwk': '0000', 'type': 'coordinator', 'model': None, 'manufacturer': None, 'version': None},
-        'network': {'tc_link_key': {'key': well_known.lower(), 'frame_counter': 0}, 'tc_address': coordinator,
-                    'security_level': LEVEL, 'nwk_manager': '0000'},
+        'node': {
+            'ieee': coordinator,
+            'nwk': '0000',
+            'type': 'coordinator',
+            'model': None,
+            'manufacturer': None,
+            'version': None,
+        },
+        'network': {
+            'tc_link_key': {'key': well_known.lower(), 'frame_counter': 0},
+            'tc_address': coordinator,
+            'security_level': LEVEL,
+            'nwk_manager': '0000',
+        },
         'link_key_seqs': {device.eui.lower(): 0 for device in backup.devices if device.link},
     }
 
@@ -160,7 +203,12 @@ def internal_of(backup, well_known):
 def object_of(backup, well_known):
     """Returns the JSON object of a backup. Its notes have PAN, extended PAN and channel."""
     return {
-        'metadata': {'version': VERSION, 'format': FORMAT, 'source': backup.source, 'internal': internal_of(backup, well_known)},
+        'metadata': {
+            'version': VERSION,
+            'format': FORMAT,
+            'source': backup.source,
+            'internal': internal_of(backup, well_known),
+        },
         'coordinator_ieee': backup.coordinator.lower(),
         'pan_id': backup.notes['PAN'].lower(),
         'extended_pan_id': backup.notes['extended PAN'].lower(),
@@ -168,7 +216,11 @@ def object_of(backup, well_known):
         'security_level': LEVEL,
         'channel': backup.notes['channel'],
         'channel_mask': list(range(11, 27)),
-        'network_key': {'key': backup.key.lower(), 'sequence_number': backup.sequence, 'frame_counter': backup.counter},
+        'network_key': {
+            'key': backup.key.lower(),
+            'sequence_number': backup.sequence,
+            'frame_counter': backup.counter,
+        },
         'devices': [object_of_device(it) for it in sorted(backup.devices)],
         'stack_specific': {},
     }

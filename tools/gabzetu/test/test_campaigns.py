@@ -44,16 +44,25 @@ class Campaigns(Folder):
         results, tc = self.path('runs'), self.stand_in()
         for _ in range(2):
             ran = run('campaigns', 'runs', '2500', '0', results, tc=tc)
-            self.assertEqual((ran.status, ran.output.splitlines()), (1, [
-                'total 2500 5000 2500 0',
-                'the first run that ended with no: run 9 of campaign 1000 1000, made of 1009 for 2, in '
-                f'{results}/first.sched']))
+            self.assertEqual(
+                (ran.status, ran.output.splitlines()),
+                (
+                    1,
+                    [
+                        'total 2500 5000 2500 0',
+                        'the first run that ended with no: run 9 of campaign 1000 1000, made of 1009 for 2, in '
+                        f'{results}/first.sched',
+                    ],
+                ),
+            )
             self.assertEqual(len(read(f'{results}/jobs').splitlines()), 4)
         self.assertEqual(read(f'{results}/first.sched'), run('campaigns', 'schedule', '1009', '2').output)
         self.assertEqual(run('campaigns', 'runs', '2000', '0', results, tc=tc).status, 64)
 
     def test_options_go_to_parallel(self):
-        ran = run('campaigns', 'runs', '10', '0', self.path('runs'), '-j', '1', '--parallel=--delay 0', tc=self.stand_in())
+        ran = run(
+            'campaigns', 'runs', '10', '0', self.path('runs'), '-j', '1', '--parallel=--delay 0', tc=self.stand_in()
+        )
         self.assertEqual((ran.status, ran.output), (0, 'total 10 20 10 0\n'))
 
     @needs_tc
@@ -65,8 +74,16 @@ class Campaigns(Folder):
             shutil.copy(name, captures)
         self.write('captures/bad.capture', 'boom\n')
         ran = run('campaigns', 'captures', captures, self.path('reports'), '--code', CODE)
-        self.assertEqual((ran.status, ran.output.splitlines()), (1, [
-            f'3 reports in {self.path("reports")}/calls', 'the first call that failed: bad.capture ended with status 5']))
+        self.assertEqual(
+            (ran.status, ran.output.splitlines()),
+            (
+                1,
+                [
+                    f'3 reports in {self.path("reports")}/calls',
+                    'the first call that failed: bad.capture ended with status 5',
+                ],
+            ),
+        )
         self.assertIn('23 frames: 16 opened', read(self.path('reports/calls/mixed.pcap')))
         self.assertIn('7 frames: 7 opened', read(self.path('reports/calls/sniffers.pcapng')))
         self.assertIn(f'key 1 {LINK} given', read(self.path('reports/calls/join.capture')))

@@ -12,8 +12,10 @@ class Compare(Folder):
     @needs_tc
     def test_a_transcript_and_made_schedules_agree(self):
         ran = run('compare', example('join.transcript'))
-        self.assertEqual((ran.status, ran.output), (
-            0, '12 of 12 frames agree in 20 opened layers, neither opens 0; 1 found keys, 0 differ\n'))
+        self.assertEqual(
+            (ran.status, ran.output),
+            (0, '12 of 12 frames agree in 20 opened layers, neither opens 0; 1 found keys, 0 differ\n'),
+        )
         ran = run('compare', '--made', '2', '0')
         self.assertEqual(ran.status, 0)
         self.assertIn(', 0 differ', ran.output)

@@ -1,7 +1,8 @@
 """Tests of wireshark: keys and frames that tshark takes, and the packets of a capture under their numbers.
 
-join.report was written by an inspector that was written apart from this one, join.commands are those of the schedule that was played,
-and sniffers.pcapng and sniffers.pcap, its packets, by Wireshark's text2pcap, editcap and mergecap."""
+join.report was written by an inspector that was written apart from this one, join.commands are those of the schedule
+that was played, and sniffers.pcapng and sniffers.pcap, its packets, by Wireshark's text2pcap, editcap and
+mergecap."""
 import os
 import shutil
 import struct
@@ -27,7 +28,7 @@ def records_of(path):
     at, records = 24, []
     while at < len(content):
         seconds, _, kept, whole = struct.unpack_from('<IIII', content, at)
-        records.append((seconds, whole, content[at + 16:at + 16 + kept]))
+        records.append((seconds, whole, content[at + 16 : at + 16 + kept]))
         at += 16 + kept
     return records
 
@@ -68,7 +69,10 @@ class Keys(Folder):
 
     def report_of(self, file):
         from gabzetu.program import find_tc
-        return subprocess.run([find_tc(), 'sniff', '1', CODE], stdin=file, capture_output=True, text=True, check=True).stdout
+
+        return subprocess.run(
+            [find_tc(), 'sniff', '1', CODE], stdin=file, capture_output=True, text=True, check=True
+        ).stdout
 
 
 class Frames(Folder):
@@ -76,13 +80,31 @@ class Frames(Folder):
     def test_tshark_reads_the_command_of_each_frame_of_a_join(self):
         self.assertEqual(run('wireshark', 'frames', example('join.transcript'), self.path('join.pcap')).status, 0)
         run('wireshark', 'keys', data('join.report'), '-o', self.path('zigbee_pc_keys'))
-        command = ['tshark', '-r', self.path('join.pcap'), '-T', 'fields', '-e', 'frame.number', '-e', 'zbee_aps.cmd.id']
-        ran = subprocess.run(command, capture_output=True, text=True, check=True, env={**os.environ, 'WIRESHARK_CONFIG_DIR': self.folder})
+        command = [
+            'tshark',
+            '-r',
+            self.path('join.pcap'),
+            '-T',
+            'fields',
+            '-e',
+            'frame.number',
+            '-e',
+            'zbee_aps.cmd.id',
+        ]
+        ran = subprocess.run(
+            command,
+            capture_output=True,
+            text=True,
+            check=True,
+            env={**os.environ, 'WIRESHARK_CONFIG_DIR': self.folder},
+        )
         self.assertEqual(ran.stdout, read(data('join.commands')))
 
     def test_the_second_is_the_event(self):
         run('wireshark', 'frames', example('join.transcript'), self.path('join.pcap'))
-        events = [int(line.split()[0]) for line in read(example('join.transcript')).splitlines() if line.split()[1] == 'send']
+        events = [
+            int(line.split()[0]) for line in read(example('join.transcript')).splitlines() if line.split()[1] == 'send'
+        ]
         self.assertEqual([seconds for seconds, _, _ in records_of(self.path('join.pcap'))], events)
 
     def test_says_what_is_no_transcript(self):
