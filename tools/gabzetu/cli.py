@@ -59,6 +59,7 @@ def run(words):
     arguments = parser.parse_args(words)
     if arguments.version:
         from .versions import describe_versions
+
         print(describe_versions())
         return 0
     if not arguments.command:

@@ -18,7 +18,8 @@ def unique(words):
 
 BASH = """# completions of gabzetu for bash; written by `gabzetu completions bash`
 _gabzetu() {{
-    local word=${{COMP_WORDS[COMP_CWORD]}} before=${{COMP_WORDS[COMP_CWORD-1]}} command=${{COMP_WORDS[1]}} options= words=
+    local word=${{COMP_WORDS[COMP_CWORD]}} before=${{COMP_WORDS[COMP_CWORD-1]}} command=${{COMP_WORDS[1]}}
+    local options= words=
     if [ "$COMP_CWORD" = 1 ]; then
         COMPREPLY=($(compgen -W "{commands}" -- "$word"))
         return
@@ -121,7 +122,10 @@ def fish_quoted(text):
 def fish_option(command, option):
     names = ' '.join(f'-l {it[2:]}' if it.startswith('--') else f'-s {it[1:]}' for it in option.names)
     value = '' if not option.value else f' -x -a {fish_quoted(" ".join(option.choices))}' if option.choices else ' -r'
-    return f"complete -c gabzetu -n '__fish_seen_subcommand_from {command.name}' {names}{value} -d {fish_quoted(option.help)}\n"
+    return (
+        f"complete -c gabzetu -n '__fish_seen_subcommand_from {command.name}' {names}{value} -d "
+        f"{fish_quoted(option.help)}\n"
+    )
 
 
 def fish_command(command):

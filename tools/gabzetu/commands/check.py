@@ -13,8 +13,9 @@ from ..output import read_input, say, write_output
 SUMMARY = 'find the mistakes of a schedule, capture or script'
 DESCRIPTION = """Finds mistakes, each with its line, its column, the word, and what is wanted there.
 
-tc is asked in the end: the status is that of tc, 0 where it takes the file and 5 where it refuses it. A script is tried on
-a store of its own, and touches no other. Of a schedule that is right, deliveries of frames that are never sent are noted."""
+tc is asked in the end: the status is that of tc, 0 where it takes the file and 5 where it refuses it. A script is
+tried on a store of its own, and touches no other. Of a schedule that is right, deliveries of frames that are never
+sent are noted."""
 
 MOST_SHOWN = 20
 
@@ -24,7 +25,9 @@ Verdict = collections.namedtuple('Verdict', 'status line cause output')
 
 def add_arguments(parser):
     parser.add_argument('files', metavar='FILE', nargs='+', help='a file, or - for standard input')
-    parser.add_argument('--kind', choices=sorted(diagnosis.READERS), help='what the files are; without it their lines tell')
+    parser.add_argument(
+        '--kind', choices=sorted(diagnosis.READERS), help='what the files are; without it their lines tell'
+    )
     parser.add_argument('--all', action='store_true', help=f'show all mistakes, not the first {MOST_SHOWN}')
     parser.add_argument('--json', action='store_true', help='write JSON lines: an object for each mistake')
 
@@ -70,7 +73,8 @@ def notes_of(name, data, output):
             sent += 1
         elif words[1:2] == ['refuse'] and words[3:5] == ['event', 'no-frame']:
             line = lines[int(words[0]) - 1]
-            yield f"{name}:{line.number}:9: note: '{line.words[1].text}': this frame was not sent before; {sent} frames were"
+            place = f"{name}:{line.number}:9: note: '{line.words[1].text}'"
+            yield f'{place}: this frame was not sent before; {sent} frames were'
 
 
 def report(arguments, name, found):

@@ -3,16 +3,30 @@ import collections
 
 # What may not add up of a line, by its kind, for claim 4.
 SUMS = {
-    'seal': ["its node has no `0 node` line before it", "its counter isn't the next one of its node and layer",
-             "at NWK, its key isn't the active one", 'the next counter is the limit, and no reserve line of its layer comes before it '
-             'in the group'],
-    'reserve': ["its node has no `0 node` line before it", "the next counter isn't at the limit yet",
-                "its value isn't one outgoing block above the next counter", 'no seal of its layer follows in the group'],
+    'seal': [
+        "its node has no `0 node` line before it",
+        "its counter isn't the next one of its node and layer",
+        "at NWK, its key isn't the active one",
+        'the next counter is the limit, and no reserve line of its layer comes before it ' 'in the group',
+    ],
+    'reserve': [
+        "its node has no `0 node` line before it",
+        "the next counter isn't at the limit yet",
+        "its value isn't one outgoing block above the next counter",
+        'no seal of its layer follows in the group',
+    ],
     'accept': ["its counter isn't below the stored floor, and the group has no floor line for it"],
-    'floor': ["its node has no `0 node` line before it", "its value isn't one incoming block above each counter that the group accepts",
-              'an accepted counter is below the stored floor, so no floor was due', 'the group accepts no frame that it is for'],
-    'start': ["its node has no `0 node` line before it", "the key started before, or isn't activated in the group",
-              "its value isn't the next counter (or 0 from 2147483648 on)"],
+    'floor': [
+        "its node has no `0 node` line before it",
+        "its value isn't one incoming block above each counter that the group accepts",
+        'an accepted counter is below the stored floor, so no floor was due',
+        'the group accepts no frame that it is for',
+    ],
+    'start': [
+        "its node has no `0 node` line before it",
+        "the key started before, or isn't activated in the group",
+        "its value isn't the next counter (or 0 from 2147483648 on)",
+    ],
     'active': ['the key is activated and never started: a start line of it is missing'],
 }
 MOST = 4
@@ -24,8 +38,11 @@ def same(one, other, keys):
 
 def earlier(lines, line, kinds, keys):
     """Returns the lines of some kinds before a line that have the same values as it."""
-    return [it for it in lines if it.number < line.number and it.fields and it.fields['kind'] in kinds and
-            same(it.fields, line.fields, keys)]
+    return [
+        it
+        for it in lines
+        if it.number < line.number and it.fields and it.fields['kind'] in kinds and same(it.fields, line.fields, keys)
+    ]
 
 
 def nonces(lines, line):
@@ -40,8 +57,14 @@ def counters(lines, line):
 def sums(lines, line):
     """Returns the last lines on the same node that a line of counters, limits, floors and starts goes back on."""
     keys = ['node', 'layer'] if 'layer' in line.fields else ['node', 'key']
-    found = earlier(lines, line, ['reserve', 'seal', 'counter', 'floor', 'accept'] if 'layer' in line.fields else
-                    ['install', 'active', 'start', 'given'], keys)
+    found = earlier(
+        lines,
+        line,
+        ['reserve', 'seal', 'counter', 'floor', 'accept']
+        if 'layer' in line.fields
+        else ['install', 'active', 'start', 'given'],
+        keys,
+    )
     actives = earlier(lines, line, ['active', 'given', 'start'], ['node']) if line.fields['kind'] == 'seal' else []
     return sorted(set_of(found[-MOST:] + actives[-MOST:]), key=lambda it: it.number)
 
@@ -79,7 +102,11 @@ def reasons_of_end(lines, line):
         return ['an end line comes before the last line']
     counts = collections.Counter(it.fields['kind'] for it in lines if it.fields)
     found = [('seals', counts['seal']), ('accepts', counts['accept']), ('refusals', counts['refuse'])]
-    wrong = [f'it counts {line.fields[name]} {name}, and there are {number}' for name, number in found if line.fields[name] != number]
+    wrong = [
+        f'it counts {line.fields[name]} {name}, and there are {number}'
+        for name, number in found
+        if line.fields[name] != number
+    ]
     last = max((it.fields['event'] for it in lines if it.fields and 'event' in it.fields), default=0)
     if line.fields['events'] < last:
         wrong.append(f'it counts {line.fields["events"]} events, and there is an event {last}')

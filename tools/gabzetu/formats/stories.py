@@ -1,4 +1,5 @@
-"""The groups of lines of a transcript, and which event and rule gave each: by the schedule where there is one, else by the lines."""
+"""The groups of lines of a transcript, and which event and rule gave each: by the schedule where there is one, else
+by the lines."""
 import collections
 
 from . import frames, policy
@@ -10,29 +11,53 @@ Line = collections.namedtuple('Line', 'number text fields')
 # event: its number, none for the end line; lines
 Group = collections.namedtuple('Group', 'event lines')
 
-# title: what the rule is of; place: the part of docs/POLICY.md; rows: its texts, each with a head; refused: its refusals, or none
+# title: what the rule is of; place: the part of docs/POLICY.md; rows: its texts, each with a head; refused: its
+# refusals, or none
 Rule = collections.namedtuple('Rule', 'title place rows refused')
 
 COMMAND_NAMES = {
-    frames.UPDATE: 'Update-Device', frames.REMOVE: 'Remove-Device', frames.SWITCH: 'Switch-Key', frames.TUNNEL: 'Tunnel',
-    frames.VERIFY: 'Verify-Key', frames.CONFIRM: 'Confirm-Key',
+    frames.UPDATE: 'Update-Device',
+    frames.REMOVE: 'Remove-Device',
+    frames.SWITCH: 'Switch-Key',
+    frames.TUNNEL: 'Tunnel',
+    frames.VERIFY: 'Verify-Key',
+    frames.CONFIRM: 'Confirm-Key',
 }
-TRANSPORTED = {1: 'Transport-Key, network key', 4: 'Transport-Key, link key with the centre', 3: 'Transport-Key, link key with a partner'}
+TRANSPORTED = {
+    1: 'Transport-Key, network key',
+    4: 'Transport-Key, link key with the centre',
+    3: 'Transport-Key, link key with a partner',
+}
 REQUESTED = {4: 'Request-Key, with the centre', 2: 'Request-Key, with a partner'}
 
 # Changes that only one event of a node's own makes.
 BY_CHANGE = [
-    ('live', {}, 'provision'), ('removed', {}, 'remove'), ('roll', {'roll': 'sending'}, 'roll'), ('roll', {'roll': 'idle'}, 'switch'),
-    ('told', {}, 'timer'), ('untold', {}, 'again'), ('state', {'state': 'knocked'}, 'knock'),
-    ('state', {'state': 'rejoining'}, 'rejoin'), ('boot', {}, 'boot'), ('dump', {}, 'dump'), ('down', {'cause': 'reset'}, 'reset'),
-    ('inject', {}, 'inject'), ('forge', {}, 'forge'),
+    ('live', {}, 'provision'),
+    ('removed', {}, 'remove'),
+    ('roll', {'roll': 'sending'}, 'roll'),
+    ('roll', {'roll': 'idle'}, 'switch'),
+    ('told', {}, 'timer'),
+    ('untold', {}, 'again'),
+    ('state', {'state': 'knocked'}, 'knock'),
+    ('state', {'state': 'rejoining'}, 'rejoin'),
+    ('boot', {}, 'boot'),
+    ('dump', {}, 'dump'),
+    ('down', {'cause': 'reset'}, 'reset'),
+    ('inject', {}, 'inject'),
+    ('forge', {}, 'forge'),
 ]
 
 # What a node seals in an event of its own.
 BY_COMMAND = {
-    'Request-Key, with the centre': 'timer', 'Request-Key, with a partner': 'ask', 'Verify-Key': 'timer', 'Update-Device': 'child',
-    'Transport-Key, network key': 'child', 'Transport-Key, link key with a partner': 'share', 'Remove-Device': 'remove',
-    'Leave': 'remove', 'Switch-Key': 'switch',
+    'Request-Key, with the centre': 'timer',
+    'Request-Key, with a partner': 'ask',
+    'Verify-Key': 'timer',
+    'Update-Device': 'child',
+    'Transport-Key, network key': 'child',
+    'Transport-Key, link key with a partner': 'share',
+    'Remove-Device': 'remove',
+    'Leave': 'remove',
+    'Switch-Key': 'switch',
 }
 
 
@@ -89,7 +114,9 @@ def carried(fields):
         content = bytes.fromhex(fields['content'].replace('-', ''))
         is_command = int(fields['header'][:2], 16) & 3 == frames.COMMAND
         if fields['layer'] == 'nwk':
-            return ('Leave' if content[:1] == bytes([frames.LEAVE]) else None) if is_command else carried_by_aps(content)
+            return (
+                ('Leave' if content[:1] == bytes([frames.LEAVE]) else None) if is_command else carried_by_aps(content)
+            )
         return command_name(content) if is_command else 'data'
     except (ValueError, frames.Malformed, IndexError):
         return None
@@ -129,7 +156,7 @@ class Story:
         return carried(accepts[-1]) if accepts else None
 
     def is_judged(self):
-        """Says whether a refusal came of judging the frame, before a rule was asked."""
+        """Returns whether a refusal came of judging the frame, before a rule was asked."""
         refused = self.refusal()
         return bool(refused) and refused['layer'] != 'event' and self.command() in (None, 'sealed', 'data')
 
@@ -167,13 +194,22 @@ class Story:
         if event == 'deliver':
             return self.rule_of_delivery()
         node = self.words[1] if self.words and event in ('say', 'timer', 'child') else self.node()
-        found = policy.rule_of_event(event, event in ('provision', 'remove', 'again', 'share', 'roll', 'switch') or
-                                     node == self.centre) if event else None
+        found = (
+            policy.rule_of_event(
+                event, event in ('provision', 'remove', 'again', 'share', 'roll', 'switch') or node == self.centre
+            )
+            if event
+            else None
+        )
         if not found:
             return None
         (name, of), (refused, otherwise) = found
-        return Rule(f'{name} (of: {of})', "Events of a node's own", [('refused, in this order', refused), ('otherwise', otherwise)],
-                    refused)
+        return Rule(
+            f'{name} (of: {of})',
+            "Events of a node's own",
+            [('refused, in this order', refused), ('otherwise', otherwise)],
+            refused,
+        )
 
     def rule_of_delivery(self):
         row = policy.COMMANDS.get(self.command())
@@ -186,11 +222,21 @@ class Story:
 
 def centre_of(lines):
     """Returns the name of the first centre that the lines declare, or none."""
-    return next((it.fields['name'] for it in lines if it.fields and it.fields['kind'] == 'node' and it.fields['role'] == 'centre'), None)
+    return next(
+        (
+            it.fields['name']
+            for it in lines
+            if it.fields and it.fields['kind'] == 'node' and it.fields['role'] == 'centre'
+        ),
+        None,
+    )
 
 
 def schedule_events(data):
     """Returns the words of the events of a schedule, in order, with the numbers of their lines."""
     from .grammar import read_lines
     from .schedules import DECLARED
-    return [(it.number, [word.text for word in it.words]) for it in read_lines(data) if it.words[0].text not in DECLARED]
+
+    return [
+        (it.number, [word.text for word in it.words]) for it in read_lines(data) if it.words[0].text not in DECLARED
+    ]

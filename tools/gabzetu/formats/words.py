@@ -1,7 +1,8 @@
-"""The words of schedules, captures and scripts: what each place of a line wants, and what is wrong with a word there.
+"""The words of schedules, captures and scripts: what each place of a line wants, and what is wrong with a word
+there.
 
-A kind of word has `name`, as forms write it, `wanted`, which says what it takes, and `fault(word)`, which returns what is wrong with a
-word as text behind it, or none. docs/FORMATS.md has the rules."""
+A kind of word has `name`, as forms write it, `wanted`, which says what it takes, and `fault(word)`, which returns
+what is wrong with a word as text after it, or none. docs/FORMATS.md has the rules."""
 import difflib
 import re
 
@@ -185,7 +186,7 @@ class Rest:
 
 
 def crc_of(data):
-    """Returns the CRC of an install code, as its two bytes stand behind it."""
+    """Returns the CRC of an install code, as the two bytes after it."""
     crc = 0xFFFF
     for byte in data:
         crc ^= byte
@@ -198,10 +199,18 @@ def fault_of_code(word):
     """Returns why the bytes of a word are no install code, or none."""
     data = b'' if word == '-' else bytes.fromhex(word)
     if len(data) + 2 in CODE_SIZES and len(data) not in CODE_SIZES:
-        return f'an install code ends with its CRC, and here it is missing: {word.upper()}{crc_of(data).hex().upper()}'
+        return (
+            f'an install code ends with its CRC, and here it is missing: {word.upper()}{crc_of(data).hex().upper()}'
+        )
     if len(data) not in CODE_SIZES:
-        return f'an install code has 6, 8, 12 or 16 bytes and a CRC of 2, and this has {counted(len(data), "byte")} in all'
+        return (
+            f'an install code has 6, 8, 12 or 16 bytes and a CRC of 2, and this has {counted(len(data), "byte")} in '
+            'all'
+        )
     wanted = crc_of(data[:-2])
     if data[-2:] != wanted:
-        return f'the CRC at the end is {data[-2:].hex().upper()}, and of these bytes it is {wanted.hex().upper()}: a digit is wrong'
+        return (
+            f'the CRC at the end is {data[-2:].hex().upper()}, and of these bytes it is {wanted.hex().upper()}: a '
+            'digit is wrong'
+        )
     return None

@@ -47,7 +47,7 @@ class Plan:
 
     def from_seed(self, what):
         """Returns 16 bytes that only the seed and `what` decide, as digits."""
-        return hashlib.sha256(f'{self.seed} {what}'.encode()).hexdigest()[:2 * CODE_BYTES].upper()
+        return hashlib.sha256(f'{self.seed} {what}'.encode()).hexdigest()[: 2 * CODE_BYTES].upper()
 
     def new_key(self):
         self.made += 1
@@ -60,7 +60,7 @@ class Plan:
     # ---- lines
 
     def comment(self, text):
-        """Adds a comment, or an empty line. It stands before the next declaration or event, whichever comes."""
+        """Adds a comment, or an empty line. It comes before the next declaration or event, whichever comes."""
         self.pending.append(Entry(text, self.origin))
 
     def settle(self, lines):
@@ -202,17 +202,20 @@ class Plan:
         if not frame:
             raise self.stop('no frame is on the air yet')
         if frame in self.lost:
-            raise self.stop(f'frame {frame}, the last one, was lost in line {self.lost[frame]}; no other one went out since')
+            raise self.stop(
+                f'frame {frame}, the last one, was lost in line {self.lost[frame]}; no other one went out since'
+            )
         return frame
 
     def was_heard(self, frame):
-        """Says whether a deliver line of this frame stands so far."""
+        """Returns whether a deliver line of this frame exists so far."""
         return any(it.text.startswith(f'deliver {frame} ') for it in self.body)
 
     # ---- the schedule
 
     def text(self):
-        """Returns the schedule, with a word behind each event that is refused, and a supply as long as the run needs."""
+        """Returns the schedule, with a word after each event that is refused, and a supply as long as the run
+        needs."""
         groups = self.play().groups
         self.settle(self.body)
         used = sum(it['kind'] == 'draw' for it in self.fields())
@@ -221,7 +224,9 @@ class Plan:
             lines.append(it.text)
             if it.text and not it.text.startswith('#'):
                 event += 1
-                lines += [f'#! refused by {self.words_of(fields)}' for fields in groups[event] if fields['kind'] == 'refuse']
+                lines += [
+                    f'#! refused by {self.words_of(fields)}' for fields in groups[event] if fields['kind'] == 'refuse'
+                ]
         return ''.join(f'{line}\n' for line in lines)
 
     @staticmethod

@@ -1,11 +1,12 @@
-"""What each line of a scenario becomes: the events of a schedule, whose frame numbers come of playing what is there so far."""
+"""What each line of a scenario becomes: the events of a schedule, whose frame numbers come of playing what is there
+so far."""
 from ..errors import WRONG_INPUT, Stop
 from ..formats import policy, schedules
 from ..formats.grammar import describe, read_lines
 from . import language
 from .plan import Plan, Refused
 
-# tells of a rollover at most
+# How many members a rollover can have.
 MOST_TOLD = 64
 
 
@@ -130,7 +131,8 @@ class Steps:
         self.hear(*(it for it in told if it not in asleep))
 
     def tell_members(self, asleep):
-        """The centre tells each member of the new key, and those that aren't asleep hear it. Returns whom it told, in order."""
+        """The centre tells each member of the new key, and those that aren't asleep hear it. Returns whom it told,
+        in order."""
         names = {words[1].upper(): name for name, words in self.plan.nodes.items()}
         told = []
         for _ in range(MOST_TOLD):
@@ -176,8 +178,10 @@ def take_line(plan, steps, line):
     except Refused as refused:
         fields = refused.fields
         why = policy.REASONS.get(fields['reason'], '')
-        raise plan.stop(f"'{line.text}': its step '{refused.event}' is refused by {fields['node']}: {fields['layer']} "
-                        f"{fields['reason']} ({why}). Write the events one by one where it is meant to be refused") from refused
+        raise plan.stop(
+            f"'{line.text}': its step '{refused.event}' is refused by {fields['node']}: {fields['layer']} "
+            f"{fields['reason']} ({why}). Write the events one by one where it is meant to be refused"
+        ) from refused
 
 
 def take_plain(plan, found, line):

@@ -7,7 +7,14 @@ from gabzetu import TOP, program
 from gabzetu.formats import fields, policy, sentences, stories
 from gabzetu.test.support import Folder, example, needs_tc, run
 
-SCHEDULES = ['application-key.sched', 'forged-frames.sched', 'join.sched', 'removal.sched', 'rollover.sched', 'stops.sched']
+SCHEDULES = [
+    'application-key.sched',
+    'forged-frames.sched',
+    'join.sched',
+    'removal.sched',
+    'rollover.sched',
+    'stops.sched',
+]
 
 
 def read(path):
@@ -27,7 +34,9 @@ class Policy(unittest.TestCase):
 
     def setUp(self):
         page = read(os.path.join(TOP, 'docs', 'POLICY.md'))
-        self.rows = [[it.strip() for it in line.strip('|').split('|')] for line in page.splitlines() if line.startswith('| ')]
+        self.rows = [
+            [it.strip() for it in line.strip('|').split('|')] for line in page.splitlines() if line.startswith('| ')
+        ]
         self.page = page
 
     def test_events(self):
@@ -94,7 +103,9 @@ class Explain(Folder):
         ran = run('explain', example('removal.transcript'), '36')
         self.assertIn('Refused as wrong-state: wrong-state where no live row has the sequence\n', ran.output)
         ran = run('explain', example('removal.transcript'), '34')
-        self.assertIn('Refused as no-key: no usable row has its key sequence; of several the newest counts', ran.output)
+        self.assertIn(
+            'Refused as no-key: no usable row has its key sequence; of several the newest counts', ran.output
+        )
 
     def test_the_schedule_tells_the_words(self):
         ran = run('explain', example('removal.transcript'), '22', '--schedule', example('removal.sched'))
@@ -130,13 +141,17 @@ class Broken(Folder):
         return verdict, ran.output
 
     def test_a_nonce_comes_twice(self):
-        verdict, said = self.explain(lambda lines: lines[:-1] + [it for it in lines if it.startswith('16 seal c nwk')] + lines[-1:])
+        verdict, said = self.explain(
+            lambda lines: lines[:-1] + [it for it in lines if it.startswith('16 seal c nwk')] + lines[-1:]
+        )
         self.assertEqual(verdict[2], '1')
         self.assertIn('breaks claim 1: no nonce (source, counter, control) is used twice', said)
 
     def test_a_counter_is_accepted_twice(self):
         accept = '17 accept d nwk'
-        verdict, said = self.explain(lambda lines: lines[:-1] + [it for it in lines if it.startswith(accept)] + lines[-1:])
+        verdict, said = self.explain(
+            lambda lines: lines[:-1] + [it for it in lines if it.startswith(accept)] + lines[-1:]
+        )
         self.assertEqual(verdict[2], '2')
         self.assertIn('breaks claim 2', said)
 
