@@ -47,6 +47,7 @@ MORE = {
 
 
 def wrapped(text, indent=''):
+    """Returns a text in lines of the width of help."""
     return textwrap.fill(text, WIDTH, initial_indent=indent, subsequent_indent=indent)
 
 

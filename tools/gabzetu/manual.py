@@ -37,16 +37,19 @@ def paragraphs(text):
 
 
 def tagged(tag, text):
+    """Returns a paragraph with a tag."""
     return f'.TP\n.B {escaped(tag)}\n{escaped(text)}\n'
 
 
 def tag_of(argument):
+    """Returns how the man page names an argument."""
     if not argument.names:
         return argument.value
     return ', '.join(name + (f' {argument.value}' if argument.value else '') for name in argument.names)
 
 
 def describe_command(command):
+    """Returns the section of a command."""
     arguments = places_of(command) + [it for it in options_of(command) if '--help' not in it.names]
     rows = ''.join(tagged(tag_of(it), it.help.replace('%%', '%')) for it in arguments)
     return f'.SS {escaped(command.usage)}\n{paragraphs(command.description)}\n{rows}'

@@ -18,6 +18,7 @@ Completed = collections.namedtuple('Completed', 'status output')
 
 
 def is_program(path):
+    """Returns whether a path is a file that can be run."""
     return os.path.isfile(path) and os.access(path, os.X_OK)
 
 

@@ -23,11 +23,13 @@ def values_of(action):
 
 
 def read_argument(action):
+    """Returns an argument of argparse."""
     choices = list(action.choices) if action.choices else None
     return Argument(list(action.option_strings), values_of(action), choices, action.help or '', action.nargs)
 
 
 def read_command(name, parser, summary):
+    """Returns the command of a parser."""
     arguments = [read_argument(it) for it in parser._actions if not isinstance(it, argparse._SubParsersAction)]
     return Command(name, summary, parser.description or '', usage_of(name, arguments), arguments)
 
@@ -60,8 +62,10 @@ def read_tree():
 
 
 def options_of(command):
+    """Returns the options of a command."""
     return [it for it in command.arguments if it.names]
 
 
 def places_of(command):
+    """Returns the words that a command takes by their place."""
     return [it for it in command.arguments if not it.names]

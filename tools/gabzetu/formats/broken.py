@@ -32,7 +32,14 @@ SUMS = {
 MOST = 4
 
 
+def number(line, name):
+    """Returns the number in a field of a line, and -1 where it is none."""
+    value = line.fields.get(name)
+    return value if isinstance(value, int) else -1
+
+
 def same(one, other, keys):
+    """Returns whether two lines have the same values in some fields."""
     return all(one.get(key) == other.get(key) for key in keys)
 
 
@@ -46,12 +53,14 @@ def earlier(lines, line, kinds, keys):
 
 
 def nonces(lines, line):
+    """Returns the first seal before a line with the same key and nonce."""
     return earlier(lines, line, ['seal'], ['base', 'label', 'source', 'counter', 'control'])[:1]
 
 
 def counters(lines, line):
+    """Returns the last accept line before a line whose counter isn't smaller."""
     found = earlier(lines, line, ['accept'], ['node', 'layer', 'base', 'source'])
-    return [it for it in found if it.fields['counter'] >= line.fields['counter']][-1:]
+    return [it for it in found if number(it, 'counter') >= number(line, 'counter')][-1:]
 
 
 def sums(lines, line):
@@ -70,19 +79,26 @@ def sums(lines, line):
 
 
 def set_of(lines):
+    """Returns lines without repeats."""
     return {it.number: it for it in lines}.values()
 
 
 def removals(lines, line):
+    """Returns the last removals before a line."""
     return [it for it in lines if it.number < line.number and it.fields and it.fields['kind'] == 'removed'][-MOST:]
 
 
 def related(lines, line, claim):
     """Returns the earlier lines that matter for a line that breaks a claim."""
+    rules = {(1, 'seal'): nonces, (2, 'accept'): counters}
     if not line.fields:
         return []
-    rules = {1: nonces, 2: counters, 4: sums, 5: removals}
-    return rules[claim](lines, line) if claim in rules else []
+    if claim == 4 and line.fields['kind'] in SUMS:
+        return sums(lines, line)
+    if claim == 5:
+        return removals(lines, line)
+    rule = rules.get((claim, line.fields['kind']))
+    return rule(lines, line) if rule else []
 
 
 def reasons(lines, line, claim):
@@ -96,6 +112,7 @@ def reasons(lines, line, claim):
 
 
 def reasons_of_end(lines, line):
+    """Returns what is wrong with the last line."""
     if line.fields is None or line.fields['kind'] != 'end':
         return ['the last line is no end line']
     if line.number < len(lines):
@@ -103,11 +120,11 @@ def reasons_of_end(lines, line):
     counts = collections.Counter(it.fields['kind'] for it in lines if it.fields)
     found = [('seals', counts['seal']), ('accepts', counts['accept']), ('refusals', counts['refuse'])]
     wrong = [
-        f'it counts {line.fields[name]} {name}, and there are {number}'
-        for name, number in found
-        if line.fields[name] != number
+        f'it counts {line.fields[name]} {name}, and there are {count}'
+        for name, count in found
+        if line.fields[name] != count
     ]
     last = max((it.fields['event'] for it in lines if it.fields and 'event' in it.fields), default=0)
-    if line.fields['events'] < last:
+    if number(line, 'events') < last:
         wrong.append(f'it counts {line.fields["events"]} events, and there is an event {last}')
     return wrong or ['its two words are not those of the lines before it']

@@ -61,6 +61,7 @@ class Reader:
         return mistake(line, word.column, word.text, fault, 'bad-code') if fault else self.count_key(line)
 
     def count_key(self, line):
+        """Counts a key or code, and returns the mistake of one too many."""
         self.keys += 1
         if self.keys > MOST_KEYS:
             return mistake(line, 1, line.text, f'a capture has at most {MOST_KEYS} keys and codes', 'too-many')

@@ -18,10 +18,14 @@ Word = collections.namedtuple('Word', 'text column')
 LONGEST_SHOWN = 40
 
 
-def shown(text):
-    """Returns a text for a message, cut where it is long, with escapes for what isn't printed."""
-    text = text if len(text) <= LONGEST_SHOWN else text[:LONGEST_SHOWN] + '..'
+def printable(text):
+    """Returns a text with escapes for what isn't printed: a terminal takes no orders from a file."""
     return ''.join(it if it.isprintable() and it.isascii() else ascii(it)[1:-1] for it in text)
+
+
+def shown(text):
+    """Returns a text for a message, cut where it is long."""
+    return printable(text if len(text) <= LONGEST_SHOWN else text[:LONGEST_SHOWN] + '..')
 
 
 def describe(mistake):
@@ -73,6 +77,7 @@ def read_lines(data):
 
 
 def mistake(line, column, text, message, cause='syntax', earlier=None):
+    """Returns a mistake in a line."""
     return Mistake(line.number, column, text, message, cause, earlier)
 
 

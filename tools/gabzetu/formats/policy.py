@@ -191,6 +191,20 @@ REASONS = {
 DETAILS = {'stale': 'the floor is {}', 'key-old': 'the key is that of row {}', 'key-in-use': 'the key is that of {}'}
 
 
+# What becomes of a frame that is accepted and carries no command.
+DATA = "What is accepted and isn't a command is done with"
+
+# What holds of events that no rule answers.
+NOTES = {
+    'boot': 'A boot of a node that has power is wrong-state.',
+    'reset': 'An event of a node without power is refused as down, whatever it is, but for a boot and a dump.',
+}
+CUT = (
+    'The changes and their commit are there where the new bytes on the disk count. Nothing is accepted, sealed or '
+    'sent in such an event (docs/FORMATS.md, "Power and disks").'
+)
+
+
 def clause_of(refused, reason):
     """Returns the words of a rule's refusals on one reason, or none where it has none beside the reason itself."""
     for clause in refused.split('; '):

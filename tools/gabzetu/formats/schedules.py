@@ -2,9 +2,10 @@
 
 The reader follows docs/FORMATS.md. It judges nothing: whether a text is a schedule is said by tc."""
 import collections
+import itertools
 
 from .grammar import Form, Grammar, by_other, mistake, read_lines
-from .words import Bytes, Choice, Code, Digits, Eui, Name, Number, GREATEST, fault_of_code, suggestion
+from .words import Bytes, Choice, Code, Digits, Eui, Name, Number, GREATEST, fault_of_code, suggestion, taken
 
 WELL_KNOWN = '5A6967426565416C6C69616E63653039'
 MOST_NODES, MOST_EVENTS = 64, 100000
@@ -55,10 +56,12 @@ ANY, JOINER, PARENT = 'any', 'joiner', 'parent'
 
 
 def declaration(text, about, **roles):
+    """Returns the form of a declaration."""
     return Form('declaration', text, about, KINDS, roles)
 
 
 def event(text, about, **roles):
+    """Returns the form of an event."""
     return Form('event', text, about, KINDS, roles)
 
 
@@ -190,6 +193,7 @@ class Reader:
 
     @staticmethod
     def no_centre(data):
+        """Returns the mistake of a schedule without a centre."""
         number = data.count(b'\n') + (1 if data and not data.endswith(b'\n') else 0) + 1
         end = mistake(End(number), 1, '', '')
         return end._replace(
@@ -219,7 +223,7 @@ class Reader:
         eui, short = eui.upper(), short.upper()
         fault = (
             self.fault_of_short(line, role, values['SHORT'])
-            or self.fault_of_taken(line, values, eui, short)
+            or self.fault_of_taken(line, values)
             or self.fault_of_blocks(line, values)
         )
         if fault is None and len(self.nodes) >= MOST_NODES:
@@ -235,21 +239,14 @@ class Reader:
             return mistake(line, word.column, word.text, f'the short address of a {role} is 0001 to FFF7')
         return None
 
-    def fault_of_taken(self, line, values, eui, short):
-        for name, node in self.nodes.items():
-            if node.role == 'centre' and values['ROLE'].text == 'centre' and name != values['NAME'].text:
-                return mistake(
-                    line, values['ROLE'].column, 'centre', 'there is a centre already', 'duplicate-node', node.line
-                )
-            for key, old, new in (
-                ('NAME', name, values['NAME'].text),
-                ('EUI', node.eui, eui),
-                ('SHORT', node.short, short),
-            ):
-                if old == new:
-                    word = values[key]
-                    what = {'NAME': 'name', 'EUI': 'EUI', 'SHORT': 'short address'}[key]
-                    return mistake(line, word.column, word.text, f'this {what} is taken', 'duplicate-node', node.line)
+    def fault_of_taken(self, line, values):
+        for name, old in self.nodes.items():
+            word, what = taken(values, name, old.eui, old.short)
+            if old.role == 'centre' and values['ROLE'].text == 'centre' and name != values['NAME'].text:
+                column = values['ROLE'].column
+                return mistake(line, column, 'centre', 'there is a centre already', 'duplicate-node', old.line)
+            if word:
+                return mistake(line, word.column, word.text, f'this {what} is taken', 'duplicate-node', old.line)
         return None
 
     @staticmethod
@@ -283,18 +280,13 @@ class Reader:
         return self.fault_of_link(line, word, self.link_key(code))
 
     def fault_of_link(self, line, word, key):
+        """Returns whose key the link key of a code is, where it may not be, or none."""
         if key == WELL_KNOWN:
             return mistake(line, word.column, word.text, 'its link key is the well-known one', 'duplicate-code')
         for number, text, what in self.netkeys + self.draws:
             if text == key:
-                return mistake(
-                    line,
-                    word.column,
-                    word.text,
-                    f'the link key of this code is {key}, that of a {what}',
-                    'duplicate-code',
-                    number,
-                )
+                why = f'the link key of this code is {key}, that of a {what}'
+                return mistake(line, word.column, word.text, why, 'duplicate-code', number)
         return None
 
     def take_netkey(self, found, line, values):
@@ -312,24 +304,19 @@ class Reader:
         return fault
 
     def fault_of_key(self, line, word, earlier):
+        """Returns whose key a network key or draw is, where it may not be, or none. `earlier` are keys by their lines."""
         key = word.text.upper()
         if key == WELL_KNOWN:
-            return mistake(
-                line, word.column, word.text, 'this is the well-known key, which everybody has', 'draw-repeated'
-            )
-        for number, text, what in earlier:
+            why = 'this is the well-known key, which everybody has'
+            return mistake(line, word.column, word.text, why, 'draw-repeated')
+        codes = (
+            (number, self.link_key(code), f"this is the link key of the code of '{name}'")
+            for name, (number, code) in self.codes.items()
+        )
+        others = ((number, text, f'this is the key of a {what}') for number, text, what in earlier)
+        for number, text, why in itertools.chain(others, codes):
             if text == key:
-                return mistake(line, word.column, word.text, f'this is the key of a {what}', 'draw-repeated', number)
-        for name, (number, code) in self.codes.items():
-            if self.link_key(code) == key:
-                return mistake(
-                    line,
-                    word.column,
-                    word.text,
-                    f"this is the link key of the code of '{name}'",
-                    'draw-repeated',
-                    number,
-                )
+                return mistake(line, word.column, word.text, why, 'draw-repeated', number)
         return None
 
     def take_counter(self, found, line, values):

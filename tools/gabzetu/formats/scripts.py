@@ -4,7 +4,7 @@ import collections
 import json
 
 from .grammar import Form, Grammar, by_other, mistake, read_lines
-from .words import GREATEST, Choice, Code, Digits, Eui, Name, Number, Rest, fault_of_code, suggestion
+from .words import GREATEST, Choice, Code, Digits, Eui, Name, Number, Rest, fault_of_code, suggestion, taken
 
 MOST_PEERS, MOST_COMMANDS = 63, 10000
 
@@ -120,14 +120,9 @@ class Reader:
 
     def fault_of_taken(self, line, values):
         for name, old in self.stations.items():
-            for key, what, taken in (
-                ('NAME', 'name', name),
-                ('EUI', 'EUI', old.eui),
-                ('SHORT', 'short address', old.short),
-            ):
-                word = values[key]
-                if (word.text if key == 'NAME' else word.text.upper()) == taken:
-                    return mistake(line, word.column, word.text, f'this {what} is taken', 'duplicate-node', old.line)
+            word, what = taken(values, name, old.eui, old.short)
+            if word:
+                return mistake(line, word.column, word.text, f'this {what} is taken', 'duplicate-node', old.line)
         return None
 
     def fault_of_station(self, line, word, wanted):

@@ -31,6 +31,7 @@ class Speaker:
         self.reader = reader
 
     def name(self, eui):
+        """Returns the name of the node of an address, or the address."""
         return self.reader.names.get(eui, eui)
 
     def content(self, event, fields):
@@ -46,6 +47,7 @@ class Speaker:
             return frames.counted(len(fields['content']) // 2)
 
     def network_content(self, event, data, header):
+        """Returns what a frame carries whose NWK layer is open."""
         if int(header[:2], 16) & 3 == frames.COMMAND:
             return 'Leave' if data[:1] == bytes([frames.LEAVE]) else f'NWK command {data[:1].hex()}'
         return ', '.join(self.reader.describe_aps(event, data, [])[0])
@@ -160,6 +162,7 @@ class Speaker:
         return f'frame {it["frame"]} goes on the air' + (f': {what}' if what else '')
 
     def what_goes_out(self, it):
+        """Returns what a frame on the air carries, as far as the lines show it."""
         try:
             lines, _ = self.reader.describe(it['event'], bytes.fromhex(it['bytes']))
             return ', '.join(lines)

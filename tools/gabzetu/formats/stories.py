@@ -4,6 +4,8 @@ import collections
 
 from . import frames, policy
 from .fields import read_transcript_line
+from .grammar import read_lines
+from .schedules import DECLARED
 
 # number: of the line in the file, from 1; text; fields: by their names, or none where it is no line of a transcript
 Line = collections.namedtuple('Line', 'number text fields')
@@ -61,12 +63,19 @@ BY_COMMAND = {
 }
 
 
+def lines_of(text):
+    """Returns the lines of a text, each of which ends with a line feed and nothing else."""
+    lines = text.split('\n')
+    return lines[:-1] if lines[-1] == '' else lines
+
+
 def read_text(text):
     """Returns the lines of a transcript, also of one that breaks claims."""
-    return [Line(number, it, read_transcript_line(it.split(' '))) for number, it in enumerate(text.splitlines(), 1)]
+    return [Line(number, it, read_transcript_line(it.split(' '))) for number, it in enumerate(lines_of(text), 1)]
 
 
 def event_of(line):
+    """Returns the event of a line, or none."""
     return line.fields.get('event') if line.fields else None
 
 
@@ -94,6 +103,7 @@ def reader_of(lines):
 
 
 def frames_node(fields):
+    """Returns a node as the reader of frames takes it."""
     return collections.namedtuple('Named', 'name eui')(fields['name'], fields['eui'])
 
 
@@ -123,6 +133,7 @@ def carried(fields):
 
 
 def carried_by_aps(content):
+    """Returns what an APS frame carries."""
     part = frames.read_aps(content)
     if part.payload is None:
         return 'sealed'
@@ -138,6 +149,7 @@ class Story:
         self.words = words
 
     def of_kind(self, *kinds):
+        """Returns the fields of the lines of some kinds."""
         return [it for it in self.fields if it['kind'] in kinds]
 
     def refusal(self):
@@ -145,6 +157,7 @@ class Story:
         return next(iter(self.of_kind('refuse')), None)
 
     def is_delivery(self):
+        """Returns whether a frame was delivered."""
         if self.words:
             return self.words[0] == 'deliver'
         refused = self.refusal()
@@ -172,6 +185,7 @@ class Story:
         return self.event_by_seals()
 
     def event_by_seals(self):
+        """Returns the event by what was sealed, or none."""
         seals = self.of_kind('seal')
         if not seals:
             return None
@@ -211,7 +225,16 @@ class Story:
             refused,
         )
 
+    def note(self):
+        """Returns what else holds of the event: where a disk cut it, or where no rule answers it; or none."""
+        if self.of_kind('stopped') or any(it['cause'] == 'disk' for it in self.of_kind('down')):
+            return policy.CUT
+        return policy.NOTES.get(self.event())
+
     def rule_of_delivery(self):
+        """Returns the rule that answered a frame, or none."""
+        if self.command() == 'data' and not self.refusal():
+            return Rule('data', 'Judging a frame', [('accepted', policy.DATA)], None)
         row = policy.COMMANDS.get(self.command())
         if not row or self.is_judged():
             return None
@@ -234,9 +257,23 @@ def centre_of(lines):
 
 def schedule_events(data):
     """Returns the words of the events of a schedule, in order, with the numbers of their lines."""
-    from .grammar import read_lines
-    from .schedules import DECLARED
-
     return [
         (it.number, [word.text for word in it.words]) for it in read_lines(data) if it.words[0].text not in DECLARED
     ]
+
+
+def last_event(lines):
+    """Returns how many events a run has: as the end line counts them, else the greatest number of a line."""
+    ends = [it.fields['events'] for it in lines if it.fields and it.fields['kind'] == 'end']
+    counted = ends[-1] if ends and isinstance(ends[-1], int) else 0
+    return max([counted, *(event_of(it) or 0 for it in lines)])
+
+
+def mismatch(lines, data):
+    """Returns why a schedule is not that of a transcript, by the number of its events and its nodes, or none."""
+    events = len(schedule_events(data))
+    if events != last_event(lines):
+        return f'it has {events} events, and the transcript has {last_event(lines)}'
+    declared = [it.text.upper().split(' ')[1:] for it in read_lines(data) if it.words[0].text == 'node']
+    nodes = [it.text.upper().split(' ')[2:] for it in lines if it.fields and it.fields['kind'] == 'node']
+    return None if declared == nodes else 'its nodes are not those of the transcript'

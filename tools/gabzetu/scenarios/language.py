@@ -20,6 +20,7 @@ KINDS = {**schedules.KINDS, 'NAMES': Names(), 'SEED': Seed(), 'TO': Name('TO')}
 
 
 def form(text, about):
+    """Returns a form of a line of a scenario."""
     return Form(WHAT, text, about, KINDS)
 
 

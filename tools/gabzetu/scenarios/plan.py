@@ -50,10 +50,12 @@ class Plan:
         return hashlib.sha256(f'{self.seed} {what}'.encode()).hexdigest()[: 2 * CODE_BYTES].upper()
 
     def new_key(self):
+        """Returns a key from the seed that no call before returned."""
         self.made += 1
         return self.from_seed(f'key {self.made}')
 
     def new_code(self, name):
+        """Returns the install code of a node, from the seed."""
         digits = self.from_seed(f'code {name}')
         return digits + crc_of(bytes.fromhex(digits)).hex().upper()
 
@@ -114,6 +116,7 @@ class Plan:
     # ---- what tc makes of it
 
     def events(self):
+        """Returns how many events there are so far."""
         return sum(1 for it in self.body if it.text and not it.text.startswith('#'))
 
     def draws(self, count):
@@ -124,6 +127,7 @@ class Plan:
         return [Entry('# the supply of keys', 0), *keys]
 
     def entries(self, supply):
+        """Returns all lines so far, with a supply of this many keys."""
         return self.declared + self.draws(supply) + self.body
 
     def play(self):
@@ -139,6 +143,7 @@ class Plan:
 
     @staticmethod
     def read(text):
+        """Returns what a transcript says of each event."""
         groups, frames = collections.defaultdict(list), 0
         for line in stories.read_text(text):
             if stories.event_of(line) is not None:
@@ -161,6 +166,7 @@ class Plan:
         return self.stop(describe(found[0]._replace(earlier=earlier)).split(': ', 1)[1])
 
     def stop(self, why):
+        """Returns what stops with a message at the line of the scenario."""
         return Stop(f'{self.name}:{self.origin}: {why}', WRONG_INPUT)
 
     # ---- questions on the run so far
@@ -173,6 +179,7 @@ class Plan:
         return name
 
     def node(self, name):
+        """Returns the words of a node line after the name."""
         if name not in self.nodes:
             raise self.stop(f"no node '{name}' is declared")
         return self.nodes[name]

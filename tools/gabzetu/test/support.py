@@ -43,7 +43,9 @@ def run(*words, given='', tc=None):
     streams = {'stdin': stream(given.encode()), 'stdout': stream(), 'stderr': stream()}
     mask = os.umask(0o022)
     try:
-        with mock.patch.multiple(sys, **streams), mock.patch.dict(os.environ, {} if tc is None else {'GABZETU_TC': tc}):
+        with mock.patch.multiple(sys, **streams), mock.patch.dict(
+            os.environ, {} if tc is None else {'GABZETU_TC': tc}
+        ):
             status = status_of(words)
     finally:
         os.umask(mask)

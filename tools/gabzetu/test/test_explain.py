@@ -49,6 +49,9 @@ class Policy(unittest.TestCase):
 
     def test_judging(self):
         plain = re.sub(r'\s+', ' ', self.page)
+        self.assertIn(policy.DATA, plain)
+        for note in policy.NOTES.values():
+            self.assertIn(note, plain)
         for reasons in policy.JUDGING.values():
             for reason, sentence in reasons.items():
                 self.assertIn(sentence, plain, reason)
@@ -123,8 +126,21 @@ class Explain(Folder):
                 ran = run('explain', path, str(event), '--schedule', example(name))
                 self.assertEqual((ran.status, ran.said), (0, ''))
 
+    def test_an_event_that_a_disk_cuts(self):
+        self.assertIn(
+            'The changes and their commit are there', run('explain', example('stops.transcript'), '3').output
+        )
+
+    def test_terminals_take_no_orders_from_a_transcript(self):
+        path = self.write('hostile', '1 send \x1b[31m 1 00\n1 state d \x1b]0;x\x07\nend 1 0 0 0 yes yes\n')
+        ran = run('explain', path, '1')
+        self.assertEqual(ran.status, 0)
+        self.assertNotIn('\x1b', ran.output)
+
     def test_no_such_event(self):
-        self.assertIn('the last event is 17', run('explain', example('join.transcript'), '18').said)
+        self.assertIn(
+            'there is no event 18; the last one is 17', run('explain', example('join.transcript'), '18').said
+        )
         self.assertEqual(run('explain', example('join.transcript'), 'x').status, 64)
 
 

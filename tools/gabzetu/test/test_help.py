@@ -47,7 +47,10 @@ class Help(unittest.TestCase):
     def test_wrong_words(self):
         ran = run('help', 'plya')
         self.assertEqual((ran.status, ran.said), (64, "gabzetu: no command or topic 'plya'; did you mean 'play'?\n"))
-        self.assertEqual(run('boom').status, 64)
+        ran = run('plya', 'x')
+        self.assertEqual(ran.status, 64)
+        self.assertIn("there is no command 'plya'; did you mean 'play'?", ran.said)
+        self.assertEqual(run('play', '--js', 'x').status, 64)
         self.assertEqual(run().status, 64)
 
     def test_without_the_program(self):

@@ -134,6 +134,14 @@ class Scenario(Folder):
         self.assertNotIn(one[3], other)
         self.assertEqual(one, self.written('seed one\n' + HEAD))
 
+    def test_check_takes_scenarios(self):
+        path = example('first-frame-lost.scn')
+        self.assertTrue(run('check', path).output.endswith('first-frame-lost.scn: a scenario, right\n'))
+        ran = run('check', self.write('x.scn', 'centre hub\njion x\nroll\nlose frame\n'))
+        self.assertEqual((ran.status, ran.output), (65, ''))
+        self.assertIn("x.scn:2:1: 'jion x'", ran.said)
+        self.assertIn("x.scn:4:6: 'frame': the word 'last' belongs here ('lose last')", ran.said)
+
     def test_plain_lines_stay(self):
         text = read(example('join.sched'))
         self.assertEqual(self.written(text), [it for it in text.splitlines() if it and not it.startswith('#')])
