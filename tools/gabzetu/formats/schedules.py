@@ -304,7 +304,7 @@ class Reader:
         return fault
 
     def fault_of_key(self, line, word, earlier):
-        """Returns whose key a network key or draw is, where it may not be, or none. `earlier` are keys by their lines."""
+        """Returns whose key a network key or draw is, where it may not be that key, or none."""
         key = word.text.upper()
         if key == WELL_KNOWN:
             why = 'this is the well-known key, which everybody has'
