@@ -5,6 +5,7 @@ import shlex
 import subprocess
 import sys
 
+from .. import TOP
 from ..errors import MISSING, UNREADABLE, WRONG_USE, Stop, reason_of
 from ..formats.made import MASK, MOST, made
 from ..output import write_output
@@ -27,41 +28,44 @@ that ended with another status than 0.
 
 The status is 0 where there is none, 1 where there is one, and another where the calls couldn't be made.'''
 
+FRONT = os.path.join(TOP, 'gabzetu')
 SHARE = 1000
+NUMBERS = ('COUNT', 'START', 'N')
 LAST = MASK + 1
 NAME = re.compile('[A-Za-z0-9._-]+')
 CAPTURES = (b'\xa1\xb2\xc3\xd4', b'\xd4\xc3\xb2\xa1', b'\xa1\xb2\x3c\x4d', b'\x4d\x3c\xb2\xa1', b'\n\r\r\n')
 
 
 def add_arguments(parser):
-    kinds = parser.add_subparsers(metavar='KIND', dest='kind', required=True)
-    runs = kinds.add_parser('runs', help='play made schedules')
-    runs.add_argument('count', metavar='COUNT', type=int)
-    runs.add_argument('start', metavar='START', type=int)
-    captures = kinds.add_parser('captures', help='open the captures of a folder')
-    captures.add_argument('folder', metavar='FOLDER')
-    add_keys(captures)
-    for kind, do in ((runs, do_runs), (captures, do_captures)):
-        kind.add_argument('results', metavar='RESULTS', help='the folder for what the calls write')
-        kind.add_argument('-j', '--jobs', metavar='JOBS', help='how many calls go on at once (one for each processor)')
-        kind.add_argument(
-            '--parallel',
-            metavar='WORDS',
-            action='append',
-            default=[],
-            help="further options of parallel: --parallel='--bar --sshlogin other'",
-        )
-        kind.set_defaults(do=do)
-    schedule = kinds.add_parser('schedule', help='write a made schedule')
-    schedule.add_argument('start', metavar='START', type=int)
-    schedule.add_argument('count', metavar='N', type=int)
-    schedule.add_argument('-o', '--output', metavar='OUT', help='write to this file, and not to standard output')
-    schedule.set_defaults(do=do_schedule)
+    parser.add_argument('kind', choices=list(KINDS), help='what is done')
+    parser.add_argument('words', metavar='WORD', nargs='+', help='the words of that kind, as above')
+    add_keys(parser)
+    parser.add_argument('-j', '--jobs', metavar='JOBS', help='how many calls go on at once (one for each processor)')
+    parser.add_argument(
+        '--parallel',
+        metavar='WORDS',
+        action='append',
+        default=[],
+        help="further options of parallel: --parallel='--bar --sshlogin other'",
+    )
+
+
+def words_of(arguments, names):
+    """Returns the words of a kind, those with a number as such. Stops where they are others."""
+    names = names.split()
+    if len(arguments.words) != len(names):
+        raise Stop(f'campaigns {arguments.kind} takes {" ".join(names)}', WRONG_USE)
+    wrong = [
+        word for name, word in zip(names, arguments.words) if name in NUMBERS and not re.fullmatch('[0-9]{1,10}', word)
+    ]
+    if wrong:
+        raise Stop(f'campaigns {arguments.kind} takes {" ".join(names)}, and {wrong[0]!r} is no number', WRONG_USE)
+    return [int(word) if name in NUMBERS else word for name, word in zip(names, arguments.words)]
 
 
 def run(arguments):
     try:
-        return arguments.do(arguments)
+        return KINDS[arguments.kind](arguments)
     except OSError as error:
         raise Stop(f'{error.filename}: {reason_of(error)}', UNREADABLE) from error
     except ValueError as error:
@@ -69,9 +73,10 @@ def run(arguments):
 
 
 def do_schedule(arguments):
-    if not 0 <= arguments.start <= MASK or not 1 <= arguments.count <= MOST:
+    start, count = words_of(arguments, 'START N')
+    if start > MASK or not 1 <= count <= MOST:
         raise Stop(f'START is 0 to {MASK}, and N is 1 to {MOST}', WRONG_USE)
-    write_output(arguments.output, ''.join(f'{line}\n' for line in made(arguments.start, arguments.count)))
+    write_output('-', ''.join(f'{line}\n' for line in made(start, count)))
     return 0
 
 
@@ -146,8 +151,8 @@ def name_run(results, runs, start, number):
 
 
 def do_runs(arguments):
-    count, start, results = arguments.count, arguments.start, arguments.results
-    if count < 1 or start < 0 or start + count > LAST:
+    count, start, results = words_of(arguments, 'COUNT START RESULTS')
+    if count < 1 or start + count > LAST:
         raise Stop(f'no {count} start values from {start} on: they are 0 to {LAST - 1}', WRONG_USE)
     check_work(results, f'runs {count} {start}')
     shares = shares_of(count, start)
@@ -185,15 +190,16 @@ def key_words(arguments):
 
 
 def do_captures(arguments):
-    folder, results = os.path.abspath(arguments.folder), arguments.results
+    given, results = words_of(arguments, 'FOLDER RESULTS')
+    folder = os.path.abspath(given)
     files = sorted(
         name for name in os.listdir(folder) if os.path.isfile(os.path.join(folder, name)) and NAME.fullmatch(name)
     )
     if not files:
-        raise Stop(f'{arguments.folder}: no files are in it', UNREADABLE)
+        raise Stop(f'{given}: no files are in it', UNREADABLE)
     keys = key_words(arguments)
     check_work(results, f'captures {folder} {" ".join(files)} {keys}'.rstrip())
-    front = shlex.join([sys.executable, os.path.abspath(sys.argv[0])])
+    front = shlex.join([sys.executable, FRONT])
     rows = [(command_for(path), path) for path in (os.path.join(folder, name) for name in files)]
     command = f'if [ {{1}} = open ]; then {front} open {{2}} {keys}; else {front} inspect {{2}}; fi'
     statuses = call_all(results, options_of(arguments), command, rows)
@@ -202,3 +208,6 @@ def do_captures(arguments):
     if bad:
         print(f'the first call that failed: {bad[0][0]} ended with status {bad[0][1]}')
     return 1 if bad else 0
+
+
+KINDS = {'runs': do_runs, 'captures': do_captures, 'schedule': do_schedule}

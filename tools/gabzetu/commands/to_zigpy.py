@@ -6,7 +6,7 @@ import re
 from .. import read_version
 from ..errors import UNREADABLE, WRONG_USE, Stop
 from ..formats.words import counted
-from ..formats.zigpy import MOST_COUNTER, NO_EUI, NO_PAN, Backup, Device, Link, object_of, parse_json
+from ..formats.zigpy import CHANNELS, MOST_COUNTER, NO_EUI, NO_PAN, Backup, Device, Link, object_of, parse_json
 from ..opening import WELL_KNOWN
 from ..output import read_input, say
 from ..stores import is_restored, try_script, write_private
@@ -41,6 +41,13 @@ def digits_of(size):
     return read
 
 
+def read_channel(word):
+    """Returns the number of a channel."""
+    if word not in map(str, CHANNELS):
+        raise Stop(f'--channel {word}: channels are 11 to 26', WRONG_USE)
+    return int(word)
+
+
 def add_arguments(parser):
     parser.add_argument('backup', metavar='BACKUP', help='what `backup` writes, or - for standard input')
     parser.add_argument(
@@ -50,7 +57,7 @@ def add_arguments(parser):
     parser.add_argument(
         '--extended-pan', metavar='PAN', type=digits_of(16), help='the extended PAN, 16 digits (the EUI of the centre)'
     )
-    parser.add_argument('--channel', metavar='N', type=int, choices=range(11, 27), help='the channel, 11 to 26')
+    parser.add_argument('--channel', metavar='N', type=read_channel, help='the channel, 11 to 26')
     parser.add_argument(
         '--skip',
         metavar='N',

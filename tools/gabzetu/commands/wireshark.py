@@ -2,7 +2,7 @@
 import struct
 
 from ..capture import Capture
-from ..errors import UNREADABLE, Stop, reason_of
+from ..errors import UNREADABLE, WRONG_USE, Stop, reason_of
 from ..formats import pcap, transcripts
 from ..formats.checks import MODES
 from ..formats.keyfiles import read_key_file
@@ -11,61 +11,36 @@ from ..output import open_output, say, write_output
 SUMMARY = 'write keys and packets for Wireshark'
 DESCRIPTION = '''Hands to Wireshark what tc found.
 
-  gabzetu wireshark keys FILE               the keys of FILE as lines of Wireshark's file zigbee_pc_keys
-  gabzetu wireshark frames TRANSCRIPT OUT   the frames of a transcript as a pcap
-  gabzetu wireshark packets CAPTURE OUT     the packets of a sniffer's capture as a pcap, which `sniff` reads too'''
+  gabzetu wireshark keys FILE [OUT]         the keys of FILE as lines of Wireshark's file zigbee_pc_keys. FILE is what
+                                            `open`, `inspect` or `sniff` wrote, a transcript, or a backup
+  gabzetu wireshark frames TRANSCRIPT OUT   the frames of a transcript as a pcap of link type 230. Frame N is packet N,
+                                            and the seconds of its time are its event
+  gabzetu wireshark packets CAPTURE OUT     the packets of a sniffer's capture as a pcap of link type 230, for `sniff`
+                                            too. Packet N is packet N of CAPTURE. It is empty where that one isn't
+                                            whole or is none of IEEE 802.15.4'''
 
 BROADCASTS, NETWORK = (0xFFFC, 0xFFFD, 0xFFFF), 0x1A62
 
 
 def add_arguments(parser):
-    kinds = parser.add_subparsers(metavar='KIND', dest='kind', required=True)
-    add_keys(kinds.add_parser('keys', help='write keys as lines of zigbee_pc_keys'))
-    add_frames(
-        kinds.add_parser(
-            'frames',
-            help='write the frames of a transcript as a pcap of link type 230. Frame N is packet N, and '
-            'the seconds of its time are its event',
-        )
-    )
-    add_packets(
-        kinds.add_parser(
-            'packets',
-            help="write a sniffer's packets as a pcap of link type 230. Packet N is packet N of CAPTURE, "
-            'and empty where CAPTURE has no whole packet of IEEE 802.15.4 there',
-        )
-    )
-
-
-def add_keys(parser):
+    parser.add_argument('kind', choices=list(KINDS), help='what is written')
+    parser.add_argument('file', metavar='FILE', help='the file to read, or - for standard input')
+    parser.add_argument('out', metavar='OUT', nargs='?', help='the file to write, or - for standard output')
     parser.add_argument(
-        'file',
-        metavar='FILE',
-        help='what `open`, `inspect` or `sniff` wrote, a transcript, or a backup; - for standard input',
+        '--capture',
+        metavar='PCAP',
+        help='of keys: the capture that `sniff` read, so that they get the numbers of its packets',
     )
-    parser.add_argument(
-        '--capture', metavar='PCAP', help='the capture file that `sniff` read: keys get the numbers of its packets'
-    )
-    parser.add_argument('-o', '--output', metavar='OUT', help='write to this file, and not to standard output')
-    parser.set_defaults(do=write_keys)
-
-
-def add_frames(parser):
-    parser.add_argument('transcript', metavar='TRANSCRIPT', help='a transcript')
-    parser.add_argument('out', metavar='OUT', help='a capture file, or - for standard output')
-    parser.set_defaults(do=write_frames)
-
-
-def add_packets(parser):
-    parser.add_argument('capture', metavar='CAPTURE', help='a capture file, or - for standard input')
-    parser.add_argument('out', metavar='OUT', help='a capture file, or - for standard output')
-    parser.add_argument('--fcs', choices=MODES, default='auto', help='as for `open`')
-    parser.add_argument('--zep-port', metavar='PORT', type=int, help='the UDP port of ZEP packets (17754)')
-    parser.set_defaults(do=write_packets)
+    parser.add_argument('--fcs', choices=MODES, default='auto', help='of packets: as for `open`')
+    parser.add_argument('--zep-port', metavar='PORT', type=int, help='of packets: the UDP port of ZEP packets (17754)')
 
 
 def run(arguments):
-    return arguments.do(arguments)
+    if arguments.out is None and arguments.kind != 'keys':
+        raise Stop(
+            f'wireshark {arguments.kind} takes the name of the file to write, or - for standard output', WRONG_USE
+        )
+    return KINDS[arguments.kind](arguments)
 
 
 def label_of(words):
@@ -96,7 +71,7 @@ def write_keys(arguments):
     if arguments.capture:
         numbers = packet_numbers(arguments.capture)
         labels = {key: with_packet(label, numbers) for key, label in labels.items()}
-    write_output(arguments.output, ''.join(f'"{key}","Normal","{label_of(label)}"\n' for key, label in labels.items()))
+    write_output(arguments.out, ''.join(f'"{key}","Normal","{label_of(label)}"\n' for key, label in labels.items()))
     return 0
 
 
@@ -130,9 +105,9 @@ def read_transcript(path):
 
 
 def write_frames(arguments):
-    nodes, frames = read_transcript(arguments.transcript)
+    nodes, frames = read_transcript(arguments.file)
     if not frames:
-        raise Stop(f'{arguments.transcript}: no frames are in it', UNREADABLE)
+        raise Stop(f'{arguments.file}: no frames are in it', UNREADABLE)
     write_output(
         arguments.out,
         pcap.HEADER + b''.join(pcap.record(it.event, 0, mac_header(it, nodes) + it.data) for it in frames),
@@ -141,15 +116,18 @@ def write_frames(arguments):
 
 
 def write_packets(arguments):
-    capture, written = Capture(arguments.capture, arguments.fcs, arguments.zep_port), 0
+    capture, written = Capture(arguments.file, arguments.fcs, arguments.zep_port), 0
     with open_output(arguments.out) as file:
         file.write(pcap.HEADER)
         for bodies in capture.bodies():
             written += sum(bool(body) for _, body in bodies)
             file.write(b''.join(pcap.record(int(time), int(time % 1 * 1000000), body) for time, body in bodies))
         if not written:
-            raise Stop(f'{arguments.capture}: no packet of IEEE 802.15.4 is in it', UNREADABLE)
+            raise Stop(f'{arguments.file}: no packet of IEEE 802.15.4 is in it', UNREADABLE)
     say(f'gabzetu: {written} of {capture.packets} packets written')
     for reason, count, first in capture.left_out.rows():
         say(f'gabzetu: {count} left empty: {reason} (the first is packet {first})')
     return 0
+
+
+KINDS = {'keys': write_keys, 'frames': write_frames, 'packets': write_packets}

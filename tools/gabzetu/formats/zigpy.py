@@ -9,6 +9,7 @@ from .keyfiles import printable
 
 FORMAT, VERSION = 'zigpy/open-coordinator-backup', 1
 MOST_COUNTER, LEVEL = 0xFFFFFFFF, 5
+CHANNELS = range(11, 27)
 NO_EUI, NO_PAN = 'F' * 16, 'FFFF'
 KEPT_AS_SEEDS = {'hashed_tclk', 'tclk_seed'}
 
@@ -215,7 +216,7 @@ def object_of(backup, well_known):
         'nwk_update_id': 0,
         'security_level': LEVEL,
         'channel': backup.notes['channel'],
-        'channel_mask': list(range(11, 27)),
+        'channel_mask': list(CHANNELS),
         'network_key': {
             'key': backup.key.lower(),
             'sequence_number': backup.sequence,

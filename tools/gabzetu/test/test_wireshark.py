@@ -36,7 +36,7 @@ def records_of(path):
 class Keys(Folder):
     def test_of_a_report(self):
         self.assertEqual(run('wireshark', 'keys', data('join.report')).output, read(data('join.keys')))
-        run('wireshark', 'keys', data('join.report'), '-o', self.path('keys'))
+        run('wireshark', 'keys', data('join.report'), self.path('keys'))
         self.assertEqual(read(self.path('keys')), read(data('join.keys')))
 
     def test_of_a_transcript_and_of_the_own_file(self):
@@ -79,7 +79,7 @@ class Frames(Folder):
     @needs_tshark
     def test_tshark_reads_the_command_of_each_frame_of_a_join(self):
         self.assertEqual(run('wireshark', 'frames', example('join.transcript'), self.path('join.pcap')).status, 0)
-        run('wireshark', 'keys', data('join.report'), '-o', self.path('zigbee_pc_keys'))
+        run('wireshark', 'keys', data('join.report'), self.path('zigbee_pc_keys'))
         command = [
             'tshark',
             '-r',
