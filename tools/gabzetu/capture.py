@@ -26,7 +26,8 @@ class Tally:
 
     def rows(self):
         """Returns reason, count and first packet, the greatest count first."""
-        return [(reason, count, self.firsts[reason]) for reason, count in self.counts.most_common()]
+        rows = [(reason, count, self.firsts[reason]) for reason, count in self.counts.items()]
+        return sorted(rows, key=lambda row: (-row[1], row[2]))
 
 
 def parts_of_file(packets):
@@ -64,7 +65,8 @@ def next_of(waiting, seconds):
 
 
 def live_part(waiting):
-    """Returns the packets that come until it is quiet for a moment, and what ended them: an empty text where they go on."""
+    """Returns the packets that come until it is quiet for a moment, and what ended them: an empty text where they go
+    on."""
     part, begun = [], time.monotonic()
     while len(part) < MOST_FRAMES:
         packet = next_of(waiting, min(QUIET, LONGEST_WAIT - (time.monotonic() - begun)))
@@ -97,14 +99,30 @@ class Capture:
         self.packets, self.frames, self.left_out = 0, 0, Tally()
         self.associations = []
 
-    def parts(self):
-        """Yields the frames of the capture in parts. After each part, left_out counts the packets so far."""
+    def packet_parts(self):
+        """Yields the packets of the capture in parts. A packet that isn't whole ends them, and is counted."""
         packets = read_packets(self.path, open_source(self.path, self.is_followed))
         try:
             for part in (live_parts if self.is_followed else parts_of_file)(packets):
-                yield self.frames_of(part)
-        except Ended as ended:
+                self.packets += len(part)
+                yield part
+        except Ended:
             self.left_out.add('the file ends within it', self.packets + 1)
+
+    def parts(self):
+        """Yields the frames of the capture in parts. After each part, left_out counts the packets so far."""
+        for packets in self.packet_parts():
+            frames = [self.frame_of(*it) for it in self.stripped(packets)]
+            frames = [frame for frame in frames if frame is not None]
+            self.frames += len(frames)
+            yield frames
+
+    def bodies(self):
+        """Yields time and bytes of each packet in parts, without check sequences, and no bytes where there are
+        none."""
+        for packets in self.packet_parts():
+            bodies = {packet.number: body for packet, body, _ in self.stripped(packets)}
+            yield [(packet.time, bodies.get(packet.number, b'')) for packet in packets]
 
     def unwrap(self, packet):
         """Returns what is in a packet, or none and keeps the reason."""
@@ -114,25 +132,34 @@ class Capture:
             self.left_out.add(str(why), packet.number)
             return None
 
-    def frames_of(self, packets):
-        """Returns the frames of some packets. Their check sequences are judged together."""
-        self.packets += len(packets)
-        wrapped = [(packet, it) for packet, it in ((packet, self.unwrap(packet)) for packet in packets) if it is not None]
-        for _, it in wrapped:
-            self.checks.learn(it)
-        frames = [frame for frame in (self.frame_of(packet, it) for packet, it in wrapped) if frame is not None]
-        self.frames += len(frames)
-        return frames
-
-    def frame_of(self, packet, wrapped):
-        """Returns the frame of a packet, or none and keeps the reason."""
+    def strip(self, packet, wrapped):
+        """Returns a packet, its bytes and the size of its check sequence, or none and keeps the reason."""
         try:
-            body, size = self.checks.take_off(wrapped)
-            given = mac.read_association(body)
-            if given:
-                self.associations.append(given)
-            header = mac.read_data(body, size)
-            return Frame(packet.number, packet.time, header.pan, header.to, header.source, header.payload, try_nwk(header.payload))
+            return (packet, *self.checks.take_off(wrapped))
         except LeftOut as why:
             self.left_out.add(str(why), packet.number)
             return None
+
+    def stripped(self, packets):
+        """Returns each packet that is whole, its bytes, and the size of its check sequence. These are judged
+        together."""
+        wrapped = [
+            (packet, it) for packet, it in ((packet, self.unwrap(packet)) for packet in packets) if it is not None
+        ]
+        for _, it in wrapped:
+            self.checks.learn(it)
+        return [it for it in (self.strip(*pair) for pair in wrapped) if it is not None]
+
+    def frame_of(self, packet, body, check_size):
+        """Returns the frame of a packet, or none and keeps the reason."""
+        given = mac.read_association(body)
+        if given:
+            self.associations.append(given)
+        try:
+            header = mac.read_data(body, check_size)
+        except LeftOut as why:
+            self.left_out.add(str(why), packet.number)
+            return None
+        return Frame(
+            packet.number, packet.time, header.pan, header.to, header.source, header.payload, try_nwk(header.payload)
+        )

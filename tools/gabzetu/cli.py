@@ -7,16 +7,22 @@ import sys
 
 from . import commands
 from .errors import UNWRITABLE, WRONG_USE, Stop
+from .formats.words import suggestion
 from .output import say
 
 DESCRIPTION = 'Front end of the proved Zigbee trust centre program tc. Every verdict is that of tc.'
+SEE_HELP = '`gabzetu help` lists the commands.'
 EPILOG = '`gabzetu COMMAND --help` describes a command, `gabzetu help schedule` the lines of schedules.'
 
 
 class Parser(argparse.ArgumentParser):
-    """A parser whose mistakes end with the status of wrong use."""
+    """A parser whose mistakes end with the status of wrong use. Options are written out."""
+
+    def __init__(self, **how):
+        super().__init__(allow_abbrev=False, **how)
 
     def error(self, message):
+        """Stops with the message and the usage."""
         raise Stop(f'{message}\n{self.format_usage().rstrip()}', WRONG_USE)
 
 
@@ -26,6 +32,7 @@ def command_names():
 
 
 def load_command(name):
+    """Returns the module of a command."""
     return importlib.import_module(f'{commands.__name__}.{name}')
 
 
@@ -56,13 +63,16 @@ def describe(module):
 def run(words):
     """Runs the command of these words, and returns its exit status."""
     parser = make_parser()
+    if words and not words[0].startswith('-') and words[0] not in parsers_of(parser):
+        raise Stop(f"there is no command '{words[0]}'{suggestion(words[0], parsers_of(parser))}\n{SEE_HELP}")
     arguments = parser.parse_args(words)
     if arguments.version:
         from .versions import describe_versions
+
         print(describe_versions())
         return 0
     if not arguments.command:
-        raise Stop(f'which command?\n{parser.format_help().rstrip()}', WRONG_USE)
+        raise Stop(f'which command?\n{parser.format_help().rstrip()}')
     return arguments.run(arguments) or 0
 
 

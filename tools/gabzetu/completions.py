@@ -11,6 +11,7 @@ def words_of_places(command):
 
 
 def unique(words):
+    """Returns words with one space between them, repeats left out."""
     return ' '.join(dict.fromkeys(words))
 
 
@@ -18,7 +19,8 @@ def unique(words):
 
 BASH = """# completions of gabzetu for bash; written by `gabzetu completions bash`
 _gabzetu() {{
-    local word=${{COMP_WORDS[COMP_CWORD]}} before=${{COMP_WORDS[COMP_CWORD-1]}} command=${{COMP_WORDS[1]}} options= words=
+    local word=${{COMP_WORDS[COMP_CWORD]}} before=${{COMP_WORDS[COMP_CWORD-1]}} command=${{COMP_WORDS[1]}}
+    local options= words=
     if [ "$COMP_CWORD" = 1 ]; then
         COMPREPLY=($(compgen -W "{commands}" -- "$word"))
         return
@@ -40,16 +42,19 @@ complete -o filenames -F _gabzetu gabzetu
 
 
 def bash_value(command, option):
+    """Returns the case of an option with certain values."""
     names = '|'.join(f'{command.name}:{name}' for name in option.names)
     return f'        {names}) COMPREPLY=($(compgen -W "{" ".join(option.choices)}" -- "$word")); return ;;\n'
 
 
 def bash_options(command):
+    """Returns the case of a command: its options, and its words."""
     options = unique(name for it in options_of(command) for name in it.names)
     return f'        {command.name}) options="{options}" words="{unique(words_of_places(command))}" ;;\n'
 
 
 def write_bash():
+    """Returns the completions for bash."""
     top, commands = read_tree()
     first = unique([*(it.name for it in commands), *(name for it in options_of(top) for name in it.names)])
     values = ''.join(bash_value(command, it) for command in commands for it in options_of(command) if it.choices)
@@ -86,6 +91,7 @@ def quoted(text):
 
 
 def zsh_option(option):
+    """Returns the names of an option as words of _arguments."""
     value = ''
     if option.value:
         value = f':{quoted(option.value)}:' + (f'({" ".join(option.choices)})' if option.choices else '_files')
@@ -93,6 +99,7 @@ def zsh_option(option):
 
 
 def zsh_case(command):
+    """Returns the case of a command."""
     words = words_of_places(command)
     rest = f"'*:word:({unique(words)})'" if words else "'*:file:_files'"
     options = ' '.join(it for option in options_of(command) for it in zsh_option(option))
@@ -100,6 +107,7 @@ def zsh_case(command):
 
 
 def write_zsh():
+    """Returns the completions for zsh."""
     _, commands = read_tree()
     names = ''.join(f"        '{it.name}:{quoted(it.summary)}'\n" for it in commands)
     return ZSH.format(commands=names, cases=''.join(map(zsh_case, commands)))
@@ -115,16 +123,22 @@ end
 
 
 def fish_quoted(text):
+    """Returns a text in single quotes."""
     return "'" + text.replace('\\', '\\\\').replace("'", "\\'") + "'"
 
 
 def fish_option(command, option):
+    """Returns the line of an option."""
     names = ' '.join(f'-l {it[2:]}' if it.startswith('--') else f'-s {it[1:]}' for it in option.names)
     value = '' if not option.value else f' -x -a {fish_quoted(" ".join(option.choices))}' if option.choices else ' -r'
-    return f"complete -c gabzetu -n '__fish_seen_subcommand_from {command.name}' {names}{value} -d {fish_quoted(option.help)}\n"
+    return (
+        f"complete -c gabzetu -n '__fish_seen_subcommand_from {command.name}' {names}{value} -d "
+        f"{fish_quoted(option.help)}\n"
+    )
 
 
 def fish_command(command):
+    """Returns the lines of a command."""
     first = f"complete -c gabzetu -n __gabzetu_first -f -a {command.name} -d {fish_quoted(command.summary)}\n"
     words = unique(words_of_places(command))
     if words:
@@ -133,6 +147,7 @@ def fish_command(command):
 
 
 def write_fish():
+    """Returns the completions for fish."""
     _, commands = read_tree()
     return FISH_HEAD + 'complete -c gabzetu -n __gabzetu_first -l version\n' + ''.join(map(fish_command, commands))
 

@@ -10,14 +10,15 @@ MOST_FRAMES, MOST_KEYS, MOST_NETWORK_KEYS, MOST_CLOSED = 100000, 256, 64, 100000
 WELL_KNOWN = '5A6967426565416C6C69616E63653039'
 CLOSED = ('no-key', 'no-source')
 
-# number, time: of the packet; pan, to, source: of its MAC header; payload: the bytes of the NWK frame; nwk: its header, or none
-# where they have none of version 2
+# number, time: of the packet; pan, to, source: of its MAC header; payload: the bytes of the NWK frame; nwk: its
+# header, or none where they have none of version 2
 Frame = collections.namedtuple('Frame', 'number time pan to source payload nwk')
 
 # A layer as tc reports it. kind: nwk, aps or inner; key: which opened it, or none; reason: why it didn't open, or none
 Layer = collections.namedtuple('Layer', 'kind key label source counter content reason')
 
-# number: from 1; origin: words for people; packet: in which it was found, or none; by: the key that opened that one, or none
+# number: from 1; origin: words for people; packet: in which it was found, or none; by: the key that opened that one,
+# or none
 Key = collections.namedtuple('Key', 'number key origin packet by')
 
 
@@ -31,7 +32,7 @@ def opened_layers(layers):
 
 
 def parts_of(items, size):
-    return [items[at:at + size] for at in range(0, len(items), size)]
+    return [items[at : at + size] for at in range(0, len(items), size)]
 
 
 class Ring:
@@ -74,7 +75,9 @@ def inspect(keys, table, frames, jobs):
 def layer_of(fields, keys):
     """Returns the layer of a line of a report. `keys` has the keys by their numbers in it."""
     get = fields.get
-    return Layer(fields['kind'], keys.get(get('k')), get('label'), get('source'), get('counter'), get('content'), get('reason'))
+    return Layer(
+        fields['kind'], keys.get(get('k')), get('label'), get('source'), get('counter'), get('content'), get('reason')
+    )
 
 
 class Opener:
@@ -116,7 +119,8 @@ class Opener:
         return better
 
     def open_all(self, frames, layers):
-        """Opens frames until no run finds a key or an address. `layers` has what earlier runs opened, and is returned."""
+        """Opens frames until no run finds a key or an address. `layers` has what earlier runs opened, and is
+        returned."""
         while frames:
             before = self.known()
             for part in parts_of(frames, MOST_FRAMES):
@@ -127,7 +131,8 @@ class Opener:
         return layers
 
     def open_once(self, frames, layers):
-        """Opens frames with what is known now: a run for each PAN whose addresses are known, and one for the others."""
+        """Opens frames with what is known now: a run for each PAN whose addresses are known, and one for the
+        others."""
         groups = collections.defaultdict(list)
         for frame in frames:
             groups[frame.pan if frame.pan in self.addresses.pans else None].append(frame)
@@ -161,7 +166,10 @@ class Opener:
     def take(self, frame, now, layers):
         """Takes the layers of a frame where more of them open than before, and learns from them."""
         before = layers.get(frame.number)
-        if before is not None and (opened_layers(before), not is_closed(before)) >= (opened_layers(now), not is_closed(now)):
+        if before is not None and (opened_layers(before), not is_closed(before)) >= (
+            opened_layers(now),
+            not is_closed(now),
+        ):
             return
         layers[frame.number] = now
         self.ring.network.update(it.key for it in now if it.kind == 'nwk' and it.key)

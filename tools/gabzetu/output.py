@@ -1,4 +1,5 @@
-"""Reads inputs and writes outputs, by path or `-` for a standard stream. A failed command leaves no half-written file."""
+"""Reads inputs and writes outputs, by path or `-` for a standard stream. A failed command leaves no half-written
+file."""
 import contextlib
 import os
 import stat
@@ -20,7 +21,7 @@ def read_input(path):
 
 
 def is_written_in_place(path):
-    """Says whether a path is no regular file, for example /dev/null or a pipe: it can't be renamed over."""
+    """Returns whether a path is no regular file, for example /dev/null or a pipe: it can't be renamed over."""
     try:
         return not stat.S_ISREG(os.stat(path).st_mode)
     except OSError:
@@ -83,5 +84,5 @@ def say(text):
 
 
 def is_watched():
-    """Says whether standard error is a terminal, so that progress is worth a line."""
+    """Returns whether standard error is a terminal, so that progress is worth a line."""
     return sys.stderr.isatty()

@@ -8,14 +8,17 @@ from .errors import MISSING, Stop
 
 INSTALLED = '/usr/lib/gabzetu/tc'
 BUILT = os.path.join(TOP, 'crates', 'tc_cli', 'out', 'tc_cli')
-HOW_TO_GET_IT = ('the program tc is missing. Install the package gabzetu, or run ./build in a clone of the repository, '
-                 'or set GABZETU_TC to the path of a built tc.')
+HOW_TO_GET_IT = (
+    'the program tc is missing. Install the package gabzetu, or run ./build in a clone of the repository, '
+    'or set GABZETU_TC to the path of a built tc.'
+)
 
 # status: the exit status of tc; output: the bytes of its standard output
 Completed = collections.namedtuple('Completed', 'status output')
 
 
 def is_program(path):
+    """Returns whether a path is a file that can be run."""
     return os.path.isfile(path) and os.access(path, os.X_OK)
 
 

@@ -11,6 +11,7 @@ CLEAR = '\r\x1b[K'
 
 
 def show(text):
+    """Writes a text in place of the line of progress."""
     sys.stderr.write(CLEAR + text)
     sys.stderr.flush()
 

@@ -1,4 +1,5 @@
-"""Runs a command of tc for a command of the front end: its input, its output as text or JSON lines, and what is told of faults."""
+"""Runs a command of tc for a command of the front end: its input, its output as text or JSON lines, and what is told
+of faults."""
 import json
 import os
 
@@ -15,14 +16,21 @@ ANSWERS = (0, 10)
 
 def add_output(parser):
     """Adds `-o OUT` and `--json`."""
-    parser.add_argument('-o', '--output', metavar='OUT', help='write to this file, all or nothing, and not to standard output')
+    parser.add_argument(
+        '-o', '--output', metavar='OUT', help='write to this file, all or nothing, and not to standard output'
+    )
     parser.add_argument('--json', action='store_true', help='write JSON lines: an object for each line of the output')
 
 
 def add_jobs(parser):
     """Adds `-j JOBS`."""
-    parser.add_argument('-j', '--jobs', metavar='JOBS', default=str(default_jobs()),
-                        help='the number of jobs, 1 to 64 (one for each processor); the output is the same for all')
+    parser.add_argument(
+        '-j',
+        '--jobs',
+        metavar='JOBS',
+        default=str(default_jobs()),
+        help='the number of jobs, 1 to 64 (one for each processor); the output is the same for all',
+    )
 
 
 def default_jobs():

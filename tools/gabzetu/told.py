@@ -41,7 +41,7 @@ def sentence_of(kind, cause):
 
 
 def refusal(kind, name, words):
-    """Returns the words on `refused LINE CAUSE` for an input of this kind, whose name stands first."""
+    """Returns the words on `refused LINE CAUSE` for an input of this kind, whose name comes first."""
     line, cause, detail = words[1], words[2] if len(words) > 2 else '', words[3:]
     if kind == 'code':
         return f'{name}: refused: {sentence_of(kind, cause).format(*detail)}. {FORMATS[kind]}.'
@@ -50,7 +50,7 @@ def refusal(kind, name, words):
 
 
 def fault_of(kind, name, status, output):
-    """Returns what people are told of a status other than 0, for an input of this kind and name; none where there is nothing."""
+    """Returns what a status other than 0 means, for an input of this kind and name; none of the status 0."""
     words = last_words(output)
     if status == 0:
         return None
@@ -71,4 +71,6 @@ def exit_status(status):
 
 def base_name(path):
     """Returns how an input is named in messages."""
-    return 'standard input' if path == '-' else os.path.relpath(path) if len(os.path.relpath(path)) < len(path) else path
+    return (
+        'standard input' if path == '-' else os.path.relpath(path) if len(os.path.relpath(path)) < len(path) else path
+    )

@@ -14,16 +14,18 @@ from ..runs import add_output, json_lines, tell
 SUMMARY = "carry out a script on a centre's store in a file"
 DESCRIPTION = """Carries out the commands of a script on the store in the file STORE (docs/ADMIN.md).
 
-Each line comes out when what its command changed is stored. So OUT is written line by line, and keeps what came out also
-where a later command fails. A new STORE and OUT hold keys: only their owner may read them. Let one `admin` at a time use a
-store: two at once use the same frame counters."""
+Each line comes out when what its command changed is stored. So OUT is written line by line, and keeps what came out
+also where a later command fails. A new STORE and OUT hold keys: only their owner may read them. Let one `admin` at a
+time use a store: two at once use the same frame counters."""
 
 KINDS = (b'net ', b'link ', b'send ', b'ok ', b'refuse ', b'{')
 PRIVATE = 0o077
 
 
 def add_arguments(parser):
-    parser.add_argument('store', metavar='STORE', help='the file of the store; where there is none, `init` or `restore` makes it')
+    parser.add_argument(
+        'store', metavar='STORE', help='the file of the store; where there is none, `init` or `restore` makes it'
+    )
     parser.add_argument('script', metavar='SCRIPT', help='a script (gabzetu help script), or - for standard input')
     add_output(parser)
 
@@ -45,7 +47,9 @@ class Lines:
         except BrokenPipeError:
             raise
         except OSError as error:
-            raise Stop(f'{self.path or "standard output"}: cannot be written: {reason_of(error)}', UNWRITABLE) from error
+            raise Stop(
+                f'{self.path or "standard output"}: cannot be written: {reason_of(error)}', UNWRITABLE
+            ) from error
 
     def close(self):
         if self.file not in (None, sys.stdout.buffer):

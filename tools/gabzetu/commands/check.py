@@ -9,14 +9,17 @@ from ..formats import diagnosis
 from ..formats.causes import CAUSES
 from ..formats.grammar import Mistake, describe, read_lines
 from ..output import read_input, say, write_output
+from ..scenarios.steps import write_schedule
 
-SUMMARY = 'find the mistakes of a schedule, capture or script'
+SUMMARY = 'find the mistakes of a schedule, capture, script or scenario'
 DESCRIPTION = """Finds mistakes, each with its line, its column, the word, and what is wanted there.
 
-tc is asked in the end: the status is that of tc, 0 where it takes the file and 5 where it refuses it. A script is tried on
-a store of its own, and touches no other. Of a schedule that is right, deliveries of frames that are never sent are noted."""
+tc is asked in the end: the status is that of tc, 0 where it takes the file and 5 where it refuses it. A script is
+tried on a store of its own, and touches no other. Of a schedule that is right, deliveries of frames that are never
+sent are noted. A scenario is a file whose name ends with .scn."""
 
 MOST_SHOWN = 20
+SCENARIO = '.scn'
 
 # What tc says of a file: status, line and cause of a refusal; output: what it wrote
 Verdict = collections.namedtuple('Verdict', 'status line cause output')
@@ -24,7 +27,9 @@ Verdict = collections.namedtuple('Verdict', 'status line cause output')
 
 def add_arguments(parser):
     parser.add_argument('files', metavar='FILE', nargs='+', help='a file, or - for standard input')
-    parser.add_argument('--kind', choices=sorted(diagnosis.READERS), help='what the files are; without it their lines tell')
+    parser.add_argument(
+        '--kind', choices=sorted(diagnosis.READERS), help='what the files are; without it their lines tell'
+    )
     parser.add_argument('--all', action='store_true', help=f'show all mistakes, not the first {MOST_SHOWN}')
     parser.add_argument('--json', action='store_true', help='write JSON lines: an object for each mistake')
 
@@ -70,7 +75,8 @@ def notes_of(name, data, output):
             sent += 1
         elif words[1:2] == ['refuse'] and words[3:5] == ['event', 'no-frame']:
             line = lines[int(words[0]) - 1]
-            yield f"{name}:{line.number}:9: note: '{line.words[1].text}': this frame was not sent before; {sent} frames were"
+            place = f"{name}:{line.number}:9: note: '{line.words[1].text}'"
+            yield f'{place}: this frame was not sent before; {sent} frames were'
 
 
 def report(arguments, name, found):
@@ -85,9 +91,18 @@ def report(arguments, name, found):
         say(f'gabzetu: {name}: {left} more (--all shows them)')
 
 
+def check_scenario(name, data):
+    """Checks a scenario: it stops where no schedule comes of it."""
+    write_schedule(name, data)
+    write_output(None, f'{name}: a scenario, right\n')
+    return 0
+
+
 def check(arguments, path):
     """Checks a file, and returns the status of tc."""
     data, name = read_input(path), told.base_name(path)
+    if path.endswith(SCENARIO) and not arguments.kind:
+        return check_scenario(name, data)
     other = diagnosis.other_kind_of(data)
     if other and not arguments.kind:
         say(f'gabzetu: {name}: this is {other}. --kind says that it is meant to be something else.')

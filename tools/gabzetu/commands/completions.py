@@ -15,5 +15,6 @@ def add_arguments(parser):
 
 def run(arguments):
     from ..completions import SHELLS
+
     write_output(None, SHELLS[arguments.shell]())
     return 0

@@ -1,16 +1,20 @@
-"""gabzetu explain: an event of a transcript in words, with the rule that answered it; or what a broken claim is about."""
+"""gabzetu explain: an event of a transcript in words, with the rule that answered it; or what a broken claim is
+about."""
 from .. import program, told
 from ..errors import WRONG_USE, Stop
 from ..formats import broken, policy, stories
 from ..formats.causes import CLAIMS
+from ..formats.grammar import printable
 from ..formats.sentences import Speaker
 from ..output import read_input, say, write_output
 
 SUMMARY = 'say in words what an event of a transcript is, or why a claim is broken'
-DESCRIPTION = """Says what the lines of an event mean, which rule of docs/POLICY.md answered it, and what a refusal means.
+DESCRIPTION = """Says what the lines of an event mean, which rule of docs/POLICY.md answered it, and what a
+refusal means.
 
-The schedule tells the words of the event; without it the lines tell what they can. With --broken it is about a line that
-breaks a claim: LINE and CLAIM are the words of `gabzetu audit`. Without EVENT and --broken tc is asked for the line."""
+The schedule has the words of the event; without it the lines show what they can. With --broken it is about a line
+that breaks a claim: LINE and CLAIM are the words of `gabzetu audit`. Without EVENT and --broken tc is asked for the
+line."""
 
 LONGEST = 110
 
@@ -39,8 +43,8 @@ class Teller:
         self.is_full = is_full
 
     def tell_line(self, line, mark=' '):
-        text = line.text if self.is_full or len(line.text) <= LONGEST else line.text[:LONGEST] + '..'
-        said = self.speaker.say(line.fields) if line.fields else 'this is no line of a transcript'
+        text = printable(line.text if self.is_full or len(line.text) <= LONGEST else line.text[:LONGEST] + '..')
+        said = printable(self.speaker.say(line.fields)) if line.fields else 'this is no line of a transcript'
         return [f'{mark}{line.number:6}  {text}', f'{"":9}{said}']
 
     def tell_lines(self, lines, marked=None):
@@ -48,10 +52,14 @@ class Teller:
 
     def tell_rule(self, story):
         """Returns the lines on the rule that answered, and on the refusal where there is one."""
-        rule, refused = story.rule(), story.refusal()
-        said = []
+        rule, refused, note = story.rule(), story.refusal(), story.note()
+        said = ['', note] if note else []
         if rule:
-            said = ['', f'The rule: {rule.title} (docs/POLICY.md, "{rule.place}")', *(f'  {head}: {text}' for head, text in rule.rows)]
+            said += [
+                '',
+                f'The rule: {rule.title} (docs/POLICY.md, "{rule.place}")',
+                *(f'  {head}: {text}' for head, text in rule.rows),
+            ]
         if refused:
             is_judged = story.is_judged()
             why = policy.sentence_of_refusal(rule and rule.refused, refused['layer'], refused['reason'], is_judged)
@@ -61,32 +69,32 @@ class Teller:
 
 
 def words_of_event(arguments, event, lines):
-    """Returns the words of an event in the schedule, or none without one."""
+    """Returns the line and the words of an event in the schedule, or none without one."""
     if not arguments.schedule or event == 0:
         return None
-    events = stories.schedule_events(read_input(arguments.schedule))
-    last = max((stories.event_of(it) or 0 for it in lines), default=0)
-    end = next((it.fields for it in reversed(lines) if it.fields and it.fields['kind'] == 'end'), None)
-    if len(events) != (end['events'] if end else last):
-        raise Stop(f'{arguments.schedule}: it has {len(events)} events, and the transcript is of {end["events"] if end else last}: '
-                   'it is the schedule of another run.', WRONG_USE)
-    return events[event - 1] if 0 < event <= len(events) else None
+    data = read_input(arguments.schedule)
+    why = stories.mismatch(lines, data)
+    if why:
+        raise Stop(f'{arguments.schedule}: {why}: it is the schedule of another run.', WRONG_USE)
+    events = stories.schedule_events(data)
+    return events[event - 1] if event <= len(events) else None
 
 
 def explain_event(arguments, lines, event):
     """Returns what an event is, in lines."""
-    found = [it for it in stories.groups_of(lines) if it.event == event]
+    found = [line for group in stories.groups_of(lines) if group.event == event for line in group.lines]
     placed = words_of_event(arguments, event, lines)
-    end = next((it.fields['events'] for it in lines if it.fields and it.fields['kind'] == 'end'), None)
-    if not found and (end is None or event > end):
-        raise Stop(f'{arguments.transcript}: no line is of event {event}' + (f'; the last event is {end}' if end is not None else ''))
-    teller = Teller(lines, arguments.full)
+    last = stories.last_event(lines)
+    if not found and event > last:
+        raise Stop(f'{arguments.transcript}: there is no event {event}; the last one is {last}')
     if not found:
-        said = ['It has no lines: nothing changed, nothing was refused and nothing was sent.']
-        return [title_of(event, placed, None), *said]
-    group = stories.Group(event, [line for it in found for line in it.lines])
-    story = stories.Story(group, teller.centre, placed and placed[1])
-    return [title_of(event, placed, story), *teller.tell_lines(group.lines), *(teller.tell_rule(story) if event else [])]
+        return [
+            title_of(event, placed, None),
+            'It has no lines: nothing changed, nothing was refused and nothing was sent.',
+        ]
+    teller = Teller(lines, arguments.full)
+    story = stories.Story(stories.Group(event, found), teller.centre, placed and placed[1])
+    return [title_of(event, placed, story), *teller.tell_lines(found), *(teller.tell_rule(story) if event else [])]
 
 
 def title_of(event, placed, story):
@@ -132,7 +140,10 @@ def ask_audit(arguments, data):
     if ran.status == 0:
         say(f'gabzetu: {" ".join(words)}: no claim is broken. An EVENT says which event to explain.')
         return None, None
-    raise Stop(told.fault_of('transcript', told.base_name(arguments.transcript), ran.status, ran.output), told.exit_status(ran.status))
+    raise Stop(
+        told.fault_of('transcript', told.base_name(arguments.transcript), ran.status, ran.output),
+        told.exit_status(ran.status),
+    )
 
 
 def run(arguments):
@@ -143,7 +154,9 @@ def run(arguments):
     if arguments.event is not None:
         said = explain_event(arguments, lines, number_of(arguments.event, 'EVENT'))
     else:
-        number, claim = map(number_of, arguments.broken, ['LINE', 'CLAIM']) if arguments.broken else ask_audit(arguments, data)
+        number, claim = (
+            map(number_of, arguments.broken, ['LINE', 'CLAIM']) if arguments.broken else ask_audit(arguments, data)
+        )
         said = [] if number is None else explain_broken(arguments, lines, number, claim)
     write_output(None, ''.join(it.rstrip() + '\n' for it in said))
     return 0

@@ -8,8 +8,12 @@ SUMMARY = 'describe a command, or the lines of schedules, captures, scripts and 
 
 
 def add_arguments(parser):
-    parser.add_argument('topic', metavar='TOPIC', nargs='?',
-                        help='a command, or one of ' + ', '.join(sorted(helping.INTRODUCTIONS)) + '; `help scenario` is of the lines')
+    parser.add_argument(
+        'topic',
+        metavar='TOPIC',
+        nargs='?',
+        help='a command, or one of ' + ', '.join(sorted(helping.INTRODUCTIONS)) + '; `help scenario` is of the lines',
+    )
 
 
 def run(arguments):

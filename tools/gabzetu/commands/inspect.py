@@ -6,10 +6,14 @@ SUMMARY = 'open the frames of a text capture, and write a report'
 
 
 def add_arguments(parser):
-    parser.add_argument('capture', metavar='CAPTURE', help='a text capture (gabzetu help capture), or - for standard input')
+    parser.add_argument(
+        'capture', metavar='CAPTURE', help='a text capture (gabzetu help capture), or - for standard input'
+    )
     add_jobs(parser)
     add_output(parser)
 
 
 def run(arguments):
-    return run_file(arguments, ['inspect', arguments.jobs], 'capture', arguments.capture, read_report_line, JOBS_USAGE)
+    return run_file(
+        arguments, ['inspect', arguments.jobs], 'capture', arguments.capture, read_report_line, JOBS_USAGE
+    )

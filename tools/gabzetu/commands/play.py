@@ -6,7 +6,9 @@ SUMMARY = 'play a schedule, and write its transcript'
 
 
 def add_arguments(parser):
-    parser.add_argument('schedule', metavar='SCHEDULE', help='a schedule (gabzetu help schedule), or - for standard input')
+    parser.add_argument(
+        'schedule', metavar='SCHEDULE', help='a schedule (gabzetu help schedule), or - for standard input'
+    )
     add_output(parser)
 
 

@@ -25,12 +25,16 @@ def fault_of_key(word):
     if len(word) == KEY_DIGITS and all(it in '0123456789abcdefABCDEF' for it in word):
         return None
     ran = program.run_tc(['install', word])
-    return told.fault_of('code', f'{word!r} is no key of {KEY_DIGITS} digits, and as an install code', ran.status, ran.output)
+    return told.fault_of(
+        'code', f'{word!r} is no key of {KEY_DIGITS} digits, and as an install code', ran.status, ran.output
+    )
 
 
 def run(arguments):
     words = ['sniff', arguments.jobs, *arguments.keys]
-    status = run_file(arguments, words, 'pcap', arguments.capture, read_report_line, f'{JOBS_USAGE} There may be 256 keys.')
+    status = run_file(
+        arguments, words, 'pcap', arguments.capture, read_report_line, f'{JOBS_USAGE} There may be 256 keys.'
+    )
     if status == 2:
         for fault in filter(None, map(fault_of_key, arguments.keys)):
             say(f'gabzetu: {fault}')

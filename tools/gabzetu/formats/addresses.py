@@ -11,7 +11,8 @@ NOBODY = ('0' * 16, 'F' * 16)
 
 
 def payload_of(nwk, layers):
-    """Returns what a NWK frame carries: what tc opened of it, or what stands there in clear; none where it stays closed."""
+    """Returns what a NWK frame carries: what tc opened of it, or what stands there in clear; none where it stays
+    closed."""
     if nwk.auxiliary is None:
         return nwk.rest
     opened = [it.content for it in layers if it.kind == 'nwk' and it.content is not None]

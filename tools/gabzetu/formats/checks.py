@@ -1,7 +1,7 @@
 """Finds out whether packets carry check sequences, judges these and takes them off.
 
-The link type says what the last two bytes of a packet are, and is wrong often: some radios put their own words in their place, or
-leave them out. So packets that are alike are looked at together before one of them is judged."""
+The link type says what the last two bytes of a packet are, and is wrong often: some radios put their own words in
+their place, or leave them out. So packets that are alike are looked at together before one of them is judged."""
 import binascii
 import collections
 import struct
@@ -13,8 +13,9 @@ MODES = ('auto', 'crc', 'ti', 'none', 'ignore')
 COMMAND_SIZES = {1: 2, 2: 4, 3: 2, 4: 1, 5: 1, 6: 1, 7: 1, 9: 1}
 FEW, ENOUGH = 8, 2000
 
-# What was seen of packets that are alike. right: with a right check sequence; ok: with the bit of a TI chip that says so; same: how
-# often their last two bytes are which; longer: how many packets of a known size are longer by how many bytes
+# What was seen of packets that are alike. right: with a right check sequence; ok: with the bit of a TI chip that says
+# so; same: how often their last two bytes are which; longer: how many packets of a known size are longer by how many
+# bytes
 Evidence = collections.namedtuple('Evidence', 'packets right ok same longer')
 
 
@@ -37,7 +38,9 @@ def size_of(packet):
         return None
     if control & 7 == 2:
         return 3 if not to and not source else None
-    size = 3 + (2 + address_size(to) if to else 0) + ((0 if control & 64 else 2) + address_size(source) if source else 0)
+    size = (
+        3 + (2 + address_size(to) if to else 0) + ((0 if control & 64 else 2) + address_size(source) if source else 0)
+    )
     if control & 7 != 3 or len(packet) <= size or packet[size] not in COMMAND_SIZES:
         return None
     return size + COMMAND_SIZES[packet[size]]
@@ -48,8 +51,13 @@ def note(seen, packet):
     last = packet[-2:]
     size = size_of(packet)
     longer = seen.longer + collections.Counter([len(packet) - size]) if size is not None else seen.longer
-    return Evidence(seen.packets + 1, seen.right + (check_of(packet[:-2]) == last), seen.ok + (last[1] >= 128),
-                    seen.same + collections.Counter([last]), longer)
+    return Evidence(
+        seen.packets + 1,
+        seen.right + (check_of(packet[:-2]) == last),
+        seen.ok + (last[1] >= 128),
+        seen.same + collections.Counter([last]),
+        longer,
+    )
 
 
 def decide(seen, said):
@@ -103,7 +111,9 @@ class Checks:
         Raises LeftOut for a packet that isn't whole or has a wrong check sequence."""
         how = self.how(wrapped)
         if len(wrapped.kept) != wrapped.whole:
-            raise LeftOut('cut by the snap length' if len(wrapped.kept) < wrapped.whole else 'more bytes than it had on the air')
+            raise LeftOut(
+                'cut by the snap length' if len(wrapped.kept) < wrapped.whole else 'more bytes than it had on the air'
+            )
         if how == 'none':
             return wrapped.kept, 0
         if wrapped.whole < 2:

@@ -2,11 +2,33 @@
 from . import headers
 from .addresses import content_of, payload_of
 
-NWK_COMMANDS = {1: 'Route Request', 2: 'Route Reply', 3: 'Network Status', 4: 'Leave', 5: 'Route Record', 6: 'Rejoin Request',
-                7: 'Rejoin Response', 8: 'Link Status', 9: 'Network Report', 10: 'Network Update', 11: 'End Device Timeout Request',
-                12: 'End Device Timeout Response', 13: 'Link Power Delta', 14: 'Commissioning Request', 15: 'Commissioning Response'}
-APS_COMMANDS = {5: 'Transport-Key', 6: 'Update-Device', 7: 'Remove-Device', 8: 'Request-Key', 9: 'Switch-Key', 0x0E: 'Tunnel',
-                0x0F: 'Verify-Key', 0x10: 'Confirm-Key'}
+NWK_COMMANDS = {
+    1: 'Route Request',
+    2: 'Route Reply',
+    3: 'Network Status',
+    4: 'Leave',
+    5: 'Route Record',
+    6: 'Rejoin Request',
+    7: 'Rejoin Response',
+    8: 'Link Status',
+    9: 'Network Report',
+    10: 'Network Update',
+    11: 'End Device Timeout Request',
+    12: 'End Device Timeout Response',
+    13: 'Link Power Delta',
+    14: 'Commissioning Request',
+    15: 'Commissioning Response',
+}
+APS_COMMANDS = {
+    5: 'Transport-Key',
+    6: 'Update-Device',
+    7: 'Remove-Device',
+    8: 'Request-Key',
+    9: 'Switch-Key',
+    0x0E: 'Tunnel',
+    0x0F: 'Verify-Key',
+    0x10: 'Confirm-Key',
+}
 KEY_TYPES = {1: 'network key', 3: 'application key', 4: 'link key'}
 
 
@@ -18,6 +40,12 @@ def command_words(content):
     return name
 
 
+def tunnel_words(layers):
+    """Says what a Tunnel is, and what is in it as far as it is open."""
+    inner = [it.content for it in layers if it.kind == 'inner' and it.content not in (None, '-')]
+    return f'Tunnel of {command_words(bytes.fromhex(inner[0]))}' if inner else 'Tunnel'
+
+
 def payload_words(payload, layers):
     """Says what an APS frame carries."""
     aps = headers.read_aps(payload)
@@ -25,6 +53,8 @@ def payload_words(payload, layers):
     if aps.kind == headers.ACK:
         return 'acknowledgement'
     if aps.kind == headers.COMMAND:
+        if content and content[0] == headers.TUNNEL:
+            return tunnel_words(layers)
         return command_words(content) if content else 'sealed command'
     return f'data, cluster {aps.cluster:04X}, ' + ('sealed' if content is None else f'{len(content)} bytes')
 

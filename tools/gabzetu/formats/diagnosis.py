@@ -1,4 +1,5 @@
-"""Tells of which kind a text is, and finds its mistakes by the reader of that kind. Whether a text is right is said by tc."""
+"""Tells of which kind a text is, and finds its mistakes by the reader of that kind. Whether a text is right is said
+by tc."""
 import functools
 
 from .. import program
@@ -10,15 +11,19 @@ ENDINGS = {'.sched': 'schedule', '.capture': 'capture', '.script': 'script'}
 # Lines that tell the kind of a text, and mistakes that are looked for: a longer text is left to tc.
 LINES_THAT_TELL = 200
 LONGEST = 16777216
-# tc is asked for the link keys of so many codes
+# tc is asked for the link keys of this number of codes
 MOST_CODES = 512
 
 # Inputs of other kinds, by how they begin, and what reads them.
 OTHERS = [
-    (b'\xd4\xc3\xb2\xa1', 'a pcap file: `gabzetu open` reads it'), (b'\xa1\xb2\xc3\xd4', 'a pcap file: `gabzetu open` reads it'),
-    (b'\x4d\x3c\xb2\xa1', 'a pcap file: `gabzetu open` reads it'), (b'\xa1\xb2\x3c\x4d', 'a pcap file: `gabzetu open` reads it'),
-    (b'\x0a\x0d\x0d\x0a', 'a pcapng file: `gabzetu open` reads it'), (b'0 node ', 'a transcript: `gabzetu audit` judges it'),
-    (b'1 nwk ', "an inspector's report"), (b'{"active"', 'a backup: `restore SKIP BACKUP` in a script takes it'),
+    (b'\xd4\xc3\xb2\xa1', 'a pcap file: `gabzetu open` reads it'),
+    (b'\xa1\xb2\xc3\xd4', 'a pcap file: `gabzetu open` reads it'),
+    (b'\x4d\x3c\xb2\xa1', 'a pcap file: `gabzetu open` reads it'),
+    (b'\xa1\xb2\x3c\x4d', 'a pcap file: `gabzetu open` reads it'),
+    (b'\x0a\x0d\x0d\x0a', 'a pcapng file: `gabzetu open` reads it'),
+    (b'0 node ', 'a transcript: `gabzetu audit` judges it'),
+    (b'1 nwk ', "an inspector's report"),
+    (b'{"active"', 'a backup: `restore SKIP BACKUP` in a script takes it'),
     (b'{', 'a JSON text'),
 ]
 
@@ -44,7 +49,8 @@ def other_kind_of(data):
 
 
 def score(kind, lines):
-    """Returns how well lines fit a kind: a line that has a form of it counts twice, one with a first word of it once."""
+    """Returns how well lines fit a kind: a line that has a form of it counts twice, one with a first word of it
+    once."""
     table = READERS[kind].GRAMMAR
     return sum(2 if table.read(line)[0] else 1 if line.words[0].text in table.firsts else 0 for line in lines)
 

@@ -1,17 +1,45 @@
-"""Names the fields of the lines that tc writes, as docs/FORMATS.md names them: transcripts, reports, campaigns, lists of stores.
+"""Names the fields of the lines that tc writes, as docs/FORMATS.md names them: transcripts, reports, campaigns,
+lists of stores.
 
-Each reader takes the words of a line and returns a dict whose `kind` is the kind of the line, or none where the line is
-no such line. Counters and numbers are numbers, `yes` and `no` are true and false, all else is text as it was written."""
+Each reader takes the words of a line and returns a dict whose `kind` is the kind of the line, or none where the line
+is no such line. Counters and numbers are numbers, `yes` and `no` are true and false, all else is text as it was
+written."""
 
-NUMBERS = {'limit', 'value', 'seq', 'sequence', 'counter', 'frame', 'out', 'in', 'n', 'k', 'round', 'line', 'claim', 'place', 'run',
-           'events', 'seals', 'accepts', 'refusals', 'frames', 'keys', 'rounds', 'packets', 'badcheck', 'other', 'count'}
+NUMBERS = {
+    'limit',
+    'value',
+    'seq',
+    'sequence',
+    'counter',
+    'frame',
+    'out',
+    'in',
+    'n',
+    'k',
+    'round',
+    'line',
+    'claim',
+    'place',
+    'run',
+    'events',
+    'seals',
+    'accepts',
+    'refusals',
+    'frames',
+    'keys',
+    'rounds',
+    'packets',
+    'badcheck',
+    'other',
+    'count',
+}
 TRUTHS = {'yes': True, 'no': False}
 
 TERM = 'layer label base source counter control header content'
 END = 'events seals accepts refusals ideal private'
 
-# The fields behind the kind. `row=net` is the very word net, as the field row; `=key` is a word that is no field. Of several
-# forms the first that fits counts.
+# The fields after the kind. `row=net` is the very word net, as the field row; `=key` is a word that is no field. Of
+# several forms the first that fits counts.
 TRANSCRIPT = {
     'node': ['name role eui short out in'],
     'given': ['node row=net key seq', 'node row=link partner key'],
@@ -44,7 +72,7 @@ TRANSCRIPT = {
     'dump': ['node hex'],
 }
 
-# Of a report, behind the frame's number: a layer that opened under key K, and one that didn't with its reason.
+# Of a report, after the frame's number: a layer that opened under key K, and one that didn't with its reason.
 LAYERS = {
     'nwk': ['=key k source counter content', 'reason'],
     'aps': ['=key k label source counter content', 'reason'],
@@ -113,7 +141,8 @@ def read_numbered(name, table, words):
 
 
 def read_transcript_line(words):
-    """Returns the fields of a line of a transcript: `event`, `kind` and those of its kind. The end line has no event."""
+    """Returns the fields of a line of a transcript: `event`, `kind` and those of its kind. The end line has no
+    event."""
     return read_by({'end': [END]}, words) or read_numbered('event', TRANSCRIPT, words)
 
 

@@ -1,14 +1,14 @@
 """Reads a line by a table of forms, and says what is wrong with it: where, which word, and what was wanted.
 
-A form is a text such as `deliver FRAME NAME`: words in lower case are those very words, others are places, whose kinds of words the
-table has by their name."""
+A form is a text such as `deliver FRAME NAME`: words in lower case are those very words, others are places, whose
+kinds of words the table has by their name."""
 import collections
 import re
 
 from .words import Literal, Rest, counted, near
 
-# line, column: from 1; text: the word or line; message: what is wrong; cause: as tc would refuse it; earlier: the line of an
-# earlier thing that this clashes with, or none
+# line, column: from 1; text: the word or line; message: what is wrong; cause: as tc would refuse it; earlier: the
+# line of an earlier thing that this clashes with, or none
 Mistake = collections.namedtuple('Mistake', 'line column text message cause earlier')
 
 # A line of a text: number from 1, text, words with their columns
@@ -18,10 +18,14 @@ Word = collections.namedtuple('Word', 'text column')
 LONGEST_SHOWN = 40
 
 
-def shown(text):
-    """Returns a text for a message, cut where it is long, with escapes for what isn't printed."""
-    text = text if len(text) <= LONGEST_SHOWN else text[:LONGEST_SHOWN] + '..'
+def printable(text):
+    """Returns a text with escapes for what isn't printed: a terminal takes no orders from a file."""
     return ''.join(it if it.isprintable() and it.isascii() else ascii(it)[1:-1] for it in text)
+
+
+def shown(text):
+    """Returns a text for a message, cut where it is long."""
+    return printable(text if len(text) <= LONGEST_SHOWN else text[:LONGEST_SHOWN] + '..')
 
 
 def describe(mistake):
@@ -44,7 +48,7 @@ class Form:
         self.roles = roles or {}
 
     def has_rest(self):
-        """Says whether the last place takes all that is left of a line."""
+        """Returns whether the last place takes all that is left of a line."""
         return bool(self.places) and isinstance(self.places[-1], Rest)
 
     def values(self, line):
@@ -62,7 +66,8 @@ def split_line(number, text):
 
 
 def read_lines(data):
-    """Yields the lines of a text that say something, decoded byte by byte. Empty lines and comments are passed over."""
+    """Yields the lines of a text that say something, decoded byte by byte. Empty lines and comments are passed
+    over."""
     pieces = data.decode('latin-1').split('\n')
     for number, text in enumerate(pieces, 1):
         if text.endswith('\r') and number < len(pieces):
@@ -72,6 +77,7 @@ def read_lines(data):
 
 
 def mistake(line, column, text, message, cause='syntax', earlier=None):
+    """Returns a mistake in a line."""
     return Mistake(line.number, column, text, message, cause, earlier)
 
 
@@ -102,8 +108,8 @@ def fault_of_layout(line, layouts):
 
 
 def fault_of_first(line, firsts, others):
-    """Returns the mistake of a line whose first word no form has. `firsts` are the forms by their first words, `others` the
-    first words of forms that people may mean by other words."""
+    """Returns the mistake of a line whose first word no form has. `firsts` are the forms by their first words,
+    `others` the first words of forms that people may mean by other words."""
     word = line.words[0].text
     meant = others.get(word.lower()) or near(word, firsts)
     if meant is None:
@@ -136,8 +142,8 @@ def wanted_word(form, number, forms):
 
 
 def fault_of_words(line, form, forms):
-    """Returns the mistake of the words of a line in a form, or none: the first wrong word, else their number. `forms` are
-    all that the line fits as well."""
+    """Returns the mistake of the words of a line in a form, or none: the first wrong word, else their number.
+    `forms` are all that the line fits as well."""
     words = line.words[1:]
     number, fault = first_fault(form, words)
     if fault:
@@ -145,11 +151,15 @@ def fault_of_words(line, form, forms):
         return mistake(line, words[number].column, words[number].text, f"{fault} ('{form.text}')")
     if len(words) < len(form.places):
         place = form.places[len(words)]
-        return mistake(line, len(line.text) + 1, line.text, f"{place.name} is missing: {place.wanted} ('{form.text}')")
+        return mistake(
+            line, len(line.text) + 1, line.text, f"{place.name} is missing: {place.wanted} ('{form.text}')"
+        )
     if len(words) > len(form.places):
         left = words[len(form.places)]
-        extra = line.text[left.column - 1:]
-        return mistake(line, left.column, extra, f"{counted(len(words) - len(form.places), 'word')} too many ('{form.text}')")
+        extra = line.text[left.column - 1 :]
+        return mistake(
+            line, left.column, extra, f"{counted(len(words) - len(form.places), 'word')} too many ('{form.text}')"
+        )
     return None
 
 
@@ -166,7 +176,12 @@ def with_rest(line, form):
     if not form.has_rest() or len(line.words) - 1 <= size:
         return line
     last = line.words[size]
-    return line._replace(words=[*line.words[:size], Word(line.text[last.column - 1:], last.column)])
+    return line._replace(words=[*line.words[:size], Word(line.text[last.column - 1 :], last.column)])
+
+
+def by_other(meant):
+    """Returns what people write, each word with the one that it is, of the other words of each."""
+    return {other: word for word, others in meant.items() for other in others.split()}
 
 
 class Grammar:

@@ -8,12 +8,12 @@ DATA, COMMAND, ACK, INTER_PAN = 0, 1, 2, 3
 VERSION, GREEN_POWER = 2, 3
 UPDATE_DEVICE, TUNNEL = 6, 0x0E
 
-# level: as it is on the air; identifier: which key (0 data, 1 network, 2 transport, 3 load); source: an EUI or none; sequence: of
-# the network key or none
+# level: as it is on the air; identifier: which key (0 data, 1 network, 2 transport, 3 load); source: an EUI or none;
+# sequence: of the network key or none
 Auxiliary = collections.namedtuple('Auxiliary', 'level identifier counter source sequence')
 
-# to, source: short addresses; to_eui, source_eui: none where they are absent; auxiliary: none where the frame isn't secured;
-# rest: what is behind the headers
+# to, source: short addresses; to_eui, source_eui: none where they are absent; auxiliary: none where the frame isn't
+# secured; rest: what is behind the headers
 Nwk = collections.namedtuple('Nwk', 'kind version to source to_eui source_eui auxiliary rest')
 Aps = collections.namedtuple('Aps', 'kind profile cluster auxiliary rest')
 
@@ -25,7 +25,7 @@ class Malformed(Exception):
 def take(data, at, size):
     if at + size > len(data):
         raise Malformed('header cut')
-    return data[at:at + size], at + size
+    return data[at : at + size], at + size
 
 
 def read_auxiliary(data, at):

@@ -1,4 +1,5 @@
-"""Reads keys from files of other programs: coordinator backups, settings of Zigbee2MQTT, keys of Wireshark, reports and transcripts."""
+"""Reads keys from files of other programs: coordinator backups, settings of Zigbee2MQTT, keys of Wireshark, reports
+and transcripts."""
 import json
 import re
 
@@ -7,9 +8,16 @@ from ..output import read_input
 
 KEY = re.compile('[0-9A-F]{32}')
 SEPARATORS = re.compile(r'[:\-\s]')
-FORMAT = 'zigpy/open-coordinator-backup'
-KNOWN = ('a coordinator backup of zigpy, ZHA or Zigbee2MQTT, a backup of `gabzetu admin`, configuration.yaml of Zigbee2MQTT, '
-         'zigbee_pc_keys of Wireshark, a report of inspect or sniff, and a transcript')
+MOST_LABEL = 100
+KNOWN = (
+    'a coordinator backup of zigpy, ZHA or Zigbee2MQTT, a backup of `gabzetu admin`, '
+    'configuration.yaml of Zigbee2MQTT, zigbee_pc_keys of Wireshark, a report of inspect or sniff, and a transcript'
+)
+
+
+def printable(value):
+    """Returns a foreign text in one line that a terminal takes, cut where it is long."""
+    return ''.join(it for it in str(value) if it.isprintable())[:MOST_LABEL]
 
 
 def normal_key(text):
@@ -20,36 +28,48 @@ def normal_key(text):
 
 
 def members(value, name):
-    """Returns the list or object that a member of a JSON object is, or an empty one."""
-    found = value.get(name) if isinstance(value, dict) else None
-    return found if isinstance(found, (list, dict)) else []
+    """Returns the object that a member of a JSON object is, or an empty one."""
+    found = value.get(name)
+    return found if isinstance(found, dict) else {}
+
+
+def objects(value, name):
+    """Returns the objects in the list that a member of a JSON object is."""
+    found = value.get(name)
+    return [it for it in found if isinstance(it, dict)] if isinstance(found, list) else []
+
+
+def key_in(value, name):
+    """Returns the member `key` of the object that a member is, or none."""
+    return members(value, name).get('key')
 
 
 def keys_of_coordinator(backup):
     """Yields the keys of an open coordinator backup: of the network, of its devices, and of the trust centre."""
-    network = backup.get('network_key') or {}
-    yield network.get('key'), f'network key {network.get("sequence_number", 0)}'
-    for device in filter(lambda it: isinstance(it, dict), members(backup, 'devices')):
-        link = device.get('link_key')
-        if isinstance(link, dict):
-            yield link.get('key'), f'link key of {str(device.get("ieee_address")).upper()}'
+    yield key_in(backup, 'network_key'), f'network key {members(backup, "network_key").get("sequence_number", 0)}'
+    for device in objects(backup, 'devices'):
+        yield key_in(device, 'link_key'), f'link key of {str(device.get("ieee_address")).upper()}'
     inside = members(members(backup, 'metadata'), 'internal')
-    yield members(members(inside, 'network'), 'tc_link_key') and inside['network']['tc_link_key'].get('key'), 'trust centre link key'
+    yield key_in(members(inside, 'network'), 'tc_link_key'), 'trust centre link key'
 
 
 def keys_of_zha(backup):
     """Yields the keys of a backup as ZHA keeps it: network_info with network_key, tc_link_key and key_table."""
-    info = backup['network_info']
+    info = members(backup, 'network_info')
     for name, words in (('network_key', 'network key'), ('tc_link_key', 'trust centre link key')):
-        yield members(info, name) and info[name].get('key'), words
-    for entry in members(info, 'key_table'):
-        yield members(entry, 'key') or entry.get('key'), f'link key of {entry.get("partner_ieee")}'
+        yield key_in(info, name), words
+    for entry in objects(info, 'key_table'):
+        yield entry.get('key'), f'link key of {entry.get("partner_ieee")}'
 
 
 def keys_of_centre(backup):
     """Yields the keys of a backup of `tc admin` (docs/BACKUP.md)."""
-    for name, words in (('nets', 'network key {sequence}'), ('links', 'link key of {partner}'), ('pairs', 'key of {first} with {second}')):
-        for row in members(backup, name):
+    for name, words in (
+        ('nets', 'network key {sequence}'),
+        ('links', 'link key of {partner}'),
+        ('pairs', 'key of {first} with {second}'),
+    ):
+        for row in objects(backup, name):
             yield row.get('key'), words.format_map({'sequence': '', 'partner': '', 'first': '', 'second': '', **row})
 
 
@@ -76,7 +96,11 @@ def listed_numbers(text):
     inline = re.match(r'\[([^\]]*)\]', text)
     block = re.match(r'[^\n]*\n((?:[ \t]*-[ \t]*\w+[ \t]*(?:#[^\n]*)?(?:\n|$))+)', text)
     found = inline or block
-    return [number_of(it) for it in re.findall(r'\b(?:0[xX][0-9A-Fa-f]+|\d+)\b', re.sub('#.*', '', found[1]))] if found else []
+    return (
+        [number_of(it) for it in re.findall(r'\b(?:0[xX][0-9A-Fa-f]+|\d+)\b', re.sub('#.*', '', found[1]))]
+        if found
+        else []
+    )
 
 
 def keys_of_settings(text):
@@ -84,7 +108,7 @@ def keys_of_settings(text):
     place = re.search(r'^[ \t]*network_key:[ \t]*(.*)$', text, re.M)
     if not place:
         return
-    numbers = listed_numbers(text[place.start(1):])
+    numbers = listed_numbers(text[place.start(1) :])
     if len(numbers) == 16 and max(numbers) < 256:
         yield bytes(numbers).hex(), 'network key of the settings'
     elif not numbers:
@@ -101,9 +125,9 @@ def keys_of_wireshark(text):
 def keys_of_report(lines):
     """Yields the keys of the lines of a report, each with a word on where it comes from."""
     for words in lines:
-        if words[0] == 'key' and words[3:4] == ['given']:
+        if words[0] == 'key' and words[3:] == ['given']:
             yield words[2], f'key {words[1]}, given'
-        elif words[0] == 'key' and words[3:4] == ['found'] and len(words) > 4:
+        elif words[0] == 'key' and words[3:4] == ['found'] and words[4:5] and words[4].isdigit():
             yield words[2], f'key {words[1]}, found in frame {words[4]}'
 
 
@@ -123,9 +147,12 @@ def keys_of_transcript(lines):
 
 
 def keys_of_opened(text):
-    """Yields the keys of the listing that `gabzetu open` writes."""
-    for key, words in re.findall(r'^  key +\d+  ([0-9A-F]{32})  (.+)$', text, re.M):
-        yield key, words
+    """Yields the keys of what `gabzetu open` writes: its listing, or its JSON lines."""
+    for number, key, words in re.findall(r'^  key +(\d+) +([0-9A-F]{32})  (.+)$', text, re.M):
+        yield key, f'key {number}, {words.split(", which key")[0]}'
+    for line in re.findall(r'^\{"kind": "key", .*\}$', text, re.M):
+        fields = json.loads(line)
+        yield fields.get('key'), f'key {fields.get("k")}, {fields.get("origin")}'
 
 
 def keys_of_text(text):
@@ -136,8 +163,13 @@ def keys_of_text(text):
     except ValueError:
         pass
     lines = [words for words in map(str.split, text.splitlines()) if words]
-    for reader, value in ((keys_of_wireshark, text), (keys_of_report, lines), (keys_of_transcript, lines), (keys_of_opened, text),
-                          (keys_of_settings, text)):
+    for reader, value in (
+        (keys_of_wireshark, text),
+        (keys_of_report, lines),
+        (keys_of_transcript, lines),
+        (keys_of_opened, text),
+        (keys_of_settings, text),
+    ):
         yield from reader(value)
 
 
@@ -151,7 +183,7 @@ def read_key_file(path):
     for text_of_key, label in keys_of_text(text):
         key = normal_key(text_of_key)
         if key:
-            labels.setdefault(key, label)
+            labels.setdefault(key, printable(label))
     if not labels:
         raise Stop(f'{path}: no keys are in it: known are {KNOWN}', UNREADABLE)
     return labels

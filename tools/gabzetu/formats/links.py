@@ -1,4 +1,5 @@
-"""Finds the packet of IEEE 802.15.4 in a captured one, whatever its link type: behind TAP, PHY, or IP, UDP and ZEP headers."""
+"""Finds the packet of IEEE 802.15.4 in a captured one, whatever its link type: behind TAP, PHY, or IP, UDP and ZEP
+headers."""
 import collections
 import struct
 
@@ -11,8 +12,8 @@ START_OF_FRAME = 0xA7
 # ZEP header: its size, and the places of the mode and the length of the packet
 ZEP_FORMS = {1: (16, 6, 15), 2: (32, 7, 31)}
 
-# kept: the bytes that are there; whole: how many it had on the air; check: what its last two bytes are (none, crc or ti), as its
-# link type says; kind: names those packets that are alike in it
+# kept: the bytes that are there; whole: how many it had on the air; check: what its last two bytes are (none, crc or
+# ti), as its link type says; kind: names those packets that are alike in it
 Wrapped = collections.namedtuple('Wrapped', 'kept whole check kind')
 
 
@@ -43,11 +44,12 @@ def in_phy(kept, whole):
     if len(kept) < 6 or kept[4] != START_OF_FRAME:
         raise LeftOut('no PHY header')
     size = kept[5] & 0x7F
-    return Wrapped(kept[6:6 + size], size, 'crc', f'link type {PHY}')
+    return Wrapped(kept[6 : 6 + size], size, 'crc', f'link type {PHY}')
 
 
 def in_zep(data):
-    """Returns the packet behind a ZEP header. By its mode the last two bytes are the check sequence or a TI chip's words."""
+    """Returns the packet behind a ZEP header. By its mode the last two bytes are the check sequence or a TI chip's
+    words."""
     if data[:2] != b'EX' or len(data) < 4 or data[2] not in ZEP_FORMS:
         raise LeftOut('no ZEP packet')
     if data[2] == 2 and data[3] != 1:
@@ -56,7 +58,7 @@ def in_zep(data):
     if len(data) < size:
         raise LeftOut('cut within its ZEP header')
     check = 'crc' if data[mode] else 'ti'
-    return Wrapped(data[size:size + data[length]], data[length], check, f'ZEP {check}')
+    return Wrapped(data[size : size + data[length]], data[length], check, f'ZEP {check}')
 
 
 def looks_like_zep(data):
@@ -90,6 +92,7 @@ class Links:
             import scapy.layers.inet
             import scapy.layers.inet6
             import scapy.layers.l2  # noqa: F401: so that link types are known
+
             self.udp = scapy.layers.inet.UDP
 
     def in_udp(self, packet):
@@ -104,7 +107,7 @@ class Links:
         if self.udp not in read:
             raise LeftOut('no ZEP packet')
         udp = read[self.udp]
-        data = udp.original[8:udp.len]
+        data = udp.original[8 : udp.len]
         if self.zep_port in (udp.sport, udp.dport):
             return in_zep(data)
         if looks_like_zep(data):

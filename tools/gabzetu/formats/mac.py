@@ -1,4 +1,5 @@
-"""Reads the MAC header of packets of IEEE 802.15.4, and says why one has no frame for tc (docs/FORMATS.md, "Capture files")."""
+"""Reads the MAC header of packets of IEEE 802.15.4, and says why one has no frame for tc (docs/FORMATS.md, "Capture
+files")."""
 import collections
 import struct
 
@@ -31,14 +32,14 @@ def read_address(packet, at, mode):
 def read_pan(packet, at):
     if at + 2 > len(packet):
         raise LeftOut('MAC header cut')
-    return digits(packet[at:at + 2]), at + 2
+    return digits(packet[at : at + 2]), at + 2
 
 
 def read_header(packet):
     """Returns the header of a packet of version 0 or 1. Raises LeftOut where it isn't whole."""
     if len(packet) < 3:
         raise LeftOut('MAC header cut')
-    control, = struct.unpack_from('<H', packet)
+    (control,) = struct.unpack_from('<H', packet)
     to_mode, source_mode, at, pan, source_pan = control >> 10 & 3, control >> 14 & 3, 3, None, None
     if 1 in (to_mode, source_mode):
         raise LeftOut('reserved address mode')
@@ -52,12 +53,13 @@ def read_header(packet):
 
 
 def read_data(packet, check_size):
-    """Returns the header of a data packet that has a payload for tc, or raises LeftOut with the reason why it has none."""
+    """Returns the header of a data packet that has a payload for tc, or raises LeftOut with the reason why it has
+    none."""
     if len(packet) + check_size > LONGEST:
         raise LeftOut(f'longer than {LONGEST} bytes')
     if len(packet) < 3:
         raise LeftOut('MAC header cut')
-    control, = struct.unpack_from('<H', packet)
+    (control,) = struct.unpack_from('<H', packet)
     if control & 7 != DATA:
         raise LeftOut(KINDS.get(control & 7, f'MAC frame of type {control & 7}'))
     if control >> 12 & 3 > 1:

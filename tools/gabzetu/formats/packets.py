@@ -1,4 +1,5 @@
-"""Reads the packets of capture files: pcap and pcapng, also packed by gzip, from a file or a pipe that may still grow."""
+"""Reads the packets of capture files: pcap and pcapng, also packed by gzip, from a file or a pipe that may still
+grow."""
 import collections
 import gzip
 import io
@@ -17,8 +18,8 @@ LONGEST = 1 << 24
 BUFFER = 1 << 16
 GZIP = b'\x1f\x8b'
 
-# number: from 1, as other tools count; time: in seconds; link: the link type; kept: the bytes that are there; whole: how many
-# bytes the packet had
+# number: from 1, as other tools count; time: in seconds; link: the link type; kept: the bytes that are there; whole:
+# how many bytes the packet had
 Packet = collections.namedtuple('Packet', 'number time link kept whole')
 
 
@@ -36,7 +37,9 @@ def import_scapy():
         import scapy.error
         import scapy.utils
     except ImportError as error:
-        raise Stop(f'python3-scapy is missing, which reads captures (Debian: apt install python3-scapy): {error}', MISSING) from error
+        raise Stop(
+            f'python3-scapy is missing, which reads captures (Debian: apt install python3-scapy): {error}', MISSING
+        ) from error
     return scapy
 
 
@@ -73,14 +76,15 @@ class Peeked(io.RawIOBase):
         return True
 
     def readinto(self, buffer):
-        data = self.first[:len(buffer)] or self.file.read1(len(buffer))
-        self.first = self.first[len(data):]
-        buffer[:len(data)] = data
+        data = self.first[: len(buffer)] or self.file.read1(len(buffer))
+        self.first = self.first[len(data) :]
+        buffer[: len(data)] = data
         return len(data)
 
 
 def open_source(path, is_followed=False):
-    """Returns the source of a path, `-` for standard input. What gzip packed is unpacked. A file that is followed may grow."""
+    """Returns the source of a path, `-` for standard input. What gzip packed is unpacked. A file that is followed may
+    grow."""
     try:
         file = sys.stdin.buffer if path == '-' else open(path, 'rb')
         waits = is_followed and stat.S_ISREG(os.fstat(file.fileno()).st_mode)
@@ -93,6 +97,7 @@ def open_source(path, is_followed=False):
 
 def readers_of(scapy):
     """Returns the two readers of scapy, which note where the record begins that they read."""
+
     class Pcap(scapy.utils.RawPcapReader):
         def _read_packet(self, *size):
             self.begin = self.f.position
@@ -128,7 +133,9 @@ def open_reader(path, source):
     try:
         kind.__init__(reader, path, source, magic)
     except scapy.error.Scapy_Exception as error:
-        raise Stop(f'{path}: this is no capture file of pcap or pcapng, for it begins with {magic!r}', UNREADABLE) from error
+        raise Stop(
+            f'{path}: this is no capture file of pcap or pcapng, for it begins with {magic!r}', UNREADABLE
+        ) from error
     return reader
 
 

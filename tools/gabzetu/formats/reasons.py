@@ -1,15 +1,26 @@
-"""Says in words why a layer of a frame stayed closed, by what the frame's headers show and what of its PAN did open."""
+"""Says in words why a layer of a frame stayed closed, by what the frame's headers show and what of its PAN did
+open."""
 import collections
 
 from . import headers
 from .addresses import payload_of
 
-LEVELS = {0: 'none', 1: 'MIC-32', 2: 'MIC-64', 3: 'MIC-128', 4: 'ENC', 5: 'ENC-MIC-32', 6: 'ENC-MIC-64', 7: 'ENC-MIC-128'}
+LEVELS = {
+    0: 'none',
+    1: 'MIC-32',
+    2: 'MIC-64',
+    3: 'MIC-128',
+    4: 'ENC',
+    5: 'ENC-MIC-32',
+    6: 'ENC-MIC-64',
+    7: 'ENC-MIC-128',
+}
 KINDS = {0: 'link key', 1: 'network key', 2: 'link key (transport)', 3: 'link key (load)'}
 
 
 class Known:
-    """What opened: the PANs of which something did, and the sequence numbers of the network keys that opened, PAN by PAN."""
+    """What opened: the PANs of which something did, and the sequence numbers of the network keys that opened, PAN by
+    PAN."""
 
     def __init__(self):
         self.sequences, self.opened = collections.defaultdict(set), 0
@@ -22,7 +33,11 @@ class Known:
 
 
 def level_words(auxiliary):
-    return (f'level {auxiliary.level} ({LEVELS[auxiliary.level]}), which is not read' if auxiliary.level not in (0, 5) else None)
+    return (
+        f'level {auxiliary.level} ({LEVELS[auxiliary.level]}), which is not read'
+        if auxiliary.level not in (0, 5)
+        else None
+    )
 
 
 def why_malformed(payload):
@@ -47,8 +62,10 @@ def why_nwk(frame, known):
         return f'PAN {frame.pan or "unknown"}: no network key of it is known'
     if auxiliary.sequence not in known.sequences[frame.pan]:
         return f'PAN {frame.pan}: network key of sequence {auxiliary.sequence} is not known'
-    return (f'PAN {frame.pan}: network key of sequence {auxiliary.sequence} is known and does not open it: '
-            'broken on the air, a level other than 5, or another key')
+    return (
+        f'PAN {frame.pan}: network key of sequence {auxiliary.sequence} is known and does not open it: '
+        'broken on the air, a level other than 5, or another key'
+    )
 
 
 def why_aps(frame, layers, reason):
@@ -74,7 +91,9 @@ def why_closed(frame, layers, known):
             if it.reason == 'no-key' and it.kind == 'nwk':
                 return why_nwk(frame, known)
             if it.reason in ('no-key', 'no-source'):
-                return why_aps(frame, layers, it.reason) if it.kind == 'aps' else f'inner frame of a Tunnel: {it.reason}'
+                return (
+                    why_aps(frame, layers, it.reason) if it.kind == 'aps' else f'inner frame of a Tunnel: {it.reason}'
+                )
     except headers.Malformed:
         return 'broken frame'
     return None

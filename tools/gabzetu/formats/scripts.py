@@ -1,32 +1,65 @@
-"""The lines of scripts of `admin`: their forms with a sentence each, and a reader that finds all mistakes of a text."""
+"""The lines of scripts of `admin`: their forms with a sentence each, and a reader that finds all mistakes of a
+text."""
 import collections
 import json
 
-from .grammar import Form, Grammar, mistake, read_lines
-from .words import GREATEST, Choice, Code, Digits, Eui, Name, Number, Rest, fault_of_code, suggestion
+from .grammar import Form, Grammar, by_other, mistake, read_lines
+from .words import GREATEST, Choice, Code, Digits, Eui, Name, Number, Rest, fault_of_code, suggestion, taken
 
 MOST_PEERS, MOST_COMMANDS = 63, 10000
 
-KINDS = {'NAME': Name(), 'PARENT': Name('PARENT'), 'ROLE': Choice('ROLE', ['router', 'device'], {'zr': 'router', 'zed': 'device'}),
-         'EUI': Eui(), 'SHORT': Digits('SHORT', 4, 'a short address'), 'OUT': Number('OUT', 0, GREATEST),
-         'IN': Number('IN', 0, GREATEST), 'KEY': Digits('KEY', 32, 'a key'), 'CODE': Code(), 'SKIP': Number('SKIP', 0, GREATEST),
-         'BACKUP': Rest('BACKUP', 'the line that `backup` wrote, a JSON object')}
+KINDS = {
+    'NAME': Name(),
+    'PARENT': Name('PARENT'),
+    'ROLE': Choice('ROLE', ['router', 'device'], {'zr': 'router', 'zed': 'device'}),
+    'EUI': Eui(),
+    'SHORT': Digits('SHORT', 4, 'a short address'),
+    'OUT': Number('OUT', 0, GREATEST),
+    'IN': Number('IN', 0, GREATEST),
+    'KEY': Digits('KEY', 32, 'a key'),
+    'CODE': Code(),
+    'SKIP': Number('SKIP', 0, GREATEST),
+    'BACKUP': Rest('BACKUP', 'the line that `backup` wrote, a JSON object'),
+}
 
 FORMS = [
-    Form('command', 'centre NAME EUI OUT IN', 'the first line: the centre, its address, and the blocks in which counters are stored', KINDS),
+    Form(
+        'command',
+        'centre NAME EUI OUT IN',
+        'the first line: the centre, its address, and the blocks in which counters are stored',
+        KINDS,
+    ),
     Form('command', 'peer NAME ROLE EUI SHORT', 'a router or device; all peers come before the first command', KINDS),
     Form('command', 'init KEY', 'makes the store of a centre with this network key', KINDS),
     Form('command', 'provision NAME CODE', 'admits a device by its install code', KINDS),
-    Form('command', 'remove NAME via PARENT', 'removes a device, and tells it (where PARENT is the centre) or its parent', KINDS),
+    Form(
+        'command',
+        'remove NAME via PARENT',
+        'removes a device, and tells it (where PARENT is the centre) or its parent',
+        KINDS,
+    ),
     Form('command', 'list', 'shows the network keys and the link keys', KINDS),
     Form('command', 'backup', 'shows the backup, one line of JSON', KINDS),
-    Form('command', 'restore SKIP BACKUP', 'makes the store of a centre that goes on from a backup, SKIP counters later', KINDS),
+    Form(
+        'command',
+        'restore SKIP BACKUP',
+        'makes the store of a centre that goes on from a backup, SKIP counters later',
+        KINDS,
+    ),
 ]
 
 # What people write for the first word of a command.
-OTHERS = {'center': 'centre', 'coordinator': 'centre', 'node': 'peer', 'device': 'peer', 'router': 'peer', 'netkey': 'init',
-          'key': 'init', 'admit': 'provision', 'code': 'provision', 'delete': 'remove', 'show': 'list', 'ls': 'list',
-          'dump': 'backup', 'save': 'backup', 'export': 'backup', 'import': 'restore', 'load': 'restore'}
+MEANT = {
+    'centre': 'center coordinator',
+    'peer': 'node device router',
+    'init': 'netkey key',
+    'provision': 'admit code',
+    'remove': 'delete',
+    'list': 'show ls',
+    'backup': 'dump save export',
+    'restore': 'import load',
+}
+OTHERS = by_other(MEANT)
 
 GRAMMAR = Grammar(FORMS, OTHERS)
 BLOCKS = {'OUT': 65536, 'IN': 1024}
@@ -64,12 +97,16 @@ class Reader:
         self.stations[values['NAME'].text] = Station(line.number, 'centre', values['EUI'].text.upper(), '0000')
         for key, most in BLOCKS.items():
             if not 1 <= int(values[key].text) <= most:
-                return mistake(line, values[key].column, values[key].text, f'{key} is a block of 1 to {most} counters', 'block')
+                return mistake(
+                    line, values[key].column, values[key].text, f'{key} is a block of 1 to {most} counters', 'block'
+                )
         return None
 
     def take_peer(self, line, values):
         if self.first_command is not None:
-            message = f'a peer after a command: all peers come first, and the first command is line {self.first_command}'
+            message = (
+                f'a peer after a command: all peers come first, and the first command is line {self.first_command}'
+            )
             return mistake(line, 1, line.text, message)
         word = values['SHORT']
         if not 1 <= int(word.text, 16) <= 0xFFF7:
@@ -83,10 +120,9 @@ class Reader:
 
     def fault_of_taken(self, line, values):
         for name, old in self.stations.items():
-            for key, what, taken in (('NAME', 'name', name), ('EUI', 'EUI', old.eui), ('SHORT', 'short address', old.short)):
-                word = values[key]
-                if (word.text if key == 'NAME' else word.text.upper()) == taken:
-                    return mistake(line, word.column, word.text, f'this {what} is taken', 'duplicate-node', old.line)
+            word, what = taken(values, name, old.eui, old.short)
+            if word:
+                return mistake(line, word.column, word.text, f'this {what} is taken', 'duplicate-node', old.line)
         return None
 
     def fault_of_station(self, line, word, wanted):
@@ -110,8 +146,9 @@ class Reader:
         name, parent = values['NAME'], values['PARENT']
         if name.text == parent.text:
             return mistake(line, parent.column, parent.text, 'a node is not its own parent', 'unknown-node')
-        return (self.fault_of_station(line, name, ['router', 'device']) or
-                self.fault_of_station(line, parent, ['centre', 'router']))
+        return self.fault_of_station(line, name, ['router', 'device']) or self.fault_of_station(
+            line, parent, ['centre', 'router']
+        )
 
     @staticmethod
     def fault_of_restore(line, values):
@@ -136,5 +173,7 @@ def find_mistakes(data, link_key=None):
     if reader.centre is None and not mistakes:
         number = data.count(b'\n') + (1 if data and not data.endswith(b'\n') else 0) + 1
         end = collections.namedtuple('End', 'number')(number)
-        mistakes.append(mistake(end, 1, 'end', "no line is the centre, for example 'centre c 00124B0000000001 8 4'", 'no-centre'))
+        mistakes.append(
+            mistake(end, 1, 'end', "no line is the centre, for example 'centre c 00124B0000000001 8 4'", 'no-centre')
+        )
     return mistakes

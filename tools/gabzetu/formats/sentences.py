@@ -2,12 +2,25 @@
 from . import frames, policy
 
 STATES = {
-    'fresh': 'has not joined', 'knocked': 'waits for the network key', 'joined': 'has the network key, and will ask for a link key',
-    'offered': 'has a new link key, and will verify it', 'confirmed': 'has a link key of its own that both sides verified',
-    'rejoining': 'waits for the network key again', 'gone': 'has left the network',
+    'fresh': 'has not joined',
+    'knocked': 'waits for the network key',
+    'joined': 'has the network key, and will ask for a link key',
+    'offered': 'has a new link key, and will verify it',
+    'confirmed': 'has a link key of its own that both sides verified',
+    'rejoining': 'waits for the network key again',
+    'gone': 'has left the network',
 }
-ATTRIBUTES = {'provisional': 'from its install code', 'unverified': 'offered, not verified yet', 'verified': 'verified'}
-LABELS = {'network': 'the network key', 'data': 'the link key', 'transport': 'the link key, for transport', 'load': 'the link key, for load'}
+ATTRIBUTES = {
+    'provisional': 'from its install code',
+    'unverified': 'offered, not verified yet',
+    'verified': 'verified',
+}
+LABELS = {
+    'network': 'the network key',
+    'data': 'the link key',
+    'transport': 'the link key, for transport',
+    'load': 'the link key, for load',
+}
 LAYERS = {'nwk': 'network layer', 'aps': 'application support layer'}
 
 
@@ -18,6 +31,7 @@ class Speaker:
         self.reader = reader
 
     def name(self, eui):
+        """Returns the name of the node of an address, or the address."""
         return self.reader.names.get(eui, eui)
 
     def content(self, event, fields):
@@ -33,6 +47,7 @@ class Speaker:
             return frames.counted(len(fields['content']) // 2)
 
     def network_content(self, event, data, header):
+        """Returns what a frame carries whose NWK layer is open."""
         if int(header[:2], 16) & 3 == frames.COMMAND:
             return 'Leave' if data[:1] == bytes([frames.LEAVE]) else f'NWK command {data[:1].hex()}'
         return ', '.join(self.reader.describe_aps(event, data, [])[0])
@@ -48,7 +63,10 @@ class Speaker:
     def say_given(self, it):
         if it['row'] == 'net':
             return f'{it["node"]} holds the network key {frames.short_key(it["key"])}, sequence {it["seq"]}'
-        return f'{it["node"]} holds the link key {frames.short_key(it["key"])} with {self.name(it["partner"])}, from its install code'
+        return (
+            f'{it["node"]} holds the link key {frames.short_key(it["key"])} with {self.name(it["partner"])}, from '
+            'its install code'
+        )
 
     def say_counter(self, it):
         return f'{it["node"]} has used the {it["layer"]} counters below {it["n"]}'
@@ -57,8 +75,11 @@ class Speaker:
         return f'{it["node"]} reserves the {it["layer"]} counters below {it["limit"]}'
 
     def say_floor(self, it):
-        return (f'{it["node"]} takes no {it["layer"]} counter below {it["value"]} from {self.name(it["sender"])} any more under key '
-                f'{frames.short_key(it["key"])}')
+        return (
+            f'{it["node"]} takes no {it["layer"]} counter below {it["value"]} from {self.name(it["sender"])} any '
+            'more under key '
+            f'{frames.short_key(it["key"])}'
+        )
 
     def say_draw(self, it):
         return f'the centre takes the key {frames.short_key(it["key"])} from its supply'
@@ -79,7 +100,10 @@ class Speaker:
 
     def say_row(self, it):
         attribute = ATTRIBUTES.get(it['attribute'], it['attribute'])
-        return f'{it["node"]} has the link key {frames.short_key(it["key"])} with {self.name(it["partner"])}: {attribute}'
+        return (
+            f'{it["node"]} has the link key {frames.short_key(it["key"])} with {self.name(it["partner"])}: '
+            f'{attribute}'
+        )
 
     def say_pair(self, it):
         pair = f'{self.name(it["first"])} and {self.name(it["second"])}'
@@ -95,7 +119,11 @@ class Speaker:
         return f'{self.name(it["device"])} is no member any more'
 
     def say_roll(self, it):
-        return 'a rollover of the network key begins' if it['roll'] == 'sending' else 'the rollover of the network key ends'
+        return (
+            'a rollover of the network key begins'
+            if it['roll'] == 'sending'
+            else 'the rollover of the network key ends'
+        )
 
     def say_told(self, it):
         return f'{self.name(it["device"])} counts as told of the new network key'
@@ -109,7 +137,10 @@ class Speaker:
     def say_term(self, it, verb):
         key = f'{LABELS.get(it["label"], it["label"])} {frames.short_key(it["base"])}'
         what = self.content(it.get('event', 0), it)
-        return f'{verb} at the {LAYERS.get(it["layer"], it["layer"])}: {what}; from {self.name(it["source"])}, counter {it["counter"]}, under {key}'
+        return (
+            f'{verb} at the {LAYERS.get(it["layer"], it["layer"])}: {what}; from {self.name(it["source"])}, counter '
+            f'{it["counter"]}, under {key}'
+        )
 
     def say_accept(self, it):
         return self.say_term(it, f'{it["node"]} accepts')
@@ -131,6 +162,7 @@ class Speaker:
         return f'frame {it["frame"]} goes on the air' + (f': {what}' if what else '')
 
     def what_goes_out(self, it):
+        """Returns what a frame on the air carries, as far as the lines show it."""
         try:
             lines, _ = self.reader.describe(it['event'], bytes.fromhex(it['bytes']))
             return ', '.join(lines)
@@ -154,7 +186,18 @@ class Speaker:
         return f'the record on the disk of {it["node"]}'
 
     def say_end(self, it):
-        ideal = 'whatever was accepted was sealed or forged before' if it['ideal'] else 'something was accepted that nobody sealed'
-        private = 'outsiders knew no key of the network' if it['private'] else 'an outsider forged with a key of the network'
-        return (f'{it["events"]} events, {it["seals"]} sealed, {it["accepts"]} accepted, {it["refusals"]} refused; {ideal}; '
-                f'{private}')
+        ideal = (
+            'whatever was accepted was sealed or forged before'
+            if it['ideal']
+            else 'something was accepted that nobody sealed'
+        )
+        private = (
+            'outsiders knew no key of the network'
+            if it['private']
+            else 'an outsider forged with a key of the network'
+        )
+        return (
+            f'{it["events"]} events, {it["seals"]} sealed, {it["accepts"]} accepted, {it["refusals"]} refused; '
+            f'{ideal}; '
+            f'{private}'
+        )

@@ -1,8 +1,10 @@
-"""The words of schedules, captures and scripts: what each place of a line wants, and what is wrong with a word there.
+"""The words of schedules, captures and scripts: what each place of a line wants, and what is wrong with a word
+there.
 
-A kind of word has `name`, as forms write it, `wanted`, which says what it takes, and `fault(word)`, which returns what is wrong with a
-word as text behind it, or none. docs/FORMATS.md has the rules."""
+A kind of word has `name`, as forms write it, `wanted`, which says what it takes, and `fault(word)`, which returns
+what is wrong with a word as text after it, or none. docs/FORMATS.md has the rules."""
 import difflib
+import functools
 import re
 
 GREATEST = 4294967295
@@ -24,7 +26,19 @@ def suggestion(word, words):
 
 
 def counted(number, what):
+    """Returns a number and what it counts, in the plural where it isn't 1."""
     return f'{number} {what}' + ('' if number == 1 else 's')
+
+
+TAKEN = {'NAME': 'name', 'EUI': 'EUI', 'SHORT': 'short address'}
+
+
+def taken(values, name, eui, short):
+    """Returns the word of a line that is taken by another node, and what it is; or none and none."""
+    old = {'NAME': name, 'EUI': eui, 'SHORT': short}
+    same = (key for key in TAKEN if (values[key].text if key == 'NAME' else values[key].text.upper()) == old[key])
+    key = next(same, None)
+    return (values[key], TAKEN[key]) if key else (None, None)
 
 
 class Name:
@@ -184,24 +198,35 @@ class Rest:
         return None
 
 
+def crc_after(crc, byte):
+    """Returns the remainder so far after one more byte, whose lowest bit comes first."""
+    crc ^= byte
+    for _ in range(8):
+        crc = crc >> 1 ^ 0x8408 if crc & 1 else crc >> 1
+    return crc
+
+
 def crc_of(data):
-    """Returns the CRC of an install code, as its two bytes stand behind it."""
-    crc = 0xFFFF
-    for byte in data:
-        crc ^= byte
-        for _ in range(8):
-            crc = crc >> 1 ^ 0x8408 if crc & 1 else crc >> 1
-    return (crc ^ 0xFFFF).to_bytes(2, 'little')
+    """Returns the CRC of an install code, as the two bytes after it."""
+    return (functools.reduce(crc_after, data, 0xFFFF) ^ 0xFFFF).to_bytes(2, 'little')
 
 
 def fault_of_code(word):
     """Returns why the bytes of a word are no install code, or none."""
     data = b'' if word == '-' else bytes.fromhex(word)
     if len(data) + 2 in CODE_SIZES and len(data) not in CODE_SIZES:
-        return f'an install code ends with its CRC, and here it is missing: {word.upper()}{crc_of(data).hex().upper()}'
+        return (
+            f'an install code ends with its CRC, and here it is missing: {word.upper()}{crc_of(data).hex().upper()}'
+        )
     if len(data) not in CODE_SIZES:
-        return f'an install code has 6, 8, 12 or 16 bytes and a CRC of 2, and this has {counted(len(data), "byte")} in all'
+        return (
+            f'an install code has 6, 8, 12 or 16 bytes and a CRC of 2, and this has {counted(len(data), "byte")} in '
+            'all'
+        )
     wanted = crc_of(data[:-2])
     if data[-2:] != wanted:
-        return f'the CRC at the end is {data[-2:].hex().upper()}, and of these bytes it is {wanted.hex().upper()}: a digit is wrong'
+        return (
+            f'the CRC at the end is {data[-2:].hex().upper()}, and of these bytes it is {wanted.hex().upper()}: a '
+            'digit is wrong'
+        )
     return None

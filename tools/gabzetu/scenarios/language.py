@@ -20,11 +20,12 @@ KINDS = {**schedules.KINDS, 'NAMES': Names(), 'SEED': Seed(), 'TO': Name('TO')}
 
 
 def form(text, about):
+    """Returns a form of a line of a scenario."""
     return Form(WHAT, text, about, KINDS)
 
 
 DECLARATIONS = [
-    form('seed SEED', 'the seed of all that is `auto` behind it; `gabzetu` without this line'),
+    form('seed SEED', 'the word from which all that is `auto` after it is made; without this line it is `gabzetu`'),
     form('centre NAME', 'a node line of the centre, with an address of its own'),
     form('router NAME', 'a node line of a router'),
     form('device NAME', 'a node line of a device'),
@@ -56,8 +57,18 @@ STEPS = [
 
 PLAIN = schedules.DECLARATIONS + schedules.EVENTS
 # `centre`, `send` and others are words of their own here.
-OTHERS = {**{it: other for it, other in schedules.OTHERS.items() if it not in {form.first for form in DECLARATIONS + STEPS}},
-          'rotate': 'rollover', 'leave': 'remove', 'lost': 'lose', 'drop': 'lose', 'reboot': 'restart', 'hear': 'deliver', 'coordinator': 'centre'}
+OTHERS = {
+    **{
+        it: other for it, other in schedules.OTHERS.items() if it not in {form.first for form in DECLARATIONS + STEPS}
+    },
+    'rotate': 'rollover',
+    'leave': 'remove',
+    'lost': 'lose',
+    'drop': 'lose',
+    'reboot': 'restart',
+    'hear': 'deliver',
+    'coordinator': 'centre',
+}
 GRAMMAR = Grammar(PLAIN + DECLARATIONS + STEPS, OTHERS)
 
 

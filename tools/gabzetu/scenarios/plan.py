@@ -47,20 +47,22 @@ class Plan:
 
     def from_seed(self, what):
         """Returns 16 bytes that only the seed and `what` decide, as digits."""
-        return hashlib.sha256(f'{self.seed} {what}'.encode()).hexdigest()[:2 * CODE_BYTES].upper()
+        return hashlib.sha256(f'{self.seed} {what}'.encode()).hexdigest()[: 2 * CODE_BYTES].upper()
 
     def new_key(self):
+        """Returns a key from the seed that no call before returned."""
         self.made += 1
         return self.from_seed(f'key {self.made}')
 
     def new_code(self, name):
+        """Returns the install code of a node, from the seed."""
         digits = self.from_seed(f'code {name}')
         return digits + crc_of(bytes.fromhex(digits)).hex().upper()
 
     # ---- lines
 
     def comment(self, text):
-        """Adds a comment, or an empty line. It stands before the next declaration or event, whichever comes."""
+        """Adds a comment, or an empty line. It comes before the next declaration or event, whichever comes."""
         self.pending.append(Entry(text, self.origin))
 
     def settle(self, lines):
@@ -114,6 +116,7 @@ class Plan:
     # ---- what tc makes of it
 
     def events(self):
+        """Returns how many events there are so far."""
         return sum(1 for it in self.body if it.text and not it.text.startswith('#'))
 
     def draws(self, count):
@@ -124,6 +127,7 @@ class Plan:
         return [Entry('# the supply of keys', 0), *keys]
 
     def entries(self, supply):
+        """Returns all lines so far, with a supply of this many keys."""
         return self.declared + self.draws(supply) + self.body
 
     def play(self):
@@ -139,6 +143,7 @@ class Plan:
 
     @staticmethod
     def read(text):
+        """Returns what a transcript says of each event."""
         groups, frames = collections.defaultdict(list), 0
         for line in stories.read_text(text):
             if stories.event_of(line) is not None:
@@ -161,6 +166,7 @@ class Plan:
         return self.stop(describe(found[0]._replace(earlier=earlier)).split(': ', 1)[1])
 
     def stop(self, why):
+        """Returns what stops with a message at the line of the scenario."""
         return Stop(f'{self.name}:{self.origin}: {why}', WRONG_INPUT)
 
     # ---- questions on the run so far
@@ -173,6 +179,7 @@ class Plan:
         return name
 
     def node(self, name):
+        """Returns the words of a node line after the name."""
         if name not in self.nodes:
             raise self.stop(f"no node '{name}' is declared")
         return self.nodes[name]
@@ -202,17 +209,20 @@ class Plan:
         if not frame:
             raise self.stop('no frame is on the air yet')
         if frame in self.lost:
-            raise self.stop(f'frame {frame}, the last one, was lost in line {self.lost[frame]}; no other one went out since')
+            raise self.stop(
+                f'frame {frame}, the last one, was lost in line {self.lost[frame]}; no other one went out since'
+            )
         return frame
 
     def was_heard(self, frame):
-        """Says whether a deliver line of this frame stands so far."""
+        """Returns whether a deliver line of this frame exists so far."""
         return any(it.text.startswith(f'deliver {frame} ') for it in self.body)
 
     # ---- the schedule
 
     def text(self):
-        """Returns the schedule, with a word behind each event that is refused, and a supply as long as the run needs."""
+        """Returns the schedule, with a word after each event that is refused, and a supply as long as the run
+        needs."""
         groups = self.play().groups
         self.settle(self.body)
         used = sum(it['kind'] == 'draw' for it in self.fields())
@@ -221,7 +231,9 @@ class Plan:
             lines.append(it.text)
             if it.text and not it.text.startswith('#'):
                 event += 1
-                lines += [f'#! refused by {self.words_of(fields)}' for fields in groups[event] if fields['kind'] == 'refuse']
+                lines += [
+                    f'#! refused by {self.words_of(fields)}' for fields in groups[event] if fields['kind'] == 'refuse'
+                ]
         return ''.join(f'{line}\n' for line in lines)
 
     @staticmethod

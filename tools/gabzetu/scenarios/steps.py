@@ -1,11 +1,12 @@
-"""What each line of a scenario becomes: the events of a schedule, whose frame numbers come of playing what is there so far."""
+"""What each line of a scenario becomes: the events of a schedule, whose frame numbers come of playing what is there
+so far."""
 from ..errors import WRONG_INPUT, Stop
 from ..formats import policy, schedules
 from ..formats.grammar import describe, read_lines
 from . import language
 from .plan import Plan, Refused
 
-# tells of a rollover at most
+# How many members a rollover can have.
 MOST_TOLD = 64
 
 
@@ -18,27 +19,35 @@ class Steps:
     # ---- declarations
 
     def seed(self, values):
+        """Takes a `seed` line."""
         self.plan.seed = values['SEED']
 
     def centre(self, values):
+        """Takes a `centre` line."""
         self.plan.add_node('centre', values['NAME'])
 
     def router(self, values):
+        """Takes a `router` line."""
         self.plan.add_node('router', values['NAME'])
 
     def device(self, values):
+        """Takes a `device` line."""
         self.plan.add_node('device', values['NAME'])
 
     def code_auto(self, values):
+        """Adds a code from the seed."""
         self.plan.declare(f'code {values["NAME"]} {self.plan.new_code(values["NAME"])}')
 
     def key_auto(self, values):
+        """Adds the network key of the centre."""
         self.plan.declare(f'netkey {self.plan.centre()} {self.plan.new_key()} 0')
 
     def netkey_auto(self, values):
+        """Adds a network key of a node."""
         self.plan.declare(f'netkey {values["NAME"]} {self.plan.new_key()} {values["SEQ"]}')
 
     def draw_auto(self, values):
+        """Adds a key of the supply."""
         self.plan.declare(f'draw {self.plan.new_key()}')
 
     # ---- frames
@@ -50,11 +59,13 @@ class Steps:
             self.plan.do(f'deliver {frame} {name}')
 
     def deliver_last(self, values):
+        """The last frame reaches these nodes, which may refuse it."""
         frame = self.plan.last_frame()
         for name in values['NAMES'].split(' '):
             self.plan.attempt(f'deliver {frame} {name}')
 
     def lose_last(self, values):
+        """The last frame is lost."""
         frame = self.plan.last_frame()
         if self.plan.was_heard(frame):
             raise self.plan.stop(f'frame {frame}, the last one, was delivered already')
@@ -62,6 +73,7 @@ class Steps:
         self.plan.comment(f'#! frame {frame} is lost')
 
     def say(self, values):
+        """A node says bytes to the address of another one, and may be refused."""
         self.plan.attempt(f'say {values["NAME"]} {self.plan.node(values["TO"])[2]} {values["DATA"]}')
 
     def send(self, values):
@@ -74,11 +86,13 @@ class Steps:
     # ---- joins
 
     def join(self, values):
+        """The whole join."""
         self.admit(values)
         self.attach(values)
         self.confirm(values)
 
     def admit(self, values):
+        """The centre admits a device, unless it is a member, and the device knocks."""
         name = values['NAME']
         if name not in self.plan.codes:
             self.plan.node(name)
@@ -88,6 +102,7 @@ class Steps:
         self.plan.do(f'knock {name}')
 
     def attach(self, values, way='join'):
+        """A device comes to a parent, and gets the network key."""
         name, centre = values['NAME'], self.plan.centre()
         parent = values.get('PARENT', centre)
         self.plan.do(f'child {parent} {name} {way}')
@@ -97,6 +112,7 @@ class Steps:
             self.hear(name)
 
     def confirm(self, values):
+        """A device gets its link key, and verifies it."""
         name, centre = values['NAME'], self.plan.centre()
         if self.plan.state(name) == 'confirmed':
             raise self.plan.stop(f"'{name}' is confirmed already")
@@ -109,6 +125,7 @@ class Steps:
         self.hear(name)
 
     def return_(self, values):
+        """A device rejoins."""
         self.plan.do(f'rejoin {values["NAME"]}')
         self.attach(values, 'rejoin')
         if self.plan.state(values['NAME']) != 'confirmed':
@@ -117,10 +134,12 @@ class Steps:
     # ---- the centre
 
     def remove(self, values):
+        """The centre removes a device, which hears it."""
         self.plan.do(f'remove {values["NAME"]} via {self.plan.centre()}')
         self.hear(values['NAME'])
 
     def rollover(self, values):
+        """A whole rollover of the network key."""
         asleep = values['NAMES'].split(' ') if 'NAMES' in values else []
         for name in asleep:
             self.plan.node(name)
@@ -130,7 +149,8 @@ class Steps:
         self.hear(*(it for it in told if it not in asleep))
 
     def tell_members(self, asleep):
-        """The centre tells each member of the new key, and those that aren't asleep hear it. Returns whom it told, in order."""
+        """The centre tells each member of the new key, and those that aren't asleep hear it. Returns whom it told,
+        in order."""
         names = {words[1].upper(): name for name, words in self.plan.nodes.items()}
         told = []
         for _ in range(MOST_TOLD):
@@ -148,6 +168,7 @@ class Steps:
         return told
 
     def pair(self, values):
+        """Two devices get a key of their own."""
         name, partner = values['NAME'], values['PARTNER']
         self.plan.do(f'ask {name} {partner}')
         self.hear(self.plan.centre())
@@ -156,15 +177,14 @@ class Steps:
         self.hear(partner)
 
     def restart(self, values):
+        """A node loses its power and starts again."""
         self.plan.do(f'reset {values["NAME"]}')
         self.plan.do(f'boot {values["NAME"]}')
 
 
 def take_line(plan, steps, line):
     """Takes a line of a scenario into the plan."""
-    found, line, fault = language.GRAMMAR.read(line)
-    if fault:
-        raise Stop(f'{plan.name}:{describe(fault)}', WRONG_INPUT)
+    found, line, _ = language.GRAMMAR.read(line)
     if found in language.PLAIN:
         take_plain(plan, found, line)
         return
@@ -176,8 +196,10 @@ def take_line(plan, steps, line):
     except Refused as refused:
         fields = refused.fields
         why = policy.REASONS.get(fields['reason'], '')
-        raise plan.stop(f"'{line.text}': its step '{refused.event}' is refused by {fields['node']}: {fields['layer']} "
-                        f"{fields['reason']} ({why}). Write the events one by one where it is meant to be refused") from refused
+        raise plan.stop(
+            f"'{line.text}': its step '{refused.event}' is refused by {fields['node']}: {fields['layer']} "
+            f"{fields['reason']} ({why}). Write the events one by one where it is meant to be refused"
+        ) from refused
 
 
 def take_plain(plan, found, line):
@@ -201,8 +223,16 @@ def text_lines(data):
         yield number, text.rstrip('\r'), said.get(number)
 
 
+def check_words(name, data):
+    """Stops with all lines of a scenario that have no form, if there are any."""
+    faults = [fault for _, _, fault in map(language.GRAMMAR.read, read_lines(data)) if fault]
+    if faults:
+        raise Stop('\n'.join(f'{name}:{describe(it)}' for it in faults), WRONG_INPUT)
+
+
 def write_schedule(name, data):
     """Returns the schedule that a scenario is, as text."""
+    check_words(name, data)
     plan = Plan(name, supply_of(list(read_lines(data))))
     steps = Steps(plan)
     for number, text, line in text_lines(data):

@@ -1,11 +1,13 @@
-"""Makes captures for the tests: the packets of a capture in tools/data once more, in each link type that sniffers write.
+"""Makes captures for the tests: the packets of a capture in tools/data once more, in each link type that sniffers
+write.
 
-mixed.pcap and two-pans.pcap were made by a program of another author's crypto. mixed.pcap has, by the number of the packet: 1, 3, 5 MAC
-commands; 2 a beacon; 4 an acknowledgement; 6 a Transport-Key under the link key; 7 to 17 frames under its network key, of which 13 is
-sealed under the link key too, without a source; 18 to 21 levels 6, 7, 1, 4; 22 Green Power; 23 inter-PAN; 24 security at the MAC; 25 a
-2015 frame; 26 another network; 27 a Transport-Key under the well-known key; 28 a second network key, and 29 a frame under it; 30 is 11.
-two-pans.pcap has two networks with one short address, which in one of them is another device's later; and packet 7, of whose sender
-packet 8 tells the EUI."""
+mixed.pcap and two-pans.pcap were made by a program of another author's crypto. mixed.pcap has, by the number of the
+packet: 1, 3, 5 MAC commands; 2 a beacon; 4 an acknowledgement; 6 a Transport-Key under the link key; 7 to 17 frames
+under its network key, of which 13 is sealed under the link key too, without a source; 18 to 21 levels 6, 7, 1, 4; 22
+Green Power; 23 inter-PAN; 24 security at the MAC; 25 a 2015 frame; 26 another network; 27 a Transport-Key under the
+well-known key; 28 a second network key, and 29 a frame under it; 30 is 11. two-pans.pcap has two networks with one
+short address, which in one of them is another device's later; and packet 7, of whose sender packet 8 tells the
+EUI."""
 import os
 import struct
 import subprocess
@@ -28,7 +30,7 @@ def packets_of(name):
     at, packets = 24, []
     while at < len(content):
         size = struct.unpack_from('<I', content, at + 8)[0]
-        packets.append(content[at + 16:at + 16 + size])
+        packets.append(content[at + 16 : at + 16 + size])
         at += 16 + size
     return packets
 
@@ -37,6 +39,7 @@ def check_of(packet):
     """Returns the check sequence, worked out as scapy does."""
     import_scapy()
     from scapy.layers.dot15d4 import Dot15d4FCS
+
     return Dot15d4FCS().compute_fcs(packet)
 
 
@@ -64,6 +67,7 @@ def udp(payload, port=17754, ip=4):
     from scapy.layers.inet import IP, UDP
     from scapy.layers.inet6 import IPv6
     from scapy.packet import Raw
+
     around = IP(src='10.0.0.1', dst='10.0.0.2') if ip == 4 else IPv6(src='fe80::1', dst='fe80::2')
     return bytes(around / UDP(sport=4000, dport=port) / Raw(payload))
 
@@ -75,7 +79,9 @@ def phy(packet):
 def pcap(link, packets, order='<'):
     """Returns the bytes of a pcap, packets a second apart."""
     out = struct.pack(order + 'IHHIIII', MAGIC, 2, 4, 0, 0, 65535, link)
-    return out + b''.join(struct.pack(order + 'IIII', 1700000000 + at, 0, len(it), len(it)) + it for at, it in enumerate(packets))
+    return out + b''.join(
+        struct.pack(order + 'IIII', 1700000000 + at, 0, len(it), len(it)) + it for at, it in enumerate(packets)
+    )
 
 
 def block(kind, body):
@@ -87,8 +93,10 @@ def pcapng(link, packets):
     """Returns the bytes of a pcapng with a section, an interface and a block for each packet."""
     out = block(0x0A0D0D0A, struct.pack('<IHHq', 0x1A2B3C4D, 1, 0, -1)) + block(1, struct.pack('<HHI', link, 0, 0))
     times = [(1700000000 + at) * 1000000 for at in range(len(packets))]
-    return out + b''.join(block(6, struct.pack('<5I', 0, time >> 32, time & 0xFFFFFFFF, len(it), len(it)) + it)
-                          for time, it in zip(times, packets))
+    return out + b''.join(
+        block(6, struct.pack('<5I', 0, time >> 32, time & 0xFFFFFFFF, len(it), len(it)) + it)
+        for time, it in zip(times, packets)
+    )
 
 
 def every_link(packets):
@@ -134,8 +142,8 @@ def opened_by_tshark(path, keys, options):
         command += ['-o', f'uat:zigbee_pc_keys:"{key}","Normal","k"']
     fields = [word for field in ('frame.number', 'zbee.sec.key') for word in ('-e', field)]
     environment = {**os.environ, 'WIRESHARK_CONFIG_DIR': folder}
-    ran = subprocess.run([*command, '-T', 'fields', *fields], capture_output=True, text=True, env=environment, check=True)
+    ran = subprocess.run(
+        [*command, '-T', 'fields', *fields], capture_output=True, text=True, env=environment, check=True
+    )
     rows = [line.split('\t') for line in ran.stdout.splitlines()]
     return {int(number): tuple(keys.replace(':', '').upper().split(',')) for number, keys in rows if keys}
-
-

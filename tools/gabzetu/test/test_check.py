@@ -1,7 +1,8 @@
 """Tests of check: the table of mistakes, and that it never calls a file right that tc refuses.
 
-The tables are tools/data/mistakes/{schedules,captures,scripts}: `# what is wrong`, lines of the file behind `> ` (with escapes of
-Python; <base> is a schedule that is right), what tc says behind `! `, and each mistake that is reported behind `= `."""
+The tables are tools/data/mistakes/{schedules,captures,scripts}: `# what is wrong`, lines of the file after `> `
+(with escapes of Python; <base> is a schedule that is right), what tc says after `! `, and each mistake that is
+reported after `= `."""
 import json
 import os
 import random
@@ -91,7 +92,9 @@ class Agreement(unittest.TestCase):
             verdict = check.ask_tc(kind, text)
             found = diagnosis.find_mistakes(kind, text)
             with self.subTest(kind=kind, number=number):
-                self.assertEqual([(it.line, it.cause) for it in found[:1]], [(verdict.line, verdict.cause)] if verdict.line else [])
+                self.assertEqual(
+                    [(it.line, it.cause) for it in found[:1]], [(verdict.line, verdict.cause)] if verdict.line else []
+                )
 
 
 @needs_tc
@@ -100,8 +103,10 @@ class Command(Folder):
         names = ['join.sched', 'removal.sched', 'join.capture', 'admin.script']
         ran = run('check', *map(example, names))
         self.assertEqual((ran.status, ran.said), (0, ''))
-        self.assertEqual([it.split(': ')[1] for it in ran.output.splitlines()],
-                         ['a schedule, right', 'a schedule, right', 'a capture, right', 'a script, right'])
+        self.assertEqual(
+            [it.split(': ')[1] for it in ran.output.splitlines()],
+            ['a schedule, right', 'a schedule, right', 'a capture, right', 'a script, right'],
+        )
 
     def test_shows_the_place_and_a_near_word(self):
         path = self.write('join.sched', 'node c centre 00124B0000000001 0000 8 4\n\nkock d\n')
@@ -111,8 +116,15 @@ class Command(Folder):
 
     def test_writes_an_object_a_mistake(self):
         path = self.write('twice', BASE + '\ndraw A0A1A2A3A4A5A6A7A8A9AAABACADAEAF\n')
-        wanted = {'file': path, 'line': 7, 'column': 6, 'text': 'A0A1A2A3A4A5A6A7A8A9AAABACADAEAF', 'message': 'this is the key of a draw',
-                  'cause': 'draw-repeated', 'earlier': 6}
+        wanted = {
+            'file': path,
+            'line': 7,
+            'column': 6,
+            'text': 'A0A1A2A3A4A5A6A7A8A9AAABACADAEAF',
+            'message': 'this is the key of a draw',
+            'cause': 'draw-repeated',
+            'earlier': 6,
+        }
         self.assertEqual(json.loads(run('check', '--json', path).output), wanted)
 
     def test_notes_frames_that_were_never_sent(self):
@@ -129,8 +141,11 @@ class Command(Folder):
     def test_what_only_tc_sees_is_shown_in_its_words(self):
         text = 'centre c 00124B0000000001 4 2\nrestore 0 {}\n'
         ran = run('check', '-', given=text)
-        self.assertEqual(ran.output, "standard input:2:1: 'restore 0 {}': tc refuses this line: backup: the text after SKIP is no backup, "
-                                     'as docs/BACKUP.md describes it\n')
+        self.assertEqual(
+            ran.output,
+            "standard input:2:1: 'restore 0 {}': tc refuses this line: backup: the text after SKIP is no backup, "
+            'as docs/BACKUP.md describes it\n',
+        )
 
     def test_a_refused_play_shows_the_mistake_too(self):
         ran = run('play', self.write('bad', BASE + '\nkock d\n'))

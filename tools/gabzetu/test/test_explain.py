@@ -7,7 +7,14 @@ from gabzetu import TOP, program
 from gabzetu.formats import fields, policy, sentences, stories
 from gabzetu.test.support import Folder, example, needs_tc, run
 
-SCHEDULES = ['application-key.sched', 'forged-frames.sched', 'join.sched', 'removal.sched', 'rollover.sched', 'stops.sched']
+SCHEDULES = [
+    'application-key.sched',
+    'forged-frames.sched',
+    'join.sched',
+    'removal.sched',
+    'rollover.sched',
+    'stops.sched',
+]
 
 
 def read(path):
@@ -27,7 +34,9 @@ class Policy(unittest.TestCase):
 
     def setUp(self):
         page = read(os.path.join(TOP, 'docs', 'POLICY.md'))
-        self.rows = [[it.strip() for it in line.strip('|').split('|')] for line in page.splitlines() if line.startswith('| ')]
+        self.rows = [
+            [it.strip() for it in line.strip('|').split('|')] for line in page.splitlines() if line.startswith('| ')
+        ]
         self.page = page
 
     def test_events(self):
@@ -40,6 +49,9 @@ class Policy(unittest.TestCase):
 
     def test_judging(self):
         plain = re.sub(r'\s+', ' ', self.page)
+        self.assertIn(policy.DATA, plain)
+        for note in policy.NOTES.values():
+            self.assertIn(note, plain)
         for reasons in policy.JUDGING.values():
             for reason, sentence in reasons.items():
                 self.assertIn(sentence, plain, reason)
@@ -94,7 +106,9 @@ class Explain(Folder):
         ran = run('explain', example('removal.transcript'), '36')
         self.assertIn('Refused as wrong-state: wrong-state where no live row has the sequence\n', ran.output)
         ran = run('explain', example('removal.transcript'), '34')
-        self.assertIn('Refused as no-key: no usable row has its key sequence; of several the newest counts', ran.output)
+        self.assertIn(
+            'Refused as no-key: no usable row has its key sequence; of several the newest counts', ran.output
+        )
 
     def test_the_schedule_tells_the_words(self):
         ran = run('explain', example('removal.transcript'), '22', '--schedule', example('removal.sched'))
@@ -112,8 +126,21 @@ class Explain(Folder):
                 ran = run('explain', path, str(event), '--schedule', example(name))
                 self.assertEqual((ran.status, ran.said), (0, ''))
 
+    def test_an_event_that_a_disk_cuts(self):
+        self.assertIn(
+            'The changes and their commit are there', run('explain', example('stops.transcript'), '3').output
+        )
+
+    def test_terminals_take_no_orders_from_a_transcript(self):
+        path = self.write('hostile', '1 send \x1b[31m 1 00\n1 state d \x1b]0;x\x07\nend 1 0 0 0 yes yes\n')
+        ran = run('explain', path, '1')
+        self.assertEqual(ran.status, 0)
+        self.assertNotIn('\x1b', ran.output)
+
     def test_no_such_event(self):
-        self.assertIn('the last event is 17', run('explain', example('join.transcript'), '18').said)
+        self.assertIn(
+            'there is no event 18; the last one is 17', run('explain', example('join.transcript'), '18').said
+        )
         self.assertEqual(run('explain', example('join.transcript'), 'x').status, 64)
 
 
@@ -130,13 +157,17 @@ class Broken(Folder):
         return verdict, ran.output
 
     def test_a_nonce_comes_twice(self):
-        verdict, said = self.explain(lambda lines: lines[:-1] + [it for it in lines if it.startswith('16 seal c nwk')] + lines[-1:])
+        verdict, said = self.explain(
+            lambda lines: lines[:-1] + [it for it in lines if it.startswith('16 seal c nwk')] + lines[-1:]
+        )
         self.assertEqual(verdict[2], '1')
         self.assertIn('breaks claim 1: no nonce (source, counter, control) is used twice', said)
 
     def test_a_counter_is_accepted_twice(self):
         accept = '17 accept d nwk'
-        verdict, said = self.explain(lambda lines: lines[:-1] + [it for it in lines if it.startswith(accept)] + lines[-1:])
+        verdict, said = self.explain(
+            lambda lines: lines[:-1] + [it for it in lines if it.startswith(accept)] + lines[-1:]
+        )
         self.assertEqual(verdict[2], '2')
         self.assertIn('breaks claim 2', said)
 

@@ -17,7 +17,9 @@ def needs(name):
 
 def written(*words):
     """Returns what a shell writes."""
-    return subprocess.run(words, stdout=subprocess.PIPE, stderr=subprocess.STDOUT, encoding='utf-8', check=False).stdout
+    return subprocess.run(
+        words, stdout=subprocess.PIPE, stderr=subprocess.STDOUT, encoding='utf-8', check=False
+    ).stdout
 
 
 class Help(unittest.TestCase):
@@ -45,7 +47,10 @@ class Help(unittest.TestCase):
     def test_wrong_words(self):
         ran = run('help', 'plya')
         self.assertEqual((ran.status, ran.said), (64, "gabzetu: no command or topic 'plya'; did you mean 'play'?\n"))
-        self.assertEqual(run('boom').status, 64)
+        ran = run('plya', 'x')
+        self.assertEqual(ran.status, 64)
+        self.assertIn("there is no command 'plya'; did you mean 'play'?", ran.said)
+        self.assertEqual(run('play', '--js', 'x').status, 64)
         self.assertEqual(run().status, 64)
 
     def test_without_the_program(self):
@@ -62,7 +67,9 @@ class Versions(Folder):
 
     def test_follows_links(self):
         os.symlink(os.path.join(TOP, 'gabzetu'), self.path('gz'))
-        ran = subprocess.run([self.path('gz'), 'audit', example('join.transcript')], stdout=subprocess.PIPE, check=False)
+        ran = subprocess.run(
+            [self.path('gz'), 'audit', example('join.transcript')], stdout=subprocess.PIPE, check=False
+        )
         self.assertEqual(ran.stdout, b'sound 19 13 locked\n')
 
 
@@ -73,7 +80,9 @@ class ManPage(unittest.TestCase):
 
     @needs('groff')
     def test_groff_reads_it_without_a_warning(self):
-        said = subprocess.run(['groff', '-man', '-ww', '-Tascii', MAN], stdout=subprocess.DEVNULL, stderr=subprocess.PIPE, check=False)
+        said = subprocess.run(
+            ['groff', '-man', '-ww', '-Tascii', MAN], stdout=subprocess.DEVNULL, stderr=subprocess.PIPE, check=False
+        )
         self.assertEqual(said.stderr, b'')
 
 
@@ -82,7 +91,10 @@ class Completions(Folder):
         return self.write(f'completions.{shell}', run('completions', shell).output)
 
     def complete_by_bash(self, *words):
-        script = f'source {self.completions("bash")}; COMP_WORDS=("$@"); COMP_CWORD=$(($# - 1)); _gabzetu; echo "${{COMPREPLY[@]}}"'
+        script = (
+            f'source {self.completions("bash")}; COMP_WORDS=("$@"); COMP_CWORD=$(($# - 1)); _gabzetu; echo '
+            f'"${{COMPREPLY[@]}}"'
+        )
         return written('bash', '-c', script, 'bash', 'gabzetu', *words).split()
 
     @needs('bash')
@@ -97,8 +109,10 @@ class Completions(Folder):
     @needs('fish')
     def test_fish(self):
         script = f'source {self.completions("fish")}; complete -C "gabzetu pl"; complete -C "gabzetu check --kind s"'
-        self.assertEqual([it.split('\t')[0] for it in written('fish', '--no-config', '-c', script).splitlines()],
-                         ['play', 'schedule', 'script'])
+        self.assertEqual(
+            [it.split('\t')[0] for it in written('fish', '--no-config', '-c', script).splitlines()],
+            ['play', 'schedule', 'script'],
+        )
 
     @needs('zsh')
     def test_zsh(self):

@@ -21,8 +21,15 @@ from gabzetu.test.support import Folder, Ran, needs_tc
 
 FIRST, SECOND = '000102030405060708090A0B0C0D0E0F', '101112131415161718191A1B1C1D1E1F'
 OTHER_LINKS = ('606162636465666768696A6B6C6D6E6F', '707172737475767778797A7B7C7D7E7F')
-OPENED = {6: (LINK,), **{number: (FIRST,) for number in range(7, 18)}, 13: (FIRST, LINK), 27: (WELL_KNOWN,), 28: (FIRST,),
-          29: (SECOND,), 30: (FIRST,)}
+OPENED = {
+    6: (LINK,),
+    **{number: (FIRST,) for number in range(7, 18)},
+    13: (FIRST, LINK),
+    27: (WELL_KNOWN,),
+    28: (FIRST,),
+    29: (SECOND,),
+    30: (FIRST,),
+}
 
 
 def has_scapy():
@@ -50,7 +57,11 @@ def objects_of(ran):
 
 def opened_of(objects):
     """Returns the keys of the opened layers by the number of the packet."""
-    rows = {it['packet']: tuple(layer['key'] for layer in it['layers'] if 'key' in layer) for it in objects if it['kind'] == 'packet'}
+    rows = {
+        it['packet']: tuple(layer['key'] for layer in it['layers'] if 'key' in layer)
+        for it in objects
+        if it['kind'] == 'packet'
+    }
     return {number: keys for number, keys in rows.items() if keys}
 
 
@@ -89,7 +100,10 @@ class Links(Folder):
         packets = packets_of('mixed.pcap')
         path = self.write_bytes('packed', gzip.compress(pcap(230, packets)))
         self.assertEqual(opened_of(objects_of(run('open', path, '--code', CODE, '--json'))), OPENED)
-        path = self.write_bytes('sections', captures.pcapng(230, packets[:10]) + captures.pcapng(195, list(map(captures.with_check, packets[10:]))))
+        path = self.write_bytes(
+            'sections',
+            captures.pcapng(230, packets[:10]) + captures.pcapng(195, list(map(captures.with_check, packets[10:]))),
+        )
         self.assertEqual(opened_of(objects_of(run('open', path, '--code', CODE, '--json'))), OPENED)
 
     def test_says_what_a_file_is_that_is_no_capture(self):
@@ -110,17 +124,39 @@ class Open(Folder):
 
     def test_says_why_the_rest_stays_closed(self):
         objects = self.open('mixed.pcap', '--code', CODE)
-        self.assertEqual(reasons_of(objects, 'left-out'), {
-            'MAC command': (3, 1), 'beacon': (1, 2), 'acknowledgement': (1, 4), 'security at the MAC': (1, 24),
-            '802.15.4-2015 data frame': (1, 25)})
-        self.assertEqual(reasons_of(objects), {
-            'PAN 1A62: network key of sequence 0 is known and does not open it: broken on the air, a level other than 5, '
-            'or another key': (4, 18),
-            'PAN 9999: no network key of it is known': (1, 26),
-            'Green Power frame (NWK version 3), which is not read': (1, 22),
-            'inter-PAN frame (NWK type 3), which is not read': (1, 23)})
-        self.assertEqual(objects[-1], {'kind': 'end', 'packets': 30, 'frames': 23, 'opened': 16, 'partly': 0, 'closed': 7, 'clear': 0,
-                                       'hints': []})
+        self.assertEqual(
+            reasons_of(objects, 'left-out'),
+            {
+                'MAC command': (3, 1),
+                'beacon': (1, 2),
+                'acknowledgement': (1, 4),
+                'security at the MAC': (1, 24),
+                '802.15.4-2015 data frame': (1, 25),
+            },
+        )
+        self.assertEqual(
+            reasons_of(objects),
+            {
+                'PAN 1A62: network key of sequence 0 is known and does not open it: '
+                'broken on the air, a level other than 5, or another key': (4, 18),
+                'PAN 9999: no network key of it is known': (1, 26),
+                'Green Power frame (NWK version 3), which is not read': (1, 22),
+                'inter-PAN frame (NWK type 3), which is not read': (1, 23),
+            },
+        )
+        self.assertEqual(
+            objects[-1],
+            {
+                'kind': 'end',
+                'packets': 30,
+                'frames': 23,
+                'opened': 16,
+                'partly': 0,
+                'closed': 7,
+                'clear': 0,
+                'hints': [],
+            },
+        )
 
     def test_says_which_key_sequence_and_which_link_key_are_unknown(self):
         objects = self.open('mixed.pcap', '--key', FIRST)
@@ -134,7 +170,10 @@ class Open(Folder):
     def test_writes_a_line_for_each_frame_and_the_keys(self):
         lines = run('open', data('mixed.pcap'), '--code', CODE).output.splitlines()
         line = next(it for it in lines if it.startswith('packet 13 '))
-        self.assertEqual(line.split(), 'packet 13 pan 1A62 1A2B > 0000 nwk key 3, aps key 1 data data, cluster 0500, 5 bytes'.split())
+        self.assertEqual(
+            line.split(),
+            'packet 13 pan 1A62 1A2B > 0000 nwk key 3, aps key 1 data data, cluster 0500, 5 bytes'.split(),
+        )
         self.assertIn(f'  key 4   {SECOND}  found in packet 28, which key 3 opened', lines)
         self.assertIn('30 packets, 23 frames: 16 opened, 0 opened in part, 7 closed, 0 not secured', lines)
         self.assertIn('      1  security at the MAC (packet 24)', lines)
@@ -142,8 +181,10 @@ class Open(Folder):
     def test_learns_addresses_by_network(self):
         objects = self.open('two-pans.pcap', '--code', CODE, *(word for key in OTHER_LINKS for word in ('--key', key)))
         opened = opened_of(objects)
-        self.assertEqual({number: keys[-1] for number, keys in opened.items()}, {
-            1: OTHER_LINKS[0], 2: LINK, 4: OTHER_LINKS[0], 5: LINK, 6: OTHER_LINKS[1], 7: LINK, 8: FIRST})
+        self.assertEqual(
+            {number: keys[-1] for number, keys in opened.items()},
+            {1: OTHER_LINKS[0], 2: LINK, 4: OTHER_LINKS[0], 5: LINK, 6: OTHER_LINKS[1], 7: LINK, 8: FIRST},
+        )
         self.assertEqual(objects[-1]['opened'], 7)
 
     def test_hints_at_check_sequences(self):
@@ -155,7 +196,9 @@ class Open(Folder):
         hints = objects_of(run('open', self.path('without'), '--code', CODE, '--fcs', 'crc', '--json'))[-1]['hints']
         self.assertIn('Nearly all check sequences are wrong', hints[0])
         said = run('open', self.path('without'), '--code', CODE).said
-        self.assertIn('packets of link type 195 should end with a check sequence. These end with no check sequence', said)
+        self.assertIn(
+            'packets of link type 195 should end with a check sequence. These end with no check sequence', said
+        )
 
     def test_hints_at_the_port_of_zep(self):
         ether = bytes(12) + b'\x08\0'

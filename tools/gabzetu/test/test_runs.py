@@ -48,10 +48,23 @@ class Play(Folder):
         objects = [json.loads(line) for line in ran.output.splitlines()]
         self.assertEqual(len(objects), len(read(example('join.transcript')).splitlines()))
         self.assertNotIn('other', {it['kind'] for it in objects})
-        self.assertEqual(objects[0], {'event': 0, 'kind': 'node', 'name': 'c', 'role': 'centre', 'eui': '00124B0000000001',
-                                      'short': '0000', 'out': 16, 'in': 4})
-        self.assertEqual(objects[-1], {'kind': 'end', 'events': 17, 'seals': 19, 'accepts': 13, 'refusals': 0, 'ideal': True,
-                                       'private': True})
+        self.assertEqual(
+            objects[0],
+            {
+                'event': 0,
+                'kind': 'node',
+                'name': 'c',
+                'role': 'centre',
+                'eui': '00124B0000000001',
+                'short': '0000',
+                'out': 16,
+                'in': 4,
+            },
+        )
+        self.assertEqual(
+            objects[-1],
+            {'kind': 'end', 'events': 17, 'seals': 19, 'accepts': 13, 'refusals': 0, 'ideal': True, 'private': True},
+        )
 
     def test_says_what_cannot_be_read_or_written(self):
         self.assertEqual(run('play', self.path('none')).status, 66)
@@ -110,14 +123,18 @@ class Admin(Folder):
     def test_serves_a_script(self):
         ran = run('admin', self.path('hub.store'), example('admin.script'))
         self.assertEqual((ran.status, ran.said), (0, ''))
-        self.assertEqual([it for it in ran.output.splitlines() if it.startswith('ok')], ['ok 4', 'ok 5', 'ok 6', 'ok 7', 'ok 8'])
+        self.assertEqual(
+            [it for it in ran.output.splitlines() if it.startswith('ok')], ['ok 4', 'ok 5', 'ok 6', 'ok 7', 'ok 8']
+        )
         self.assertEqual(stat.S_IMODE(os.stat(self.path('hub.store')).st_mode), 0o600)
 
     def test_writes_an_object_a_line(self):
         run('admin', self.path('hub.store'), example('admin.script'), '--json', '-o', self.path('said'))
         objects = [json.loads(line) for line in read(self.path('said')).splitlines()]
         self.assertEqual(objects[0], {'kind': 'ok', 'line': 4})
-        self.assertEqual([it['kind'] for it in objects], ['ok', 'ok', 'net', 'link', 'ok', 'send', 'ok', 'backup', 'ok'])
+        self.assertEqual(
+            [it['kind'] for it in objects], ['ok', 'ok', 'net', 'link', 'ok', 'send', 'ok', 'backup', 'ok']
+        )
 
     def test_a_refused_script_changes_nothing(self):
         self.write('said', 'before')
