@@ -1,6 +1,7 @@
 // The keys of a run and the counters under them, read from the lines: where each key came from, who held it, who
 // learned it.
 
+const ABOUT_KEYS = /^\d+ (?:draw|given|install|row|pair|drop|removed|seal|forge) /;
 const WELL_KNOWN = '5A6967426565416C6C69616E63653039';
 
 /** Returns the key that a term carries, or none: it is that of a Transport-Key, alone or in clear in a NWK frame. */
@@ -27,7 +28,7 @@ class Keys {
     this.eui = new Map(nodes.map(([name, , eui]) => [name, eui]));
     this.names = new Map(nodes.map(([name, , eui]) => [eui, name]));
     this.centre = (nodes.find(([, role]) => role === 'centre') || [''])[0];
-    for (const line of lines) this.read(line.split(' '));
+    for (const line of lines) if (ABOUT_KEYS.test(line)) this.read(line.split(' '));
     this.spread();
   }
 

@@ -365,18 +365,13 @@ function makeFilters() {
     ['frames', 'frames'],
     ['lost', 'lost frames'], ['power', 'stops and boots'], ['outside', 'forged and injected']], draw);
   filter.frame = addField('frame', 'number', 6, draw);
-  const found = [...new Set([...data.text.matchAll(/\b[0-9A-F]{32}\b/g)].map(([it]) => it))].filter(isKey);
+  const found = [...allKeys().keys.keys()];
   filter.key = addChoice('key', [['', 'all'], ...found.map((it) => [it, shortKey(it)])], draw);
   filter.text = addField('text', 'word, address, digits (/)', 20, draw);
   filter.fold = addTick('fold equal refusals', true, () => { unfolded = new Set(); draw(); });
   place('filters').append(make('span', 'quiet'), makeButton('show all', clearFilters));
   place('filters').querySelector('span').id = 'count';
   return filter;
-}
-
-/** Says whether 32 digits are a key that the run knows, and not a record or a content. */
-function isKey(digits) {
-  return allKeys().keys.has(digits);
 }
 
 function clearFilters() {
