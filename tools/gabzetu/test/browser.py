@@ -20,6 +20,7 @@ WORDS = (
     '--virtual-time-budget=5000',
     '--dump-dom',
 )
+LONGEST = 600  # seconds, for a machine that is busy with other work
 EMPTY = ('meta', 'input', 'br', 'img', 'link')
 
 
@@ -78,7 +79,7 @@ def open_page(path, mark=''):
             [find_browser(), f'--user-data-dir={folder}', *WORDS, pathlib.Path(path).resolve().as_uri() + mark],
             capture_output=True,
             text=True,
-            timeout=120,
+            timeout=LONGEST,
             check=True,
         )
     return Page(ran.stdout), re.findall(r'CONSOLE.*', ran.stderr)
