@@ -1,0 +1,97 @@
+"""The command line: finds the commands, reads the words, runs one command and returns the exit status."""
+import argparse
+import importlib
+import os
+import pkgutil
+import sys
+
+from . import commands
+from .errors import UNWRITABLE, WRONG_USE, Stop
+from .formats.words import suggestion
+from .output import say
+
+DESCRIPTION = 'Front end of the proved Zigbee trust centre program tc. Every verdict is that of tc.'
+SEE_HELP = '`gabzetu help` lists the commands.'
+EPILOG = '`gabzetu COMMAND --help` describes a command, `gabzetu help schedule` the lines of schedules.'
+
+
+class Parser(argparse.ArgumentParser):
+    """A parser whose mistakes end with the status of wrong use. Options are written out."""
+
+    def __init__(self, **how):
+        super().__init__(allow_abbrev=False, **how)
+
+    def error(self, message):
+        """Stops with the message and the usage."""
+        raise Stop(f'{message}\n{self.format_usage().rstrip()}', WRONG_USE)
+
+
+def command_names():
+    """Returns the names of the modules of commands, in order."""
+    return sorted(it.name for it in pkgutil.iter_modules(commands.__path__))
+
+
+def load_command(name):
+    """Returns the module of a command."""
+    return importlib.import_module(f'{commands.__name__}.{name}')
+
+
+def make_parser():
+    """Returns the parser of all commands. A module from_zigpy.py is the command from-zigpy."""
+    parser = Parser(prog='gabzetu', description=DESCRIPTION, epilog=EPILOG)
+    parser.add_argument('--version', action='store_true', help='print the versions of the front end and of tc')
+    places = parser.add_subparsers(title='commands', metavar='COMMAND', dest='command', parser_class=Parser)
+    for name in command_names():
+        module = load_command(name)
+        place = places.add_parser(name.replace('_', '-'), help=module.SUMMARY, description=describe(module))
+        place.formatter_class = argparse.RawDescriptionHelpFormatter
+        module.add_arguments(place)
+        place.set_defaults(run=module.run)
+    return parser
+
+
+def parsers_of(parser):
+    """Returns the parsers of the commands by their names."""
+    return next(it.choices for it in parser._actions if isinstance(it, argparse._SubParsersAction))
+
+
+def describe(module):
+    """Returns what `--help` says first of a command: its DESCRIPTION where it has one, else its summary."""
+    return getattr(module, 'DESCRIPTION', module.SUMMARY[:1].upper() + module.SUMMARY[1:] + '.')
+
+
+def run(words):
+    """Runs the command of these words, and returns its exit status."""
+    parser = make_parser()
+    if words and not words[0].startswith('-') and words[0] not in parsers_of(parser):
+        raise Stop(f"there is no command '{words[0]}'{suggestion(words[0], parsers_of(parser))}\n{SEE_HELP}")
+    arguments = parser.parse_args(words)
+    if arguments.version:
+        from .versions import describe_versions
+
+        print(describe_versions())
+        return 0
+    if not arguments.command:
+        raise Stop(f'which command?\n{parser.format_help().rstrip()}')
+    return arguments.run(arguments) or 0
+
+
+def drop_output():
+    """Sends what is still buffered nowhere, after a reader of standard output has gone."""
+    os.dup2(os.open(os.devnull, os.O_WRONLY), sys.stdout.fileno())
+
+
+def main(words):
+    """Runs gabzetu with these words, and returns its exit status."""
+    try:
+        status = run(words)
+        sys.stdout.flush()
+        return status
+    except Stop as stop:
+        say(f'gabzetu: {stop.message}')
+        return stop.status
+    except BrokenPipeError:
+        drop_output()
+        return UNWRITABLE
+    except KeyboardInterrupt:
+        return 130

@@ -1,0 +1,86 @@
+"""gabzetu admin: carries out a script on a centre's store in a file."""
+import os
+import subprocess
+import sys
+import tempfile
+
+from .. import program, told
+from ..errors import UNWRITABLE, Stop, reason_of
+from ..formats.fields import read_store_line
+from ..output import read_input
+from ..program import Completed
+from ..runs import add_output, json_lines, tell
+
+SUMMARY = "carry out a script on a centre's store in a file"
+DESCRIPTION = """Carries out the commands of a script on the store in the file STORE (docs/ADMIN.md).
+
+Each line comes out when what its command changed is stored. So OUT is written line by line, and keeps what came out
+also where a later command fails. A new STORE and OUT hold keys: only their owner may read them. Let one `admin` at a
+time use a store: two at once use the same frame counters."""
+
+KINDS = (b'net ', b'link ', b'send ', b'ok ', b'refuse ', b'{')
+PRIVATE = 0o077
+
+
+def add_arguments(parser):
+    parser.add_argument(
+        'store', metavar='STORE', help='the file of the store; where there is none, `init` or `restore` makes it'
+    )
+    parser.add_argument('script', metavar='SCRIPT', help='a script (gabzetu help script), or - for standard input')
+    add_output(parser)
+
+
+class Lines:
+    """Hands on each line as it comes. OUT is opened at the first line, so a refused script leaves it as it was."""
+
+    def __init__(self, path, is_json):
+        self.path = path
+        self.is_json = is_json
+        self.file = sys.stdout.buffer if path in (None, '-') else None
+
+    def hand_on(self, line):
+        try:
+            if self.file is None:
+                self.file = open(self.path, 'wb')
+            self.file.write(json_lines(line, read_store_line).encode() if self.is_json else line)
+            self.file.flush()
+        except BrokenPipeError:
+            raise
+        except OSError as error:
+            raise Stop(
+                f'{self.path or "standard output"}: cannot be written: {reason_of(error)}', UNWRITABLE
+            ) from error
+
+    def close(self):
+        if self.file not in (None, sys.stdout.buffer):
+            self.file.close()
+
+
+def serve(store, given, lines):
+    """Runs the script, hands on what it writes, and returns the status and the line of a fault."""
+    fault = b''
+    with tempfile.TemporaryFile() as script:
+        script.write(given)
+        script.seek(0)
+        with program.start_tc(['admin', store], stdin=script, stderr=subprocess.DEVNULL) as process:
+            for line in process.stdout:
+                if line.startswith(KINDS):
+                    lines.hand_on(line)
+                else:
+                    fault = line
+    return Completed(process.returncode, fault)
+
+
+def run(arguments):
+    given = read_input(arguments.script)
+    os.umask(PRIVATE)
+    lines = Lines(arguments.output, arguments.json)
+    # as a path that no option of tc can be
+    store = os.path.join('.', arguments.store) if arguments.store.startswith('-') else arguments.store
+    try:
+        ran = serve(store, given, lines)
+    finally:
+        lines.close()
+    path = arguments.script if ran.status == 5 else arguments.store
+    tell('script', path, ran, given)
+    return told.exit_status(ran.status)

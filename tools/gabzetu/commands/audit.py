@@ -1,0 +1,17 @@
+"""gabzetu audit: whether all that is claimed of transcripts holds of one."""
+from ..formats.fields import read_verdict_line
+from ..runs import add_output, run_file
+
+SUMMARY = 'judge a transcript that anybody wrote'
+DESCRIPTION = """Judges a transcript: `sound SEALS ACCEPTS WORD`, or `broken LINE CLAIM` with status 10.
+
+`gabzetu explain TRANSCRIPT` says what a broken line and its claim are about."""
+
+
+def add_arguments(parser):
+    parser.add_argument('transcript', metavar='TRANSCRIPT', help='a transcript, or - for standard input')
+    add_output(parser)
+
+
+def run(arguments):
+    return run_file(arguments, ['audit'], 'transcript', arguments.transcript, read_verdict_line)

@@ -1,0 +1,30 @@
+"""gabzetu help: what there is, a command, or the lines of a text."""
+from .. import cli, helping
+from ..errors import WRONG_USE, Stop
+from ..formats.words import suggestion
+from ..output import write_output
+
+SUMMARY = 'describe a command, or the lines of schedules, captures, scripts and scenarios'
+
+
+def add_arguments(parser):
+    parser.add_argument(
+        'topic',
+        metavar='TOPIC',
+        nargs='?',
+        help='a command, or one of ' + ', '.join(sorted(helping.INTRODUCTIONS)) + '; `help scenario` is of the lines',
+    )
+
+
+def run(arguments):
+    topic = arguments.topic
+    parsers = cli.parsers_of(cli.make_parser())
+    if topic is None:
+        write_output(None, cli.make_parser().format_help())
+    elif topic in helping.INTRODUCTIONS:
+        write_output(None, helping.describe_topic(topic))
+    elif topic in parsers:
+        write_output(None, parsers[topic].format_help())
+    else:
+        raise Stop(f"no command or topic '{topic}'{suggestion(topic, [*parsers, *helping.INTRODUCTIONS])}", WRONG_USE)
+    return 0

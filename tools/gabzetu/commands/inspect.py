@@ -1,0 +1,19 @@
+"""gabzetu inspect: what the frames of a text capture show."""
+from ..formats.fields import read_report_line
+from ..runs import JOBS_USAGE, add_jobs, add_output, run_file
+
+SUMMARY = 'open the frames of a text capture, and write a report'
+
+
+def add_arguments(parser):
+    parser.add_argument(
+        'capture', metavar='CAPTURE', help='a text capture (gabzetu help capture), or - for standard input'
+    )
+    add_jobs(parser)
+    add_output(parser)
+
+
+def run(arguments):
+    return run_file(
+        arguments, ['inspect', arguments.jobs], 'capture', arguments.capture, read_report_line, JOBS_USAGE
+    )

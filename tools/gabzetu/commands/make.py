@@ -1,0 +1,18 @@
+"""gabzetu make: a made schedule."""
+from .. import program
+from ..formats.fields import read_text_line
+from ..runs import add_output, finish, tell
+
+SUMMARY = 'write the made schedule for N routers and devices'
+
+
+def add_arguments(parser):
+    parser.add_argument('count', metavar='N', help='the number of routers and devices, 1 to 60')
+    add_output(parser)
+
+
+def run(arguments):
+    ran = program.run_tc(['make', arguments.count])
+    status = finish(arguments, ran, read_text_line)
+    tell('made', f'make {arguments.count}', ran, b'', 'N is a number from 1 to 60.')
+    return status

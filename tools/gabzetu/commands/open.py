@@ -1,0 +1,179 @@
+"""gabzetu open: the frames of a sniffer's capture, packet by packet."""
+import contextlib
+import json
+
+from .. import listing
+from ..capture import Capture
+from ..errors import WRONG_USE, Stop
+from ..formats.checks import MODES
+from ..formats.keyfiles import normal_key, printable, read_key_file
+from ..opening import MOST_FRAMES, WELL_KNOWN, Opener, Ring
+from ..output import is_watched, open_output, say
+from ..program import run_tc
+from ..runs import default_jobs
+
+ENDINGS = {
+    'crc': 'a check sequence',
+    'ti': "a TI chip's words",
+    'ignore': 'two bytes that are no check sequence',
+    'none': 'no check sequence',
+}
+
+SUMMARY = "open a sniffer's capture with the keys that you know and those found in it"
+DESCRIPTION = '''Opens a sniffer's capture with the keys that you know, the well-known key, and the keys that are
+found on the way.
+
+CAPTURE is a pcap or pcapng file, also one packed by gzip, or - for a pipe: tcpdump -w - | gabzetu open --follow - Its
+packets may have any link type with IEEE 802.15.4: 195, 230, 283 (TAP), 215, 147, or ZEP in UDP on Ethernet, Linux
+cooked, loopback or raw IP.
+
+A line for each frame: the number of its packet in the file, PAN, source and destination, what opened each layer, and
+what it carries. The end says which keys there are, and why the rest stayed closed. Whether a frame opens is what `tc
+inspect` says.'''
+
+
+def add_arguments(parser):
+    parser.add_argument('capture', metavar='CAPTURE', help='a capture file, or - for standard input')
+    add_keys(parser)
+    parser.add_argument(
+        '--fcs',
+        choices=MODES,
+        default='auto',
+        help='what the last two bytes of each packet are: a check sequence (crc), '
+        "a TI chip's words (ti), part of the packet (none), or anything else (ignore); auto finds out",
+    )
+    parser.add_argument('--zep-port', metavar='PORT', type=int, help='the UDP port of ZEP packets (17754)')
+    parser.add_argument(
+        '--follow', action='store_true', help='go on as the file or pipe grows, until it ends or you press Ctrl-C'
+    )
+    parser.add_argument(
+        '--to-capture', metavar='OUT', help='write keys, addresses and frames as a text capture, for inspect'
+    )
+    parser.add_argument(
+        '--json', action='store_true', help='write JSON lines: an object for each frame, key and reason'
+    )
+
+
+def add_keys(parser):
+    """Adds the words that say which keys are known."""
+    parser.add_argument('--code', metavar='C', action='append', default=[], help='an install code, its CRC included')
+    parser.add_argument('--key', metavar='K', action='append', default=[], help='a key of 32 digits')
+    parser.add_argument(
+        '--keys-from',
+        metavar='FILE',
+        action='append',
+        default=[],
+        help='a coordinator backup, configuration.yaml, zigbee_pc_keys, a report or a transcript',
+    )
+
+
+def link_key_of(code):
+    """Returns the link key of an install code, which tc says."""
+    ran = run_tc(['install', code])
+    if ran.status:
+        raise Stop(
+            f'--code {code}: no install code: {ran.output.decode("ascii", "replace").strip()} '
+            '(gabzetu install says more)',
+            WRONG_USE,
+        )
+    return ran.output.decode('ascii').strip()
+
+
+def read_ring(arguments):
+    """Returns the ring of the keys that the words give, and the well-known key behind them."""
+    ring = Ring()
+    for code in arguments.code:
+        ring.add(link_key_of(code), f'given, of code {code}')
+    for text in arguments.key:
+        if not normal_key(text):
+            raise Stop(f'--key {text}: a key has 32 hexadecimal digits', WRONG_USE)
+        ring.add(normal_key(text), 'given')
+    for path in arguments.keys_from:
+        for key, label in read_key_file(path).items():
+            ring.add(key, printable(f'{path}: {label}'))
+    ring.add(WELL_KNOWN, 'the well-known key')
+    return ring
+
+
+class TextCapture:
+    """Writes a text capture as the frames come: the keys first, the addresses last."""
+
+    def __init__(self, file, ring):
+        self.file, self.frames = file, 0
+        self.put(f'key {key}' for key in ring.keys)
+
+    def put(self, lines):
+        self.file.write(''.join(f'{line}\n' for line in lines).encode('ascii'))
+
+    def add(self, frames):
+        self.frames += len(frames)
+        for frame in frames:
+            self.put([f'# packet {frame.number}', f'frame {frame.payload.hex().upper()}'])
+
+    def finish(self, addresses):
+        """Writes the addresses. A text capture has one EUI for a short address, so that further ones are comments."""
+        taken = set()
+        for pan, known in addresses.pans.items():
+            for short, euis in known.items():
+                self.put(f'{"# " if short in taken or at else ""}addr {short} {eui}' for at, eui in enumerate(euis))
+                taken.add(short)
+        if self.frames > MOST_FRAMES:
+            say(f'gabzetu: the text capture has {self.frames} frames, and inspect takes {MOST_FRAMES}')
+
+
+def show(frames, shown, arguments):
+    """Prints frames with their layers."""
+    for frame, layers in frames:
+        shown.note(frame, layers)
+        ring = shown.opener.ring
+        print(
+            json.dumps(listing.object_of(frame, layers, ring))
+            if arguments.json
+            else listing.line_of(frame, layers, ring),
+            flush=arguments.follow,
+        )
+
+
+def show_all(capture, opener, shown, arguments, text):
+    """Prints the frames part by part; those of which more opens later are printed once more."""
+    for frames in capture.parts():
+        for given in capture.associations:
+            opener.addresses.learn(*given)
+        capture.associations.clear()
+        if text:
+            text.add(frames)
+        show(opener.open_part(frames), shown, arguments)
+        if arguments.follow:
+            show(opener.open_again(), shown, arguments)
+        elif is_watched() and capture.packets >= MOST_FRAMES:
+            say(f'gabzetu: {capture.packets} packets')
+    show(opener.open_again(), shown, arguments)
+
+
+def finish(shown, arguments):
+    """Prints the end."""
+    for line in map(json.dumps, shown.objects()) if arguments.json else shown.lines():
+        print(line)
+    for kind, said, how in shown.capture.checks.surprises():
+        say(
+            f'gabzetu: packets of {kind} should end with {ENDINGS[said]}. '
+            f'These end with {ENDINGS[how]}, and are read so (see --fcs)'
+        )
+
+
+def run(arguments):
+    ring = read_ring(arguments)
+    capture = Capture(arguments.capture, arguments.fcs, arguments.zep_port, arguments.follow)
+    opener = Opener(ring, default_jobs())
+    shown = listing.Listing(capture, opener)
+    with open_output(arguments.to_capture) if arguments.to_capture else contextlib.nullcontext() as file:
+        text = TextCapture(file, ring) if file else None
+        try:
+            show_all(capture, opener, shown, arguments, text)
+        except KeyboardInterrupt:
+            if not arguments.follow:
+                raise
+        if text:
+            text.finish(opener.addresses)
+    finish(shown, arguments)
+    return 0

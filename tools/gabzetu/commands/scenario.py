@@ -1,0 +1,23 @@
+"""gabzetu scenario: the schedule of a scenario."""
+from .. import told
+from ..output import read_input, write_output
+from ..scenarios.steps import write_schedule
+
+SUMMARY = 'write the schedule of a scenario, which has no frame numbers'
+DESCRIPTION = """Writes the schedule of a scenario: lines such as `join d via r`, `lose last`, `rollover but d`.
+
+The frame numbers come from playing what is there so far with tc. The lines of the scenario stay as comments, and after
+each event that is refused a comment says why. `gabzetu help scenario` has the language."""
+
+
+def add_arguments(parser):
+    parser.add_argument('scenario', metavar='SCENARIO', help='a scenario, or - for standard input')
+    parser.add_argument(
+        '-o', '--output', metavar='OUT', help='write to this file, all or nothing, and not to standard output'
+    )
+
+
+def run(arguments):
+    text = write_schedule(told.base_name(arguments.scenario), read_input(arguments.scenario))
+    write_output(arguments.output, text)
+    return 0

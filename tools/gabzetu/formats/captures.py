@@ -1,0 +1,94 @@
+"""The lines of text captures: their forms with a sentence each, and a reader that finds all mistakes of a text."""
+from .grammar import Form, Grammar, by_other, mistake, read_lines
+from .words import Bytes, Code, Digits, Eui, fault_of_code
+
+MOST_KEYS, MOST_FRAMES = 256, 100000
+
+WHAT = 'line of a capture'
+KINDS = {
+    'KEY': Digits('KEY', 32, 'a key'),
+    'CODE': Code(),
+    'SHORT': Digits('SHORT', 4, 'a short address'),
+    'EUI': Eui(),
+    'HEX': Bytes('HEX', 1, 127),
+}
+
+FORMS = [
+    Form(WHAT, 'key KEY', 'a key that is known: a network key or a link key', KINDS),
+    Form(
+        WHAT,
+        'code CODE',
+        'an install code that is known, its CRC at the end; its link key is one that is known',
+        KINDS,
+    ),
+    Form(WHAT, 'addr SHORT EUI', 'the node of this short address has this IEEE address', KINDS),
+    Form(
+        WHAT,
+        'frame HEX',
+        'a frame that was heard, from its NWK header on, without MAC header and check sequence',
+        KINDS,
+    ),
+]
+
+# What people write for the first word of a line.
+MEANT = {
+    'key': 'netkey nwkkey linkkey',
+    'code': 'install installcode',
+    'addr': 'address',
+    'frame': 'packet inject send data',
+}
+OTHERS = by_other(MEANT)
+
+GRAMMAR = Grammar(FORMS, OTHERS)
+
+
+class Reader:
+    """Finds the mistakes of a capture."""
+
+    def __init__(self):
+        self.keys = self.frames = 0
+        self.addresses = {}
+
+    def fault_of_meaning(self, form, line):
+        return getattr(self, f'take_{form.first}')(line, form.values(line))
+
+    def take_key(self, line, values):
+        return self.count_key(line)
+
+    def take_code(self, line, values):
+        word = values['CODE']
+        fault = fault_of_code(word.text)
+        return mistake(line, word.column, word.text, fault, 'bad-code') if fault else self.count_key(line)
+
+    def count_key(self, line):
+        """Counts a key or code, and returns the mistake of one too many."""
+        self.keys += 1
+        if self.keys > MOST_KEYS:
+            return mistake(line, 1, line.text, f'a capture has at most {MOST_KEYS} keys and codes', 'too-many')
+        return None
+
+    def take_addr(self, line, values):
+        word = values['SHORT']
+        earlier = self.addresses.setdefault(word.text.upper(), line.number)
+        if earlier != line.number:
+            return mistake(
+                line, word.column, word.text, 'this short address has an addr line already', 'address-taken', earlier
+            )
+        return None
+
+    def take_frame(self, line, values):
+        self.frames += 1
+        if self.frames > MOST_FRAMES:
+            return mistake(line, 1, line.text, f'a capture has at most {MOST_FRAMES} frames', 'too-many')
+        return None
+
+
+def find_mistakes(data, link_key=None):
+    """Returns the mistakes of a capture, at most one a line."""
+    reader, mistakes = Reader(), []
+    for line in read_lines(data):
+        form, line, fault = GRAMMAR.read(line)
+        fault = fault or reader.fault_of_meaning(form, line)
+        if fault:
+            mistakes.append(fault)
+    return mistakes

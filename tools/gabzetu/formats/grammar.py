@@ -1,0 +1,216 @@
+"""Reads a line by a table of forms, and says what is wrong with it: where, which word, and what was wanted.
+
+A form is a text such as `deliver FRAME NAME`: words in lower case are those very words, others are places, whose
+kinds of words the table has by their name."""
+import collections
+import re
+
+from .words import Literal, Rest, counted, near
+
+# line, column: from 1; text: the word or line; message: what is wrong; cause: as tc would refuse it; earlier: the
+# line of an earlier thing that this clashes with, or none
+Mistake = collections.namedtuple('Mistake', 'line column text message cause earlier')
+
+# A line of a text: number from 1, text, words with their columns
+Line = collections.namedtuple('Line', 'number text words')
+Word = collections.namedtuple('Word', 'text column')
+
+LONGEST_SHOWN = 40
+
+
+def printable(text):
+    """Returns a text with escapes for what isn't printed: a terminal takes no orders from a file."""
+    return ''.join(it if it.isprintable() and it.isascii() else ascii(it)[1:-1] for it in text)
+
+
+def shown(text):
+    """Returns a text for a message, cut where it is long."""
+    return printable(text if len(text) <= LONGEST_SHOWN else text[:LONGEST_SHOWN] + '..')
+
+
+def describe(mistake):
+    """Returns a mistake as `LINE:COLUMN: 'text': message`."""
+    earlier = f' (line {mistake.earlier})' if mistake.earlier else ''
+    return f"{mistake.line}:{mistake.column}: '{shown(mistake.text)}': {mistake.message}{earlier}"
+
+
+class Form:
+    """A form of a line, what it is (for example an event), what it does in a sentence, and the nodes that it takes."""
+
+    def __init__(self, what, text, about, kinds, roles=None):
+        first, *places = text.split()
+        self.first = first
+        self.places = [kinds[it] if it in kinds else Literal(it) for it in places]
+        self.keys = [it if it in kinds else None for it in places]
+        self.text = ' '.join([first, *(it.name for it in self.places)])
+        self.what = what
+        self.about = about
+        self.roles = roles or {}
+
+    def has_rest(self):
+        """Returns whether the last place takes all that is left of a line."""
+        return bool(self.places) and isinstance(self.places[-1], Rest)
+
+    def values(self, line):
+        """Returns the words of a line by the names of their places."""
+        return {key: word for key, word in zip(self.keys, line.words[1:]) if key}
+
+
+def split_line(number, text):
+    """Returns a line with its words and their columns. Words are separated by one space each."""
+    words, column = [], 1
+    for word in text.split(' '):
+        words.append(Word(word, column))
+        column += len(word) + 1
+    return Line(number, text, words)
+
+
+def read_lines(data):
+    """Yields the lines of a text that say something, decoded byte by byte. Empty lines and comments are passed
+    over."""
+    pieces = data.decode('latin-1').split('\n')
+    for number, text in enumerate(pieces, 1):
+        if text.endswith('\r') and number < len(pieces):
+            text = text[:-1]
+        if text and not text.startswith('#'):
+            yield split_line(number, text)
+
+
+def mistake(line, column, text, message, cause='syntax', earlier=None):
+    """Returns a mistake in a line."""
+    return Mistake(line.number, column, text, message, cause, earlier)
+
+
+# What keeps a line from being words with one space between them. The first that is found is reported.
+LAYOUTS = [
+    (re.compile('^(\xff\xfe|\xfe\xff)'), 'the file is UTF-16; save it as ASCII or UTF-8 without a mark'),
+    (re.compile('^\xef\xbb\xbf'), 'the file begins with a byte order mark; save it without one'),
+    (re.compile('\x00'), 'a byte of value 0; the file is no text, or it is UTF-16'),
+    (re.compile('\r'), 'a carriage return that is not the one before a line feed'),
+    (re.compile('\t'), 'a tab; words are separated by one space'),
+    (re.compile('\xc2\xa0'), 'a no-break space; words are separated by one plain space'),
+    (re.compile(' +(#|//|;)'), 'a comment is a line of its own that begins with #'),
+    (re.compile('^(//|;|--|/\\*)'), 'a comment begins with #'),
+    (re.compile('^ +'), 'a line begins with its first word, without spaces before it'),
+    (re.compile(' +$'), 'a line ends with its last word, without spaces after it'),
+    (re.compile('  +'), 'words are separated by one space, and here are more'),
+    (re.compile('[\x80-\xff]+|[\x01-\x1f\x7f]'), 'only a comment may have characters that are not ASCII'),
+]
+
+
+def fault_of_layout(line, layouts):
+    """Returns the mistake of the first layout that a line has, or none."""
+    for pattern, message in layouts:
+        found = pattern.search(line.text)
+        if found:
+            return mistake(line, found.start() + 1, found[0], message)
+    return None
+
+
+def fault_of_first(line, firsts, others):
+    """Returns the mistake of a line whose first word no form has. `firsts` are the forms by their first words,
+    `others` the first words of forms that people may mean by other words."""
+    word = line.words[0].text
+    meant = others.get(word.lower()) or near(word, firsts)
+    if meant is None:
+        kinds = list(dict.fromkeys(it.what for forms in firsts.values() for it in forms))
+        return mistake(line, 1, line.text, f'no {" or ".join(kinds)} of this name')
+    form = firsts[meant][0]
+    return mistake(line, 1, line.text, f"no {form.what} of this name; did you mean '{form.text}'?")
+
+
+def first_fault(form, words):
+    """Returns the number of the first word that its place doesn't take, and why; or none and none."""
+    faults = ((number, place.fault(word.text)) for number, (place, word) in enumerate(zip(form.places, words)))
+    return next((it for it in faults if it[1]), (None, None))
+
+
+def in_another_order(form, words):
+    """Returns two words in the order of the form, where they are in the other one; else nothing."""
+    if len(words) != 2 or len(form.places) != 2 or first_fault(form, words[::-1])[1]:
+        return ''
+    return f"; did you mean '{form.first} {words[1].text} {words[0].text}'?"
+
+
+def wanted_word(form, number, forms):
+    """Returns what a place of certain words takes in any of some forms, or none where it takes other words too."""
+    places = [it.places[number] for it in forms if len(it.places) > number]
+    if not isinstance(form.places[number], Literal) or not all(isinstance(it, Literal) for it in places):
+        return None
+    words = sorted({it.word for it in places})
+    return 'the word ' + ' or '.join(f"'{it}'" for it in words) + ' belongs here'
+
+
+def fault_of_words(line, form, forms):
+    """Returns the mistake of the words of a line in a form, or none: the first wrong word, else their number.
+    `forms` are all that the line fits as well."""
+    words = line.words[1:]
+    number, fault = first_fault(form, words)
+    if fault:
+        fault = (wanted_word(form, number, forms) or fault) + in_another_order(form, words)
+        return mistake(line, words[number].column, words[number].text, f"{fault} ('{form.text}')")
+    if len(words) < len(form.places):
+        place = form.places[len(words)]
+        return mistake(
+            line, len(line.text) + 1, line.text, f"{place.name} is missing: {place.wanted} ('{form.text}')"
+        )
+    if len(words) > len(form.places):
+        left = words[len(form.places)]
+        extra = line.text[left.column - 1 :]
+        return mistake(
+            line, left.column, extra, f"{counted(len(words) - len(form.places), 'word')} too many ('{form.text}')"
+        )
+    return None
+
+
+def depth(line, form):
+    """Returns how many words of a line fit a form, and whether it has as many, to choose the form that was meant."""
+    words = line.words[1:]
+    number, _ = first_fault(form, words)
+    return min(len(words), len(form.places)) if number is None else number, len(words) == len(form.places)
+
+
+def with_rest(line, form):
+    """Returns a line whose last word is all that is left where the form ends with a rest of the line."""
+    size = len(form.places)
+    if not form.has_rest() or len(line.words) - 1 <= size:
+        return line
+    last = line.words[size]
+    return line._replace(words=[*line.words[:size], Word(line.text[last.column - 1 :], last.column)])
+
+
+def by_other(meant):
+    """Returns what people write, each word with the one that it is, of the other words of each."""
+    return {other: word for word, others in meant.items() for other in others.split()}
+
+
+class Grammar:
+    """The forms of the lines of a text."""
+
+    def __init__(self, forms, others):
+        self.forms = forms
+        self.others = others
+        self.firsts = collections.defaultdict(list)
+        for form in forms:
+            self.firsts[form.first].append(form)
+
+    def read(self, line):
+        """Returns the form of a line and its words, and none; or none, none and what is wrong with it."""
+        forms = self.firsts.get(line.words[0].text)
+        fault = self.fault_of_layout(forms, line)
+        if fault:
+            return None, line, fault
+        if not forms:
+            return None, line, fault_of_first(line, self.firsts, self.others)
+        form = max(forms, key=lambda it: depth(line, it))
+        line = with_rest(line, form)
+        fault = fault_of_words(line, form, [it for it in forms if depth(line, it)[0] == depth(line, form)[0]])
+        return (None, line, fault) if fault else (form, line, None)
+
+    @staticmethod
+    def fault_of_layout(forms, line):
+        """Returns what is wrong with the layout of a line. A text of any kind at its end needs be ASCII alone."""
+        if not forms or not any(it.has_rest() for it in forms):
+            return fault_of_layout(line, LAYOUTS)
+        head = line._replace(text=' '.join(it.text for it in line.words[:2]))
+        return fault_of_layout(head, LAYOUTS) or fault_of_layout(line, LAYOUTS[-1:])

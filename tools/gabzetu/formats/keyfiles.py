@@ -1,0 +1,189 @@
+"""Reads keys from files of other programs: coordinator backups, settings of Zigbee2MQTT, keys of Wireshark, reports
+and transcripts."""
+import json
+import re
+
+from ..errors import UNREADABLE, Stop
+from ..output import read_input
+
+KEY = re.compile('[0-9A-F]{32}')
+SEPARATORS = re.compile(r'[:\-\s]')
+MOST_LABEL = 100
+KNOWN = (
+    'a coordinator backup of zigpy, ZHA or Zigbee2MQTT, a backup of `gabzetu admin`, '
+    'configuration.yaml of Zigbee2MQTT, zigbee_pc_keys of Wireshark, a report of inspect or sniff, and a transcript'
+)
+
+
+def printable(value):
+    """Returns a foreign text in one line that a terminal takes, cut where it is long."""
+    return ''.join(it for it in str(value) if it.isprintable())[:MOST_LABEL]
+
+
+def normal_key(text):
+    """Returns a key as tc writes it, or none where a text is no key. Colons, dashes, spaces and 0x are passed over."""
+    text = SEPARATORS.sub('', str(text)).upper()
+    text = text[2:] if text.startswith('0X') else text
+    return text if KEY.fullmatch(text) else None
+
+
+def members(value, name):
+    """Returns the object that a member of a JSON object is, or an empty one."""
+    found = value.get(name)
+    return found if isinstance(found, dict) else {}
+
+
+def objects(value, name):
+    """Returns the objects in the list that a member of a JSON object is."""
+    found = value.get(name)
+    return [it for it in found if isinstance(it, dict)] if isinstance(found, list) else []
+
+
+def key_in(value, name):
+    """Returns the member `key` of the object that a member is, or none."""
+    return members(value, name).get('key')
+
+
+def keys_of_coordinator(backup):
+    """Yields the keys of an open coordinator backup: of the network, of its devices, and of the trust centre."""
+    yield key_in(backup, 'network_key'), f'network key {members(backup, "network_key").get("sequence_number", 0)}'
+    for device in objects(backup, 'devices'):
+        yield key_in(device, 'link_key'), f'link key of {str(device.get("ieee_address")).upper()}'
+    inside = members(members(backup, 'metadata'), 'internal')
+    yield key_in(members(inside, 'network'), 'tc_link_key'), 'trust centre link key'
+
+
+def keys_of_zha(backup):
+    """Yields the keys of a backup as ZHA keeps it: network_info with network_key, tc_link_key and key_table."""
+    info = members(backup, 'network_info')
+    for name, words in (('network_key', 'network key'), ('tc_link_key', 'trust centre link key')):
+        yield key_in(info, name), words
+    for entry in objects(info, 'key_table'):
+        yield entry.get('key'), f'link key of {entry.get("partner_ieee")}'
+
+
+def keys_of_centre(backup):
+    """Yields the keys of a backup of `tc admin` (docs/BACKUP.md)."""
+    for name, words in (
+        ('nets', 'network key {sequence}'),
+        ('links', 'link key of {partner}'),
+        ('pairs', 'key of {first} with {second}'),
+    ):
+        for row in objects(backup, name):
+            yield row.get('key'), words.format_map({'sequence': '', 'partner': '', 'first': '', 'second': '', **row})
+
+
+def keys_of_json(value):
+    """Yields the keys of a JSON text of a known form."""
+    while isinstance(value, dict) and isinstance(value.get('backup'), dict):
+        value = value['backup']
+    if not isinstance(value, dict):
+        return
+    if 'network_info' in value:
+        yield from keys_of_zha(value)
+    elif 'nets' in value:
+        yield from keys_of_centre(value)
+    elif 'network_key' in value:
+        yield from keys_of_coordinator(value)
+
+
+def number_of(word):
+    return int(word, 16) if word[:2] in ('0x', '0X') else int(word)
+
+
+def listed_numbers(text):
+    """Returns the numbers of a list of YAML that a text begins with, in brackets or a line each, or an empty list."""
+    inline = re.match(r'\[([^\]]*)\]', text)
+    block = re.match(r'[^\n]*\n((?:[ \t]*-[ \t]*\w+[ \t]*(?:#[^\n]*)?(?:\n|$))+)', text)
+    found = inline or block
+    return (
+        [number_of(it) for it in re.findall(r'\b(?:0[xX][0-9A-Fa-f]+|\d+)\b', re.sub('#.*', '', found[1]))]
+        if found
+        else []
+    )
+
+
+def keys_of_settings(text):
+    """Yields the network key of Zigbee2MQTT's settings, 16 numbers in a list or a text of digits."""
+    place = re.search(r'^[ \t]*network_key:[ \t]*(.*)$', text, re.M)
+    if not place:
+        return
+    numbers = listed_numbers(text[place.start(1) :])
+    if len(numbers) == 16 and max(numbers) < 256:
+        yield bytes(numbers).hex(), 'network key of the settings'
+    elif not numbers:
+        yield place[1].split('#')[0].strip(' \'"\r'), 'network key of the settings'
+
+
+def keys_of_wireshark(text):
+    """Yields the keys of lines of zigbee_pc_keys: a key, its byte order, a label."""
+    for key, order, label in re.findall(r'^[ \t]*"([^"]*)","(Normal|Reverse)","([^"]*)"', text, re.M):
+        key = normal_key(key)
+        yield bytes.fromhex(key)[::-1].hex() if key and order == 'Reverse' else key, label or 'zigbee_pc_keys'
+
+
+def keys_of_report(lines):
+    """Yields the keys of the lines of a report, each with a word on where it comes from."""
+    for words in lines:
+        if words[0] == 'key' and words[3:] == ['given']:
+            yield words[2], f'key {words[1]}, given'
+        elif words[0] == 'key' and words[3:4] == ['found'] and words[4:5] and words[4].isdigit():
+            yield words[2], f'key {words[1]}, found in frame {words[4]}'
+
+
+def keys_of_transcript(lines):
+    """Yields the keys that nodes have from the start or take in, each with a word on where it comes from."""
+    for event, kind, *words in (words for words in lines if len(words) > 3 and words[0].isdigit()):
+        if kind == 'given' and words[1] == 'net' and len(words) > 3:
+            yield words[2], f'network key {words[3]} of the start'
+        elif kind == 'given' and words[1] == 'link' and len(words) > 3:
+            yield words[3], f'link key of {words[0]} from its install code'
+        elif kind == 'install' and len(words) > 2:
+            yield words[1], f'network key {words[2]}, event {event}'
+        elif kind == 'row' and len(words) > 2:
+            yield words[2], f'link key of {words[0]} with {words[1]}, event {event}'
+        elif kind == 'pair' and len(words) > 3:
+            yield words[3], f'link key of {words[1]} with {words[2]}, event {event}'
+
+
+def keys_of_opened(text):
+    """Yields the keys of what `gabzetu open` writes: its listing, or its JSON lines."""
+    for number, key, words in re.findall(r'^  key +(\d+) +([0-9A-F]{32})  (.+)$', text, re.M):
+        yield key, f'key {number}, {words.split(", which key")[0]}'
+    for line in re.findall(r'^\{"kind": "key", .*\}$', text, re.M):
+        fields = json.loads(line)
+        yield fields.get('key'), f'key {fields.get("k")}, {fields.get("origin")}'
+
+
+def keys_of_text(text):
+    """Yields the keys of a text of any known form."""
+    try:
+        yield from keys_of_json(json.loads(text))
+        return
+    except ValueError:
+        pass
+    lines = [words for words in map(str.split, text.splitlines()) if words]
+    for reader, value in (
+        (keys_of_wireshark, text),
+        (keys_of_report, lines),
+        (keys_of_transcript, lines),
+        (keys_of_opened, text),
+        (keys_of_settings, text),
+    ):
+        yield from reader(value)
+
+
+def read_key_file(path):
+    """Returns the keys of a file, each with a word on where it comes from. Stops where there is none."""
+    try:
+        text = read_input(path).decode('utf-8-sig')
+    except UnicodeDecodeError as error:
+        raise Stop(f'{path}: this is no text: known are {KNOWN}', UNREADABLE) from error
+    labels = {}
+    for text_of_key, label in keys_of_text(text):
+        key = normal_key(text_of_key)
+        if key:
+            labels.setdefault(key, printable(label))
+    if not labels:
+        raise Stop(f'{path}: no keys are in it: known are {KNOWN}', UNREADABLE)
+    return labels

@@ -1,0 +1,65 @@
+"""What `gabzetu help` says of the lines of texts: made from the same tables that read them."""
+import textwrap
+
+from .formats import captures, schedules, scripts
+from .scenarios import language
+
+WIDTH = 100
+
+INTRODUCTIONS = {
+    'schedule': (
+        'A schedule declares nodes and what they hold, and then says what happens. Words are separated by one '
+        'space, and a comment is a line that begins with #. All declarations come before the first event. '
+        'Addresses, keys and bytes are hexadecimal digits, numbers are decimal; HEX is - for no bytes. A frame that '
+        'no line delivers is lost.'
+    ),
+    'capture': (
+        'A text capture has what is known and what was heard, a line each. Words are separated by one space, and a '
+        'comment is a line that begins with #. `gabzetu open` reads the files of sniffers.'
+    ),
+    'script': (
+        "A script for `gabzetu admin` names the centre and its peers, and then has commands on the centre's store. "
+        'docs/ADMIN.md says what is promised of it.'
+    ),
+    'scenario': (
+        'A scenario is a schedule without frame numbers. Each line of a schedule (gabzetu help schedule) is one of '
+        'a scenario too, and stays as it is. A step that is refused in the middle of a line ends with a message; '
+        '`deliver last`, `say`, `send` and the lines of schedules may be refused. docs/SCENARIOS.md has examples.'
+    ),
+}
+
+SECTIONS = {
+    'schedule': [('Declarations', schedules.DECLARATIONS), ('Events', schedules.EVENTS)],
+    'capture': [('Lines', captures.FORMS)],
+    'script': [('Lines', scripts.FORMS)],
+    'scenario': [('Declarations', language.DECLARATIONS), ('Steps', language.STEPS)],
+}
+
+MORE = {
+    'schedule': (
+        'The exact rules: docs/FORMATS.md. Who answers what: docs/POLICY.md. What is wrong with a file: gabzetu '
+        'check FILE.'
+    ),
+    'capture': 'The exact rules: docs/FORMATS.md. What is wrong with a file: gabzetu check FILE.',
+    'script': 'What is wrong with a file: gabzetu check FILE.',
+    'scenario': 'The schedule of a scenario: gabzetu scenario FILE. Its options: gabzetu scenario --help.',
+}
+
+
+def wrapped(text, indent=''):
+    """Returns a text in lines of the width of help."""
+    return textwrap.fill(text, WIDTH, initial_indent=indent, subsequent_indent=indent)
+
+
+def describe_forms(title, forms):
+    """Returns the forms of some lines, each with its sentence below it."""
+    lines = [f'{title}:']
+    for form in forms:
+        lines += [f'  {form.text}', wrapped(form.about, '      ')]
+    return '\n'.join(lines)
+
+
+def describe_topic(topic):
+    """Returns the text of `gabzetu help` on the lines of schedules, captures, scripts or scenarios."""
+    parts = [wrapped(INTRODUCTIONS[topic]), *(describe_forms(*it) for it in SECTIONS[topic]), wrapped(MORE[topic])]
+    return '\n\n'.join(parts) + '\n'

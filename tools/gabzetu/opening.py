@@ -1,0 +1,180 @@
+"""Opens the frames of a capture: runs `tc inspect` in parts, with the keys and addresses that earlier runs found."""
+import collections
+
+from .errors import Stop
+from .formats.addresses import Addresses
+from .formats.fields import read_report_line
+from .program import run_tc
+
+MOST_FRAMES, MOST_KEYS, MOST_NETWORK_KEYS, MOST_CLOSED = 100000, 256, 64, 1000000
+WELL_KNOWN = '5A6967426565416C6C69616E63653039'
+CLOSED = ('no-key', 'no-source')
+
+# number, time: of the packet; pan, to, source: of its MAC header; payload: the bytes of the NWK frame; nwk: its
+# header, or none where they have none of version 2
+Frame = collections.namedtuple('Frame', 'number time pan to source payload nwk')
+
+# A layer as tc reports it. kind: nwk, aps or inner; key: which opened it, or none; reason: why it didn't open, or none
+Layer = collections.namedtuple('Layer', 'kind key label source counter content reason')
+
+# number: from 1; origin: words for people; packet: in which it was found, or none; by: the key that opened that one,
+# or none
+Key = collections.namedtuple('Key', 'number key origin packet by')
+
+
+def is_closed(layers):
+    """Says whether another key or address might open a further layer."""
+    return not layers or any(it.reason in CLOSED for it in layers)
+
+
+def opened_layers(layers):
+    return sum(it.key is not None for it in layers)
+
+
+def parts_of(items, size):
+    return [items[at : at + size] for at in range(0, len(items), size)]
+
+
+class Ring:
+    """The keys that are known, in the order in which they came. The network keys are those that opened a NWK layer."""
+
+    def __init__(self):
+        self.keys, self.network = {}, set()
+
+    def add(self, key, origin, packet=None, by=None):
+        """Adds a key where it is new."""
+        if key not in self.keys:
+            self.keys[key] = Key(len(self.keys) + 1, key, origin, packet, by)
+
+    def shares(self):
+        """Returns lists of keys of which each is short enough for one run. Network keys are in each."""
+        if len(self.keys) <= MOST_KEYS:
+            return [list(self.keys)]
+        network = [key for key in self.keys if key in self.network][-MOST_NETWORK_KEYS:]
+        others = [key for key in self.keys if key not in network]
+        return [network + share for share in parts_of(others, MOST_KEYS - len(network))]
+
+
+def text_capture(keys, table, frames):
+    """Returns the bytes of a text capture: keys, addresses and frames."""
+    lines = [f'key {key}' for key in keys]
+    lines += [f'addr {short} {eui}' for short, eui in table.items()]
+    lines += [f'frame {frame.payload.hex().upper()}' for frame in frames]
+    return ('\n'.join(lines) + '\n').encode('ascii')
+
+
+def inspect(keys, table, frames, jobs):
+    """Returns the fields of the lines of the report on some frames."""
+    ran = run_tc(['inspect', str(jobs)], text_capture(keys, table, frames))
+    if ran.status:
+        words = ran.output.decode('ascii', 'replace').strip()
+        raise Stop(f'tc inspect ended with status {ran.status} on the frames of the capture: {words}', ran.status)
+    return [read_report_line(line.split(' ')) for line in ran.output.decode('ascii').splitlines()]
+
+
+def layer_of(fields, keys):
+    """Returns the layer of a line of a report. `keys` has the keys by their numbers in it."""
+    get = fields.get
+    return Layer(
+        fields['kind'], keys.get(get('k')), get('label'), get('source'), get('counter'), get('content'), get('reason')
+    )
+
+
+class Opener:
+    """Opens frames part by part. `jobs` is how many jobs tc may use."""
+
+    def __init__(self, ring, jobs=1):
+        self.ring, self.addresses, self.jobs = ring, Addresses(), jobs
+        self.closed, self.tried = collections.OrderedDict(), None
+
+    def known(self):
+        """Returns how many keys and addresses are known."""
+        return len(self.ring.keys), self.addresses.count
+
+    def open_part(self, frames):
+        """Returns each frame of a part with its layers. Frames that stay closed are kept for open_again."""
+        for frame in frames:
+            self.addresses.learn_from_header(frame)
+        layers = self.open_all(frames, {})
+        for frame in frames:
+            if is_closed(layers[frame.number]):
+                self.closed[frame.number] = (frame, layers[frame.number])
+        while len(self.closed) > MOST_CLOSED:
+            self.closed.popitem(last=False)
+        return [(frame, layers[frame.number]) for frame in frames]
+
+    def open_again(self):
+        """Returns the frames of earlier parts of which more opens with what was found since, with their layers."""
+        if self.tried == self.known():
+            return []
+        before = {number: layers for number, (_, layers) in self.closed.items()}
+        frames = [frame for frame, _ in self.closed.values()]
+        layers = self.open_all(frames, dict(before))
+        self.tried = self.known()
+        better = [(frame, layers[frame.number]) for frame in frames if layers[frame.number] != before[frame.number]]
+        for frame, now in better:
+            self.closed[frame.number] = (frame, now)
+            if not is_closed(now):
+                del self.closed[frame.number]
+        return better
+
+    def open_all(self, frames, layers):
+        """Opens frames until no run finds a key or an address. `layers` has what earlier runs opened, and is
+        returned."""
+        while frames:
+            before = self.known()
+            for part in parts_of(frames, MOST_FRAMES):
+                self.open_once(part, layers)
+            if self.known() == before:
+                break
+            frames = [frame for frame in frames if is_closed(layers[frame.number])]
+        return layers
+
+    def open_once(self, frames, layers):
+        """Opens frames with what is known now: a run for each PAN whose addresses are known, and one for the
+        others."""
+        groups = collections.defaultdict(list)
+        for frame in frames:
+            groups[frame.pan if frame.pan in self.addresses.pans else None].append(frame)
+        for pan, group in groups.items():
+            self.open_group(pan, group, layers)
+
+    def open_group(self, pan, frames, layers):
+        """Opens the frames of a PAN by each share of the keys, and each table of its addresses."""
+        for keys in self.ring.shares():
+            for table in self.addresses.tables(pan):
+                self.run(keys, table, frames, layers)
+                frames = [frame for frame in frames if is_closed(layers[frame.number])]
+                if not frames:
+                    return
+
+    def run(self, keys, table, frames, layers):
+        """Runs tc once, and takes what is better than before."""
+        lines = inspect(keys, table, frames, self.jobs if len(frames) > 1000 else 1)
+        found = [it for it in lines if it['kind'] == 'key']
+        numbers = {it['k']: it['key'] for it in found}
+        seen = collections.defaultdict(list)
+        for fields in lines:
+            if 'frame' in fields and fields['kind'] != 'key':
+                seen[fields['frame']].append(layer_of(fields, numbers))
+        for place, frame in enumerate(frames, 1):
+            self.take(frame, tuple(seen[place]), layers)
+        for fields in found:
+            if fields['origin'] == 'found':
+                self.add_found(fields['key'], frames[fields['frame'] - 1], layers)
+
+    def take(self, frame, now, layers):
+        """Takes the layers of a frame where more of them open than before, and learns from them."""
+        before = layers.get(frame.number)
+        if before is not None and (opened_layers(before), not is_closed(before)) >= (
+            opened_layers(now),
+            not is_closed(now),
+        ):
+            return
+        layers[frame.number] = now
+        self.ring.network.update(it.key for it in now if it.kind == 'nwk' and it.key)
+        self.addresses.learn_from_layers(frame, now)
+
+    def add_found(self, key, frame, layers):
+        by = [it.key for it in layers[frame.number] if it.key]
+        self.ring.add(key, f'found in packet {frame.number}', frame.number, by[-1] if by else None)

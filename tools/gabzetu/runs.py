@@ -1,0 +1,81 @@
+"""Runs a command of tc for a command of the front end: its input, its output as text or JSON lines, and what is told
+of faults."""
+import json
+import os
+
+from . import program, progress, told
+from .formats import diagnosis
+from .output import read_input, say, write_output
+
+MOST_JOBS = 64
+JOBS_USAGE = 'JOBS is a number from 1 to 64.'
+
+# The statuses at which the output of tc is an answer and no fault: all is well, and a broken claim.
+ANSWERS = (0, 10)
+
+
+def add_output(parser):
+    """Adds `-o OUT` and `--json`."""
+    parser.add_argument(
+        '-o', '--output', metavar='OUT', help='write to this file, all or nothing, and not to standard output'
+    )
+    parser.add_argument('--json', action='store_true', help='write JSON lines: an object for each line of the output')
+
+
+def add_jobs(parser):
+    """Adds `-j JOBS`."""
+    parser.add_argument(
+        '-j',
+        '--jobs',
+        metavar='JOBS',
+        default=str(default_jobs()),
+        help='the number of jobs, 1 to 64 (one for each processor); the output is the same for all',
+    )
+
+
+def default_jobs():
+    """Returns the number of processors that this process may use, at most as many as tc takes jobs."""
+    return min(len(os.sched_getaffinity(0)), MOST_JOBS)
+
+
+def object_of(line, reader):
+    """Returns the fields of a line, and of a line that `reader` does not know its text."""
+    return reader(line.split(' ')) or {'kind': 'other', 'text': line}
+
+
+def json_lines(output, reader):
+    """Returns the JSON lines of the lines of an output."""
+    lines = output.decode('ascii', 'replace').splitlines()
+    return ''.join(json.dumps(object_of(line, reader)) + '\n' for line in lines)
+
+
+def tell(kind, path, ran, given, usage=''):
+    """Says on standard error what a status means, and of a refused text what is wrong with its line.
+
+    `usage` says which words the command takes."""
+    name = told.base_name(path)
+    fault = told.fault_of(kind, name, ran.status, ran.output)
+    if not fault:
+        return
+    say(f'gabzetu: {fault}{" " + usage if ran.status == 2 and usage else ""}')
+    words = told.last_words(ran.output)
+    if ran.status == 5 and len(words) > 2 and words[1].isdigit():
+        for hint in diagnosis.hints(kind, given, int(words[1])):
+            say(f'  {name}:{hint}')
+
+
+def finish(arguments, ran, reader):
+    """Writes an answer of tc as text or JSON lines, and returns the exit status."""
+    if ran.status in ANSWERS:
+        write_output(arguments.output, json_lines(ran.output, reader) if arguments.json else ran.output)
+    return told.exit_status(ran.status)
+
+
+def run_file(arguments, words, kind, path, reader, usage=''):
+    """Runs tc on the content of a file, and returns the exit status."""
+    given = read_input(path)
+    with progress.shown(f'{words[0]} {told.base_name(path)}'):
+        ran = program.run_tc(words, given)
+    status = finish(arguments, ran, reader)
+    tell(kind, path, ran, given, usage)
+    return status

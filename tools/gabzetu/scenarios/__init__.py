@@ -1,0 +1,1 @@
+"""Scenarios: schedules as people write them. docs/SCENARIOS.md describes the language."""

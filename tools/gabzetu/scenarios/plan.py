@@ -1,0 +1,243 @@
+"""The plain schedule that a scenario becomes, line by line, and what tc makes of it so far."""
+import collections
+import hashlib
+
+from .. import program, told
+from ..errors import WRONG_INPUT, Stop
+from ..formats import diagnosis, policy, stories
+from ..formats.causes import CAUSES
+from ..formats.grammar import describe
+from ..formats.words import crc_of
+
+CODE_BYTES = 16
+FIRST_EUI, FIRST_SHORT = 0x00124B0000000001, 0x1001
+BLOCKS = '16 4'
+
+# text: a line of the schedule; origin: the number of the line of the scenario that it comes of
+Entry = collections.namedtuple('Entry', 'text origin')
+
+# groups: the fields of the lines of each event; frames: how many frames went on the air
+Played = collections.namedtuple('Played', 'groups frames')
+
+
+class Refused(Exception):
+    """A step of a line was refused: its event, and the fields of the refusal."""
+
+    def __init__(self, event, fields):
+        super().__init__(event)
+        self.event, self.fields = event, fields
+
+
+class Plan:
+    """The schedule so far. Declarations come first, then the keys of the supply, then the events."""
+
+    def __init__(self, name, supply):
+        self.name = name
+        self.seed = 'gabzetu'
+        self.supply = supply
+        self.declared, self.body, self.pending = [], [], []
+        self.origin = 0
+        self.nodes, self.codes = {}, {}
+        self.has_draws = self.has_begun = False
+        self.played = None
+        self.lost = {}
+        self.made = 0
+
+    # ---- what is made from the seed
+
+    def from_seed(self, what):
+        """Returns 16 bytes that only the seed and `what` decide, as digits."""
+        return hashlib.sha256(f'{self.seed} {what}'.encode()).hexdigest()[: 2 * CODE_BYTES].upper()
+
+    def new_key(self):
+        """Returns a key from the seed that no call before returned."""
+        self.made += 1
+        return self.from_seed(f'key {self.made}')
+
+    def new_code(self, name):
+        """Returns the install code of a node, from the seed."""
+        digits = self.from_seed(f'code {name}')
+        return digits + crc_of(bytes.fromhex(digits)).hex().upper()
+
+    # ---- lines
+
+    def comment(self, text):
+        """Adds a comment, or an empty line. It comes before the next declaration or event, whichever comes."""
+        self.pending.append(Entry(text, self.origin))
+
+    def settle(self, lines):
+        """Puts the comments that wait before what comes next."""
+        lines += self.pending
+        self.pending = []
+
+    def declare(self, text):
+        """Adds a declaration. All come before the first event."""
+        if self.has_begun:
+            raise self.stop('a declaration after an event: all declarations come first')
+        words = text.split(' ')
+        if words[0] == 'node':
+            self.nodes[words[1]] = words[2:]
+        elif words[0] == 'code':
+            self.codes[words[1]] = words[2]
+        self.has_draws = self.has_draws or words[0] == 'draw'
+        self.settle(self.declared)
+        self.declared.append(Entry(text, self.origin))
+
+    def add_node(self, role, name):
+        """Adds a node line with addresses that no node line so far has."""
+        number = len(self.nodes)
+        euis, shorts = {it[1] for it in self.nodes.values()}, {it[2] for it in self.nodes.values()}
+        while f'{FIRST_EUI + number:016X}' in euis or f'{FIRST_SHORT + number:04X}' in shorts:
+            number += 1
+        short = '0000' if role == 'centre' else f'{FIRST_SHORT + number:04X}'
+        self.declare(f'node {name} {role} {FIRST_EUI + number:016X} {short} {BLOCKS}')
+
+    def attempt(self, text):
+        """Adds an event, whatever comes of it."""
+        self.has_begun = True
+        self.settle(self.body)
+        self.body.append(Entry(text, self.origin))
+        self.played = None
+
+    def do(self, text):
+        """Adds an event that must not be refused, and returns the fields of its lines."""
+        self.attempt(text)
+        group = self.play().groups[self.events()]
+        refused = next((it for it in group if it['kind'] == 'refuse'), None)
+        if refused:
+            raise Refused(text, refused)
+        return group
+
+    def take_back(self):
+        """Takes the last event back."""
+        self.body.pop()
+        self.played = None
+
+    # ---- what tc makes of it
+
+    def events(self):
+        """Returns how many events there are so far."""
+        return sum(1 for it in self.body if it.text and not it.text.startswith('#'))
+
+    def draws(self, count):
+        """Returns the keys of the supply as lines, where the scenario has no draw line."""
+        if self.has_draws or not count:
+            return []
+        keys = [Entry(f'draw {self.from_seed(f"draw {number}")}', 0) for number in range(1, count + 1)]
+        return [Entry('# the supply of keys', 0), *keys]
+
+    def entries(self, supply):
+        """Returns all lines so far, with a supply of this many keys."""
+        return self.declared + self.draws(supply) + self.body
+
+    def play(self):
+        """Returns what tc plays of the schedule so far."""
+        if self.played is None:
+            entries = self.entries(self.supply)
+            data = ''.join(f'{it.text}\n' for it in entries).encode()
+            ran = program.run_tc(['play'], data)
+            if ran.status:
+                raise self.refusal(ran, entries, data)
+            self.played = self.read(ran.output.decode('ascii'))
+        return self.played
+
+    @staticmethod
+    def read(text):
+        """Returns what a transcript says of each event."""
+        groups, frames = collections.defaultdict(list), 0
+        for line in stories.read_text(text):
+            if stories.event_of(line) is not None:
+                groups[stories.event_of(line)].append(line.fields)
+                frames += line.fields['kind'] in ('send', 'inject')
+        return Played(groups, frames)
+
+    def refusal(self, ran, entries, data):
+        """Returns why tc refuses the schedule, at the line of the scenario that its line comes of."""
+        words = told.last_words(ran.output)
+        if ran.status != 5 or len(words) != 3:
+            return Stop(told.fault_of('schedule', self.name, ran.status, ran.output), told.exit_status(ran.status))
+        number = int(words[1])
+        if number <= len(entries):
+            self.origin = entries[number - 1].origin
+        found = [it for it in diagnosis.find_mistakes('schedule', data) if it.line == number]
+        if not found:
+            return self.stop(CAUSES['schedule'].get(words[2], words[2]))
+        earlier = found[0].earlier and entries[found[0].earlier - 1].origin
+        return self.stop(describe(found[0]._replace(earlier=earlier)).split(': ', 1)[1])
+
+    def stop(self, why):
+        """Returns what stops with a message at the line of the scenario."""
+        return Stop(f'{self.name}:{self.origin}: {why}', WRONG_INPUT)
+
+    # ---- questions on the run so far
+
+    def centre(self):
+        """Returns the name of the centre."""
+        name = next((name for name, words in self.nodes.items() if words[0] == 'centre'), None)
+        if name is None:
+            raise self.stop("there is no centre: write 'centre NAME' first")
+        return name
+
+    def node(self, name):
+        """Returns the words of a node line after the name."""
+        if name not in self.nodes:
+            raise self.stop(f"no node '{name}' is declared")
+        return self.nodes[name]
+
+    def fields(self):
+        """Returns the fields of all lines so far, in order."""
+        groups = self.play().groups
+        return [it for event in sorted(groups) for it in groups[event]]
+
+    def state(self, name):
+        """Returns the state of a router or device."""
+        found = [it['state'] for it in self.fields() if it['kind'] == 'state' and it['node'] == name]
+        return found[-1] if found else 'fresh'
+
+    def members(self):
+        """Returns the names of the devices that the centre counts as live."""
+        names = {words[1].upper(): name for name, words in self.nodes.items()}
+        live = {}
+        for it in self.fields():
+            if it['kind'] in ('live', 'removed'):
+                live[names.get(it['device'])] = it['kind'] == 'live'
+        return [name for name, is_live in live.items() if is_live]
+
+    def last_frame(self):
+        """Returns the number of the last frame on the air, which wasn't lost."""
+        frame = self.play().frames
+        if not frame:
+            raise self.stop('no frame is on the air yet')
+        if frame in self.lost:
+            raise self.stop(
+                f'frame {frame}, the last one, was lost in line {self.lost[frame]}; no other one went out since'
+            )
+        return frame
+
+    def was_heard(self, frame):
+        """Returns whether a deliver line of this frame exists so far."""
+        return any(it.text.startswith(f'deliver {frame} ') for it in self.body)
+
+    # ---- the schedule
+
+    def text(self):
+        """Returns the schedule, with a word after each event that is refused, and a supply as long as the run
+        needs."""
+        groups = self.play().groups
+        self.settle(self.body)
+        used = sum(it['kind'] == 'draw' for it in self.fields())
+        lines, event = [it.text for it in self.declared + self.draws(used)], 0
+        for it in self.body:
+            lines.append(it.text)
+            if it.text and not it.text.startswith('#'):
+                event += 1
+                lines += [
+                    f'#! refused by {self.words_of(fields)}' for fields in groups[event] if fields['kind'] == 'refuse'
+                ]
+        return ''.join(f'{line}\n' for line in lines)
+
+    @staticmethod
+    def words_of(fields):
+        """Returns a refusal in words."""
+        sentence = policy.sentence_of_refusal(None, fields['layer'], fields['reason'], fields['layer'] == 'nwk')
+        return f'{fields["node"]}: {fields["layer"]} {fields["reason"]} ({sentence})'

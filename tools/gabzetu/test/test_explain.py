@@ -1,0 +1,202 @@
+"""Tests of explain: each event of the examples, the rows of the policy, and broken claims."""
+import os
+import re
+import unittest
+
+from gabzetu import TOP, program
+from gabzetu.formats import fields, policy, sentences, stories
+from gabzetu.test.support import Folder, example, needs_tc, run
+
+SCHEDULES = [
+    'application-key.sched',
+    'forged-frames.sched',
+    'join.sched',
+    'removal.sched',
+    'rollover.sched',
+    'stops.sched',
+]
+
+
+def read(path):
+    with open(path, encoding='utf-8') as file:
+        return file.read()
+
+
+def played(name):
+    """Returns the lines of the transcript of a schedule, and the words of its events."""
+    data = read(example(name)).encode()
+    text = program.run_tc(['play'], data).output.decode()
+    return stories.read_text(text), [words for _, words in stories.schedule_events(data)]
+
+
+class Policy(unittest.TestCase):
+    """The rows are those of the page."""
+
+    def setUp(self):
+        page = read(os.path.join(TOP, 'docs', 'POLICY.md'))
+        self.rows = [
+            [it.strip() for it in line.strip('|').split('|')] for line in page.splitlines() if line.startswith('| ')
+        ]
+        self.page = page
+
+    def test_events(self):
+        for (event, of), row in policy.EVENTS.items():
+            self.assertIn([event, of, *row], self.rows)
+
+    def test_commands(self):
+        for command, row in policy.COMMANDS.items():
+            self.assertTrue([command, *row] in self.rows, command)
+
+    def test_judging(self):
+        plain = re.sub(r'\s+', ' ', self.page)
+        self.assertIn(policy.DATA, plain)
+        for note in policy.NOTES.values():
+            self.assertIn(note, plain)
+        for reasons in policy.JUDGING.values():
+            for reason, sentence in reasons.items():
+                self.assertIn(sentence, plain, reason)
+
+    def test_all_reasons_have_words(self):
+        order = re.search('The reasons are tried in one order everywhere: ([^.]*)', self.page)[1].split(', ')
+        self.assertEqual(sorted(order), sorted(policy.REASONS))
+
+
+@needs_tc
+class Stories(unittest.TestCase):
+    def test_every_line_has_a_sentence(self):
+        for name in SCHEDULES:
+            lines, _ = played(name)
+            speaker = sentences.Speaker(stories.reader_of(lines))
+            for line in lines:
+                self.assertTrue(line.fields and speaker.say(line.fields), line.text)
+        self.assertEqual([it for it in fields.TRANSCRIPT if not hasattr(sentences.Speaker, f'say_{it}')], [])
+
+    def test_the_lines_tell_the_event(self):
+        told = 0
+        for name in SCHEDULES:
+            lines, events = played(name)
+            for group in stories.groups_of(lines):
+                if group.event:
+                    story = stories.Story(group, stories.centre_of(lines))
+                    self.assertIn(story.event(), (None, events[group.event - 1][0]), group)
+                    told += story.event() is not None
+        self.assertGreater(told, 100)
+
+    def test_a_rule_answers_each_accepted_command(self):
+        lines, events = played('join.sched')
+        titles = []
+        for group in stories.groups_of(lines):
+            if group.event:
+                rule = stories.Story(group, 'c', events[group.event - 1]).rule()
+                titles.append(rule and rule.title)
+        self.assertNotIn(None, titles)
+        self.assertIn('Transport-Key, link key with the centre', titles)
+
+
+@needs_tc
+class Explain(Folder):
+    def test_an_accepted_command(self):
+        ran = run('explain', example('join.transcript'), '6')
+        self.assertEqual((ran.status, ran.said), (0, ''))
+        self.assertIn('Event 6: a delivery to d\n', ran.output)
+        self.assertIn('d has a new network key 00010203.., sequence 0\n', ran.output)
+        self.assertIn('The rule: Transport-Key, network key (docs/POLICY.md, "Commands")\n', ran.output)
+
+    def test_refusals_have_the_sentence_of_the_policy(self):
+        ran = run('explain', example('removal.transcript'), '36')
+        self.assertIn('Refused as wrong-state: wrong-state where no live row has the sequence\n', ran.output)
+        ran = run('explain', example('removal.transcript'), '34')
+        self.assertIn(
+            'Refused as no-key: no usable row has its key sequence; of several the newest counts', ran.output
+        )
+
+    def test_the_schedule_tells_the_words(self):
+        ran = run('explain', example('removal.transcript'), '22', '--schedule', example('removal.sched'))
+        self.assertIn('Event 22: `child c d rejoin` (line 40 of the schedule)\n', ran.output)
+        self.assertIn("Refused as not-member: not-member where the child isn't live\n", ran.output)
+        ran = run('explain', example('removal.transcript'), '22', '--schedule', example('join.sched'))
+        self.assertEqual(ran.status, 64)
+        self.assertIn('it is the schedule of another run', ran.said)
+
+    def test_all_events_of_all_examples(self):
+        for name in SCHEDULES:
+            lines, events = played(name)
+            path = self.write(name, '\n'.join(it.text for it in lines) + '\n')
+            for event in range(0, len(events) + 1, 5):
+                ran = run('explain', path, str(event), '--schedule', example(name))
+                self.assertEqual((ran.status, ran.said), (0, ''))
+
+    def test_an_event_that_a_disk_cuts(self):
+        self.assertIn(
+            'The changes and their commit are there', run('explain', example('stops.transcript'), '3').output
+        )
+
+    def test_terminals_take_no_orders_from_a_transcript(self):
+        path = self.write('hostile', '1 send \x1b[31m 1 00\n1 state d \x1b]0;x\x07\nend 1 0 0 0 yes yes\n')
+        ran = run('explain', path, '1')
+        self.assertEqual(ran.status, 0)
+        self.assertNotIn('\x1b', ran.output)
+
+    def test_no_such_event(self):
+        self.assertIn(
+            'there is no event 18; the last one is 17', run('explain', example('join.transcript'), '18').said
+        )
+        self.assertEqual(run('explain', example('join.transcript'), 'x').status, 64)
+
+
+@needs_tc
+class Broken(Folder):
+    """Transcripts with one thing changed: tc says which line breaks which claim, and explain what it is about."""
+
+    def explain(self, change):
+        path = self.write('changed', ''.join(change(read(example('join.transcript')).splitlines(keepends=True))))
+        verdict = run('audit', path).output.split()
+        ran = run('explain', path)
+        self.assertEqual((ran.status, ran.said), (0, ''))
+        self.assertEqual(ran.output, run('explain', '--broken', *verdict[1:], path).output)
+        return verdict, ran.output
+
+    def test_a_nonce_comes_twice(self):
+        verdict, said = self.explain(
+            lambda lines: lines[:-1] + [it for it in lines if it.startswith('16 seal c nwk')] + lines[-1:]
+        )
+        self.assertEqual(verdict[2], '1')
+        self.assertIn('breaks claim 1: no nonce (source, counter, control) is used twice', said)
+
+    def test_a_counter_is_accepted_twice(self):
+        accept = '17 accept d nwk'
+        verdict, said = self.explain(
+            lambda lines: lines[:-1] + [it for it in lines if it.startswith(accept)] + lines[-1:]
+        )
+        self.assertEqual(verdict[2], '2')
+        self.assertIn('breaks claim 2', said)
+
+    def test_a_start_is_missing(self):
+        verdict, said = self.explain(lambda lines: [it for it in lines if not it.startswith('6 start d')])
+        self.assertEqual(verdict[1:], ['30', '4'])
+        self.assertIn('  - the key is activated and never started: a start line of it is missing\n', said)
+        self.assertIn('>    30  6 active d 000102030405060708090A0B0C0D0E0F\n', said)
+
+    def test_the_counts_are_wrong(self):
+        verdict, said = self.explain(lambda lines: lines[:-1] + ['end 17 18 13 0 yes yes\n'])
+        self.assertEqual(verdict[2], '6')
+        self.assertIn('  - it counts 18 seals, and there are 19\n', said)
+
+    def test_the_end_line_is_missing(self):
+        verdict, said = self.explain(lambda lines: lines[:-1])
+        self.assertEqual(verdict[2], '6')
+        self.assertIn('  - the last line is no end line\n', said)
+
+    def test_nothing_is_broken(self):
+        ran = run('explain', example('join.transcript'))
+        self.assertEqual((ran.status, ran.output), (0, ''))
+        self.assertIn('sound 19 13 locked: no claim is broken', ran.said)
+
+    def test_no_transcript(self):
+        ran = run('explain', example('join.sched'))
+        self.assertEqual(ran.status, 5)
+        self.assertIn('refused at line 1: syntax', ran.said)
+
+
+if __name__ == '__main__':
+    unittest.main()
