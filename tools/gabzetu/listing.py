@@ -34,14 +34,16 @@ def layer_words(layer, ring):
     return f'{layer.kind} {layer.reason}'
 
 
-def line_of(frame, layers, ring):
-    """Returns the line of a frame: number of the packet, PAN, addresses, layers, and what it carries."""
+def line_of(frame, layers, ring, is_again=False):
+    """Returns the line of a frame: number of the packet, PAN, addresses, layers, and what it carries.
+
+    One that was shown before, with fewer layers open, says so."""
     source, to = addresses_of(frame)
     shown = [layer_words(it, ring) for it in layers if it.reason != 'not-secured'] or ['not secured']
     head = (
         f'packet {frame.number:<5} pan {frame.pan or "----"}  {source or "----"} > {to or "----"}  {", ".join(shown)}'
     )
-    what = describe(frame, layers)
+    what = describe(frame, layers) + (' (again)' if is_again else '')
     return f'{head:<{WIDTH}}  {what}' if what else head
 
 
@@ -52,8 +54,8 @@ def layer_object(layer, ring):
     return {name: value for name, value in fields.items() if value is not None}
 
 
-def object_of(frame, layers, ring):
-    """Returns the JSON object of a frame."""
+def object_of(frame, layers, ring, is_again=False):
+    """Returns the JSON object of a frame. One that was shown before, with fewer layers open, has `again`."""
     source, to = addresses_of(frame)
     return {
         'kind': 'packet',
@@ -64,6 +66,7 @@ def object_of(frame, layers, ring):
         'destination': to,
         'layers': [layer_object(it, ring) for it in layers],
         'what': describe(frame, layers),
+        **({'again': True} if is_again else {}),
     }
 
 

@@ -127,17 +127,12 @@ class TextCapture:
             say(f'gabzetu: the text capture has {self.frames} frames, and inspect takes {MOST_FRAMES}')
 
 
-def show(frames, shown, arguments):
+def show(frames, shown, arguments, is_again=False):
     """Prints frames with their layers."""
+    write = (lambda *it: json.dumps(listing.object_of(*it))) if arguments.json else listing.line_of
     for frame, layers in frames:
         shown.note(frame, layers)
-        ring = shown.opener.ring
-        print(
-            json.dumps(listing.object_of(frame, layers, ring))
-            if arguments.json
-            else listing.line_of(frame, layers, ring),
-            flush=arguments.follow,
-        )
+        print(write(frame, layers, shown.opener.ring, is_again), flush=arguments.follow)
 
 
 def show_all(capture, opener, shown, arguments, text):
@@ -148,10 +143,10 @@ def show_all(capture, opener, shown, arguments, text):
             text.add(frames)
         show(opener.open_part(frames), shown, arguments)
         if arguments.follow:
-            show(opener.open_again(), shown, arguments)
+            show(opener.open_again(), shown, arguments, is_again=True)
         elif is_watched() and capture.packets >= MOST_FRAMES:
             say(f'gabzetu: {capture.packets} packets')
-    show(opener.open_again(), shown, arguments)
+    show(opener.open_again(), shown, arguments, is_again=True)
 
 
 def finish(shown, arguments):
