@@ -21,8 +21,16 @@ class Tally:
         self.counts, self.firsts = collections.Counter(), {}
 
     def add(self, reason, number):
+        """Counts a packet."""
         self.counts[reason] += 1
-        self.firsts.setdefault(reason, number)
+        self.firsts[reason] = min(number, self.firsts.get(reason, number))
+
+    def copy(self):
+        """Returns another one that counts on."""
+        other = Tally()
+        other.counts.update(self.counts)
+        other.firsts.update(self.firsts)
+        return other
 
     def rows(self):
         """Returns reason, count and first packet, the greatest count first."""
@@ -123,6 +131,11 @@ class Capture:
         for packets in self.packet_parts():
             bodies = {packet.number: body for packet, body, _ in self.stripped(packets)}
             yield [(packet.time, bodies.get(packet.number, b'')) for packet in packets]
+
+    def take_associations(self):
+        """Returns PAN, short address and EUI of the association responses since the last call."""
+        taken, self.associations = self.associations, []
+        return taken
 
     def unwrap(self, packet):
         """Returns what is in a packet, or none and keeps the reason."""

@@ -34,14 +34,16 @@ def layer_words(layer, ring):
     return f'{layer.kind} {layer.reason}'
 
 
-def line_of(frame, layers, ring):
-    """Returns the line of a frame: number of the packet, PAN, addresses, layers, and what it carries."""
+def line_of(frame, layers, ring, is_again=False):
+    """Returns the line of a frame: number of the packet, PAN, addresses, layers, and what it carries.
+
+    One that was shown before, with fewer layers open, says so."""
     source, to = addresses_of(frame)
     shown = [layer_words(it, ring) for it in layers if it.reason != 'not-secured'] or ['not secured']
     head = (
         f'packet {frame.number:<5} pan {frame.pan or "----"}  {source or "----"} > {to or "----"}  {", ".join(shown)}'
     )
-    what = describe(frame, layers)
+    what = describe(frame, layers) + (' (again)' if is_again else '')
     return f'{head:<{WIDTH}}  {what}' if what else head
 
 
@@ -52,8 +54,8 @@ def layer_object(layer, ring):
     return {name: value for name, value in fields.items() if value is not None}
 
 
-def object_of(frame, layers, ring):
-    """Returns the JSON object of a frame."""
+def object_of(frame, layers, ring, is_again=False):
+    """Returns the JSON object of a frame. One that was shown before, with fewer layers open, has `again`."""
     source, to = addresses_of(frame)
     return {
         'kind': 'packet',
@@ -64,6 +66,7 @@ def object_of(frame, layers, ring):
         'destination': to,
         'layers': [layer_object(it, ring) for it in layers],
         'what': describe(frame, layers),
+        **({'again': True} if is_again else {}),
     }
 
 
@@ -74,6 +77,7 @@ def key_line(key, ring):
 
 
 def key_object(key, ring):
+    """Returns the JSON object of a key."""
     by = ring.keys[key.by].number if key.by else None
     fields = {'kind': 'key', 'k': key.number, 'key': key.key, 'origin': key.origin, 'packet': key.packet, 'by': by}
     return {name: value for name, value in fields.items() if value is not None}
@@ -109,20 +113,17 @@ class Listing:
         self.counts[category] += 1
         if frame.number in self.categories:
             self.counts[self.categories.pop(frame.number)] -= 1
-        elif not is_closed(layers) and category in ('closed', 'partly'):
-            self.malformed.add(why_closed(frame, layers, self.known), frame.number)
         if is_closed(layers):
             self.categories[frame.number] = category
+        elif category in ('closed', 'partly'):
+            self.malformed.add(why_closed(frame, layers, self.known), frame.number)
         self.known.note(frame, layers)
 
     def closed(self):
         """Returns the tally of the reasons why frames are not open, by all that is known at the end."""
-        tally = Tally()
+        tally = self.malformed.copy()
         for frame, layers in self.opener.closed.values():
             tally.add(why_closed(frame, layers, self.known), frame.number)
-        for reason, count, first in self.malformed.rows():
-            tally.counts[reason] += count
-            tally.firsts[reason] = first
         return tally
 
     def hints(self):
@@ -132,12 +133,7 @@ class Listing:
         )
         hints = [WRONG_CHECK] if wrong * 10 > self.capture.packets * 9 else []
         if self.counts['closed'] and not self.known.opened:
-            hints += (
-                [NO_CHECK]
-                if 'none' in self.capture.checks.decided.values() or self.capture.checks.mode == 'none'
-                else []
-            )
-            hints += [NO_KEY]
+            hints += [NO_CHECK, NO_KEY] if 'none' in self.capture.checks.in_use() else [NO_KEY]
         ports = self.capture.links.other_ports.most_common(3)
         return hints + [
             f'{counted(count, "packet")} to UDP port {port} have a ZEP header: try --zep-port {port}.'
@@ -164,9 +160,9 @@ class Listing:
     def objects(self):
         """Yields the JSON objects of the end."""
         yield from (key_object(key, self.opener.ring) for key in self.opener.ring.keys.values())
-        for kind, tally in (('reason', self.closed()), ('left-out', self.capture.left_out)):
-            for reason, count, first in tally.rows():
-                yield {'kind': kind, 'reason': reason, 'count': count, 'first': first}
+        rows = [('reason', *row) for row in self.closed().rows()]
+        rows += [('left-out', *row) for row in self.capture.left_out.rows()]
+        yield from (dict(zip(('kind', 'reason', 'count', 'first'), row)) for row in rows)
         yield {
             'kind': 'end',
             'packets': self.capture.packets,

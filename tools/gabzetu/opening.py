@@ -1,12 +1,14 @@
 """Opens the frames of a capture: runs `tc inspect` in parts, with the keys and addresses that earlier runs found."""
 import collections
+import itertools
 
 from .errors import Stop
 from .formats.addresses import Addresses
-from .formats.fields import read_report_line
+from .formats.fields import LAYERS, read_report_line
 from .program import run_tc
 
 MOST_FRAMES, MOST_KEYS, MOST_NETWORK_KEYS, MOST_CLOSED = 100000, 256, 64, 1000000
+FEW = 1000
 WELL_KNOWN = '5A6967426565416C6C69616E63653039'
 CLOSED = ('no-key', 'no-source')
 
@@ -28,11 +30,31 @@ def is_closed(layers):
 
 
 def opened_layers(layers):
+    """Returns how many layers of a frame a key opened."""
     return sum(it.key is not None for it in layers)
 
 
+def how_open(layers):
+    """Returns what grows as more of a frame opens."""
+    return opened_layers(layers), not is_closed(layers)
+
+
+def still_closed(frames, layers):
+    """Returns the frames of which another key or address might open more."""
+    return [frame for frame in frames if is_closed(layers[frame.number])]
+
+
 def parts_of(items, size):
+    """Returns a list in parts of a size."""
     return [items[at : at + size] for at in range(0, len(items), size)]
+
+
+def groups_of(frames, pans):
+    """Returns the frames of each of some PANs, and those of all others together, in parts that one run takes."""
+    groups = collections.defaultdict(list)
+    for frame in frames:
+        groups[frame.pan if frame.pan in pans else None].append(frame)
+    return [(pan, part) for pan, group in groups.items() for part in parts_of(group, MOST_FRAMES)]
 
 
 class Ring:
@@ -80,6 +102,15 @@ def layer_of(fields, keys):
     )
 
 
+def layers_of(lines, count):
+    """Returns the layers of each frame of a report, by the fields of its lines."""
+    keys = {it['k']: it['key'] for it in lines if it['kind'] == 'key'}
+    seen = [[] for _ in range(count)]
+    for fields in (it for it in lines if it['kind'] in LAYERS):
+        seen[fields['frame'] - 1].append(layer_of(fields, keys))
+    return map(tuple, seen)
+
+
 class Opener:
     """Opens frames part by part. `jobs` is how many jobs tc may use."""
 
@@ -93,15 +124,13 @@ class Opener:
 
     def open_part(self, frames):
         """Returns each frame of a part with its layers. Frames that stay closed are kept for open_again."""
-        for frame in frames:
-            self.addresses.learn_from_header(frame)
+        self.addresses.learn_from_headers(frames)
         layers = self.open_all(frames, {})
-        for frame in frames:
-            if is_closed(layers[frame.number]):
-                self.closed[frame.number] = (frame, layers[frame.number])
-        while len(self.closed) > MOST_CLOSED:
-            self.closed.popitem(last=False)
-        return [(frame, layers[frame.number]) for frame in frames]
+        opened = [(frame, layers[frame.number]) for frame in frames]
+        self.closed.update((frame.number, (frame, now)) for frame, now in opened if is_closed(now))
+        for number in list(itertools.islice(self.closed, max(0, len(self.closed) - MOST_CLOSED))):
+            del self.closed[number]
+        return opened
 
     def open_again(self):
         """Returns the frames of earlier parts of which more opens with what was found since, with their layers."""
@@ -121,60 +150,44 @@ class Opener:
     def open_all(self, frames, layers):
         """Opens frames until no run finds a key or an address. `layers` has what earlier runs opened, and is
         returned."""
-        while frames:
+        before = None
+        while frames and before != self.known():
             before = self.known()
-            for part in parts_of(frames, MOST_FRAMES):
-                self.open_once(part, layers)
-            if self.known() == before:
-                break
-            frames = [frame for frame in frames if is_closed(layers[frame.number])]
+            self.open_once(frames, layers)
+            frames = still_closed(frames, layers)
         return layers
 
     def open_once(self, frames, layers):
-        """Opens frames with what is known now: a run for each PAN whose addresses are known, and one for the
-        others."""
-        groups = collections.defaultdict(list)
-        for frame in frames:
-            groups[frame.pan if frame.pan in self.addresses.pans else None].append(frame)
-        for pan, group in groups.items():
+        """Opens frames with what is known now. Each PAN whose addresses are known has runs of its own."""
+        for pan, group in groups_of(frames, self.addresses.pans):
             self.open_group(pan, group, layers)
 
     def open_group(self, pan, frames, layers):
         """Opens the frames of a PAN by each share of the keys, and each table of its addresses."""
-        for keys in self.ring.shares():
-            for table in self.addresses.tables(pan):
-                self.run(keys, table, frames, layers)
-                frames = [frame for frame in frames if is_closed(layers[frame.number])]
-                if not frames:
-                    return
+        for keys, table in itertools.product(self.ring.shares(), self.addresses.tables(pan)):
+            self.run(keys, table, frames, layers)
+            frames = still_closed(frames, layers)
+            if not frames:
+                break
 
     def run(self, keys, table, frames, layers):
         """Runs tc once, and takes what is better than before."""
-        lines = inspect(keys, table, frames, self.jobs if len(frames) > 1000 else 1)
-        found = [it for it in lines if it['kind'] == 'key']
-        numbers = {it['k']: it['key'] for it in found}
-        seen = collections.defaultdict(list)
-        for fields in lines:
-            if 'frame' in fields and fields['kind'] != 'key':
-                seen[fields['frame']].append(layer_of(fields, numbers))
-        for place, frame in enumerate(frames, 1):
-            self.take(frame, tuple(seen[place]), layers)
-        for fields in found:
-            if fields['origin'] == 'found':
-                self.add_found(fields['key'], frames[fields['frame'] - 1], layers)
+        lines = inspect(keys, table, frames, self.jobs if len(frames) > FEW else 1)
+        for frame, now in zip(frames, layers_of(lines, len(frames))):
+            self.take(frame, now, layers)
+        self.add_found([(it['key'], frames[it['frame'] - 1]) for it in lines if it.get('origin') == 'found'], layers)
 
     def take(self, frame, now, layers):
         """Takes the layers of a frame where more of them open than before, and learns from them."""
         before = layers.get(frame.number)
-        if before is not None and (opened_layers(before), not is_closed(before)) >= (
-            opened_layers(now),
-            not is_closed(now),
-        ):
+        if before is not None and how_open(before) >= how_open(now):
             return
         layers[frame.number] = now
         self.ring.network.update(it.key for it in now if it.kind == 'nwk' and it.key)
         self.addresses.learn_from_layers(frame, now)
 
-    def add_found(self, key, frame, layers):
-        by = [it.key for it in layers[frame.number] if it.key]
-        self.ring.add(key, f'found in packet {frame.number}', frame.number, by[-1] if by else None)
+    def add_found(self, found, layers):
+        """Adds keys that were found, each with the frame that carries it."""
+        for key, frame in found:
+            by = [it.key for it in layers[frame.number] if it.key]
+            self.ring.add(key, f'found in packet {frame.number}', frame.number, by[-1] if by else None)

@@ -25,7 +25,7 @@ SKIP is added to the frame counters, so that none comes twice (docs/ADMIN.md). K
 
 A_DAY, UNKNOWN_AGE = 1000000, 10000000
 OUT_BLOCK, IN_BLOCK = 1000, 16
-MOST_PEERS, MOST_NAMED = 63, 8
+MOST_PEERS, MOST_LINKS, MOST_NAMED = 63, 1024, 8
 REFUSED = 5
 
 
@@ -157,25 +157,32 @@ def make_script(backup, skip, carried):
     )
 
 
-def likely_causes(backup, carried):
-    """Yields what the store refuses of a backup, in words."""
-    owners = collections.defaultdict(list)
+def shared_keys(carried):
+    """Returns the lists of devices that have one link key."""
+    owners = collections.defaultdict(set)
     for device in carried:
-        owners[device.link.key].append(device.eui)
-    for euis in owners.values():
-        if len(set(euis)) > 1:
-            yield f'the devices {some(euis)} have one link key, and the store takes each key once'
-    for words, values in (
-        ('address', [it.eui for it in backup.devices]),
-        ('short address', [it.short for it in backup.devices if it.short]),
-    ):
-        twice = [value for value, count in collections.Counter(values).items() if count > 1]
-        if twice:
-            yield f'two devices have the {words} {some(twice)}'
-    if len(carried) > 1024:
-        yield f'{len(carried)} link keys, and the store takes 1,024'
+        owners[device.link.key].add(device.eui)
+    return [sorted(euis) for euis in owners.values() if len(euis) > 1]
+
+
+def repeated(values):
+    """Returns the values that are there twice."""
+    return [value for value, count in collections.Counter(values).items() if count > 1]
+
+
+def likely_causes(backup, carried):
+    """Returns what the store refuses of a backup, in words."""
+    causes = [
+        f'the devices {some(euis)} have one link key, and the store takes each key once'
+        for euis in shared_keys(carried)
+    ]
+    addresses = repeated(it.eui for it in backup.devices) + repeated(it.short for it in backup.devices if it.short)
+    causes += [f'two devices have the address {address}' for address in addresses]
+    if len(carried) > MOST_LINKS:
+        causes.append(f'it has {len(carried)} link keys, and the store takes {MOST_LINKS}')
     if backup.coordinator in [it.eui for it in backup.devices]:
-        yield f'the coordinator {backup.coordinator} is among the devices'
+        causes.append(f'the coordinator {backup.coordinator} is among the devices')
+    return causes
 
 
 def check(path, backup, carried, script):

@@ -79,19 +79,25 @@ def link_key_of(code):
     return ran.output.decode('ascii').strip()
 
 
+def read_key(text):
+    """Returns the key of a word."""
+    if not normal_key(text):
+        raise Stop(f'--key {text}: a key has 32 hexadecimal digits', WRONG_USE)
+    return normal_key(text)
+
+
 def read_ring(arguments):
     """Returns the ring of the keys that the words give, and the well-known key behind them."""
+    given = [(link_key_of(code), f'given, of code {code}') for code in arguments.code]
+    given += [(read_key(text), 'given') for text in arguments.key]
+    given += [
+        (key, printable(f'{path}: {label}'))
+        for path in arguments.keys_from
+        for key, label in read_key_file(path).items()
+    ]
     ring = Ring()
-    for code in arguments.code:
-        ring.add(link_key_of(code), f'given, of code {code}')
-    for text in arguments.key:
-        if not normal_key(text):
-            raise Stop(f'--key {text}: a key has 32 hexadecimal digits', WRONG_USE)
-        ring.add(normal_key(text), 'given')
-    for path in arguments.keys_from:
-        for key, label in read_key_file(path).items():
-            ring.add(key, printable(f'{path}: {label}'))
-    ring.add(WELL_KNOWN, 'the well-known key')
+    for key, origin in [*given, (WELL_KNOWN, 'the well-known key')]:
+        ring.add(key, origin)
     return ring
 
 
@@ -103,57 +109,49 @@ class TextCapture:
         self.put(f'key {key}' for key in ring.keys)
 
     def put(self, lines):
+        """Writes lines."""
         self.file.write(''.join(f'{line}\n' for line in lines).encode('ascii'))
 
     def add(self, frames):
+        """Writes frames, each behind a comment with the number of its packet."""
         self.frames += len(frames)
-        for frame in frames:
-            self.put([f'# packet {frame.number}', f'frame {frame.payload.hex().upper()}'])
+        self.put(f'# packet {frame.number}\nframe {frame.payload.hex().upper()}' for frame in frames)
 
     def finish(self, addresses):
         """Writes the addresses. A text capture has one EUI for a short address, so that further ones are comments."""
         taken = set()
-        for pan, known in addresses.pans.items():
-            for short, euis in known.items():
-                self.put(f'{"# " if short in taken or at else ""}addr {short} {eui}' for at, eui in enumerate(euis))
-                taken.add(short)
+        for short, eui in addresses.pairs():
+            self.put([f'{"# " if short in taken else ""}addr {short} {eui}'])
+            taken.add(short)
         if self.frames > MOST_FRAMES:
             say(f'gabzetu: the text capture has {self.frames} frames, and inspect takes {MOST_FRAMES}')
 
 
-def show(frames, shown, arguments):
+def show(frames, shown, arguments, is_again=False):
     """Prints frames with their layers."""
+    write = (lambda *it: json.dumps(listing.object_of(*it))) if arguments.json else listing.line_of
     for frame, layers in frames:
         shown.note(frame, layers)
-        ring = shown.opener.ring
-        print(
-            json.dumps(listing.object_of(frame, layers, ring))
-            if arguments.json
-            else listing.line_of(frame, layers, ring),
-            flush=arguments.follow,
-        )
+        print(write(frame, layers, shown.opener.ring, is_again), flush=arguments.follow)
 
 
 def show_all(capture, opener, shown, arguments, text):
     """Prints the frames part by part; those of which more opens later are printed once more."""
     for frames in capture.parts():
-        for given in capture.associations:
-            opener.addresses.learn(*given)
-        capture.associations.clear()
+        opener.addresses.learn_all(capture.take_associations())
         if text:
             text.add(frames)
         show(opener.open_part(frames), shown, arguments)
         if arguments.follow:
-            show(opener.open_again(), shown, arguments)
+            show(opener.open_again(), shown, arguments, is_again=True)
         elif is_watched() and capture.packets >= MOST_FRAMES:
             say(f'gabzetu: {capture.packets} packets')
-    show(opener.open_again(), shown, arguments)
+    show(opener.open_again(), shown, arguments, is_again=True)
 
 
 def finish(shown, arguments):
     """Prints the end."""
-    for line in map(json.dumps, shown.objects()) if arguments.json else shown.lines():
-        print(line)
+    print('\n'.join(map(json.dumps, shown.objects()) if arguments.json else shown.lines()))
     for kind, said, how in shown.capture.checks.surprises():
         say(
             f'gabzetu: packets of {kind} should end with {ENDINGS[said]}. '

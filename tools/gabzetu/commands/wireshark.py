@@ -124,9 +124,11 @@ def write_packets(arguments):
             file.write(b''.join(pcap.record(int(time), int(time % 1 * 1000000), body) for time, body in bodies))
         if not written:
             raise Stop(f'{arguments.file}: no packet of IEEE 802.15.4 is in it', UNREADABLE)
-    say(f'gabzetu: {written} of {capture.packets} packets written')
-    for reason, count, first in capture.left_out.rows():
-        say(f'gabzetu: {count} left empty: {reason} (the first is packet {first})')
+    said = [
+        f'{count} left empty: {reason} (the first is packet {first})'
+        for reason, count, first in capture.left_out.rows()
+    ]
+    say('\n'.join(f'gabzetu: {it}' for it in [f'{written} of {capture.packets} packets written', *said]))
     return 0
 
 

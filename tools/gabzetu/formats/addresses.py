@@ -53,8 +53,22 @@ class Addresses:
             known.append(eui)
             self.count += 1
 
+    def learn_all(self, triples):
+        """Notes triples of PAN, short address and EUI."""
+        for it in triples:
+            self.learn(*it)
+
+    def pairs(self):
+        """Yields the short addresses of all PANs with their EUIs."""
+        yield from ((short, eui) for known in self.pans.values() for short, euis in known.items() for eui in euis)
+
+    def learn_from_headers(self, frames):
+        """Learns from the headers that frames show."""
+        for frame in frames:
+            self.learn_from_header(frame)
+
     def learn_from_header(self, frame):
-        """Learns from the headers that every frame shows. The NWK seal is that of the node that sent the packet."""
+        """Learns from the headers of a frame. The NWK seal is that of the node that sent the packet."""
         nwk = frame.nwk
         if nwk is None:
             return

@@ -99,6 +99,10 @@ class Checks:
             self.decided[wrapped.kind] = decide(seen, wrapped.check) if seen else wrapped.check
         return self.decided[wrapped.kind]
 
+    def in_use(self):
+        """Returns the ways in which check sequences are judged."""
+        return set(self.decided.values()) if self.mode == 'auto' else {self.mode}
+
     def surprises(self):
         """Yields the kinds of packets whose last two bytes aren't what their link type says, with both words."""
         for kind, how in sorted(self.decided.items()):

@@ -9,10 +9,14 @@ import subprocess
 import sys
 import time
 import unittest
+from unittest import mock
 
 from gabzetu import TOP
 from gabzetu.cli import main
 from gabzetu.errors import Stop
+from gabzetu.formats import mac
+from gabzetu.formats.checks import Checks, check_of
+from gabzetu.formats.links import Wrapped
 from gabzetu.formats.packets import import_scapy
 from gabzetu.opening import MOST_KEYS, WELL_KNOWN, Ring
 from gabzetu.test import captures, support
@@ -285,6 +289,59 @@ class Live(Folder):
         objects = list(map(json.loads, output.splitlines()))
         self.assertEqual(opened_of(objects), {1: (FIRST, LINK), 2: (LINK,)})
         self.assertEqual(objects[-1]['opened'], 2)
+
+
+@needs_tc
+@needs_scapy
+class Parts(Folder):
+    def test_long_captures_are_opened_in_parts_and_earlier_ones_once_more(self):
+        """Parts of three packets: the key of packet 1 is in packet 4, and the address of packet 7 in packet 8."""
+        words = ['--code', CODE, *(word for key in OTHER_LINKS for word in ('--key', key))]
+        with mock.patch('gabzetu.capture.MOST_FRAMES', 3), mock.patch('gabzetu.opening.MOST_FRAMES', 2):
+            objects = objects_of(run('open', data('two-pans.pcap'), '--json', *words))
+        packets = [it for it in objects if it['kind'] == 'packet']
+        self.assertEqual(
+            [(it['packet'], it.get('again', False)) for it in packets],
+            [(1, False), (2, False), (4, False), (5, False), (6, False), (7, False), (8, False), (1, True), (2, True)],
+        )
+        self.assertEqual(opened_of(objects)[1][-1], OTHER_LINKS[0])
+        self.assertEqual((objects[-1]['opened'], objects[-1]['closed']), (7, 0))
+
+    def test_more_keys_than_a_run_takes(self):
+        keys = [f'{number:032X}' for number in range(1, 300)]
+        self.write('keys', ''.join(f'"{key}","Normal",""\n' for key in keys))
+        objects = objects_of(
+            run('open', data('mixed.pcap'), '--keys-from', self.path('keys'), '--code', CODE, '--json')
+        )
+        self.assertEqual(opened_of(objects), OPENED)
+
+
+class Macs(unittest.TestCase):
+    def test_an_association_gives_an_address(self):
+        header = b'\x63\xcc\x01' + b'\x62\x1a' + bytes.fromhex('02000000004B1200') + bytes(8)
+        given = mac.read_association(header + b'\x02\x2b\x1a\x00')
+        self.assertEqual(given, ('1A62', '1A2B', '00124B0000000002'))
+        self.assertIsNone(mac.read_association(header + b'\x02\xff\xff\x01'))
+        self.assertIsNone(mac.read_association(header[:9]))
+
+    def test_evidence_decides_on_check_sequences(self):
+        acknowledgement, poll = b'\x02\x00\x07', b'\x63\x88\x01\x62\x1a\x00\x00\x2b\x1a\x04'
+        cases = [
+            ('crc', lambda it: it + check_of(it)),
+            ('none', lambda it: it),
+            ('ti', lambda it: it + b'\xd0\xe4'),
+            ('ignore', lambda it: it + b'\x00\x00'),
+        ]
+        for said in ('crc', 'none'):
+            for wanted, ended in cases:
+                with self.subTest((said, wanted)):
+                    checks = Checks()
+                    packets = [ended(it) for it in (acknowledgement, poll, acknowledgement)]
+                    wrapped = [Wrapped(it, len(it), said, 'kind') for it in packets]
+                    for it in wrapped:
+                        checks.learn(it)
+                    self.assertEqual(checks.how(wrapped[0]), wanted)
+                    self.assertEqual(checks.take_off(wrapped[1])[0], poll)
 
 
 class Rings(unittest.TestCase):

@@ -93,7 +93,7 @@ class FromZigpy(Folder):
         self.assertEqual((ran.status, ran.output), (5, ''))
         self.assertIn('have one link key, and the store takes each key once', ran.said)
         value['devices'][1]['nwk_address'], value['devices'][1]['link_key'] = '1a2b', None
-        self.assertIn('two devices have the short address 1A2B', self.convert(value).said)
+        self.assertIn('two devices have the address 1A2B', self.convert(value).said)
         self.assertNotIn('out', os.listdir(self.folder))
 
     def test_more_devices_than_peers(self):
