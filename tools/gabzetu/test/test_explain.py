@@ -118,6 +118,10 @@ class Explain(Folder):
         self.assertEqual(ran.status, 64)
         self.assertIn('it is the schedule of another run', ran.said)
 
+    def test_the_schedule_tells_which_frame_was_heard(self):
+        ran = run('explain', example('removal.transcript'), '36', '--schedule', example('removal.sched'))
+        self.assertIn('\nFrame 13, sent by c in event 26: Switch-Key: 1\n', ran.output)
+
     def test_all_events_of_all_examples(self):
         for name in SCHEDULES:
             lines, events = played(name)
