@@ -70,12 +70,16 @@ class Teller:
                 f'The rule: {rule.title} (docs/POLICY.md, "{rule.place}")',
                 *(f'  {head}: {text}' for head, text in rule.rows),
             ]
-        if refused:
-            is_judged = story.is_judged()
-            why = policy.sentence_of_refusal(rule and rule.refused, refused['layer'], refused['reason'], is_judged)
-            place = ' (docs/POLICY.md, "Judging a frame")' if is_judged else ''
-            said += ['', f'Refused as {refused["reason"]}: {why}{place}']
-        return said
+        return said + (self.tell_refusal(refused, rule, story.is_judged()) if refused else [])
+
+    @staticmethod
+    def tell_refusal(refused, rule, is_judged):
+        """Returns the lines on a refusal: what it means, and the words of the policy on the judging of frames."""
+        layer, reason = refused['layer'], refused['reason']
+        why = policy.sentence_of_refusal(rule and rule.refused, layer, reason, is_judged)
+        said = ['', f'Refused as {reason}: {why}']
+        words = policy.JUDGING.get(layer, {}).get(reason) if is_judged else None
+        return said + ([f'  docs/POLICY.md, "Judging a frame": {reason}: {words}'] if words else [])
 
 
 def words_of_event(arguments, event, lines):

@@ -56,6 +56,10 @@ class Policy(unittest.TestCase):
             for reason, sentence in reasons.items():
                 self.assertIn(sentence, plain, reason)
 
+    def test_plain_sentences_are_of_reasons_that_there_are(self):
+        for layer, reason in policy.PLAIN:
+            self.assertIn(reason, policy.JUDGING[layer])
+
     def test_all_reasons_have_words(self):
         order = re.search('The reasons are tried in one order everywhere: ([^.]*)', self.page)[1].split(', ')
         self.assertEqual(sorted(order), sorted(policy.REASONS))
