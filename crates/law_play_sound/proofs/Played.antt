@@ -1,6 +1,7 @@
 -- The text of a run is that of a sound transcript, whatever lines it is read as.
 use Rattle.std.proofs.Common.{◌≡◌, ◌≢◌, ◌<◌, ◌≤◌, ℕ, Bool, true, false, cond, ◌&&◌, List, [], ◌∷◌, ◌++◌, length, nat_lt, Option, Some, None, Result, Ok, Err, refl, sym, ap, ◌∙◌, subst, append_assoc, arith, lt_irrefl}
 use Rattle.std.specs.Io.KnownBytes.{Appends}
+use Rattle.zb_audit.proofs.ClaimsHold.{claims_hold}
 use Rattle.zb_audit.specs.Ending.{accepts_in, seals_in}
 use Rattle.zb_audit.specs.Faults as audit
 use Rattle.zb_audit.specs.Faults.{first_fault}
@@ -56,7 +57,7 @@ no_end [] [] more e = cc e
 no_end [] (b ∷ back) more e = cc e
 no_end (b ∷ front) back more e = cc e
 
-no_text : (l : Line) (more : List ℕ) → text l ++ more ≡ [] → ⊥
+pub no_text : (l : Line) (more : List ℕ) → text l ++ more ≡ [] → ⊥
 unfolding text
 no_text l more e = no_line (words l) e
   where
@@ -75,10 +76,10 @@ all_good (b ∷ before) rest (l ∷ ls) proper all some bad e =
 
 -- ---- a text all of whose readings are judged alike
 
-no_fault : (bad : BadLine) (found : Option BadLine) → found ≡ Some bad → found ≡ None → ⊥
+pub no_fault : (bad : BadLine) (found : Option BadLine) → found ≡ Some bad → found ≡ None → ⊥
 no_fault bad found some none = cc (some, none)
 
-same_verdict : (v x : Verdict) → v.seals ≡ x.seals → v.accepts ≡ x.accepts → v.locked ≡ x.locked → v ≡ x
+pub same_verdict : (v x : Verdict) → v.seals ≡ x.seals → v.accepts ≡ x.accepts → v.locked ≡ x.locked → v ≡ x
 same_verdict v x seals accepts locked =
     ap (λ n. verdict n v.accepts v.locked) seals ∙ (ap (λ n. verdict x.seals n v.locked) accepts ∙ ap (λ b. verdict x.seals x.accepts b) locked)
 
@@ -92,7 +93,7 @@ module _ (tools : Tools) (output : Bytes) (lines : List Line) (v : Verdict) (is 
   none_broken : (ls : List Line) (line clause : ℕ) → IsTranscript output ls → first_fault tools ls ≡ Some (record { line = line; clause = clause }) → ⊥
   none_broken ls line clause of_text broken = no_fault (record { line = line; clause = clause }) (first_fault tools ls) broken ((alike ls of_text).fault ∙ sound.whole)
 
-none_bad : (output : Bytes) (lines : List Line) → IsTranscript output lines → (line : ℕ) → IsFirstBad output line → ⊥
+pub none_bad : (output : Bytes) (lines : List Line) → IsTranscript output lines → (line : ℕ) → IsFirstBad output line → ⊥
 none_bad output lines is line bad = all_good bad.before bad.rest lines bad.proper is.proper bad.some bad.bad (sym bad.parts ∙ is.text)
 
 -- ---- how an audit ends
@@ -126,7 +127,7 @@ verdict_sound w sound =
     let on_lines : audit.IsSound real v lines = record { whole = sound.whole; seals = refl; accepts = refl; locked = refl } in
     subst (λ x. audit.IsSound real x lines) (sound.answer (Ok v) on_lines) on_lines
 
-abbrev JudgesWords : Type 0
+abbrev pub JudgesWords : Type 0
 JudgesWords = (tools : Tools) (lines others : List Line) → HaveSameWords lines others → AreJudgedAlike tools lines others
 
 judged : JudgesWords → (w : Schedule) (output : Bytes) → ReadsBack w → text_of_run w ≡ output → (ls : List Line) → IsTranscript output ls → AreJudgedAlike real ls (lines_of w)
@@ -143,7 +144,12 @@ of_plan p input output w w_is judges sound back reads same =
       reads = reads;
       verdict = verdict_of w;
       says = subst (λ x. SaysAsEnd (verdict_of w) (last_line x)) w_is (says_end w);
-      sound = record { lines = lines_of w; transcript = is_text w output back same; sound = verdict_sound w sound };
+      sound = record {
+        lines = lines_of w;
+        transcript = is_text w output back same;
+        sound = verdict_sound w sound;
+        claims = claims_hold real (verdict_of w) (lines_of w) (verdict_sound w sound);
+      };
       only = only;
       all_lines = all_lines;
       unbroken = unbroken;

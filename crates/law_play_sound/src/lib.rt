@@ -1,9 +1,10 @@
-//! What `play` writes is never called broken, and never refused, by `audit`. The law is the contract of a
-//! function that does nothing; docs/THEOREMS.md says it in words.
+//! What `play` writes is never called broken, and never refused, by `audit`; and of any text `audit` says one thing
+//! alone. Each law is the contract of a function that does nothing; docs/THEOREMS.md says them in words.
 #![tactic(auto)]
 
 ghost use Rattle.zb_model.specs.Data.{Bytes};
 ghost use Rattle.law_play_sound.specs.Played.{IsPlayedSound, IsPlayedText};
+ghost use Rattle.law_play_sound.specs.Single.{HasOneAnswer};
 
 use law_audit_sound::runs_are_sound;
 use law_audit_text::lines_are_judged_by_their_words;
@@ -20,5 +21,14 @@ pub fn what_is_played_is_sound(input: &[u8])
     texts_read_as_schedules(input);
     runs_are_sound();
     the_text_of_a_run_reads_back();
+    lines_are_judged_by_their_words();
+}
+
+/// States that any text is sound with one verdict, broken at one line by one claim, or has one first bad line.
+///
+/// No two of these hold of one text, so `audit` can answer one thing alone.
+pub fn a_text_has_one_answer()
+    ensures { (text : Bytes) → HasOneAnswer text }
+{
     lines_are_judged_by_their_words();
 }

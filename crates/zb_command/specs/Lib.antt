@@ -9,3 +9,4 @@ pub mod Serving
 pub mod Finishing
 pub mod Words
 pub mod Inputs
+pub mod Process

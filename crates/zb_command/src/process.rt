@@ -1,7 +1,8 @@
 //! The run of the process: the words of its command line, its standard input and its standard output.
 ghost use Rattle.std.specs.Io.KnownBytes.{Appends};
-ghost use Rattle.std.specs.Prelude.{OnOk};
+ghost use Rattle.std.specs.Prelude.{◌≡◌, OnOk, map, string_bytes};
 ghost use Rattle.zb_base.specs.Outside.{HasCause};
+ghost use Rattle.zb_command.specs.Process.{held_back, store_path};
 ghost use Rattle.zb_command.specs.Statuses.{line_of, text_of};
 
 use crate::program::run;
@@ -41,7 +42,9 @@ pub fn run_process<H: Env + Input + Print + StoreFiles + AllocGlobal + Threads +
 }
 
 /// Returns how many bytes of output are held back: none of `admin`, whose lines go out as their commands are stored.
-fn room_for(words: &[String]) -> usize {
+fn room_for(words: &[String]) -> usize
+    ensures { result ≡ held_back (map string_bytes words.now) }
+{
     match words {
         [word, ..] => {
             if word.as_str() == "admin" {
@@ -85,7 +88,9 @@ fn without_words(error: &io::Error) -> Status {
 }
 
 /// Returns the path of the store: the second word, or an empty path.
-fn path_in(words: &[String]) -> &str {
+fn path_in(words: &[String]) -> &str
+    ensures { result.now ≡ store_path (map string_bytes words.now) }
+{
     match words {
         [_, path, ..] => path.as_str(),
         _ => "",
