@@ -6,7 +6,7 @@ from .tree import options_of, places_of, read_tree
 def words_of_places(command):
     """Returns the words that a command takes by their place, where they are certain ones."""
     if command.name == 'help':
-        return [it.name for it in read_tree()[1]] + sorted(set(helping.INTRODUCTIONS))
+        return [it.name for it in read_tree()[1]] + helping.TOPICS
     return [word for it in places_of(command) for word in it.choices or []]
 
 

@@ -2,7 +2,9 @@
 import textwrap
 
 from .formats import captures, schedules, scripts
+from .formats.causes import CAUSES, CLAIMS
 from .scenarios import language
+from .told import STATUSES
 
 WIDTH = 100
 
@@ -27,6 +29,18 @@ INTRODUCTIONS = {
         '`deliver last`, `say`, `send` and the lines of schedules may be refused. docs/SCENARIOS.md has examples.'
     ),
 }
+
+# How `help causes` names the kinds of inputs.
+TITLES = {
+    'schedule': 'schedule',
+    'capture': 'text capture',
+    'script': 'script of admin',
+    'pcap': 'capture file',
+    'transcript': 'transcript',
+    'code': 'install code; X and Y are the words after the cause',
+}
+CAUSES_TOPIC = 'causes'
+TOPICS = sorted([*INTRODUCTIONS, CAUSES_TOPIC])
 
 SECTIONS = {
     'schedule': [('Declarations', schedules.DECLARATIONS), ('Events', schedules.EVENTS)],
@@ -59,7 +73,25 @@ def describe_forms(title, forms):
     return '\n'.join(lines)
 
 
+def describe_sentences(title, sentences):
+    """Returns words such as causes, each with its sentence below it."""
+    lines = [f'{title}:']
+    for word, sentence in sentences.items():
+        lines += [f'  {word}', wrapped(sentence.replace('{0}', 'X').replace('{1}', 'Y'), '      ')]
+    return '\n'.join(lines)
+
+
+def describe_causes():
+    """Returns the text of `gabzetu help causes`: what each refusal, each broken claim and each fault of tc means."""
+    refusals = (describe_sentences(f'refused LINE CAUSE ({TITLES[kind]})', CAUSES[kind]) for kind in TITLES)
+    claims = describe_sentences('broken LINE CLAIM', {str(number): it for number, it in CLAIMS.items()})
+    statuses = describe_sentences('Other statuses of tc', {str(status): it for status, it in STATUSES.items()})
+    return '\n\n'.join([*refusals, claims, statuses]) + '\n'
+
+
 def describe_topic(topic):
-    """Returns the text of `gabzetu help` on the lines of schedules, captures, scripts or scenarios."""
+    """Returns the text of `gabzetu help` on the lines of schedules, captures, scripts or scenarios, or on causes."""
+    if topic == CAUSES_TOPIC:
+        return describe_causes()
     parts = [wrapped(INTRODUCTIONS[topic]), *(describe_forms(*it) for it in SECTIONS[topic]), wrapped(MORE[topic])]
     return '\n\n'.join(parts) + '\n'

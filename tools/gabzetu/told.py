@@ -1,5 +1,4 @@
 """What a status of tc and the line that it writes mean, in plain words."""
-import os
 import signal
 
 from .formats.causes import CAUSES, CLAIMS
@@ -70,7 +69,5 @@ def exit_status(status):
 
 
 def base_name(path):
-    """Returns how an input is named in messages."""
-    return (
-        'standard input' if path == '-' else os.path.relpath(path) if len(os.path.relpath(path)) < len(path) else path
-    )
+    """Returns how an input is named in messages: as it was given."""
+    return 'standard input' if path == '-' else path

@@ -19,12 +19,12 @@ def values_of(action):
         return None
     if isinstance(action.metavar, tuple):
         return ' '.join(action.metavar)
-    return action.metavar or ('|'.join(action.choices) if action.choices else action.dest.upper())
+    return action.metavar or ('|'.join(map(str, action.choices)) if action.choices else action.dest.upper())
 
 
 def read_argument(action):
     """Returns an argument of argparse."""
-    choices = list(action.choices) if action.choices else None
+    choices = [str(it) for it in action.choices] if action.choices else None
     return Argument(list(action.option_strings), values_of(action), choices, action.help or '', action.nargs)
 
 

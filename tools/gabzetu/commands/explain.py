@@ -50,6 +50,16 @@ class Teller:
     def tell_lines(self, lines, marked=None):
         return [it for line in lines for it in self.tell_line(line, '>' if line.number == marked else ' ')]
 
+    def tell_heard(self, story):
+        """Returns the lines on the frame that was delivered, where the schedule says which one it was."""
+        line = story.heard(self.lines)
+        if not line:
+            return []
+        sender = line.fields.get('node', '-')
+        by = 'a stranger' if sender == '-' else sender
+        what = self.speaker.what_goes_out(line.fields) or 'unreadable'
+        return [printable(f'Frame {line.fields["frame"]}, sent by {by} in event {line.fields["event"]}: {what}'), '']
+
     def tell_rule(self, story):
         """Returns the lines on the rule that answered, and on the refusal where there is one."""
         rule, refused, note = story.rule(), story.refusal(), story.note()
@@ -60,12 +70,16 @@ class Teller:
                 f'The rule: {rule.title} (docs/POLICY.md, "{rule.place}")',
                 *(f'  {head}: {text}' for head, text in rule.rows),
             ]
-        if refused:
-            is_judged = story.is_judged()
-            why = policy.sentence_of_refusal(rule and rule.refused, refused['layer'], refused['reason'], is_judged)
-            place = ' (docs/POLICY.md, "Judging a frame")' if is_judged else ''
-            said += ['', f'Refused as {refused["reason"]}: {why}{place}']
-        return said
+        return said + (self.tell_refusal(refused, rule, story.is_judged()) if refused else [])
+
+    @staticmethod
+    def tell_refusal(refused, rule, is_judged):
+        """Returns the lines on a refusal: what it means, and the words of the policy on the judging of frames."""
+        layer, reason = refused['layer'], refused['reason']
+        why = policy.sentence_of_refusal(rule and rule.refused, layer, reason, is_judged)
+        said = ['', f'Refused as {reason}: {why}']
+        words = policy.JUDGING.get(layer, {}).get(reason) if is_judged else None
+        return said + ([f'  docs/POLICY.md, "Judging a frame": {reason}: {words}'] if words not in (None, why) else [])
 
 
 def words_of_event(arguments, event, lines):
@@ -94,7 +108,8 @@ def explain_event(arguments, lines, event):
         ]
     teller = Teller(lines, arguments.full)
     story = stories.Story(stories.Group(event, found), teller.centre, placed and placed[1])
-    return [title_of(event, placed, story), *teller.tell_lines(found), *(teller.tell_rule(story) if event else [])]
+    said = [title_of(event, placed, story), *teller.tell_heard(story), *teller.tell_lines(found)]
+    return said + (teller.tell_rule(story) if event else [])
 
 
 def title_of(event, placed, story):

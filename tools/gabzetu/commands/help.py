@@ -12,7 +12,7 @@ def add_arguments(parser):
         'topic',
         metavar='TOPIC',
         nargs='?',
-        help='a command, or one of ' + ', '.join(sorted(helping.INTRODUCTIONS)) + '; `help scenario` is of the lines',
+        help='a command, or one of ' + ', '.join(helping.TOPICS) + '; `help scenario` is of the lines',
     )
 
 
@@ -21,10 +21,10 @@ def run(arguments):
     parsers = cli.parsers_of(cli.make_parser())
     if topic is None:
         write_output(None, cli.make_parser().format_help())
-    elif topic in helping.INTRODUCTIONS:
+    elif topic in helping.TOPICS:
         write_output(None, helping.describe_topic(topic))
     elif topic in parsers:
         write_output(None, parsers[topic].format_help())
     else:
-        raise Stop(f"no command or topic '{topic}'{suggestion(topic, [*parsers, *helping.INTRODUCTIONS])}", WRONG_USE)
+        raise Stop(f"no command or topic '{topic}'{suggestion(topic, [*parsers, *helping.TOPICS])}", WRONG_USE)
     return 0

@@ -1,5 +1,5 @@
 """gabzetu scenario: the schedule of a scenario."""
-from .. import told
+from .. import progress, told
 from ..output import read_input, write_output
 from ..scenarios.steps import write_schedule
 
@@ -18,6 +18,8 @@ def add_arguments(parser):
 
 
 def run(arguments):
-    text = write_schedule(told.base_name(arguments.scenario), read_input(arguments.scenario))
+    name, data = told.base_name(arguments.scenario), read_input(arguments.scenario)
+    with progress.shown(f'scenario {name}'):
+        text = write_schedule(name, data)
     write_output(arguments.output, text)
     return 0

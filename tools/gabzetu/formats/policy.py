@@ -165,6 +165,18 @@ JUDGING = {
     },
 }
 
+# The same in whole sentences, where the page is brief.
+PLAIN = {
+    ('nwk', 'not-for-me'): "its destination is another node, or its source is the node itself",
+    ('nwk', 'counter-max'): 'its counter is 2^32 - 1, the greatest one, which is never accepted',
+    ('nwk', 'stale'): 'its counter is below the floor of its source: it was taken before, or could have been',
+    ('nwk', 'bad-mic'): "it doesn't open under the key of its key sequence",
+    ('aps', 'no-key'): 'the node has no live link key with its source',
+    ('aps', 'counter-max'): 'its counter is 2^32 - 1, the greatest one, which is never accepted',
+    ('aps', 'stale'): 'its counter is below the floor of the link key: it was taken before, or could have been',
+    ('aps', 'bad-mic'): "it doesn't open under any live link key of its source",
+}
+
 # What a reason means wherever the rule has no words of its own for it.
 REASONS = {
     'down': 'an event of a node without power is refused as down, but for a boot and a dump',
@@ -230,6 +242,6 @@ def sentence_of_refusal(refused, layer, reason, is_judged):
     `refused` are the refusals of the rule, or none; `is_judged` says that no rule was asked, since the frame was
     refused before."""
     if is_judged and reason in JUDGING.get(layer, {}):
-        return JUDGING[layer][reason]
+        return PLAIN.get((layer, reason), JUDGING[layer][reason])
     refused = EVENTS['say', 'all'][0] if refused == 'as say' else refused
     return (clause_of(refused, reason) if refused else None) or REASONS.get(reason, reason)

@@ -225,6 +225,13 @@ class Story:
             refused,
         )
 
+    def heard(self, lines):
+        """Returns the line with which the frame of a `deliver` event went on the air, or none."""
+        if not self.words or self.words[0] != 'deliver':
+            return None
+        sent = (it for it in lines if it.fields and it.fields['kind'] in ('send', 'inject'))
+        return next((it for it in sent if str(it.fields['frame']) == self.words[1]), None)
+
     def note(self):
         """Returns what else holds of the event: where a disk cut it, or where no rule answers it; or none."""
         if self.of_kind('stopped') or any(it['cause'] == 'disk' for it in self.of_kind('down')):

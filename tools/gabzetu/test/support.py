@@ -40,10 +40,11 @@ def written_to(file):
 
 def run(*words, given='', tc=None):
     """Runs gabzetu with these words on an input, with another tc where one is given, in this process."""
+    argv = [os.path.join(TOP, 'gabzetu'), *words]
     streams = {'stdin': stream(given.encode()), 'stdout': stream(), 'stderr': stream()}
     mask = os.umask(0o022)
     try:
-        with mock.patch.multiple(sys, **streams), mock.patch.dict(
+        with mock.patch.multiple(sys, argv=argv, **streams), mock.patch.dict(
             os.environ, {} if tc is None else {'GABZETU_TC': tc}
         ):
             status = status_of(words)

@@ -56,6 +56,10 @@ class Policy(unittest.TestCase):
             for reason, sentence in reasons.items():
                 self.assertIn(sentence, plain, reason)
 
+    def test_plain_sentences_are_of_reasons_that_there_are(self):
+        for layer, reason in policy.PLAIN:
+            self.assertIn(reason, policy.JUDGING[layer])
+
     def test_all_reasons_have_words(self):
         order = re.search('The reasons are tried in one order everywhere: ([^.]*)', self.page)[1].split(', ')
         self.assertEqual(sorted(order), sorted(policy.REASONS))
@@ -117,6 +121,10 @@ class Explain(Folder):
         ran = run('explain', example('removal.transcript'), '22', '--schedule', example('join.sched'))
         self.assertEqual(ran.status, 64)
         self.assertIn('it is the schedule of another run', ran.said)
+
+    def test_the_schedule_tells_which_frame_was_heard(self):
+        ran = run('explain', example('removal.transcript'), '36', '--schedule', example('removal.sched'))
+        self.assertIn('\nFrame 13, sent by c in event 26: Switch-Key: 1\n', ran.output)
 
     def test_all_events_of_all_examples(self):
         for name in SCHEDULES:

@@ -4,8 +4,8 @@ import shutil
 import subprocess
 import unittest
 
-from gabzetu import TOP, cli, read_version
-from gabzetu.formats import schedules
+from gabzetu import TOP, cli, helping, read_version
+from gabzetu.formats import causes, schedules
 from gabzetu.test.support import Folder, example, needs_tc, run
 
 MAN = os.path.join(TOP, 'docs', 'gabzetu.1')
@@ -43,6 +43,12 @@ class Help(unittest.TestCase):
         self.assertIn('\n  frame HEX\n', run('help', 'capture').output)
         self.assertIn('\n  restore SKIP BACKUP\n', run('help', 'script').output)
         self.assertIn('\n  rollover but NAME ..\n', run('help', 'scenario').output)
+
+    def test_describes_causes(self):
+        said = run('help', 'causes').output
+        for kind in helping.TITLES:
+            for cause in causes.CAUSES[kind]:
+                self.assertIn(f'\n  {cause}\n', said)
 
     def test_wrong_words(self):
         ran = run('help', 'plya')
