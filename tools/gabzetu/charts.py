@@ -1,7 +1,7 @@
 """Writes the history of a run as a message sequence chart, in the language of mscgen.
 
-Nodes are columns, and before them is a column of the events' numbers. A frame has a row for each node that judged it, so that no
-arrow lies over another. The heads come again after each screenful of rows."""
+Nodes are columns, and before them is a column of the events' numbers. A frame has a row for each node that judged it,
+so that no arrow lies over another. The heads come again after each screenful of rows."""
 import collections
 import sys
 import textwrap
@@ -9,10 +9,17 @@ import textwrap
 from .errors import WRONG_USE, Stop
 from .formats import history as histories
 
-GREEN, RED, GREY, BLUE, YELLOW, PALE_RED, PALE = '#006000', '#b00000', '#707070', '#d8e8ff', '#fff4b0', '#ffd8d8', '#f4f4f4'
+GREEN, RED, GREY = '#006000', '#b00000', '#707070'
+BLUE, YELLOW, PALE_RED, PALE = '#d8e8ff', '#fff4b0', '#ffd8d8', '#f4f4f4'
 HEAD, HEAD_EDGE = '#e4e8ee', '#a0a8b4'
-SHAPES = {'plain': ('rbox', PALE), 'keys': ('abox', YELLOW), 'refusal': ('box', PALE_RED), 'stop': ('box', PALE_RED), 'boot': ('box', BLUE),
-          'dump': ('note', PALE)}
+SHAPES = {
+    'plain': ('rbox', PALE),
+    'keys': ('abox', YELLOW),
+    'refusal': ('box', PALE_RED),
+    'stop': ('box', PALE_RED),
+    'boot': ('box', BLUE),
+    'dump': ('note', PALE),
+}
 COLUMN, LETTERS = 260, 36  # the width of a column in dots and in letters
 LONGEST_WORD = 12  # of a schedule's words, in letters
 LONGEST_SPAN = 3  # columns that the words of an arrow take at most
@@ -34,7 +41,7 @@ def shown_events(history, first, last, only):
     for event in sorted(it for it in history.events if max(first, 1) <= it <= last):
         node = history.node_of(history.events[event])
         frames = [it for it in sent[event] if not only or {it.sender, *history.targets(it)} & set(only)]
-        boxes = [] if node not in history.names.values() or (only and node not in only) else histories.boxes(history, event)
+        boxes = [] if node is None or (only and node not in only) else histories.boxes(history, event)
         if frames or boxes:
             yield Shown(event, node, frames, boxes)
 
@@ -86,8 +93,11 @@ class Chart:
 
     def fate(self, frame, node):
         """Returns in words what a node made of a frame."""
-        return [f'{histories.deed(it.reason)} at {it.event}' + ('' if it.reason is None else f': {it.reason}')
-                for it in self.history.verdicts[frame.number] if it.node == node]
+        return [
+            f'{histories.deed(it.reason)} at {it.event}' + ('' if it.reason is None else f': {it.reason}')
+            for it in self.history.verdicts[frame.number]
+            if it.node == node
+        ]
 
     def frame_rows(self, frame):
         """Returns the rows of a frame: one for each node to which an arrow goes, with what it carries in the first."""
@@ -97,7 +107,8 @@ class Chart:
         if not targets:
             lines = wrap([*texts, '; '.join([*counters, self.history.fate(frame)])], 1)
             source = self.name(frame.sender)
-            return [Row([arc(source, 'rbox', source, lines, textcolour=colour_of(self.history.verdicts[frame.number]))], len(lines))]
+            colour = colour_of(self.history.verdicts[frame.number])
+            return [Row([arc(source, 'rbox', source, lines, textcolour=colour)], len(lines))]
         heads = [(texts, counters)] + [([f'{frame.number}'], [])] * (len(targets) - 1)
         return [self.arrow_row(frame, node, *head) for node, head in zip(targets, heads)]
 
@@ -109,7 +120,10 @@ class Chart:
         lines = around_arrow(wrap(texts, span), wrap(['; '.join([*counters, fate])], span))
         colour = colour_of(verdicts)
         sign = '=>' if verdicts else '-x'
-        return Row([arc(self.name(frame.sender), sign, self.name(node), lines, linecolour=colour, textcolour=colour)], len(lines))
+        return Row(
+            [arc(self.name(frame.sender), sign, self.name(node), lines, linecolour=colour, textcolour=colour)],
+            len(lines),
+        )
 
     def box_row(self, node, box):
         shape, colour = SHAPES[box.kind]
@@ -118,7 +132,9 @@ class Chart:
 
     def event_rows(self, shown):
         """Returns the rows of an event. The first has its number, and its words where the schedule is known."""
-        rows = [self.box_row(shown.node, box) for box in shown.boxes] + [row for it in shown.frames for row in self.frame_rows(it)]
+        rows = [self.box_row(shown.node, box) for box in shown.boxes] + [
+            row for it in shown.frames for row in self.frame_rows(it)
+        ]
         words = self.history.schedule.events.get(shown.event, []) if self.history.schedule else []
         lines = wrap([' '.join([str(shown.event), *(cut(word) for word in words)])], 1)
         mark = arc('event', 'box', 'event', lines, linecolour='white')
@@ -132,7 +148,10 @@ class Chart:
     def head_row(self):
         """Returns the heads once more, as a row of boxes."""
         arcs = [arc('event', 'box', 'event', ['event'], linecolour='white')]
-        arcs += [arc(self.name(node), 'box', self.name(node), self.head(node), linecolour=HEAD_EDGE, textbgcolour=HEAD) for node in self.columns]
+        arcs += [
+            arc(self.name(node), 'box', self.name(node), self.head(node), linecolour=HEAD_EDGE, textbgcolour=HEAD)
+            for node in self.columns
+        ]
         return Row(arcs, 2)
 
     def rows(self):
@@ -149,25 +168,35 @@ class Chart:
     def text(self):
         """Returns what mscgen reads."""
         entities = ['event [label="event", linecolour="white"]']
-        entities += [f'{self.name(node)} [label="' + '\\n'.join(map(clean, self.head(node))) + '"]' for node in self.columns]
+        entities += [
+            f'{self.name(node)} [label="' + '\\n'.join(map(clean, self.head(node))) + '"]' for node in self.columns
+        ]
         lines = [f'width="{COLUMN * (len(self.columns) + 1)}", arcgradient="0";', ', '.join(entities) + ';']
         lines += [', '.join(row.arcs) + ';' for row in self.rows()]
         return 'msc {\n  ' + '\n  '.join(lines) + '\n}\n'
 
 
 def column_names(history, shown, only):
-    """Returns the nodes that are drawn, none for nobody: all, or those that have to do with the ones that are asked for."""
-    used = {name for it in shown for name in
-            ([it.node] if it.boxes else []) + [name for frame in it.frames for name in (frame.sender, *history.targets(frame))]}
+    """Returns the nodes that are drawn, none for nobody: all, or those that have to do with the ones that are asked
+    for."""
+    used = {
+        name
+        for it in shown
+        for name in ([it.node] if it.boxes else [])
+        + [name for frame in it.frames for name in (frame.sender, *history.targets(frame))]
+    }
     names = [node.name for node in history.nodes if not only or node.name in used or node.name in only]
     return names + ([None] if None in used else [])
 
 
 def make_chart(history, first=1, last=sys.maxsize, only=None):
-    """Returns the chart of the events from the first to the last, of some nodes where these are given, as mscgen reads it."""
+    """Returns the chart of the events from the first to the last, of some nodes where these are given, as mscgen reads
+    it."""
     unknown = sorted(set(only or []) - {node.name for node in history.nodes})
     if unknown:
-        raise Stop(f'there is no node {unknown[0]}; the nodes are {", ".join(node.name for node in history.nodes)}', WRONG_USE)
+        raise Stop(
+            f'there is no node {unknown[0]}; the nodes are {", ".join(node.name for node in history.nodes)}', WRONG_USE
+        )
     shown = list(shown_events(history, first, last, only))
     if not shown:
         raise Stop('none of these events have anything to draw', WRONG_USE)

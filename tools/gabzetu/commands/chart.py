@@ -12,15 +12,18 @@ from ..formats.transcripts import read_transcript
 from ..output import read_input, write_output
 
 SUMMARY = 'draw a transcript as a message sequence chart, as .svg, .png or .msc'
-DESCRIPTION = """Draws a transcript as a message sequence chart, by mscgen. Each OUT ends in .svg, .png, or .msc (what mscgen reads).
+DESCRIPTION = """Draws a transcript as a message sequence chart, by mscgen. Each OUT ends in .svg, .png, or .msc,
+which is what mscgen reads.
 
-Nodes are columns: the centre, the routers, the devices, and `outside` where frames were forged or injected. A frame is an arrow to
-each node that judged it, with its number, what it carries, its counters, and what became of it: accepted at which event (green),
-refused with the reason (red), or lost (grey, with a cross). A box shows what a node accepted and stored in an event; it is a yellow
-hexagon where keys changed. Stops, and refusals of events that aren't deliveries, are red; boots are blue.
+Nodes are columns: the centre, the routers, the devices, and `outside` where frames were forged or injected. A frame is
+an arrow to each node that judged it, with its number, what it carries, its counters, and what became of it: accepted
+at which event (green), refused with the reason (red), or lost (grey, with a cross). A box shows what a node accepted
+and stored in an event; it is a yellow hexagon where keys changed. Stops, and refusals of events that aren't
+deliveries, are red; boots are blue.
 
-A transcript doesn't show which frame a refusal of the NWK layer is of. With --schedule, the schedule that was played, the chart
-does, and shows each event's words. Without, a frame that may be such a one is called `not accepted` in place of lost.
+A transcript doesn't show which frame a refusal of the NWK layer is of. With --schedule, the schedule that was played,
+the chart does, and shows each event's words. Without, a frame that may be such a one is called `not accepted` in place
+of lost.
 
 Of a long run draw a part (--from, --to, --node), or use `gabzetu explore`."""
 ENDINGS = ('.svg', '.png', '.msc')
@@ -30,7 +33,9 @@ def add_arguments(parser):
     parser.add_argument('transcript', metavar='TRANSCRIPT', help='the transcript, - for the standard input')
     parser.add_argument('out', metavar='OUT', nargs='+', help='a picture, which ends in .svg, .png or .msc')
     parser.add_argument('--from', dest='first', type=int, default=1, metavar='EVENT', help='the first event to draw')
-    parser.add_argument('--to', dest='last', type=int, default=sys.maxsize, metavar='EVENT', help='the last event to draw')
+    parser.add_argument(
+        '--to', dest='last', type=int, default=sys.maxsize, metavar='EVENT', help='the last event to draw'
+    )
     parser.add_argument('--node', action='append', help='draw what this node does, sends and gets; may be given again')
     parser.add_argument('--schedule', metavar='S', help='the schedule that was played')
 
@@ -41,11 +46,16 @@ def check_outs(outs):
         if not out.endswith(ENDINGS):
             raise Stop(f'{out} ends in none of {", ".join(ENDINGS)}', WRONG_USE)
     if shutil.which('mscgen') is None and any(not out.endswith('.msc') for out in outs):
-        raise Stop('mscgen is missing, which draws charts (Debian: apt install mscgen); an OUT that ends in .msc needs none', MISSING)
+        raise Stop(
+            'mscgen is missing, which draws charts (Debian: apt install mscgen); an OUT that ends in .msc needs none',
+            MISSING,
+        )
 
 
 def picture(text, kind):
-    """Returns the picture of a chart as bytes. It is drawn in a folder of its own, so that a failure leaves nothing."""
+    """Returns the picture of a chart as bytes.
+
+    It is drawn in a folder of its own, so that a failure leaves nothing."""
     with tempfile.TemporaryDirectory() as folder:
         path = os.path.join(folder, 'chart')
         ran = subprocess.run(['mscgen', '-T', kind, '-o', path], input=text.encode(), capture_output=True, check=False)

@@ -13,17 +13,19 @@ from ..formats.transcripts import parse_transcript
 from ..output import read_input, say, write_output
 
 SUMMARY = 'make one page of a transcript or a report, to look around in it by a browser'
-DESCRIPTION = """Makes one page of a transcript or a report. It opens from the disk in any browser, and lets it fetch nothing.
+DESCRIPTION = """Makes one page of a transcript or a report. It opens from the disk in any browser, and lets
+it fetch nothing.
 
-Of a transcript, the page has a lane for each node and a row for each event; at its side the frames field by field, what each
-node holds after the event, the keys and the counters. With --schedule it shows each event's words, and of which frame each
-refusal is. The verdict on the page is that of `tc audit`.
+Of a transcript, the page has a lane for each node and a row for each event; at its side the frames field by field,
+what each node holds after the event, the keys and the counters. With --schedule it shows each event's words, and of
+which frame each refusal is. The verdict on the page is that of `tc audit`.
 
-Of a report of `inspect` or `sniff`, it has a lane for each short address and a row for each packet, the keys that opened it,
-and a tree of where each key came from. With --capture, the capture that the report is of, it shows the packets' numbers in the
-file, their times, PANs and addresses, and the frames field by field.
+Of a report of `inspect` or `sniff`, it has a lane for each short address and a row for each packet, the keys that
+opened it, and a tree of where each key came from. With --capture, the capture that the report is of, it shows the
+packets' numbers in the file, their times, PANs and addresses, and the frames field by field.
 
-j and k go to the next and the previous row, / to the field for text; #e12 in the address is event 12, #p28 packet 28."""
+j and k go to the next and the previous row, / to the field for text; #e12 in the address is event 12, #p28 packet
+28."""
 
 NO_AUDIT = ['', None, 'not audited, since tc is missing', 0]
 
@@ -69,7 +71,9 @@ def read_text(path):
     try:
         return read_input(path).decode('ascii')
     except UnicodeDecodeError as error:
-        raise Stop(f'{path}: byte {error.start + 1} is not ASCII; this is no transcript and no report', UNREADABLE) from error
+        raise Stop(
+            f'{path}: byte {error.start + 1} is not ASCII; this is no transcript and no report', UNREADABLE
+        ) from error
 
 
 def run(arguments):

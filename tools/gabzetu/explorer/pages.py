@@ -1,7 +1,7 @@
 """Puts a page together: one file with its style, its programs and its data, which lets the browser fetch nothing.
 
-The policy in its head allows the style and the programs by their hashes, and nothing else. Data goes in as JSON in which no `<`
-is left, so that no word of a transcript can end the element that it is in."""
+The policy in its head allows the style and the programs by their hashes, and nothing else. Data goes in as JSON in
+which no `<` is left, so that no word of a transcript can end the element that it is in."""
 import base64
 import hashlib
 import html
@@ -34,7 +34,8 @@ def make_page(data, title):
     """Returns the page of the data of a run or a report."""
     style = read_part('page.css')
     program = '"use strict";\n' + '\n'.join(read_part(name) for name in PROGRAMS[data['kind']])
-    policy = f"default-src 'none'; style-src {hash_of(style)}; script-src {hash_of(program)}; base-uri 'none'; form-action 'none'"
+    allowed = f"style-src {hash_of(style)}; script-src {hash_of(program)}"
+    policy = f"default-src 'none'; {allowed}; base-uri 'none'; form-action 'none'"
     parts = {'POLICY': policy, 'TITLE': html.escape(title), 'STYLE': style, 'DATA': encode(data), 'PROGRAM': program}
     page = read_part('page.html').split('@@')
     return ''.join(parts[it] if place % 2 else it for place, it in enumerate(page))

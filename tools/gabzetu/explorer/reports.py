@@ -30,7 +30,7 @@ class ReportPage:
         """Returns the lanes from and to which a frame goes: -2 is everybody, -1 nobody knows whom."""
         heard, layers = self.heard[place], self.report.layers.get(place, [])
         if heard.data and len(heard.data) >= 8:
-            to, source = (heard.data[at:at + 2][::-1].hex().upper() for at in (2, 4))
+            to, source = (heard.data[at : at + 2][::-1].hex().upper() for at in (2, 4))
             is_all = int(to, 16) in anatomy.BROADCASTS
             self.note_eui(heard, source)
             return self.lane(heard.pan, source), ALL if is_all else self.lane(heard.pan, to)
@@ -42,10 +42,11 @@ class ReportPage:
         control = int.from_bytes(heard.data[:2], 'little')
         at = 8 + (8 if control & 1 << 11 else 0)
         if control & 1 << 12 and len(heard.data) >= at + 8:
-            self.euis.setdefault((heard.pan or '', source), heard.data[at:at + 8][::-1].hex().upper())
+            self.euis.setdefault((heard.pan or '', source), heard.data[at : at + 8][::-1].hex().upper())
 
     def first_content(self, place):
-        """Returns the fields of the outermost layer whose content begins with APS, and whether that is a command without its header."""
+        """Returns the fields of the outermost layer whose content begins with APS, and whether that is a command
+        without its header."""
         layers = self.report.layers.get(place, [])
         has_aps = any(it['kind'] == 'aps' for it in layers)
         for it in layers:
@@ -76,7 +77,11 @@ class ReportPage:
         if 'content' not in fields:
             return [fields['kind'], 0, self.texts.place(fields['reason'])]
         label = f' {fields["label"]}' if 'label' in fields else ''
-        return [fields['kind'], fields['k'], self.texts.place(f'key {fields["k"]}{label}, counter {fields["counter"]}')]
+        return [
+            fields['kind'],
+            fields['k'],
+            self.texts.place(f'key {fields["k"]}{label}, counter {fields["counter"]}'),
+        ]
 
     def contents(self, place):
         """Returns the sections of contents where no capture shows the frame."""
@@ -85,16 +90,28 @@ class ReportPage:
             return []
         title = f'Content of the {fields["kind"].upper()} layer, sealed under key {fields["k"]}'
         return self.anatomies.place_all(
-            anatomy.take_content_apart(self.reader, place, title, content_of(fields), is_command and fields['label'] != 'data'))
+            anatomy.take_content_apart(
+                self.reader, place, title, content_of(fields), is_command and fields['label'] != 'data'
+            )
+        )
 
     def frame(self, place):
         """Returns a frame: packet, time, lanes from and to, words, layers, sections, its lines."""
         heard, layers, (source, to) = self.heard[place], self.report.layers.get(place, []), self.ends(place)
         sections = self.anatomies.sections(self.reader, place, heard.data) if heard.data else self.contents(place)
-        return [heard.number, heard.time, source, to, self.texts.place(self.words(place)), [self.layer(it) for it in layers], sections]
+        return [
+            heard.number,
+            heard.time,
+            source,
+            to,
+            self.texts.place(self.words(place)),
+            [self.layer(it) for it in layers],
+            sections,
+        ]
 
     def key(self, fields):
-        """Returns a key: number, digits, the place of the frame that it was found in or -1, the round, the keys that opened that frame."""
+        """Returns a key: number, digits, the place of the frame that it was found in or -1, the round, the keys that
+        opened that frame."""
         place = fields.get('frame')
         if fields['origin'] == 'given' or place not in self.heard:
             return [fields['k'], fields['key'], -1, 0, []]
@@ -116,8 +133,14 @@ class ReportPage:
         end = self.report.end
         lanes = [[pan, short, self.euis.get((pan, short), '')] for pan, short in self.lanes.things()]
         return {
-            'kind': 'report', 'lanes': lanes, 'frames': rows, 'keys': keys, 'causes': CAUSES, 'texts': self.texts.things(),
-            'layouts': self.anatomies.layouts.things(), 'hasCapture': any(it.data for it in self.heard.values()),
+            'kind': 'report',
+            'lanes': lanes,
+            'frames': rows,
+            'keys': keys,
+            'causes': CAUSES,
+            'texts': self.texts.things(),
+            'layouts': self.anatomies.layouts.things(),
+            'hasCapture': any(it.data for it in self.heard.values()),
             'end': f'{end["frames"]} frames; {end["keys"]} keys; {end["rounds"]} rounds',
         }
 
@@ -125,12 +148,18 @@ class ReportPage:
 def check_capture(report, heard, path):
     """Stops where a capture can't be the one that a report is of."""
     if len(heard) != report.end['frames']:
-        raise Stop(f'{path}: it has {len(heard)} frames, and the report is of {report.end["frames"]}; '
-                   'give the capture of which the report was made', UNREADABLE)
+        raise Stop(
+            f'{path}: it has {len(heard)} frames, and the report is of {report.end["frames"]}; '
+            'give the capture of which the report was made',
+            UNREADABLE,
+        )
     for place, layers in report.layers.items():
         is_clear = not secured(heard[place - 1].data)
         if layers[0].get('reason') == 'not-secured' and not is_clear or 'content' in layers[0] and is_clear:
-            raise Stop(f'{path}: frame {place} is not the one of the report; give the capture of which the report was made', UNREADABLE)
+            raise Stop(
+                f'{path}: frame {place} is not the one of the report; give the capture of which the report was made',
+                UNREADABLE,
+            )
 
 
 def secured(data):

@@ -11,7 +11,7 @@ class Run:
     def __init__(self, history):
         self.history = history
         self.centre = next((node.name for node in history.nodes if node.role == 'centre'), None)
-        self.texts, self.boxes = Table(), Table()
+        self.texts, self.boxes, self.refusals = Table(), Table(), {}
         self.anatomies = Anatomies(self.texts)
         self.places = {node.name: place for place, node in enumerate(history.nodes)}
         self.sent = {}
@@ -34,25 +34,44 @@ class Run:
         return self.texts.place(f'refuses ({words[2]}): {words[3]}')
 
     def refusal(self, event, words):
-        """Returns the place of the sentence of the policy on the refusal of an event, or -1."""
+        """Returns the place of the sentence of the policy on the refusal of an event, or -1.
+
+        Events of a lone refusal share it."""
         lines = self.history.events.get(event, [])
-        if not any(it[0] == 'refuse' for it in lines):
+        refused = next((it for it in lines if it[0] == 'refuse'), None)
+        if refused is None:
             return -1
+        kind = (refused[1] == self.centre, tuple(refused[2:4]), tuple(words[:1])) if len(lines) == 1 else event
+        if kind not in self.refusals:
+            self.refusals[kind] = self.texts.place(self.sentence(event, lines, words))
+        return self.refusals[kind]
+
+    def sentence(self, event, lines, words):
+        """Returns what the policy says of the refusal of an event."""
         numbered = [stories.Line(0, '', fields.read_transcript_line([str(event), *it])) for it in lines]
         story = stories.Story(stories.Group(event, numbered), self.centre, words or None)
         refused, rule = story.refusal(), story.rule()
-        if refused is None:
-            return -1
-        return self.texts.place(refused['reason'] + ': ' + policy.sentence_of_refusal(
-            rule and rule.refused, refused['layer'], refused['reason'], story.is_judged()))
+        text = policy.sentence_of_refusal(
+            rule and rule.refused, refused['layer'], refused['reason'], story.is_judged()
+        )
+        return f'{refused["reason"]}: {text}'
 
     def event(self, event):
-        """Returns an event: number, node, boxes, frames that it sends, the frame that it delivers, words, fold, sentence on its refusal."""
+        """Returns an event: number, node, boxes, frames that it sends, the frame that it delivers, words, fold,
+        sentence on its refusal."""
         lines, boxes = self.history.events.get(event, []), histories.boxes(self.history, event)
         words = self.history.schedule.events.get(event, []) if self.history.schedule else []
         delivered = self.frame_places.get(self.history.frame_at.get(event), -1)
-        return [event, self.place_of(self.history.node_of(lines)), [self.box(it) for it in boxes], self.sent.get(event, []),
-                delivered, self.texts.place(' '.join(words)), self.fold(event, boxes), self.refusal(event, words)]
+        return [
+            event,
+            self.place_of(self.history.node_of(lines)),
+            [self.box(it) for it in boxes],
+            self.sent.get(event, []),
+            delivered,
+            self.texts.place(' '.join(words)),
+            self.fold(event, boxes),
+            self.refusal(event, words),
+        ]
 
     def events(self):
         """Returns the events that have lines or words, in order."""
@@ -61,32 +80,54 @@ class Run:
 
     def verdict(self, verdict):
         """Returns what a node made of a frame: event, node, the place of the text."""
-        text = histories.deed(verdict.reason) + f' at {verdict.event}' + ('' if verdict.reason is None else f': {verdict.reason}')
+        text = (
+            histories.deed(verdict.reason)
+            + f' at {verdict.event}'
+            + ('' if verdict.reason is None else f': {verdict.reason}')
+        )
         return [verdict.event, self.place_of(verdict.node), self.texts.place(text), 1 if verdict.reason is None else 0]
 
     def frame(self, frame):
-        """Returns a frame: number, event, sender, kind, words, counters, destination, the word where nobody judged it, verdicts,
-        sections."""
+        """Returns a frame: number, event, sender, kind, words, counters, destination, the word where nobody judged it,
+        verdicts, sections."""
         words, counters = self.history.reader.describe(frame.event, frame.data)
-        return [frame.number, frame.event, self.place_of(frame.sender), frame.kind, self.texts.place(', '.join(words)),
-                self.texts.place(', '.join(counters)), self.place_of(self.history.destination(frame)),
-                self.texts.place(self.history.unjudged(frame)), [self.verdict(it) for it in self.history.verdicts[frame.number]],
-                self.anatomies.sections(self.history.reader, frame.event, frame.data)]
+        return [
+            frame.number,
+            frame.event,
+            self.place_of(frame.sender),
+            frame.kind,
+            self.texts.place(', '.join(words)),
+            self.texts.place(', '.join(counters)),
+            self.place_of(self.history.destination(frame)),
+            self.texts.place(self.history.unjudged(frame)),
+            [self.verdict(it) for it in self.history.verdicts[frame.number]],
+            self.anatomies.sections(self.history.reader, frame.event, frame.data),
+        ]
 
     def data(self):
         """Returns what the page gets, but for its title, text and verdict."""
         events, frames = self.events(), [self.frame(it) for it in self.history.frames]
         return {
-            'kind': 'run', 'nodes': [list(node) for node in self.history.nodes], 'events': events, 'frames': frames,
-            'end': explain_end(self.history.end), 'hasSchedule': self.history.schedule is not None,
-            'texts': self.texts.things(), 'boxes': self.boxes.things(), 'layouts': self.anatomies.layouts.things(),
+            'kind': 'run',
+            'nodes': [list(node) for node in self.history.nodes],
+            'events': events,
+            'frames': frames,
+            'end': explain_end(self.history.end),
+            'hasSchedule': self.history.schedule is not None,
+            'texts': self.texts.things(),
+            'boxes': self.boxes.things(),
+            'layouts': self.anatomies.layouts.things(),
         }
 
 
 def explain_end(end):
     """Returns the end line in words."""
     events, seals, accepts, refusals, ideal, private = end
-    honest = 'all that was accepted had been sealed before' if ideal == 'yes' else 'something was accepted that nobody had sealed'
+    honest = (
+        'all that was accepted had been sealed before'
+        if ideal == 'yes'
+        else 'something was accepted that nobody had sealed'
+    )
     outside = 'outsiders used no key of the network' if private == 'yes' else 'outsiders used a key of the network'
     return f'{events} events; {seals} layers sealed, {accepts} accepted; {refusals} refusals; {honest}; {outside}'
 
@@ -99,7 +140,12 @@ def explain_verdict(ran):
         locked = 'removed devices are locked out' if words[3] == 'locked' else 'nothing is claimed of removed devices'
         return [text, True, f'all claims hold; {locked}', 0]
     if words[:1] == ['broken'] and len(words) == 3 and words[2].isdigit():
-        return [text, False, f'line {words[1]} breaks claim {words[2]}: {CLAIMS.get(int(words[2]), "")}', int(words[1])]
+        return [
+            text,
+            False,
+            f'line {words[1]} breaks claim {words[2]}: {CLAIMS.get(int(words[2]), "")}',
+            int(words[1]),
+        ]
     if words[:1] == ['refused'] and len(words) == 3 and words[1].isdigit():
         return [text, False, f'line {words[1]} is no line of a transcript', int(words[1])]
     return [text, False, f'tc ended with status {ran.status}', 0]

@@ -24,8 +24,12 @@ class Anatomies:
         self.texts, self.layouts = texts, Table()
 
     def place_all(self, sections):
-        """Returns sections as the page gets them: kind, the place of the title, data in digits, the place of the layout."""
-        return [[it.kind, self.texts.place(it.title), it.data.hex().upper(), self.layouts.place(it.fields)] for it in sections]
+        """Returns sections as the page gets them: kind, the place of the title, data in digits, the place of the
+        layout."""
+        return [
+            [it.kind, self.texts.place(it.title), it.data.hex().upper(), self.layouts.place(it.fields)]
+            for it in sections
+        ]
 
     def sections(self, reader, event, data):
         """Returns the sections of a frame as the page gets them."""

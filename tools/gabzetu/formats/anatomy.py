@@ -1,13 +1,13 @@
 """Takes frames apart, field by field with offsets, by the layouts of docs/FORMATS.md ("Frames").
 
-A frame becomes sections. The first is the frame as it is on the air. A nonce, and the content of each layer that a line shows
-opened, are sections of their own, with their own offsets."""
+A frame becomes sections. The first is the frame as it is on the air. A nonce, and the content of each layer that a
+line shows opened, are sections of their own, with their own offsets."""
 import collections
 
 from . import frames
 
-# offset: in its section; shape: number, short or address (least significant byte first), bytes, key, sealed or code (of the
-# seal, 4 bytes); note: what the value means, or nothing
+# offset: in its section; shape: number, short or address (least significant byte first), bytes, key, sealed or code
+# (of the seal, 4 bytes); note: what the value means, or nothing
 Field = collections.namedtuple('Field', 'offset size name shape note')
 
 # kind: air, nonce or content; title: in words; data: its bytes; fields: those that it has, in order
@@ -17,13 +17,32 @@ BROADCASTS = {0xFFFF: 'all', 0xFFFD: 'all that listen', 0xFFFC: 'all routers'}
 NWK_TYPES, APS_TYPES = {0: 'data', 1: 'command'}, {0: 'data', 1: 'command', 2: 'acknowledgement'}
 DELIVERIES = {0: 'unicast', 1: 'delivery 1', 2: 'broadcast', 3: 'group'}
 KEY_IDENTIFIERS = {0: 'data key', 1: 'network key', 2: 'transport key', 3: 'load key'}
-NWK_BITS = {8: 'multicast', 9: 'secured', 10: 'source route', 11: 'destination IEEE', 12: 'source IEEE', 13: 'end device'}
+NWK_BITS = {
+    8: 'multicast',
+    9: 'secured',
+    10: 'source route',
+    11: 'destination IEEE',
+    12: 'source IEEE',
+    13: 'end device',
+}
 APS_BITS = {4: 'ack format', 5: 'secured', 6: 'ack request', 7: 'extended header'}
 COMMANDS = {
-    frames.TRANSPORT: 'Transport-Key', frames.UPDATE: 'Update-Device', frames.REMOVE: 'Remove-Device', frames.REQUEST: 'Request-Key',
-    frames.SWITCH: 'Switch-Key', frames.TUNNEL: 'Tunnel', frames.VERIFY: 'Verify-Key', frames.CONFIRM: 'Confirm-Key',
+    frames.TRANSPORT: 'Transport-Key',
+    frames.UPDATE: 'Update-Device',
+    frames.REMOVE: 'Remove-Device',
+    frames.REQUEST: 'Request-Key',
+    frames.SWITCH: 'Switch-Key',
+    frames.TUNNEL: 'Tunnel',
+    frames.VERIFY: 'Verify-Key',
+    frames.CONFIRM: 'Confirm-Key',
 }
 JOINS = {0: 'secured rejoin', 1: 'join', 2: 'leave', 3: 'unsecured rejoin'}
+
+
+def explain_status(status):
+    """Returns the words on the status of an Update-Device."""
+    return JOINS.get(status, '')
+
 
 # The fields of commands after their identifier: size (none for the rest), name and shape.
 KEY_FIELDS = {
@@ -32,7 +51,7 @@ KEY_FIELDS = {
     4: [(16, 'key', 'key'), (8, 'destination', 'address'), (8, 'source', 'address')],
 }
 FIELDS = {
-    frames.UPDATE: [(8, 'device', 'address'), (2, 'short', 'short'), (1, 'status', 'number')],
+    frames.UPDATE: [(8, 'device', 'address'), (2, 'short', 'short'), (1, 'status', 'number', explain_status)],
     frames.REMOVE: [(8, 'target', 'address')],
     frames.SWITCH: [(1, 'sequence', 'number')],
     frames.VERIFY: [(1, 'key type', 'number'), (8, 'source', 'address'), (16, 'hash', 'bytes')],
@@ -48,7 +67,7 @@ class Cursor:
 
     def take(self, size, name, shape, note=None):
         """Takes a field and returns its value as a number. The note is a function of the value, or a text."""
-        value = int.from_bytes(self.data[self.at:self.at + size], 'little')
+        value = int.from_bytes(self.data[self.at : self.at + size], 'little')
         if len(self.data) < self.at + size:
             self.rest('cut')
             raise frames.Malformed(f'{name} cut')
@@ -86,7 +105,10 @@ def explain_aps(control):
 
 def explain_auxiliary(control):
     """Returns the words on an auxiliary security control."""
-    texts = [f'level {control & 7} on the air' + (', really 5' if control & 7 != 5 else ''), KEY_IDENTIFIERS[control >> 3 & 3]]
+    texts = [
+        f'level {control & 7} on the air' + (', really 5' if control & 7 != 5 else ''),
+        KEY_IDENTIFIERS[control >> 3 & 3],
+    ]
     return ', '.join(texts + (['source given'] if control & 0x20 else []))
 
 
@@ -129,7 +151,8 @@ def take_aps(cursor):
 
 
 def take_seal(cursor):
-    """Takes an auxiliary header, the sealed bytes and their code, and returns control, counter and source (none if it isn't there)."""
+    """Takes an auxiliary header, the sealed bytes and their code, and returns control, counter and source (none if it
+    isn't there)."""
     control = cursor.take(1, 'security control', 'number', explain_auxiliary)
     counter = cursor.take(4, 'frame counter', 'number')
     source = cursor.take(8, 'security source', 'address') if control & 0x20 else None
@@ -156,7 +179,9 @@ def take_command(cursor):
     kind = cursor.take(1, 'command', 'number', lambda value: COMMANDS.get(value, 'unknown'))
     parts = FIELDS.get(kind, [])
     if kind == frames.TRANSPORT:
-        parts = KEY_FIELDS.get(cursor.take(1, 'key type', 'number', lambda value: frames.KEY_TYPES.get(value, 'unknown')), [])
+        parts = KEY_FIELDS.get(
+            cursor.take(1, 'key type', 'number', lambda value: frames.KEY_TYPES.get(value, 'unknown')), []
+        )
     elif kind == frames.REQUEST:
         parts = [(8, 'partner', 'address')] if cursor.take(1, 'key type', 'number') == 2 else []
     elif kind == frames.TUNNEL:
@@ -188,7 +213,9 @@ class Anatomy:
         if source is not None:
             self.sections.append(nonce_of(layer, control, counter, source))
         if term is not None:
-            title = f'Content of the {layer} layer' + (f', sealed under {frames.short_key(term.base)}' if term.base else '')
+            title = f'Content of the {layer} layer' + (
+                f', sealed under {frames.short_key(term.base)}' if term.base else ''
+            )
             self.cursor = Cursor('content', title, bytes.fromhex(term.content.replace('-', '')))
         return term is not None
 
@@ -226,7 +253,9 @@ class Anatomy:
             self.close()
 
     def take_all(self, take):
-        """Returns the sections, beginning with `take`. Bytes that are no whole frame end as a field `cut` or `more bytes`."""
+        """Returns the sections, beginning with `take`.
+
+        Bytes that are no whole frame end as a field `cut` or `more bytes`."""
         try:
             take()
         except frames.Malformed:

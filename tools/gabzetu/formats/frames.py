@@ -1,4 +1,5 @@
-"""Says what the frames of a transcript carry, by the layouts of docs/FORMATS.md ("Frames") and what its lines show of contents."""
+"""Says what the frames of a transcript carry, by the layouts of docs/FORMATS.md ("Frames") and what its lines show of
+contents."""
 import collections
 import struct
 
@@ -6,8 +7,8 @@ LEAVE, UPDATE, REMOVE, REQUEST, SWITCH, TUNNEL, VERIFY, CONFIRM, TRANSPORT = 4, 
 DATA, COMMAND, ACK = 0, 1, 2
 KEY_TYPES = {1: 'network key', 3: 'application key', 4: 'link key'}
 
-# One layer of a frame. to: the short destination of NWK, else none; header: as it is authenticated where it is sealed, in
-# digits; counter: none where it isn't sealed; payload: none where it is sealed
+# One layer of a frame. to: the short destination of NWK, else none; header: as it is authenticated where it is sealed,
+# in digits; counter: none where it isn't sealed; payload: none where it is sealed
 Layer = collections.namedtuple('Layer', 'kind to header counter payload')
 
 # What a line shows of a sealed layer: its base key, the source in its nonce, and the content, all in digits
@@ -26,7 +27,7 @@ def layer(kind, to, data, size, is_secured):
         return Layer(kind, to, data[:size].hex().upper(), None, data[size:])
     control, counter = struct.unpack_from('<BI', data, size)
     end = size + 5 + (8 if control & 0x20 else 0) + (1 if control >> 3 & 3 == 1 else 0)
-    real = data[:size] + bytes([control & 0xF8 | 5]) + data[size + 1:end]
+    real = data[:size] + bytes([control & 0xF8 | 5]) + data[size + 1 : end]
     return Layer(kind, to, real.hex().upper(), counter, None)
 
 
@@ -82,7 +83,11 @@ class Reader:
     @staticmethod
     def terms_of(lines):
         """Returns the terms of an event by their headers."""
-        return {words[-2]: Term(words[-6], words[-5], words[-1]) for words in lines if words[0] in ('seal', 'forge', 'accept')}
+        return {
+            words[-2]: Term(words[-6], words[-5], words[-1])
+            for words in lines
+            if words[0] in ('seal', 'forge', 'accept')
+        }
 
     def term(self, event, part):
         """Returns the term of a sealed layer, or none where no line shows it."""

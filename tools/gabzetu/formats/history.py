@@ -1,19 +1,22 @@
 """What a transcript shows of a run: what became of each frame, and what each node did in each event, in words.
 
-Charts and explorers show the same words because both take them from here. Nothing is judged: each word says what a line says."""
+Charts and explorers show the same words because both take them from here. Nothing is judged: each word says what a
+line says."""
 import collections
 
 from . import frames, transcripts
 from ..errors import UNREADABLE, Stop
 from ..output import read_input
 
-RANKS = {'centre': 0, 'router': 1, 'device': 2}
+RANKS = {'centre': 0, 'router': 1, 'device': 2, 'undeclared': 3}
 DECLARATIONS = ('node', 'code', 'netkey', 'counter', 'draw')
 POWER = {'stopped': 'power is cut', 'down reset': 'reset', 'down disk': 'the disk fails'}
 AT_THE_CENTRE = ('draw', 'live', 'removed', 'told', 'untold')
-# The place of the node among the words of an event of a schedule; those of events that aren't here are of the centre or of nobody.
-NODE_PLACES = {'say': 1, 'deliver': 2, 'timer': 1, 'knock': 1, 'rejoin': 1, 'child': 1, 'ask': 1, 'tell': 1, 'reset': 1, 'boot': 1,
-               'dump': 1, 'stop': 1, 'fail': 1}
+OF_NOBODY = ('forge', 'inject')
+# The place of the node among the words of an event of a schedule; those of events that aren't here are of the centre
+# or of nobody.
+NODE_PLACES = {word: 1 for word in 'say timer knock rejoin child ask tell reset boot dump stop fail'.split()}
+NODE_PLACES['deliver'] = 2
 
 # What a node made of a frame in an event; the reason is none where it accepted it.
 Verdict = collections.namedtuple('Verdict', 'event node reason')
@@ -32,7 +35,9 @@ def read_schedule(path):
     except UnicodeDecodeError as error:
         raise Stop(f'{path}: byte {error.start + 1} is not ASCII', UNREADABLE) from error
     lines = [line.split() for line in text.splitlines() if line.strip() and not line.startswith('#')]
-    nodes = [[*words[1:3], *(word.upper() for word in words[3:5]), *words[5:]] for words in lines if words[0] == 'node']
+    nodes = [
+        [*words[1:3], *(word.upper() for word in words[3:5]), *words[5:]] for words in lines if words[0] == 'node'
+    ]
     return Schedule(nodes, dict(enumerate((words for words in lines if words[0] not in DECLARATIONS), 1)))
 
 
@@ -44,7 +49,8 @@ def may_deliver(words):
 
 
 def seal_of(data):
-    """Returns the header of the outermost sealed layer of a frame, or of its APS layer where none is sealed; none of no frame."""
+    """Returns the header of the outermost sealed layer of a frame, or of its APS layer where none is sealed; none of
+    no frame."""
     try:
         part = frames.read_nwk(data)
         return part.header if part.payload is None else frames.read_aps(part.payload).header
@@ -52,16 +58,29 @@ def seal_of(data):
         return None
 
 
+def named_nodes(events):
+    """Returns the nodes in the order of centre, routers and devices.
+
+    In a foreign transcript a line may name one without a node line."""
+    declared = transcripts.read_nodes(events)
+    names = {words[1] for lines in events.values() for words in lines if words[0] not in AT_THE_CENTRE + OF_NOBODY} - {
+        '-'
+    }
+    others = sorted(names - {node.name for node in declared})
+    nodes = declared + [transcripts.Node(name, 'undeclared', '', '') for name in others]
+    return sorted(nodes, key=lambda node: RANKS[node.role])
+
+
 class History:
     """A transcript with what became of its frames."""
 
     def __init__(self, transcript, schedule=None):
         self.events, self.end, self.schedule = transcript.events, transcript.end, schedule
-        self.nodes = sorted(transcripts.read_nodes(self.events), key=lambda node: RANKS[node.role])
+        self.nodes = named_nodes(self.events)
         self.frames = transcripts.read_frames(self.events)
         self.reader = frames.Reader(self.events, self.nodes)
-        self.names = {node.eui: node.name for node in self.nodes}
-        self.by_short = {node.short: node.name for node in reversed(self.nodes)}
+        self.names = {node.eui: node.name for node in self.nodes if node.eui}
+        self.by_short = {node.short: node.name for node in reversed(self.nodes) if node.short}
         self.sent_at = {frame.number: frame.event for frame in self.frames}
         self.by_seal = collections.defaultdict(list)
         for frame in self.frames:
@@ -73,7 +92,7 @@ class History:
         """Returns the node that an event is of, or none."""
         if any(words[0] in AT_THE_CENTRE for words in lines):
             return self.nodes[0].name if self.nodes else None
-        named = [words[1] for words in lines if words[0] not in ('forge', 'inject') and words[1] != '-']
+        named = [words[1] for words in lines if words[0] not in OF_NOBODY and words[1] != '-']
         return named[0] if named else None
 
     def judge(self, event, lines):
@@ -88,7 +107,8 @@ class History:
         return number
 
     def delivered(self, event, lines):
-        """Returns the number of the frame that is delivered in an event, by the schedule or the accepted terms; or none."""
+        """Returns the number of the frame that is delivered in an event, by the schedule or the accepted terms; or
+        none."""
         if self.schedule is not None:
             words = self.schedule.events.get(event, [])
             number = int(words[1]) if words[:1] == ['deliver'] and len(words) == 3 and words[1].isdigit() else None
@@ -97,7 +117,8 @@ class History:
         return self.carrier(event, accepted[0]) if accepted else None
 
     def carrier(self, event, accept):
-        """Returns the number of the last frame before an event whose outermost sealed layer is an accepted term, or none."""
+        """Returns the number of the last frame before an event whose outermost sealed layer is an accepted term, or
+        none."""
         for frame in reversed(self.by_seal[accept[-2]]):
             term = self.reader.here[frame.event].get(accept[-2])
             is_same = term is None or term.content == accept[-1]
@@ -116,7 +137,9 @@ class History:
         return named or [name for name in [self.destination(frame)] if name not in (None, frame.sender)]
 
     def unjudged(self, frame):
-        """Returns the word on a frame that nobody judged. A transcript alone doesn't show which frame a refusal at NWK is of."""
+        """Returns the word on a frame that nobody judged.
+
+        A transcript alone doesn't show which frame a refusal at NWK is of."""
         return 'not accepted' if self.last_unknown > frame.event else 'lost'
 
     def fate(self, frame):
@@ -139,13 +162,17 @@ def check_schedule(history, path):
     if history.schedule.nodes != declared:
         raise Stop(f'{path}: its node lines are not those of the transcript; give the schedule that was played')
     if len(history.schedule.events) != int(history.end[0]):
-        raise Stop(f'{path}: it has {len(history.schedule.events)} events, and the transcript has {history.end[0]}; '
-                   'give the schedule that was played')
+        raise Stop(
+            f'{path}: it has {len(history.schedule.events)} events, and the transcript has {history.end[0]}; '
+            'give the schedule that was played'
+        )
     for event, words in history.schedule.events.items():
         place, node = NODE_PLACES.get(words[0], 0), history.node_of(history.events.get(event, []))
-        if node is not None and place and words[place:place + 1] != [node]:
-            raise Stop(f'{path}: event {event} is `{" ".join(words)}`, and in the transcript it is of {node}; '
-                       'give the schedule that was played')
+        if node is not None and place and words[place : place + 1] != [node]:
+            raise Stop(
+                f'{path}: event {event} is `{" ".join(words)}`, and in the transcript it is of {node}; '
+                'give the schedule that was played'
+            )
 
 
 def make_history(transcript, schedule_path=None):
@@ -185,7 +212,8 @@ def other_change(history, words):
 
 
 def stored(history, lines):
-    """Returns the words on what an event stores: limits of outgoing counters, and floors of incoming ones by their sender."""
+    """Returns the words on what an event stores: limits of outgoing counters, and floors of incoming ones by their
+    sender."""
     if not any(words[0] == 'commit' for words in lines):
         return []
     limits = [f'{words[2]} {words[3]}' for words in lines if words[0] == 'reserve']
@@ -215,7 +243,10 @@ def boxes(history, event):
     found = [it for it in map(special_box, lines) if it is not None]
     which = '' if number is None else f' {number}'
     if number is not None:
-        found = [it._replace(texts=[it.texts[0].replace('refuses', f'refuses{which}', 1)]) if it.kind == 'refusal' else it for it in found]
+        found = [
+            it._replace(texts=[it.texts[0].replace('refuses', f'refuses{which}', 1)]) if it.kind == 'refusal' else it
+            for it in found
+        ]
     is_accepted = any(words[0] == 'accept' for words in lines) and not any(it.kind == 'refusal' for it in found)
     keys = [text for text in (key_change(history, lines, words) for words in lines) if text]
     others = [text for text in (other_change(history, words) for words in lines) if text]

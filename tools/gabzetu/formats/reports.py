@@ -11,13 +11,15 @@ from .mac import read_data
 from ..errors import UNREADABLE, Stop
 from ..output import read_input
 
-# text: the whole file; layers: of each frame by its number, the fields of its lines; keys, end: the fields of these lines
+# text: the whole file; layers: of each frame by its number, the fields of its lines; keys, end: the fields of these
+# lines
 Report = collections.namedtuple('Report', 'text layers keys end')
 
-# number: of the packet in the capture, from 1; time: in seconds, or none; pan: in digits, or none; data: from the NWK header on, or none
-# where no capture shows it
+# number: of the packet in the capture, from 1; time: in seconds, or none; pan: in digits, or none; data: from the NWK
+# header on, or none where no capture shows it
 Heard = collections.namedtuple('Heard', 'number time pan data')
 
+MOST_FRAMES = 100000
 END = re.compile(r'^end \d+ \d+ \d+$', re.MULTILINE | re.ASCII)
 MAGICS = {b'\xd4\xc3\xb2\xa1': '<', b'\xa1\xb2\xc3\xd4': '>', b'\x4d\x3c\xb2\xa1': '<', b'\xa1\xb2\x3c\x4d': '>'}
 NANOSECONDS = (b'\x4d\x3c\xb2\xa1', b'\xa1\xb2\x3c\x4d')
@@ -42,8 +44,13 @@ def parse_report(text, path):
             keys.append(fields)
         elif fields['kind'] == 'end':
             end = fields
-    if end is None:
-        raise Stop(f'{path}: there is no end line', UNREADABLE)
+    if end is None or end['frames'] > MOST_FRAMES:
+        raise Stop(
+            f'{path}: ' + ('there is no end line' if end is None else f'a report is of at most {MOST_FRAMES} frames'),
+            UNREADABLE,
+        )
+    if not all(1 <= place <= end['frames'] for place in layers):
+        raise Stop(f'{path}: a line is of a frame that the end line does not count', UNREADABLE)
     return Report(text, dict(layers), keys, end)
 
 
@@ -64,7 +71,9 @@ def is_well_formed(fields):
 
 
 def read_text_capture(text):
-    """Returns what a text capture shows of its frames. A comment `packet N` before one gives the number of its packet."""
+    """Returns what a text capture shows of its frames.
+
+    A comment `packet N` before one gives the number of its packet."""
     found, number = [], None
     for line in text.splitlines():
         words, comment = line.split(), PACKET_NUMBER.match(line)
@@ -76,13 +85,14 @@ def read_text_capture(text):
 
 
 def read_pcap(data, path):
-    """Returns what a pcap shows of the packets that have a payload, by the rule of `sniff` (docs/FORMATS.md, "Capture files")."""
+    """Returns what a pcap shows of the packets that have a payload, by the rule of `sniff` (docs/FORMATS.md, "Capture
+    files")."""
     order, at, number, found = MAGICS[data[:4]], 24, 0, []
     link = struct.unpack_from(order + 'I', data, 20)[0] & 0xFFFF
     unit = 1e9 if data[:4] in NANOSECONDS else 1e6
     while at + 16 <= len(data):
         seconds, part, kept, whole = struct.unpack_from(order + 'IIII', data, at)
-        packet, number, at = data[at + 16:at + 16 + kept], number + 1, at + 16 + kept
+        packet, number, at = data[at + 16 : at + 16 + kept], number + 1, at + 16 + kept
         if at > len(data):
             raise Stop(f'{path}: packet {number} is cut', UNREADABLE)
         header = payload_of(packet, link) if kept == whole else None
@@ -97,7 +107,7 @@ def payload_of(packet, link):
     if len(packet) < size or (size and packet[-2:] != check_of(packet[:-2])):
         return None
     try:
-        return read_data(packet[:len(packet) - size], size)
+        return read_data(packet[: len(packet) - size], size)
     except LeftOut:
         return None
 
@@ -105,13 +115,19 @@ def payload_of(packet, link):
 def read_any_capture(path):
     """Returns what another capture shows, as `gabzetu open` reads it."""
     from ..capture import Capture
+
     return [Heard(it.number, it.time, it.pan, it.payload) for part in Capture(path).parts() for it in part]
 
 
 def read_heard(path):
-    """Returns what a capture shows of the frames that a report is of: a text capture, a pcap, or what `gabzetu open` reads."""
+    """Returns what a capture shows of the frames that a report is of: a text capture, a pcap, or what `gabzetu open`
+    reads."""
     data = read_input(path)
-    if data[:4] in MAGICS and len(data) >= 24 and struct.unpack_from(MAGICS[data[:4]] + 'I', data, 20)[0] & 0xFFFF in (195, 230):
+    if (
+        data[:4] in MAGICS
+        and len(data) >= 24
+        and struct.unpack_from(MAGICS[data[:4]] + 'I', data, 20)[0] & 0xFFFF in (195, 230)
+    ):
         return read_pcap(data, path)
     try:
         return read_text_capture(data.decode('ascii'))
@@ -125,14 +141,18 @@ def content_of(fields):
 
 
 class Reader(frames.Reader):
-    """Reads the frames of a report: its lines show the contents of sealed layers. Frames are numbered as in the report."""
+    """Reads the frames of a report: its lines show the contents of sealed layers.
+
+    Frames are numbered as in the report."""
 
     def __init__(self, report, heard, names):
         self.names, self.keys = names, {it['k']: it['key'] for it in report.keys}
         self.set_terms({place: self.terms(report.layers.get(place, []), it.data) for place, it in heard.items()})
 
     def terms(self, layers, data):
-        """Returns the terms of a frame by their headers. Without its bytes, they begin with the content of its NWK layer."""
+        """Returns the terms of a frame by their headers.
+
+        Without its bytes, they begin with the content of its NWK layer."""
         found, by_kind = {}, {it['kind']: it for it in layers}
         try:
             payload = self.payload(found, by_kind, data) if data else content_of(by_kind.get('nwk'))

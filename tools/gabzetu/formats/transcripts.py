@@ -1,4 +1,5 @@
-"""Reads transcripts, as docs/FORMATS.md has them: the lines of each event, the nodes, and the frames that went on the air."""
+"""Reads transcripts, as docs/FORMATS.md has them: the lines of each event, the nodes, and the frames that went on the
+air."""
 import collections
 import re
 
@@ -7,14 +8,22 @@ from ..output import read_input
 
 Node = collections.namedtuple('Node', 'name role eui short')
 
-# number: of the frame; event: in which it was sent; sender: a node's name, or none for forged and injected ones; kind: send,
-# forge or inject; data: its bytes
+# number: of the frame; event: in which it was sent; sender: a node's name, or none for forged and injected ones; kind:
+# send, forge or inject; data: its bytes
 Frame = collections.namedtuple('Frame', 'number event sender kind data')
 
-# text: the whole file; events: the lines of each event as words without the event's number; end: the words of the end line
+# text: the whole file; events: the lines of each event as words without the event's number; end: the words of the end
+# line
 Transcript = collections.namedtuple('Transcript', 'text events end')
 
-NAME, EUI, SHORT, KEY, NUMBER, BYTES = r'\S+', '[0-9A-F]{16}', '[0-9A-F]{4}', '[0-9A-F]{32}', r'\d{1,10}', '(?:-|(?:[0-9A-F]{2})+)'
+NAME, EUI, SHORT, KEY, NUMBER, BYTES = (
+    r'\S+',
+    '[0-9A-F]{16}',
+    '[0-9A-F]{4}',
+    '[0-9A-F]{32}',
+    r'\d{1,10}',
+    '(?:-|(?:[0-9A-F]{2})+)',
+)
 LAYER = '(?:nwk|aps)'
 TERM = f'{LAYER} (?:data|network|transport|load) {KEY} {EUI} {NUMBER} [0-9A-F]{{2}} {BYTES} {BYTES}'
 
@@ -119,4 +128,9 @@ def frame_of(event, words):
 
 def read_frames(events):
     """Returns the frames in their order. Those of nobody are forged or injected."""
-    return [frame_of(event, words) for event, lines in sorted(events.items()) for words in lines if words[0] in ('send', 'inject')]
+    return [
+        frame_of(event, words)
+        for event, lines in sorted(events.items())
+        for words in lines
+        if words[0] in ('send', 'inject')
+    ]

@@ -7,8 +7,20 @@ import subprocess
 import tempfile
 
 NAMES = ('chromium', 'chromium-browser', 'google-chrome')
-WORDS = ('--headless', '--no-sandbox', '--disable-gpu', '--window-size=1500,1000', '--host-resolver-rules=MAP * ~NOTFOUND',
-         '--no-first-run', '--disable-extensions', '--disable-background-networking', '--enable-logging=stderr', '--virtual-time-budget=5000', '--dump-dom')
+WORDS = (
+    '--headless',
+    '--no-sandbox',
+    '--disable-gpu',
+    '--window-size=1500,1000',
+    '--host-resolver-rules=MAP * ~NOTFOUND',
+    '--no-first-run',
+    '--disable-extensions',
+    '--disable-background-networking',
+    '--enable-logging=stderr',
+    '--virtual-time-budget=5000',
+    '--dump-dom',
+)
+LONGEST = 600  # seconds, for a machine that is busy with other work
 EMPTY = ('meta', 'input', 'br', 'img', 'link')
 
 
@@ -52,13 +64,30 @@ class Page(html.parser.HTMLParser):
 
     def rows_in(self, table):
         """Returns the cells of each row of a table."""
-        return [[cell[2] for cell in self.elements if cell[0] == 'td' and any(it is row for it in cell[3])]
-                for row in self.tags('tr') if any(it is table for it in row[3])]
+        return [
+            [cell[2] for cell in self.elements if cell[0] == 'td' and any(it is row for it in cell[3])]
+            for row in self.tags('tr')
+            if any(it is table for it in row[3])
+        ]
 
 
 def open_page(path, mark=''):
-    """Returns a page as it is after its programs ran, and what the browser said of it: mistakes and what the policy forbade."""
+    """Returns a page as it is after its programs ran, and what the browser said of it: mistakes and what the policy
+    forbade."""
     with tempfile.TemporaryDirectory() as folder:
-        ran = subprocess.run([find_browser(), f'--user-data-dir={folder}', *WORDS, pathlib.Path(path).resolve().as_uri() + mark],
-                             capture_output=True, text=True, timeout=120, check=True)
+        ran = subprocess.run(
+            [find_browser(), f'--user-data-dir={folder}', *WORDS, pathlib.Path(path).resolve().as_uri() + mark],
+            capture_output=True,
+            text=True,
+            timeout=LONGEST,
+            check=True,
+        )
     return Page(ran.stdout), re.findall(r'CONSOLE.*', ran.stderr)
+
+
+def add_script(path, script):
+    """Adds a program of a test to a page, whose policy would forbid it and is taken out."""
+    with open(path, encoding='utf-8') as file:
+        page = re.sub('<meta http-equiv="Content-Security-Policy"[^>]*>', '', file.read())
+    with open(path, 'w', encoding='utf-8') as file:
+        file.write(page.replace('</body>', f'<script>{script}</script></body>'))

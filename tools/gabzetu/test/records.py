@@ -1,4 +1,5 @@
-"""Reads the records of nodes (docs/FORMATS.md, "The record"), which the proved program shows, for the tests of explore."""
+"""Reads the records of nodes (docs/FORMATS.md, "The record"), which the proved program shows, for the tests of
+explore."""
 import struct
 
 STATES = ('fresh', 'knocked', 'joined', 'offered', 'confirmed', 'rejoining', 'gone')
@@ -44,4 +45,12 @@ def read_record(data):
         row['floors'] = [(cursor.eui(), cursor.take('I')[0]) for _ in range(cursor.take('B')[0])]
     links = [read_link(cursor) for _ in range(cursor.take('H')[0])]
     pairs = [(cursor.eui(), cursor.eui(), cursor.key(), cursor.take('B')[0]) for _ in range(cursor.take('H')[0])]
-    return {'state': STATES[state], 'aps_limit': aps_limit, 'roll': roll, 'active': active, 'nets': nets, 'links': links, 'pairs': pairs}
+    return {
+        'state': STATES[state],
+        'aps_limit': aps_limit,
+        'roll': roll,
+        'active': active,
+        'nets': nets,
+        'links': links,
+        'pairs': pairs,
+    }

@@ -35,7 +35,9 @@ class Charts(Folder):
         self.assertEqual(text.count('=>'), 2)
 
     def test_standard_input(self):
-        self.assertEqual(self.chart('-', given=read(example('join.transcript'))), self.chart(example('join.transcript')))
+        self.assertEqual(
+            self.chart('-', given=read(example('join.transcript'))), self.chart(example('join.transcript'))
+        )
 
     def test_schedule(self):
         text = self.chart(example('join.transcript'), '--schedule', example('join.sched'))
@@ -46,7 +48,9 @@ class Charts(Folder):
         self.write('removal.transcript', run('play', example('removal.sched')).output)
         text = self.chart(self.path('removal.transcript'), '--schedule', example('removal.sched'))
         arrows = [line for line in text.splitlines() if re.search(r'label="(\\n)*12\b', line) and '=>' in line]
-        self.assertEqual([re.search(r'(accepted|refused) at \d+', it).group() for it in arrows], ['accepted at 25', 'refused at 35'])
+        self.assertEqual(
+            [re.search(r'(accepted|refused) at \d+', it).group() for it in arrows], ['accepted at 25', 'refused at 35']
+        )
 
     def test_wrong_schedules_are_refused(self):
         for name in ('removal.sched', 'rollover.sched', 'join.transcript'):

@@ -98,15 +98,17 @@ matchMedia('(prefers-color-scheme: dark)').addEventListener('change', () => colo
 
 /** Returns the value of a colour of the style. */
 function colour(name) {
-  if (!colours.has(name)) colours.set(name, getComputedStyle(document.documentElement).getPropertyValue(`--${name}`).trim());
+  if (!colours.has(name)) {
+    colours.set(name, getComputedStyle(document.documentElement).getPropertyValue(`--${name}`).trim());
+  }
   return colours.get(name);
 }
 
-/** Returns a canvas's context in which a unit is a dot of the page, cleared. */
-function clearCanvas(canvas) {
+/** Returns the context of a canvas in which a unit is a dot of the page, cleared. */
+function clearCanvas(canvas, width = canvas.clientWidth, height = canvas.clientHeight) {
   const ratio = window.devicePixelRatio || 1;
-  canvas.width = Math.max(1, Math.round(canvas.clientWidth * ratio));
-  canvas.height = Math.max(1, Math.round(canvas.clientHeight * ratio));
+  canvas.width = Math.max(1, Math.round(width * ratio));
+  canvas.height = Math.max(1, Math.round(height * ratio));
   const context = canvas.getContext('2d');
   context.scale(ratio, ratio);
   return context;
@@ -134,7 +136,8 @@ class Tabs {
 function onKeys(acts) {
   document.addEventListener('keydown', (event) => {
     if (event.key === 'Escape') document.activeElement.blur();
-    if (/^(INPUT|SELECT|TEXTAREA)$/.test(event.target.tagName) || event.ctrlKey || event.metaKey || event.altKey) return;
+    const isWriting = /^(INPUT|SELECT|TEXTAREA)$/.test(event.target.tagName);
+    if (isWriting || event.ctrlKey || event.metaKey || event.altKey) return;
     if (acts[event.key]) {
       event.preventDefault();
       acts[event.key]();

@@ -1,5 +1,7 @@
-// The keys of a run and the counters under them, read from the lines: where each key came from, who held it, who learned it.
+// The keys of a run and the counters under them, read from the lines: where each key came from, who held it, who
+// learned it.
 
+const ABOUT_KEYS = /^\d+ (?:draw|given|install|row|pair|drop|removed|seal|forge) /;
 const WELL_KNOWN = '5A6967426565416C6C69616E63653039';
 
 /** Returns the key that a term carries, or none: it is that of a Transport-Key, alone or in clear in a NWK frame. */
@@ -26,19 +28,22 @@ class Keys {
     this.eui = new Map(nodes.map(([name, , eui]) => [name, eui]));
     this.names = new Map(nodes.map(([name, , eui]) => [eui, name]));
     this.centre = (nodes.find(([, role]) => role === 'centre') || [''])[0];
-    for (const line of lines) this.read(line.split(' '));
+    for (const line of lines) if (ABOUT_KEYS.test(line)) this.read(line.split(' '));
     this.spread();
   }
 
   key(digits, event, kind, from) {
-    if (!this.keys.has(digits)) this.keys.set(digits, { digits, event, kind: '', from, holders: [], seals: 0, carriedBy: [], outside: '' });
+    if (!this.keys.has(digits)) {
+      this.keys.set(digits, { digits, event, kind: '', from, holders: [], seals: 0, carriedBy: [], outside: '' });
+    }
     const key = this.keys.get(digits);
     if (kind) key.kind = key.kind || kind;
     return key;
   }
 
   hold(key, node, event) {
-    if (!key.holders.some((it) => it.node === node && it.to === null)) key.holders.push({ node, from: event, to: null });
+    const isHeld = key.holders.some((it) => it.node === node && it.to === null);
+    if (!isHeld) key.holders.push({ node, from: event, to: null });
   }
 
   release(digits, node, event) {
@@ -50,8 +55,7 @@ class Keys {
   read([number, kind, ...words]) {
     const event = Number(number);
     if (kind === 'draw') this.key(words[0], event, '', 'drawn by the centre');
-    if (kind === 'given' && words[1] === 'net') this.hold(this.key(words[2], event, 'network key', 'held by a node'), words[0], event);
-    if (kind === 'given' && words[1] === 'link') this.hold(this.key(words[3], event, 'link key', 'an install code'), words[0], event);
+    if (kind === 'given') this.readGiven(event, words);
     if (kind === 'install') this.hold(this.key(words[1], event, 'network key', 'taken in'), words[0], event);
     if (kind === 'row') this.readRow(event, words);
     if (kind === 'pair') this.readPair(event, words);
@@ -59,6 +63,11 @@ class Keys {
     if (kind === 'removed') this.removed.set(words[0], event);
     if (kind === 'seal') this.readTerm(event, words.slice(1), false);
     if (kind === 'forge') this.readTerm(event, words, true);
+  }
+
+  readGiven(event, [node, row, ...words]) {
+    const [kind, from] = row === 'net' ? ['network key', 'held by a node'] : ['link key', 'an install code'];
+    this.hold(this.key(row === 'net' ? words[0] : words[1], event, kind, from), node, event);
   }
 
   readPair(event, [node, first, second, digits]) {
@@ -73,10 +82,13 @@ class Keys {
   }
 
   readTerm(event, [layer, label, base, source, counter, control, header, content], isForged) {
-    const key = this.key(base, event, label === 'network' ? 'network key' : '', isForged ? 'used from outside' : 'in a seal');
+    const kind = label === 'network' ? 'network key' : '';
+    const key = this.key(base, event, kind, isForged ? 'used from outside' : 'in a seal');
     if (!isForged) key.seals += 1;
     const name = [base, label, source].join(' ');
-    if (!this.series.has(name)) this.series.set(name, { layer, label, base, source, points: [], used: new Set(), again: [] });
+    if (!this.series.has(name)) {
+      this.series.set(name, { layer, label, base, source, points: [], used: new Set(), again: [] });
+    }
     const series = this.series.get(name);
     const nonce = `${counter} ${control}`;
     const isAgain = !isForged && series.used.has(nonce);
@@ -96,7 +108,8 @@ class Keys {
     for (const key of this.keys.values()) {
       if (key.digits === WELL_KNOWN) key.outside = 'everybody knows it';
       for (const [eui, event] of this.removed) {
-        if (!key.outside && this.wasHeldBy(key, eui)) key.outside = `${this.names.get(eui) || eui} held it, which was removed at ${event}`;
+        const name = this.names.get(eui) || eui;
+        if (!key.outside && this.wasHeldBy(key, eui)) key.outside = `${name} held it, which was removed at ${event}`;
       }
     }
     for (let isNew = true; isNew;) {
@@ -129,7 +142,8 @@ function makeKeyRow(key, filter) {
   link.addEventListener('click', (event) => { event.preventDefault(); filter(key.digits); });
   const carried = key.carriedBy.map((it) => `, in a frame under ${shortKey(it.base)} at ${it.event}`).join('');
   const first = key.event ? makeLink(`event ${key.event}`, `e${key.event}`) : 'the start';
-  return makeRow([link, key.kind, make('td', '', first, `: ${key.from}${carried}`), key.holders.map(describeHolder).join(', '),
+  return makeRow([link, key.kind, make('td', '', first, `: ${key.from}${carried}`),
+    key.holders.map(describeHolder).join(', '),
     String(key.seals), key.outside || 'nobody']);
 }
 
@@ -155,8 +169,10 @@ function makeSeries(series, nameOf, events) {
   const counters = series.points.map((it) => it.counter);
   const low = counters.reduce((a, b) => Math.min(a, b), Infinity);
   const high = counters.reduce((a, b) => Math.max(a, b), -Infinity);
-  const title = make('h3', '', `${series.layer} ${series.label} `, makeKey(series.base), ` by ${nameOf(series.source)}`);
-  const text = make('p', series.again.length ? 'bad' : 'quiet', `${counters.length} counter${counters.length === 1 ? `, ${low}` : `s, ${low} to ${high}`}`
+  const title = make('h3', '', `${series.layer} ${series.label} `, makeKey(series.base),
+    ` by ${nameOf(series.source)}`);
+  const text = make('p', series.again.length ? 'bad' : 'quiet',
+    `${counters.length} counter${counters.length === 1 ? `, ${low}` : `s, ${low} to ${high}`}`
     + (series.again.length ? `; a nonce comes again at ${series.again.join(', ')}` : ', no nonce twice'));
   const canvas = make('canvas', '');
   requestAnimationFrame(() => drawSeries(canvas, series.points, events));

@@ -1,10 +1,12 @@
-// The picture in the middle: a lane for each node, a row for each thing that happened. Only the rows around those that are seen
-// are elements of the page, so that any number of rows can be scrolled. The height of each row is known without drawing it.
+// The picture in the middle: a lane for each node, a row for each thing that happened. Only the rows around those that
+// are seen are elements of the page, so that any number of rows can be scrolled. The height of each row is known
+// without drawing it.
 //
-// A row: mark, note and outcome (the first column), target (its place in the address), boxes {lane, kind, lines}, whether they are side by
-// side (isFlat), and frames {from, label, tone, arrows: [{to, fate, tone, isLost}]}. Lanes are places among the heads.
+// A row: mark, note and outcome (the first column), target (its place in the address), boxes
+// {lane, kind, lines}, whether they are side by side (isFlat), and frames {from, label, tone, arrows: [{to, fate,
+// tone, isLost}]}. Lanes are places among the heads.
 
-const MANY = 12; // from so many lanes on, they are narrow, and the first column has the outcome of each row
+const MANY = 6; // with more lanes than these, they are narrow, and the first column has the outcome of each row
 const LINE = 15;
 const LABEL = 17;
 const ARROW = 16;
@@ -46,7 +48,10 @@ function heightOfRow(row, least) {
 }
 
 class Lanes {
-  /** count: of rows; rowAt(i): the row at a place; heads: [{name, more, title, act}]; choose(target): a row was clicked. */
+  /**
+   * count: of rows; rowAt(i): the row at a place; heads: [{name, more, title, act}]; choose(target): a row was
+   * clicked.
+   */
   constructor(choose) {
     this.choose = choose;
     this.scroller = place('scroller');
@@ -66,13 +71,14 @@ class Lanes {
     this.heads = heads;
     this.count = count;
     this.isMany = heads.length > MANY;
-    this.width = this.isMany ? 136 : heads.length > 6 ? 180 : 230;
-    this.margin = this.isMany ? 320 : 168;
+    this.width = heads.length > 12 ? 136 : this.isMany ? 170 : 230;
+    this.margin = this.isMany ? 310 : 168;
     document.documentElement.style.setProperty('--event', `${this.margin}px`);
     this.total = this.margin + heads.length * this.width + RIGHT_ROOM;
     this.rowAt = (i) => makeRowAt(i, this.width - 26);
     this.tops = new Float64Array(count + 1);
-    for (let i = 0; i < count; i += 1) this.tops[i + 1] = this.tops[i] + heightOfRow(this.rowAt(i), this.isMany ? 38 : 25);
+    const least = this.isMany ? 38 : 25;
+    for (let i = 0; i < count; i += 1) this.tops[i + 1] = this.tops[i] + heightOfRow(this.rowAt(i), least);
     this.first = this.last = -1;
     this.drawHeads();
     this.box.style.height = `${this.tops[count]}px`;
@@ -89,7 +95,8 @@ class Lanes {
   drawHeads() {
     const box = place('heads');
     box.style.width = `${this.total}px`;
-    box.replaceChildren(make('div', 'corner', data.kind === 'run' ? 'event' : 'packet'), ...this.heads.map((head, lane) => {
+    const corner = make('div', 'corner', data.kind === 'run' ? 'event' : 'packet');
+    box.replaceChildren(corner, ...this.heads.map((head, lane) => {
       const element = make('div', 'head', make('b', '', head.name), make('span', '', head.more));
       element.title = head.title;
       element.style.left = `${this.margin + lane * this.width}px`;
@@ -174,7 +181,8 @@ class Lanes {
 
   /** Returns the label of a frame, and below it an arrow for each receiver. */
   makeFrame(frame, top) {
-    const ends = [frame.from, ...frame.arrows.map((it) => it.to).filter((it) => it !== null)].map((lane) => this.middle(lane));
+    const targets = frame.arrows.map((it) => it.to).filter((it) => it !== null);
+    const ends = [frame.from, ...targets].map((lane) => this.middle(lane));
     const left = Math.min(...ends);
     const span = make('div', 'span', make('span', `label tone-${frame.tone}`, frame.label));
     span.firstChild.title = frame.label;
@@ -218,11 +226,11 @@ class Lanes {
   }
 
   showLane(row) {
-    const lanes = [...row.boxes.map((it) => it.lane), ...row.frames.flatMap((it) => [it.from, ...it.arrows.map((arrow) => arrow.to)])];
-    if (!lanes.length) return;
-    const [left, right] = [this.middle(lanes[0]) - this.margin - this.width / 2, this.middle(lanes[0]) + this.width / 2];
-    const seen = this.scroller.scrollLeft;
+    const [lane] = [...row.boxes.map((it) => it.lane), ...row.frames.map((it) => it.from)];
+    if (lane === undefined) return;
+    const [left, right] = [this.middle(lane) - this.margin - this.width / 2, this.middle(lane) + this.width / 2];
+    const [seen, room] = [this.scroller.scrollLeft, this.scroller.clientWidth];
     if (left < seen) this.scroller.scrollLeft = left;
-    else if (right > seen + this.scroller.clientWidth) this.scroller.scrollLeft = right - this.scroller.clientWidth + this.width;
+    else if (right > seen + room) this.scroller.scrollLeft = right - room + this.width;
   }
 }

@@ -3,12 +3,15 @@
 const started = performance.now();
 const TONES = 8;
 const frames = data.frames.map(([number, time, from, to, words, layers, sections], i) => ({
-  i, number, time, from, to, words: data.texts[words], sections, layers: layers.map(([kind, key, text]) => ({ kind, key, text: data.texts[text] })),
+  i, number, time, from, to, words: data.texts[words], sections,
+  layers: layers.map(([kind, key, text]) => ({ kind, key, text: data.texts[text] })),
 }));
 const keys = data.keys.map(([number, digits, frame, round, opened]) => ({ number, digits, frame, round, opened }));
 const places = new Map(frames.map((it) => [it.number, it.i]));
 const carriers = new Map(); // for each frame the keys that were found in it
-for (const key of keys.filter((it) => it.frame >= 0)) carriers.set(key.frame, [...(carriers.get(key.frame) || []), key]);
+for (const key of keys.filter((it) => it.frame >= 0)) {
+  carriers.set(key.frame, [...(carriers.get(key.frame) || []), key]);
+}
 const start = frames.length ? frames[0].time : null;
 let chosen = null;
 let shown = [];
@@ -43,9 +46,10 @@ function digitsOfFrame(frame) {
 
 function passes(frame) {
   const text = filters.text.value.trim().toLowerCase();
-  const all = () => `${frame.number} ${frame.words} ${frame.layers.map((it) => it.text).join(' ')} ${digitsOfFrame(frame)}`.toLowerCase();
+  const layers = frame.layers.map((it) => it.text);
+  const all = () => [frame.number, frame.words, ...layers, digitsOfFrame(frame)].join(' ').toLowerCase();
   return (filters.pan.value === '' || data.lanes[frame.from][0] === filters.pan.value)
-    && (filters.node.value === '' || frame.from === Number(filters.node.value) || frame.to === Number(filters.node.value))
+    && (filters.node.value === '' || [frame.from, frame.to].includes(Number(filters.node.value)))
     && (filters.kind.value === '' || KINDS[filters.kind.value](frame))
     && (filters.key.value === '' || frame.layers.some((it) => it.key === Number(filters.key.value)))
     && (text === '' || all().includes(text));
@@ -54,7 +58,8 @@ function passes(frame) {
 function headOf(lane) {
   const [pan, short, eui] = data.lanes[lane];
   const act = () => { filters.node.value = filters.node.value === String(lane) ? '' : String(lane); draw(); };
-  return { name: short, more: pan ? `PAN ${pan}` : eui, title: `${eui} Click to see only what has to do with it.`, act };
+  const title = `${eui} Click to see only what has to do with it.`;
+  return { name: short, more: pan ? `PAN ${pan}` : eui, title, act };
 }
 
 function noteOf(frame) {
@@ -65,10 +70,12 @@ function rowOfFrame(frame, lane) {
   const found = (carriers.get(frame.i) || []).map((it) => `gives key ${it.number}`).join(', ');
   const opened = frame.layers.filter((it) => it.key).map((it) => `${it.kind} key ${it.key}`).join(', ');
   const fate = [opened, causeOf(frame), found].filter(Boolean).join('; ');
-  const arrow = { to: frame.to >= 0 && frame.to !== frame.from ? lane.get(frame.to) : null, fate: frame.to === -2 ? 'to all' : '', tone: toneOf(frame), isLost: false };
+  const to = frame.to >= 0 && frame.to !== frame.from ? lane.get(frame.to) : null;
+  const arrow = { to, fate: frame.to === -2 ? 'to all' : '', tone: toneOf(frame), isLost: false };
+  const label = `${frame.words}${fate ? ` [${fate}]` : ''}`;
   return {
-    mark: String(frame.number), note: noteOf(frame), target: `p${frame.number}`, boxes: [], tone: toneOf(frame), outcome: `${frame.words} [${fate}]`,
-    frames: [{ from: lane.get(frame.from), label: `${frame.words}${fate ? ` [${fate}]` : ''}`, tone: toneOf(frame), arrows: [arrow] }],
+    mark: String(frame.number), note: noteOf(frame), target: `p${frame.number}`, boxes: [], tone: toneOf(frame),
+    outcome: label, frames: [{ from: lane.get(frame.from), label, tone: toneOf(frame), arrows: [arrow] }],
   };
 }
 
@@ -101,26 +108,36 @@ function makeLayer(layer) {
 function makePacket(frame) {
   const name = ([pan, short]) => `${short}${pan ? ` of PAN ${pan}` : ''}`;
   const to = frame.to === -2 ? 'all' : frame.to < 0 ? 'somebody' : name(data.lanes[frame.to]);
-  const found = (carriers.get(frame.i) || []).map((it) => make('li', '', `key ${it.number} `, makeKey(it.digits), `, in round ${it.round}`));
+  const found = (carriers.get(frame.i) || []).map((it) => (
+    make('li', '', `key ${it.number} `, makeKey(it.digits), `, in round ${it.round}`)));
+  const time = noteOf(frame) ? ` at ${noteOf(frame)}` : '';
   return [make('h2', '', `Packet ${frame.number}: ${frame.words}`),
-    make('p', 'quiet', `from ${name(data.lanes[frame.from])} to ${to}${noteOf(frame) ? ` at ${noteOf(frame)}` : ''}, frame ${frame.i + 1} of the report`),
-    make('ul', '', ...frame.layers.map(makeLayer)), ...(found.length ? [make('h3', '', 'Found in it'), make('ul', '', ...found)] : []),
+    make('p', 'quiet', `from ${name(data.lanes[frame.from])} to ${to}${time}, frame ${frame.i + 1} of the report`),
+    make('ul', '', ...frame.layers.map(makeLayer)),
+    ...(found.length ? [make('h3', '', 'Found in it'), make('ul', '', ...found)] : []),
     ...makeSections(frame.sections, () => '')];
 }
 
 function showPacket() {
   if (chosen !== null) return makePacket(frames[places.get(chosen)]);
   return [make('h2', '', 'How to read this page'),
-    make('p', '', 'Lanes are short addresses, rows are packets. The colour of an arrow is that of the key that opened the packet; a grey one stayed closed.'),
-    make('p', '', 'j and k go to the next and the previous packet, / to the field for text. #p28 in the address is packet 28.'),
-    ...(data.hasCapture ? [] : [make('p', 'quiet', 'The report alone shows no destinations and no packet numbers of the file. Make the page with --capture to see them.')])];
+    make('p', '', 'Lanes are short addresses, rows are packets. The colour of an arrow is that of the key that opened '
+      + 'the packet; a grey one stayed closed.'),
+    make('p', '', 'j and k go to the next and the previous packet, / to the field for text. '
+      + '#p28 in the address is packet 28.'),
+    ...(data.hasCapture ? [] : [make('p', 'quiet', 'The report alone shows no destinations and no packet numbers of '
+      + 'the file. Make the page with --capture to see them.')])];
 }
 
 /** Returns a key and below it the keys that came out of packets that it opened. */
 function makeTree(key) {
   const link = make('a', `tone-k${key.number % TONES}`, `key ${key.number} `, makeKey(key.digits));
   link.href = '#';
-  link.addEventListener('click', (event) => { event.preventDefault(); filters.key.value = String(key.number); draw(); });
+  link.addEventListener('click', (event) => {
+    event.preventDefault();
+    filters.key.value = String(key.number);
+    draw();
+  });
   const others = key.opened.slice(0, -1).map((it) => `, inside what key ${it} opened`).join('');
   const origin = key.frame < 0 ? [', given'] : [', came out of ', linkTo(key.frame), `${others}, round ${key.round}`];
   const below = keys.filter((it) => it.number !== key.number && parentOf(it) === key.number);
@@ -140,12 +157,14 @@ function showKeys() {
 }
 
 function showReport() {
-  return [make('h2', '', 'The report'), makeButton('save the report', () => saveFile(data.title, data.text)), make('pre', 'digits', data.text.slice(0, 200000))];
+  return [make('h2', '', 'The report'), makeButton('save the report', () => saveFile(data.title, data.text)),
+    make('pre', 'digits', data.text.slice(0, 200000))];
 }
 
 function fillBar() {
   const closed = frames.filter((it) => causeOf(it)).length;
-  place('about').append(make('h1', '', data.title), make('span', '', data.end), make('span', closed ? 'bad' : 'good', `${closed} packets stayed closed`),
+  place('about').append(make('h1', '', data.title), make('span', '', data.end),
+    make('span', closed ? 'bad' : 'good', `${closed} packets stayed closed`),
     make('span', 'digest', `sha256 ${data.digest}`));
 }
 
@@ -153,10 +172,13 @@ function makeFilters() {
   const pans = [...new Set(data.lanes.map(([pan]) => pan))].filter(Boolean);
   const filter = {};
   filter.pan = addChoice('PAN', [['', 'all'], ...pans.map((it) => [it, it])], draw);
-  filter.node = addChoice('node', [['', 'all'], ...data.lanes.map(([pan, short], i) => [String(i), `${pan} ${short}`])], draw);
-  filter.kind = addChoice('show', [['', 'everything'], ['open', 'open packets'], ['closed', 'closed packets'], ['keys', 'packets that give keys'],
+  const nodes = data.lanes.map(([pan, short], i) => [String(i), `${pan} ${short}`]);
+  const opened = keys.map((it) => [String(it.number), `key ${it.number} ${shortKey(it.digits)}`]);
+  filter.node = addChoice('node', [['', 'all'], ...nodes], draw);
+  filter.kind = addChoice('show', [['', 'everything'], ['open', 'open packets'], ['closed', 'closed packets'],
+    ['keys', 'packets that give keys'],
     ['commands', 'commands']], draw);
-  filter.key = addChoice('opened by', [['', 'all'], ...keys.map((it) => [String(it.number), `key ${it.number} ${shortKey(it.digits)}`])], draw);
+  filter.key = addChoice('opened by', [['', 'all'], ...opened], draw);
   filter.text = addField('text', 'word, address, digits (/)', 20, draw);
   const count = make('span', 'quiet');
   count.id = 'count';

@@ -10,12 +10,20 @@ const nameOfEui = (eui) => byEui.get(eui) || eui;
 const events = data.events.map(([number, node, boxes, frames, delivered, words, fold, refusal]) => ({
   number, node, boxes, frames, delivered, words: data.texts[words], fold, refusal: data.texts[refusal],
 }));
-const frames = data.frames.map(([number, event, sender, kind, words, counters, destination, unjudged, verdicts, sections]) => ({
-  number, event, sender, kind, words: data.texts[words], counters: data.texts[counters], destination, unjudged: data.texts[unjudged],
-  verdicts: verdicts.map(([at, node, text, isGood]) => ({ at, node, text: data.texts[text], isGood })), sections,
-}));
+const frames = data.frames.map(readFrame);
 const eventPlaces = new Map(events.map((it, i) => [it.number, i]));
 const groups = new Map(); // for each event its first line and the line after its last one
+
+/** Returns a frame of the data with its texts. */
+function readFrame([number, event, sender, kind, words, counters, destination, unjudged, verdicts, sections]) {
+  return {
+    number, event, sender, kind, destination, sections,
+    words: data.texts[words],
+    counters: data.texts[counters],
+    unjudged: data.texts[unjudged],
+    verdicts: verdicts.map(([at, node, text, isGood]) => ({ at, node, text: data.texts[text], isGood })),
+  };
+}
 
 /** Reads which lines are of which event. */
 function readGroups() {
@@ -72,7 +80,8 @@ const KINDS = {
 };
 
 function hasNode(event, node) {
-  return event.node === node || event.frames.some((it) => frames[it].sender === node || targetsOf(frames[it]).includes(node));
+  const isOf = (frame) => frame.sender === node || targetsOf(frame).includes(node);
+  return event.node === node || event.frames.some((it) => isOf(frames[it]));
 }
 
 function hasFrame(event, number) {
@@ -104,7 +113,8 @@ function foldRows(places) {
     if (isSame) last.events.push(i); else rows.push({ fold: events[i].fold, events: [i] });
   }
   return rows.flatMap((row) => {
-    const isOpen = row.events.length < 2 || unfolded.has(row.events[0]) || row.events.some((i) => events[i].number === chosen);
+    const hasChosen = row.events.some((i) => events[i].number === chosen);
+    const isOpen = row.events.length < 2 || unfolded.has(row.events[0]) || hasChosen;
     return isOpen ? row.events.map((i) => ({ events: [i], isFolded: false })) : [{ ...row, isFolded: true }];
   });
 }
@@ -124,10 +134,11 @@ function lanesOf(places) {
 }
 
 function headOf(node) {
-  if (node === OUTSIDE) return { name: 'outside', more: 'forged, injected', title: 'who isn\'t a node', act: () => {} };
+  if (node === OUTSIDE) return { name: 'outside', more: 'forged, injected', title: 'nobody\'s', act: () => {} };
   const [name, role, eui, short] = data.nodes[node];
   const act = () => { filters.node.value = filters.node.value === String(node) ? '' : String(node); draw(); };
-  return { name, more: `${role} ${short}`, title: `${name}: ${role} ${short}, ${eui}. Click to see only what has to do with it.`, act };
+  const title = `${name}: ${role} ${short}, ${eui}. Click to see only what has to do with it.`;
+  return { name, more: `${role} ${short}`, title, act };
 }
 
 /** Returns how many events of a folded row are of each node. */
@@ -148,7 +159,9 @@ function broke(text, width) {
 
 function foldedRow(row, lane, width) {
   const [first, last] = [events[row.events[0]].number, events[row.events[row.events.length - 1]].number];
-  const boxes = countNodes(row).map(([node, count]) => ({ lane: lane.get(node), kind: 'refusal', lines: broke(`${count} x ${data.texts[row.fold]}`, width) }));
+  const text = data.texts[row.fold];
+  const boxes = countNodes(row).map(([node, count]) => (
+    { lane: lane.get(node), kind: 'refusal', lines: broke(`${count} x ${text}`, width) }));
   return {
     mark: `${first}-${last}`, note: `${row.events.length} refusals`, target: `e${first}`, isFlat: true, tone: 'bad',
     outcome: `${row.events.length} x ${data.texts[row.fold]}`, boxes, frames: [],
@@ -159,13 +172,14 @@ function arrowsOf(frame, lane) {
   return targetsOf(frame).map((node) => {
     const mine = frame.verdicts.filter((it) => it.node === node);
     const tone = mine.some((it) => it.isGood) ? 'good' : mine.length ? 'bad' : 'lost';
-    return { to: lane.get(node), fate: mine.map((it) => it.text).join(', ') || frame.unjudged, tone, isLost: !mine.length };
+    const fate = mine.map((it) => it.text).join(', ') || frame.unjudged;
+    return { to: lane.get(node), fate, tone, isLost: !mine.length };
   });
 }
 
 function frameRow(frame, lane) {
   const arrows = arrowsOf(frame, lane);
-  const tone = arrows.some((it) => it.tone === 'good') ? 'good' : arrows.some((it) => it.tone === 'bad') ? 'bad' : 'lost';
+  const tone = ['good', 'bad'].find((name) => arrows.some((it) => it.tone === name)) || 'lost';
   const kind = { send: '', forge: 'forged: ', inject: 'injected: ' }[frame.kind];
   const label = `${frame.number} ${kind}${frame.words}` + (frame.counters ? ` (${frame.counters})` : '')
     + (arrows.length ? '' : ` ${frame.unjudged}`);
@@ -178,7 +192,8 @@ function eventRow(event, lane, width) {
     return { lane: lane.get(event.node), kind, lines: texts.flatMap((text) => broke(data.texts[text], width)) };
   });
   return {
-    mark: String(event.number), note: event.words, target: `e${event.number}`, boxes, outcome: outcomeOf(event), tone: toneOfOutcome(event),
+    mark: String(event.number), note: event.words, target: `e${event.number}`, boxes,
+    outcome: outcomeOf(event), tone: toneOfOutcome(event),
     frames: event.frames.map((it) => frameRow(frames[it], lane)),
   };
 }
@@ -230,11 +245,12 @@ function describeVerdict(verdict) {
 }
 
 function makeFrame(frame) {
-  const fate = frame.verdicts.length ? frame.verdicts.map((it) => make('li', '', describeVerdict(it))) : [make('li', '', frame.unjudged)];
+  const fates = frame.verdicts.length ? frame.verdicts.map(describeVerdict) : [frame.unjudged];
   const sender = frame.sender < 0 ? 'outside' : nodeNames[frame.sender];
   const nameOf = (digits) => (digits.length === 16 ? byEui.get(digits) : byShort.get(digits)) || '';
   return [make('h2', '', `Frame ${frame.number}: ${frame.words}`),
-    make('p', '', `sent by ${sender} at `, makeLink(`event ${frame.event}`, `e${frame.event}`)), make('ul', '', ...fate),
+    make('p', '', `sent by ${sender} at `, makeLink(`event ${frame.event}`, `e${frame.event}`)),
+    make('ul', '', ...fates.map((it) => make('li', '', it))),
     ...makeSections(frame.sections, nameOf)];
 }
 
@@ -244,43 +260,61 @@ function makeEvent(event) {
   if (event.refusal) elements.push(make('p', 'bad', `Refused as ${event.refusal}`));
   elements.push(make('h3', '', 'Its lines'), make('pre', 'digits', linesOf(event.number).join('\n') || 'none'));
   if (event.delivered >= 0) elements.push(make('h3', '', 'It delivers'), ...makeFrame(frames[event.delivered]));
-  if (event.frames.length) elements.push(make('h3', '', 'It sends'), ...event.frames.flatMap((it) => makeFrame(frames[it])));
+  const sent = event.frames.flatMap((it) => makeFrame(frames[it]));
+  if (sent.length) elements.push(make('h3', '', 'It sends'), ...sent);
   return elements;
 }
 
 function makeHint() {
   return [make('h2', '', 'How to read this page'),
-    make('p', '', 'Lanes are nodes, rows are events. Click a row to see its lines and frames, and what each node holds after it.'),
-    make('ul', '', make('li', 'tone-good', 'green: a frame that somebody accepted'), make('li', 'tone-bad', 'red: a refusal'),
+    make('p', '', 'Lanes are nodes, rows are events. Click a row to see its lines and frames, and what each '
+      + 'node holds after it.'),
+    make('ul', '', make('li', 'tone-good', 'green: a frame that somebody accepted'),
+      make('li', 'tone-bad', 'red: a refusal'),
       make('li', 'tone-lost', 'grey and dashed: a frame that nobody got'),
       make('li', '', 'yellow boxes: changes of keys; blue boxes: boots')),
-    make('p', '', 'j and k go to the next and the previous row, / to the field for text. #e12 in the address is event 12.'),
-    ...(data.hasSchedule ? [] : [make('p', 'quiet', 'Without the schedule that was played, the page doesn\'t show of which frame a refusal at NWK is. '
+    make('p', '', 'j and k go to the next and the previous row, / to the field for text. '
+      + '#e12 in the address is event 12.'),
+    ...(data.hasSchedule ? [] : [make('p', 'quiet', 'Without the schedule that was played, the page doesn\'t show of '
+      + 'which frame a refusal at NWK is. '
       + 'Make the page with --schedule to see it.')])];
 }
 
-function makeNodeState(node, i, after, before, isOpen) {
+function makeNodeState(i, after, before, isOpen) {
   const [rows, old] = [describeNode(after, nameOfEui), before ? describeNode(before, nameOfEui) : []];
   const [name, role, eui, short] = data.nodes[i];
-  const summary = make('summary', '', `${name} `, make('span', 'quiet', `${role} ${short} ${eui}${isChanged(rows, old) ? ', changed' : ''}`));
+  const words = `${role} ${short} ${eui}${isChanged(rows, old) ? ', changed' : ''}`;
+  const summary = make('summary', '', `${name} `, make('span', 'quiet', words));
   const details = make('details', '', summary);
   details.open = isOpen || isChanged(rows, old);
-  const fill = () => { if (details.open && details.children.length === 1) details.append(...makeStateTables(rows, old)); };
+  const fill = () => {
+    if (details.open && details.children.length === 1) details.append(...makeStateTables(rows, old));
+  };
   details.addEventListener('toggle', fill);
   fill();
   return details;
 }
 
+/** Returns the lines of an event as places; of one without lines, the place after those of the events before it. */
+function groupOf(number) {
+  if (groups.has(number)) return groups.get(number);
+  const earlier = events.slice(0, eventPlaces.get(number)).reverse().find((it) => groups.has(it.number));
+  const { after } = groups.get(earlier ? earlier.number : 0) || { after: 0 };
+  return { first: after, after };
+}
+
 /** Returns what each node holds after the chosen event, or at the start. */
 function makeStates() {
-  const group = groups.get(chosen === null ? 0 : chosen) || { first: 0, after: 0 };
+  const group = groupOf(chosen === null ? 0 : chosen);
   const before = structuredClone(states.after(chosen === null ? group.after : group.first));
   const after = states.after(group.after);
-  const event = events[eventPlaces.get(chosen)];
-  const elements = data.nodes.filter(([name]) => after.has(name)).map(([name], i) => (
-    makeNodeState(name, i, after.get(name), before.get(name), data.nodes.length < 4 || (event && event.node === i))));
+  const { node } = events[eventPlaces.get(chosen)] || { node: -1 };
+  const isFew = data.nodes.length < 4;
+  const elements = data.nodes.flatMap(([name], i) => (
+    after.has(name) ? [makeNodeState(i, after.get(name), before.get(name), isFew || i === node)] : []));
   const title = chosen === null ? 'At the start' : `After event ${chosen}`;
-  return [make('h2', '', title), make('p', 'quiet', 'Marked cells are what this event changed. Struck rows are dropped.'), ...elements];
+  const hint = 'Marked cells are what this event changed. Struck rows are dropped.';
+  return [make('h2', '', title), make('p', 'quiet', hint), ...elements];
 }
 
 function filterKey(digits) {
@@ -290,15 +324,19 @@ function filterKey(digits) {
 
 function makeKeys() {
   const rows = [...allKeys().keys.values()].map((key) => makeKeyRow(key, filterKey));
-  return [make('h2', '', 'Keys'), make('p', 'quiet', 'Click a key to see only the events that have to do with it. Outside are removed devices, '
-    + 'what they held, and what these keys open.'), makeTable(['key', 'kind', 'first seen', 'held by, from-to', 'seals', 'known outside'], rows)];
+  return [make('h2', '', 'Keys'), make('p', 'quiet',
+    'Click a key to see only the events that have to do with it. Outside are removed devices, '
+    + 'what they held, and what these keys open.'), makeTable(['key', 'kind', 'first seen', 'held by, from-to',
+      'seals', 'known outside'], rows)];
 }
 
 function makeCounters() {
   const series = [...allKeys().series.values()].sort((a, b) => b.again.length - a.again.length);
-  return [make('h2', '', 'Counters'), make('p', 'quiet', 'A dot is a seal: its event from left to right, its counter from bottom to top. '
+  return [make('h2', '', 'Counters'), make('p', 'quiet',
+    'A dot is a seal: its event from left to right, its counter from bottom to top. '
     + 'Forged ones are yellow. A nonce that comes again would be red.'),
-    ...series.slice(0, 150).flatMap((it) => makeSeries(it, nameOfEui, events.length ? events[events.length - 1].number : 1)),
+    ...series.slice(0, 150).flatMap((it) => makeSeries(it, nameOfEui, events.length ? events[events.length - 1].number
+      : 1)),
     ...(series.length > 150 ? [make('p', 'quiet', `${series.length - 150} more are not drawn`)] : [])];
 }
 
@@ -312,18 +350,22 @@ function showEvent() {
 function fillBar() {
   const [words, isGood, meaning, line] = data.verdict;
   const number = line ? Number((lines[line - 1] || '0').split(' ')[0]) || 0 : 0;
-  const verdict = make('span', isGood === null ? 'quiet' : isGood ? 'good' : 'bad', isGood === null ? '' : `tc audit: ${words}: `, meaning);
-  place('about').append(make('h1', '', data.title), make('span', '', data.end), verdict, ...(number ? [makeLink(`event ${number}`, `e${number}`)] : []),
-    make('span', 'digest', `sha256 ${data.digest}`), makeButton('save the transcript', () => saveFile(data.title, data.text)));
+  const verdict = make('span', isGood === null ? 'quiet' : isGood ? 'good' : 'bad', isGood === null ? ''
+    : `tc audit: ${words}: `, meaning);
+  place('about').append(make('h1', '', data.title), make('span', '', data.end), verdict, ...(number
+    ? [makeLink(`event ${number}`, `e${number}`)] : []),
+    make('span', 'digest', `sha256 ${data.digest}`), makeButton('save the transcript', () =>
+      saveFile(data.title, data.text)));
 }
 
 function makeFilters() {
   const filter = {};
   filter.node = addChoice('node', [['', 'all'], ...nodeNames.map((name, i) => [String(i), name])], draw);
-  filter.kind = addChoice('show', [['', 'everything'], ['keys', 'changes of keys'], ['refusal', 'refusals'], ['frames', 'frames'],
+  filter.kind = addChoice('show', [['', 'everything'], ['keys', 'changes of keys'], ['refusal', 'refusals'],
+    ['frames', 'frames'],
     ['lost', 'lost frames'], ['power', 'stops and boots'], ['outside', 'forged and injected']], draw);
   filter.frame = addField('frame', 'number', 6, draw);
-  const found = [...new Set([...data.text.matchAll(/\b[0-9A-F]{32}\b/g)].map(([it]) => it))].filter(isKey);
+  const found = [...allKeys().keys.keys()];
   filter.key = addChoice('key', [['', 'all'], ...found.map((it) => [it, shortKey(it)])], draw);
   filter.text = addField('text', 'word, address, digits (/)', 20, draw);
   filter.fold = addTick('fold equal refusals', true, () => { unfolded = new Set(); draw(); });
@@ -332,17 +374,15 @@ function makeFilters() {
   return filter;
 }
 
-/** Says whether 32 digits are a key that the run knows, and not a record or a content. */
-function isKey(digits) {
-  return allKeys().keys.has(digits);
-}
-
 function clearFilters() {
   for (const it of ['node', 'kind', 'frame', 'key', 'text']) filters[it].value = '';
   draw();
 }
 
-/** Shows what the address names: an event, a tab, or both, as in #e12-state. Filters that hide the event are cleared. */
+/**
+ * Shows what the address names: an event, a tab, or both, as in #e12-state. Filters that hide the event are
+ * cleared.
+ */
 function readAddress() {
   const found = /^#(?:e(\d+))?-?([a-z]*)$/.exec(location.hash) || [];
   const number = Number(found[1]);
@@ -382,7 +422,9 @@ function chooseTab(name) {
 function step(count) {
   const i = rowOf(chosen);
   const next = i < 0 ? 0 : Math.min(shown.length - 1, Math.max(0, i + count));
-  if (shown[next]) location.replace(`#${addressOf(events[shown[next].events[0]].number, tabs.name === 'State' ? 'State' : 'Event')}`);
+  if (!shown[next]) return;
+  const { number } = events[shown[next].events[0]];
+  location.replace(`#${addressOf(number, tabs.name === 'State' ? 'State' : 'Event')}`);
 }
 
 const tabs = new Tabs({ Event: showEvent, State: makeStates, Keys: makeKeys, Counters: makeCounters }, chooseTab);

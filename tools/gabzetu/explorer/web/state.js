@@ -1,4 +1,5 @@
-// What each node holds after some lines of a transcript: a fold over the lines, as docs/POLICY.md ("What a node keeps") says it.
+// What each node holds after some lines of a transcript: a fold over the lines, as docs/POLICY.md ("What a node
+// keeps") says it.
 
 const GREATEST = 4294967295;
 const CHECKPOINT = 4000; // lines from one kept state to the next
@@ -33,7 +34,8 @@ function setTold(node, partner, isTold) {
 /** A network key that a node holds from the start is active, and a router or device that has one is joined. */
 function giveNet(node, key, sequence) {
   if (!node.nets.some((it) => it.key === key)) {
-    node.nets.push({ key, sequence, isLive: true, isStarted: true, limit: node.declared, next: node.declared, floors: [] });
+    node.nets.push({ key, sequence, isLive: true, isStarted: true, limit: node.declared, next: node.declared,
+      floors: [] });
   }
   node.active = key;
   node.state = node.role === 'centre' ? 'fresh' : 'joined';
@@ -56,7 +58,8 @@ function reserve(node, layer, value) {
   const limit = Math.min(value, GREATEST);
   if (layer === 'aps') node.apsLimit = Math.max(node.apsLimit, limit);
   for (const row of node.nets) {
-    if (layer === 'nwk' && row.key === node.active) Object.assign(row, { isStarted: true, limit: Math.max(row.limit, limit) });
+    if (layer === 'nwk' && row.key === node.active) Object.assign(row, { isStarted: true,
+      limit: Math.max(row.limit, limit) });
   }
 }
 
@@ -209,14 +212,18 @@ class States {
 /** Returns the rows of the tables of a node: each {table, name, cells}. */
 function describeNode(node, nameOf) {
   const rows = [{ table: 'node', name: 'state', cells: describeHead(node) }];
-  for (const it of node.nets) rows.push({ table: 'nets', name: it.key, isGone: !it.isLive, cells: describeNet(node, it) });
+  for (const it of node.nets) rows.push({ table: 'nets', name: it.key, isGone: !it.isLive, cells: describeNet(node,
+    it) });
   for (const it of node.nets.filter((row) => row.isLive)) {
     for (const floor of it.floors) {
-      rows.push({ table: 'floors', name: `${it.key} ${floor.sender}`, cells: [shortKey(it.key), nameOf(floor.sender), floor.kept, floor.stored] });
+      rows.push({ table: 'floors', name: `${it.key} ${floor.sender}`, cells: [shortKey(it.key), nameOf(floor.sender),
+        floor.kept, floor.stored] });
     }
   }
-  for (const it of node.links) rows.push({ table: 'links', name: `${it.partner} ${it.key}`, isGone: !it.isLive, cells: describeLink(it, nameOf) });
-  for (const it of node.pairs) rows.push({ table: 'pairs', name: it.key, cells: [nameOf(it.first), nameOf(it.second), shortKey(it.key)] });
+  for (const it of node.links) rows.push({ table: 'links', name: `${it.partner} ${it.key}`, isGone: !it.isLive,
+    cells: describeLink(it, nameOf) });
+  for (const it of node.pairs) rows.push({ table: 'pairs', name: it.key, cells: [nameOf(it.first), nameOf(it.second),
+    shortKey(it.key)] });
   return rows;
 }
 
@@ -226,7 +233,8 @@ function describeHead(node) {
 }
 
 function describeNet(node, row) {
-  const words = [row.isLive ? 'live' : 'dropped', row.key === node.active && 'active', !row.isStarted && 'not started'];
+  const words = [row.isLive ? 'live' : 'dropped', row.key === node.active && 'active', !row.isStarted
+    && 'not started'];
   return [shortKey(row.key), row.sequence, words.filter(Boolean).join(', '), row.next, row.limit];
 }
 
@@ -245,7 +253,8 @@ const STATE_TABLES = [
 
 /** Returns a row of a table; cells that differ from those before the event are marked. */
 function makeStateRow(row, before) {
-  const cells = row.cells.map((text, i) => make('td', !before || String(before.cells[i]) !== String(text) ? 'changed' : '', text));
+  const cells = row.cells.map((text, i) => make('td', !before || String(before.cells[i]) !== String(text) ? 'changed'
+    : '', text));
   return makeRow(cells, row.isGone ? 'gone' : '');
 }
 

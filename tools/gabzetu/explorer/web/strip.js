@@ -4,6 +4,7 @@ class Strip {
   /** tones: for each row the name of a colour, or none; go(i): the user clicked at a row. */
   constructor(go) {
     this.canvas = place('strip');
+    this.ticks = document.createElement('canvas');
     this.tones = [];
     this.first = this.last = 0;
     const act = (event) => go(Math.floor((event.offsetX / this.canvas.clientWidth) * this.tones.length));
@@ -24,27 +25,29 @@ class Strip {
     this.drawSeen();
   }
 
-  /** Draws the ticks, and keeps them, so that scrolling draws no more than the frame of the part that is seen. */
+  /**
+   * Draws the ticks on a canvas that is kept, so that scrolling draws no more than the frame of the part that is
+   * seen.
+   */
   draw() {
-    const context = clearCanvas(this.canvas);
     const [width, height] = [this.canvas.clientWidth, this.canvas.clientHeight];
+    const context = clearCanvas(this.ticks, width, height);
     const columns = Math.max(1, Math.min(width, this.tones.length));
     const edges = Array.from({ length: columns + 1 }, (_, i) => Math.round((i * this.tones.length) / columns));
     for (let i = 0; i < columns; i += 1) {
       drawTick(context, this.tones.slice(edges[i], edges[i + 1]), (i * width) / columns, width / columns, height);
     }
-    this.ticks = context.getImageData(0, 0, this.canvas.width, this.canvas.height);
     this.drawSeen();
   }
 
   drawSeen() {
-    if (!this.ticks || !this.tones.length) return;
-    const context = this.canvas.getContext('2d');
-    const step = this.canvas.clientWidth / this.tones.length;
-    context.putImageData(this.ticks, 0, 0);
+    const context = clearCanvas(this.canvas);
+    const [width, height] = [this.canvas.clientWidth, this.canvas.clientHeight];
+    const step = width / Math.max(1, this.tones.length);
+    context.drawImage(this.ticks, 0, 0, width, height);
     context.strokeStyle = colour('link');
     context.lineWidth = 2;
-    context.strokeRect(this.first * step + 1, 1, Math.max(4, (this.last + 1 - this.first) * step - 2), this.canvas.clientHeight - 2);
+    context.strokeRect(this.first * step + 1, 1, Math.max(4, (this.last + 1 - this.first) * step - 2), height - 2);
   }
 }
 
