@@ -1,6 +1,5 @@
 -- All claims of the audit, of a run.
 use Rattle.std.proofs.Common.{◌≡◌, ℕ, List, [], Option, Some, None, refl, ap, ◌∙◌}
-use Rattle.std.specs.Prelude.{unwrap_or}
 use Rattle.zb_audit.specs.Confirming.{is_confirmable}
 use Rattle.zb_audit.specs.Ending.{ill_ended}
 use Rattle.zb_audit.specs.Failing.{failing, head}
@@ -17,11 +16,9 @@ use Rattle.law_audit_names.proofs.Run.{run_read_same}
 use Rattle.zb_model.specs.Transcript.{transcript}
 use Rattle.law_run.proofs.Basics.{append-nil'}
 use Rattle.law_run.specs.Commanding.{ShowsKeys}
-use Rattle.law_run.specs.Opening.{Opens, shown_source}
 use Rattle.zb_model_real.specs.Real.{real}
-use Rattle.zb_model_real.proofs.Showing.{aps-opens, nwk-opens}
 use Rattle.law_real_nodes.proofs.Euis.{different}
-use Rattle.law_real_nodes.proofs.Opening.{opens_as_judged}
+use Rattle.law_real_nodes.proofs.Opening.{opens_as_judged, opens_real}
 use Rattle.law_schedules.specs.Schedules.{schedule_of}
 use Rattle.law_schedules.proofs.Holding.{premises}
 use Rattle.zb_audit_counters.specs.Counting.{first_of, first_uncounted, uncounted}
@@ -31,18 +28,6 @@ use Rattle.law_audit_sound.specs.Sound.{IsSound, lines_of}
 use Rattle.law_audit_sound.proofs.Named.{are_named}
 use Rattle.law_audit_sound.proofs.Verdicts.{answered}
 use Rattle.zb_trace.specs.declared.line.Line.{Line}
-
--- ---- real frames
-
-given_or : (given : ℕ) (o : Option ℕ) → unwrap_or o given ≡ shown_source given o
-given_or given None = refl
-given_or given (Some source) = refl
-
-opens_real : Opens real
-opens_real = record {
-  nwk = nwk-opens;
-  aps = λ bytes key given f aux t a b c. let o = aps-opens bytes key given f aux t a b c in (o.0, o.1, o.2 ∙ given_or given aux.source, o.3);
-}
 
 -- ---- the first bad line
 

@@ -55,16 +55,6 @@ row_written rows new partner key number centre is none updates p k =
     by true false e f = refl
     by false b e f = cc
 
-    stays : (o : Option ℕ) → (true && not (is_some o)) ≡ false → o ≡ option_or o (Some number)
-    stays None e = cc
-    stays (Some n) e = refl
-
-    by : (c b : Bool) → is_row p k partner.0 key.0 ≡ b → (c && not (is_some (get row_cmp rows (record { partner = partner; key = key })))) ≡ false
-        → get row_cmp rows q ≡ (if c && b then option_or (get row_cmp rows q) (Some number) else get row_cmp rows q)
-    by true true e f = stays (get row_cmp rows q) (ap (λ (r : LinkRow). true && not (is_some (get row_cmp rows r))) (sym (same_row partner key p k e)) ∙ f)
-    by true false e f = refl
-    by false b e f = refl
-
 pub row_dropped : (rows new : BTreeMap LinkRow ℕ) (partner : Eui) (key : Key) (centre : Bool) → centre ≡ true
     → ((q : LinkRow) → get row_cmp new q ≡ cond (is_at (row_cmp (record { partner = partner; key = key })) q) None (get row_cmp rows q))
     → (p : ℕ) (k : Bytes) → get row_cmp new (record { partner = record { 0 = p }; key = record { 0 = k } })
