@@ -1,5 +1,5 @@
 -- A text gives tables exactly where it is their backup.
-use Rattle.std.proofs.Common.{◌≡◌, ℕ, List, [], ◌∷◌, map, Bool, true, false, cond, Option, Some, None, refl, ap, subst, ◌∙◌}
+use Rattle.std.proofs.Common.{◌≡◌, ℕ, List, [], ◌∷◌, map, Bool, true, false, cond, Option, Some, None, refl, ap, subst}
 use Rattle.std.proofs.lemmas.Bool.{and_from, and_parts, false≢true}
 use Rattle.std.proofs.lemmas.Str.{IsUtf8-from_is_utf8, is_utf8-from_IsUtf8}
 use Rattle.std.specs.Prelude.{◌||◌, option_and_then, option_map}
@@ -11,6 +11,7 @@ use Rattle.zb_model.specs.Data.{Role, Centre, Router, Device}
 use Rattle.zb_model.specs.State.{SenderFloor, NetKey, LinkKey, NodeState, after_boot, booted_floor, booted_link, booted_net, is_centre, shown, shown_net}
 use Rattle.zb_model.specs.Fits.{keeps_rules}
 use Rattle.zb_backup.specs.Format.{backup_of}
+use Rattle.zb_backup.specs.Raised.{raised}
 use Rattle.zb_backup.specs.Told.{state_told}
 use Rattle.zb_backup.specs.Reading.{IsBackup, IsOfCentre, backup_in, forgets, has_none, has_widths, is_told_whole, net_forgets, same_value, tables_in, unless_other}
 use Rattle.zb_backup.proofs.Again.{state_again}
@@ -81,7 +82,7 @@ value_complete s centre =
 
 pub text_complete : (text : List ℕ) (s : NodeState) → IsBackup text s → backup_in text ≡ Some s
 unfolding backup_in
-text_complete text s backup = rw (is_utf8-from_IsUtf8 text backup.utf8, backup.reads) (value_complete s backup.kept)
+text_complete text s backup = rw (is_utf8-from_IsUtf8 text backup.utf8, backup.reads, backup.same) (value_complete s backup.kept)
 
 centre_is : (role : Role) → is_centre role ≡ true → role ≡ Centre
 centre_is Centre h = refl
@@ -120,12 +121,12 @@ pub value_sound : (d : Data) (s : NodeState) → tables_in d ≡ Some s → IsVa
 unfolding tables_in
 value_sound d s e = by_told d s (state_told d) e
 
-by_read : (text : List ℕ) (s : NodeState) (found : Option Data) → is_utf8 text ≡ true → read text ≡ found → option_and_then tables_in found ≡ Some s → IsBackup text s
+by_read : (text : List ℕ) (s : NodeState) (found : Option Data) → is_utf8 text ≡ true → read text ≡ found → option_and_then (λ d. tables_in (raised d)) found ≡ Some s → IsBackup text s
 by_read text s None utf8 is e = cc
 by_read text s (Some d) utf8 is e =
-    let value = value_sound d s e in record { utf8 = IsUtf8-from_is_utf8 text utf8; reads = is ∙ ap Some value.same; kept = value.kept }
+    let whole = value_sound (raised d) s e in record { utf8 = IsUtf8-from_is_utf8 text utf8; value = d; reads = is; same = whole.same; kept = whole.kept }
 
-by_utf8 : (text : List ℕ) (s : NodeState) (b : Bool) → is_utf8 text ≡ b → cond b (option_and_then tables_in (read text)) None ≡ Some s → IsBackup text s
+by_utf8 : (text : List ℕ) (s : NodeState) (b : Bool) → is_utf8 text ≡ b → cond b (option_and_then (λ d. tables_in (raised d)) (read text)) None ≡ Some s → IsBackup text s
 by_utf8 text s true is e = by_read text s (read text) is refl e
 by_utf8 text s false is e = cc
 

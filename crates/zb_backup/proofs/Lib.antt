@@ -2,6 +2,7 @@ pub mod Widths
 pub mod Same
 pub mod Shape
 pub mod Again
+pub mod Raised
 pub mod Both
 pub mod Booted
 pub mod Places

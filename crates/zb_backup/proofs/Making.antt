@@ -27,6 +27,7 @@ use Rattle.zb_record.specs.declared.net_row.NetRow.{NetRow}
 use Rattle.zb_record.specs.declared.pair_row.Pair.{Pair}
 use Rattle.zb_record.proofs.WholeAgain.{record_again}
 use Rattle.zb_backup.specs.Format.{backup_of}
+use Rattle.zb_backup.specs.Raised.{raised}
 use Rattle.zb_backup.specs.Told.{state_told}
 use Rattle.zb_backup.specs.Reading.{IsOfCentre, ReadsBackup, backup_in, has_widths, is_told_whole, tables_in}
 use Rattle.zb_backup.specs.Steps.{IsMade, IsOfRecord, IsRefusal, Tells, has_room, told_state}
@@ -144,16 +145,16 @@ texts_from_same own text written first second differ = false≢true (sym differ 
 
 -- ---- the whole text
 
-pub value_read : (answer : Result NodeState BackupError) (text : List ℕ) (d : Data) → IsUtf8 text → read text ≡ Some d → ReadsBackup answer (tables_in d) → ReadsBackup answer (backup_in text)
+pub value_read : (answer : Result NodeState BackupError) (text : List ℕ) (d : Data) → IsUtf8 text → read text ≡ Some d → ReadsBackup answer (tables_in (raised d)) → ReadsBackup answer (backup_in text)
 unfolding backup_in
 value_read answer text d utf8 is found =
-    let same : backup_in text ≡ tables_in d = rw (is_utf8-from_IsUtf8 text utf8, is) refl in subst (ReadsBackup answer) (sym same) found
+    let same : backup_in text ≡ tables_in (raised d) = rw (is_utf8-from_IsUtf8 text utf8, is) refl in subst (ReadsBackup answer) (sym same) found
 
 none_read : (text : List ℕ) → (IsUtf8 text → read text ≡ None) → backup_in text ≡ None
 unfolding backup_in
 none_read text none = by_utf8 (is_utf8 text) refl
   where
-    by_utf8 : (b : Bool) → is_utf8 text ≡ b → cond b (option_and_then tables_in (read text)) None ≡ None
+    by_utf8 : (b : Bool) → is_utf8 text ≡ b → cond b (option_and_then (λ d. tables_in (raised d)) (read text)) None ≡ None
     by_utf8 true is = rw (none (IsUtf8-from_is_utf8 text is)) refl
     by_utf8 false is = refl
 

@@ -1,4 +1,5 @@
 pub mod Format
 pub mod Told
+pub mod Raised
 pub mod Reading
 pub mod Steps

@@ -8,6 +8,7 @@ use Rattle.zb_model.specs.Data.{Bytes, Centre}
 use Rattle.zb_model.specs.Fits.{keeps_rules, same_bool}
 use Rattle.zb_model.specs.State.{SenderFloor, NetKey, LinkKey, PairKey, NodeState, after_boot, is_centre, shown}
 use Rattle.zb_backup.specs.Format.{backup_of}
+use Rattle.zb_backup.specs.Raised.{raised}
 use Rattle.zb_backup.specs.Told.{state_told}
 use Rattle.zb_backup.specs.declared.error.BackupError.{BackupError}
 use Rattle.zb_backup.specs.declared.error.BackupError.TheVariants.{Form, NoMemory}
@@ -53,11 +54,13 @@ pub record IsOfCentre (s : NodeState) : Type 0 where
 
 -- ---- a text and its tables
 
--- A text in UTF-8 that reads as the backup object of these tables. Of a member that stands twice the last one counts;
--- the order of members and white space are free.
+-- A text in UTF-8 that reads as a value, which is the backup object of these tables once its hexadecimal digits are in
+-- upper case. Of a member that stands twice the last one counts; the order of members and white space are free.
 pub record IsBackup (text : List ℕ) (s : NodeState) : Type 0 where
   pub utf8 : IsUtf8 text
-  pub reads : read text ≡ Some (backup_of s)
+  pub value : Data
+  pub reads : read text ≡ Some value
+  pub same : raised value ≡ backup_of s
   pub kept : IsOfCentre s
 
 -- ---- the same as a function of the text
@@ -109,9 +112,9 @@ unless_other d (Some s) = if is_told_whole d s then Some s else None
 unfoldable pub tables_in : Data → Option NodeState
 tables_in d = unless_other d (option_map after_boot (state_told d))
 
--- The tables of a backup, and None of a text that is none.
+-- The tables of a backup, whose hexadecimal digits may have either case, and None of a text that is none.
 unfoldable pub backup_in : List ℕ → Option NodeState
-backup_in text = if is_utf8 text then option_and_then tables_in (read text) else None
+backup_in text = if is_utf8 text then option_and_then (λ d. tables_in (raised d)) (read text) else None
 
 -- what a call answers that reads a backup
 abbrev pub ReadsBackup : Result NodeState BackupError → Option NodeState → Type 0

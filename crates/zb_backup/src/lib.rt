@@ -2,9 +2,11 @@
 //! gives again.
 //!
 //! `write_backup` writes it in one compact line. `read_backup` takes exactly the texts that are backups; the order of
-//! members and white space are free there, and of a member that stands twice the last one counts.
+//! members, white space and the case of hexadecimal digits are free there, and of a member that stands twice the last
+//! one counts.
 #![tactic(auto)]
 
+mod digits;
 mod error;
 mod hold;
 mod laws;

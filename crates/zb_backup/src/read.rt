@@ -9,10 +9,12 @@ ghost use Rattle.zb_record.specs.Records.{record_read};
 ghost use Rattle.zb_record.specs.RowViews.{net_key};
 ghost use Rattle.zb_base.specs.Sizes.{record_room};
 ghost use Rattle.zb_backup.specs.Format.{backup_of};
+ghost use Rattle.zb_backup.specs.Raised.{raised};
 ghost use Rattle.zb_backup.specs.Reading.{backup_in, has_widths, tables_in, ReadsBackup};
 ghost use Rattle.zb_backup.specs.Steps.{has_room, told_state, IsMade, IsOfRecord, IsRefusal};
 ghost use Rattle.zb_backup.specs.declared.error.BackupError.TheVariants.{NoMemory as lacks};
 
+use crate::digits::raised;
 use crate::error::BackupError;
 use crate::told_rows::{Parts, told};
 use crate::write::backup_value;
@@ -121,6 +123,15 @@ fn tables_in(alloc: Global, value: &Value) -> Result<Tables, BackupError>
     }
 }
 
+/// Makes tables of a value, whose hexadecimal digits may have either case.
+fn tables_raised(alloc: Global, value: &Value) -> Result<Tables, BackupError>
+    requires { depth (view value.now) ≤ max_depth }
+    ensures { ReadsBackup result (tables_in (raised (view value.now))) }
+{
+    let upper = raised(alloc, value)?;
+    tables_in(alloc, &upper)
+}
+
 /// Returns why a text is no value.
 fn refusal(error: Error) -> BackupError
     ensures { IsRefusal result error }
@@ -133,7 +144,8 @@ fn refusal(error: Error) -> BackupError
 
 /// Reads a backup as the tables that it tells, as they are after a boot.
 ///
-/// The order of members and white space are free, and of a member that stands twice the last one counts.
+/// The order of members and white space are free, and of a member that stands twice the last one counts. The
+/// hexadecimal digits of keys and EUIs may have either case.
 ///
 /// # Errors
 /// `Form` where the text is no backup: no JSON, a member missing or too many, a value of another form, or rows
@@ -143,7 +155,7 @@ pub fn read_backup(alloc: Global, text: &[u8]) -> Result<Tables, BackupError>
     ensures { ReadsBackup result (backup_in text.now) }
 {
     match Value::from_slice(alloc, text) {
-        Ok(value) => tables_in(alloc, &value),
+        Ok(value) => tables_raised(alloc, &value),
         Err(error) => Err(refusal(error)),
     }
 }
