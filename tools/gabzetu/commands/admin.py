@@ -15,11 +15,12 @@ SUMMARY = "carry out a script on a centre's store in a file"
 DESCRIPTION = """Carries out the commands of a script on the store in the file STORE (docs/ADMIN.md).
 
 Each line comes out when what its command changed is stored. So OUT is written line by line, and keeps what came out
-also where a later command fails. A new STORE and OUT hold keys: only their owner may read them. Let one `admin` at a
-time use a store: two at once use the same frame counters."""
+also where a later command fails. A new STORE and OUT hold keys: only their owner may read them. tc locks STORE while
+it runs. A second run at the same time ends with `store fault` and changes nothing."""
 
 KINDS = (b'net ', b'link ', b'send ', b'ok ', b'refuse ', b'{')
 PRIVATE = 0o077
+RUN_AGAIN = 'Look at the disk and run it again: it goes on from what is on the disk.'
 
 
 def add_arguments(parser):
@@ -56,6 +57,27 @@ class Lines:
             self.file.close()
 
 
+def drop_cache(store):
+    """Drops what the system has cached of the store, so that tc reads what is on the disk.
+
+    After a failed sync of an earlier process the cache can differ from the disk, and tc can't ask for this itself. A
+    file that is missing, or can't be opened, is left to tc: it says what is wrong with it."""
+    try:
+        handle = os.open(store, os.O_RDONLY | os.O_CLOEXEC) if os.path.isfile(store) else None
+    except OSError:
+        return
+    if handle is not None:
+        try:
+            # only what is written to the disk can be dropped
+            os.fsync(handle)
+        except OSError as error:
+            # the system reports this once, so tc would not hear of it
+            raise Stop(f'{store}: cannot be synced: {reason_of(error)}. {RUN_AGAIN}', UNWRITABLE) from error
+        finally:
+            os.posix_fadvise(handle, 0, 0, os.POSIX_FADV_DONTNEED)
+            os.close(handle)
+
+
 def serve(store, given, lines):
     """Runs the script, hands on what it writes, and returns the status and the line of a fault."""
     fault = b''
@@ -77,6 +99,7 @@ def run(arguments):
     lines = Lines(arguments.output, arguments.json)
     # as a path that no option of tc can be
     store = os.path.join('.', arguments.store) if arguments.store.startswith('-') else arguments.store
+    drop_cache(store)
     try:
         ran = serve(store, given, lines)
     finally:

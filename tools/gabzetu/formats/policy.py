@@ -14,7 +14,7 @@ EVENTS = {
     ('rejoin', 'router, device'): ('wrong-state outside joined, offered, confirmed', 'rejoining'),
     ('child', 'router'): (
         'as say',
-        'Update-Device to the centre, sealed under the current row, or without APS security where there ' 'is none',
+        'Update-Device to the centre, sealed under the current row, or without APS security where there is none',
     ),
     ('child', 'centre'): (
         "no-key; not-member where the child isn't live; counter-spent",
@@ -28,7 +28,7 @@ EVENTS = {
     ),
     ('timer', 'centre'): (
         "no-key; wrong-state unless sending with a live device that isn't told; counter-spent",
-        'the smallest such device is told: the newest network key to it',
+        'the smallest such device is told: the newest network key is sent to it',
     ),
     ('provision', 'centre'): (
         'wrong-state where the device is live; rows-full; key-in-use',
@@ -60,7 +60,7 @@ EVENTS = {
         "the pair's key to the device",
     ),
     ('tell', 'router, device'): (
-        'no-key without a usable active row or a live row of the partner; wrong-state in rejoining; ' 'counter-spent',
+        'no-key without a usable active row or a live row of the partner; wrong-state in rejoining; counter-spent',
         "application data, sealed under the partner's key",
     ),
 }
@@ -70,11 +70,9 @@ COMMANDS = {
     'Transport-Key, network key': (
         'router, device; sealed for transport; from the centre; to the node, naming the centre',
         'key-old where a dropped row has the key; keys-full',
-        'a live equal key gives no row. Else a new row, after one of two live rows is dropped. It becomes active in '
-        'a node that waits '
-        'for it, and where none was active. A node that waits goes to offered where there is an offered row, else '
-        'to confirmed where '
-        'the current one is verified, else to joined',
+        'a live equal key adds no row. Else a new row, after one of two live rows is dropped. It becomes active in '
+        'a node that waits for it, and where none was active. A node that waits goes to offered where there is an '
+        'offered row, else to confirmed where the current one is verified, else to joined',
     ),
     'Transport-Key, link key with the centre': (
         'router, device; NWK secured; sealed for load; from the centre; to the node, naming the centre',
@@ -105,8 +103,7 @@ COMMANDS = {
     'Request-Key, with a partner': (
         "centre; sealed for data under the sender's current row; the partner is neither the sender nor the centre",
         "not-member where the partner isn't live; wrong-state where a current row of the two isn't verified; "
-        "rows-full; no-draw; "
-        'counter-spent',
+        "rows-full; no-draw; counter-spent",
         "the pair's key is sent again, or drawn",
     ),
     'Switch-Key': (
@@ -124,8 +121,7 @@ COMMANDS = {
         "not-member where it isn't live; wrong-state without an offered row and a verified current one; "
         "counter-spent; wrong-hash",
         'of the offered key: it is verified, and the current one is dropped. Then, or of the verified current key: '
-        'Confirm-Key under '
-        'that key',
+        'Confirm-Key under that key',
     ),
     'Confirm-Key': (
         'router, device; sealed for data; from the centre; status 0, type 4; to the node',
@@ -135,21 +131,21 @@ COMMANDS = {
     'Leave': ('router, device; from the centre or a router; bit 6 of its options set', 'none', 'gone'),
 }
 
-# Judging a frame: what each reason means at the NWK layer and at the APS layer.
+# Judging a frame: what each reason means at the NWK layer and at the APS layer. All but policy are rows of a table.
 JUDGING = {
     'nwk': {
         'malformed': 'the bytes are no frame',
         'not-for-me': (
-            "it shows the node's own source address, or a destination that the node doesn't hear: its own short, "
-            'FFFF, FFFD, and FFFC but in a device'
+            "it shows the node's own source address, or a destination that the node doesn't hear. It hears its own "
+            'short address, FFFF, FFFD, and FFFC but in a device'
         ),
         'unsecured': (
             'no security, unless the node is a router or device that waits for the network key (knocked or '
             'rejoining) and finds a command sealed under a transport key'
         ),
         'no-key': 'no usable row has its key sequence; of several the newest counts',
-        'counter-max': '2^32 - 1',
-        'stale': 'below the floor of its source',
+        'counter-max': 'its counter is 2^32 - 1',
+        'stale': 'its counter is below the floor of its source',
         'bad-mic': "it doesn't open",
         'not-member': "the source isn't declared, or the node is the centre and has only dropped rows for it",
         'rows-full': 'a floor would have to be stored beside those of 64 others',
@@ -157,10 +153,10 @@ JUDGING = {
     },
     'aps': {
         'malformed': 'the payload is no APS frame',
-        'no-key': 'there is none',
-        'counter-max': 'counter-max, stale: against that row',
-        'stale': 'counter-max, stale: against that row',
-        'bad-mic': 'none opens it',
+        'no-key': 'there is no candidate',
+        'counter-max': 'as above, against that row',
+        'stale': 'as above, against that row',
+        'bad-mic': 'no candidate opens it',
         'policy': 'A command of an unknown identifier or key type is policy, other bytes are malformed',
     },
 }

@@ -22,6 +22,11 @@ def read(path):
         return file.read()
 
 
+def plain(page):
+    """Returns a page with one space between its words."""
+    return re.sub(r'\s+', ' ', page)
+
+
 def played(name):
     """Returns the lines of the transcript of a schedule, and the words of its events."""
     data = read(example(name)).encode()
@@ -48,21 +53,27 @@ class Policy(unittest.TestCase):
             self.assertTrue([command, *row] in self.rows, command)
 
     def test_judging(self):
-        plain = re.sub(r'\s+', ' ', self.page)
-        self.assertIn(policy.DATA, plain)
-        for note in policy.NOTES.values():
-            self.assertIn(note, plain)
-        for reasons in policy.JUDGING.values():
-            for reason, sentence in reasons.items():
-                self.assertIn(sentence, plain, reason)
+        """Each layer has a table on the page, in the order of the layers, and a sentence on policy after it."""
+        section = re.search('\n## Judging a frame\n(.*?)\n## ', self.page, re.DOTALL)[1]
+        tables = re.findall(r'\| Reason \| Where \|\n\|---\|---\|\n((?:\|.*\n)+)', section)
+        self.assertEqual(len(tables), len(policy.JUDGING))
+        for table, reasons in zip(tables, policy.JUDGING.values()):
+            rows = re.findall(r'\| (.*) \| (.*) \|', table)
+            wanted = {reason: where for named, where in rows for reason in named.split(', ')}
+            self.assertEqual(wanted, {reason: it for reason, it in reasons.items() if reason != 'policy'})
+            self.assertIn(reasons['policy'], plain(section))
+
+    def test_notes(self):
+        for note in (policy.DATA, *policy.NOTES.values()):
+            self.assertIn(note, plain(self.page))
 
     def test_plain_sentences_are_of_reasons_that_there_are(self):
         for layer, reason in policy.PLAIN:
             self.assertIn(reason, policy.JUDGING[layer])
 
     def test_all_reasons_have_words(self):
-        order = re.search('The reasons are tried in one order everywhere: ([^.]*)', self.page)[1].split(', ')
-        self.assertEqual(sorted(order), sorted(policy.REASONS))
+        order = re.search(r'The reasons are tried in one order everywhere:\n1\. (.*);\n2\. (.*)\.', self.page)
+        self.assertEqual(sorted(', '.join(order.groups()).split(', ')), sorted(policy.REASONS))
 
 
 @needs_tc

@@ -1,10 +1,13 @@
 """Tests of the commands that run tc on a file: output, JSON lines, statuses, and what is told of faults."""
+import fcntl
 import json
 import os
 import stat
 import unittest
+from unittest import mock
 
 from gabzetu import TOP
+from gabzetu.commands import admin
 from gabzetu.test.support import Folder, example, needs_tc, run
 
 JOIN = example('join.sched')
@@ -142,6 +145,39 @@ class Admin(Folder):
         self.assertEqual(ran.status, 5)
         self.assertIn('the first line is the centre', ran.said)
         self.assertEqual(read(self.path('said')), 'before')
+
+    def test_a_second_run_at_the_same_time_is_refused(self):
+        run('admin', self.path('hub.store'), example('admin.script'))
+        with open(self.path('hub.store'), 'rb') as store:
+            before = store.read()
+            fcntl.flock(store, fcntl.LOCK_EX)
+            ran = run('admin', self.path('hub.store'), example('admin.script'))
+        self.assertEqual((ran.status, ran.output), (7, ''))
+        self.assertIn('store fault: the store could not be read or written, or another process has it open', ran.said)
+        with open(self.path('hub.store'), 'rb') as store:
+            self.assertEqual(store.read(), before)
+
+    def test_the_cache_of_the_store_is_dropped(self):
+        path = self.write('hub.store', 'x' * 8192)
+        calls = mock.Mock()
+        with mock.patch.multiple(os, fsync=calls.fsync, posix_fadvise=calls.advise):
+            admin.drop_cache(path)
+        self.assertEqual([it[0] for it in calls.mock_calls], ['fsync', 'advise'])
+        self.assertEqual(calls.advise.call_args[0][1:], (0, 0, os.POSIX_FADV_DONTNEED))
+
+    def test_no_cache_to_drop_is_no_fault(self):
+        os.mkfifo(self.path('pipe'))
+        for name in ('none', '.', 'pipe'):
+            admin.drop_cache(self.path(name))
+        self.assertEqual(os.listdir(self.folder), ['pipe'])
+
+    def test_a_store_that_cannot_be_synced_is_not_served(self):
+        path = self.write('hub.store', '')
+        with mock.patch.object(os, 'fsync', side_effect=OSError(5, 'Input/output error')):
+            ran = run('admin', path, example('admin.script'))
+        self.assertEqual((ran.status, ran.output), (74, ''))
+        self.assertIn('hub.store: cannot be synced: input/output error. Look at the disk and run it again', ran.said)
+        self.assertEqual(os.path.getsize(path), 0)
 
     def test_says_that_a_file_is_no_store(self):
         self.write('hub.store', 'x' * 200)
