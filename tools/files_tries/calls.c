@@ -35,7 +35,7 @@ struct call {
 static char way[16];
 static long wanted, times = 1, error, count, hits;
 static const char *spoiled = "";
-static int calls = -1;
+static int calls = -1, halved = -1; /* the log, and the descriptor whose call was halved and whose next one fails */
 
 __attribute__((constructor)) static void start(void) {
     const char *fault = getenv("FAULT"), *path = getenv("CALLS");
@@ -56,7 +56,10 @@ static struct call begin(const char *name, int file) {
     struct call it = {++count, name, file, syscall(SYS_lseek, file, 0L, SEEK_CUR), 0, 0};
     if (it.number == wanted) spoiled = name;
     it.is_hit = hits < times && it.number >= wanted && !strcmp(spoiled, name);
-    if (!it.is_hit && hits && is("half-fail") && !strcmp(spoiled, name)) it.is_failed = hits++ == times;
+    if (!it.is_hit && halved >= 0 && halved == file && !strcmp(spoiled, name)) {
+        it.is_failed = 1;
+        halved = -1;
+    }
     if (!it.is_hit) return it;
     hits++;
     if (is("kill")) end_by(SIGKILL);
@@ -67,6 +70,7 @@ static struct call begin(const char *name, int file) {
 
 static size_t part(const struct call *it, size_t size) {
     if (!it->is_hit || size < 2) return size;
+    if (is("half-fail")) halved = it->file;
     return is("short") ? 1 : is("half") || is("half-fail") || is("kill-half") ? size / 2 : size;
 }
 

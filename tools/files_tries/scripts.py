@@ -1,5 +1,6 @@
 """Scripts for `tc admin`, and what is read from what it writes."""
 import re
+from collections import Counter
 
 HEAD = (
     "centre c 00124B0000000001 2 2",
@@ -69,5 +70,5 @@ def counters(output):
 
 def comes_again(*outputs):
     """Returns the counters that come twice in these outputs."""
-    every = [counter for output in outputs for counter in counters(output)]
-    return sorted({counter for counter in every if every.count(counter) > 1})
+    every = Counter(counter for output in outputs for counter in counters(output))
+    return sorted(counter for counter, number in every.items() if number > 1)
