@@ -43,9 +43,9 @@ def provision(name, number):
     return f"provision {name} {install_code(number)}"
 
 
-def turns(count, name="d", parent="c", codes=3):
-    """Returns commands that admit and remove a device in turn, by one of some install codes each."""
-    return [f"remove {name} via {parent}" if k % 2 else provision(name, 700 + k // 2 % codes) for k in range(count)]
+def turns(count, name="d", parent="c", code=700):
+    """Returns commands that admit and remove a device in turn, by three install codes from a number on."""
+    return [f"remove {name} via {parent}" if k % 2 else provision(name, code + k // 2 % 3) for k in range(count)]
 
 
 def split_status(status, output):
