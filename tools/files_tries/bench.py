@@ -3,6 +3,7 @@ import os
 import shutil
 import subprocess
 import sys
+import tempfile
 from collections import namedtuple
 
 from files_tries import scripts
@@ -22,6 +23,7 @@ class Bench:
         self.program = os.path.abspath(program)
         self.room = room
         self.library = None
+        self.cases = None
         self.violations = 0
 
     def path(self, name):
@@ -46,19 +48,20 @@ class Bench:
     def run(self, store, commands, fault=None, log=None, before=(), **how):
         """Serves commands on a store; returns the status, the output and what standard error said."""
         env = self.surroundings(fault, log) if fault or log else None
-        how = {"input": scripts.script(commands), "stdout": subprocess.PIPE, "stderr": subprocess.PIPE, **how}
+        how = {"stdout": subprocess.PIPE, "stderr": subprocess.PIPE, "timeout": SECONDS, "close_fds": False, **how}
+        words = [*before, self.program, "admin", store]
         try:
-            ran = subprocess.run([*before, self.program, "admin", store], env=env, timeout=SECONDS, close_fds=False, **how)
+            ran = subprocess.run(words, input=scripts.script(commands), env=env, **how)
         except subprocess.TimeoutExpired:
             return Ran("no end", "", "")
         return Ran(ran.returncode, (ran.stdout or b"").decode("latin1"), (ran.stderr or b"").decode("latin1"))
 
     def start(self, store, commands, fault=None, log=None):
         """Starts the program on a store, with its whole script, and returns the process."""
-        with open(self.path("started"), "wb") as it:
-            it.write(scripts.script(commands))
         env = self.surroundings(fault, log) if fault or log else None
-        with open(self.path("started"), "rb") as given:
+        with tempfile.TemporaryFile(dir=self.room) as given:
+            given.write(scripts.script(commands))
+            given.seek(0)
             how = {"stdin": given, "stdout": subprocess.PIPE, "stderr": subprocess.PIPE, "close_fds": False}
             return subprocess.Popen([self.program, "admin", store], env=env, **how)
 
@@ -83,6 +86,12 @@ class Bench:
             with open(os.open(path, os.O_WRONLY | os.O_CREAT, 0o600), "wb") as it:
                 it.write(content)
         return path
+
+    def calls(self, store, commands):
+        """Returns the calls of a run."""
+        log = self.path("calls")
+        self.run(store, commands, log=log)
+        return self.logged(log)
 
     def logged(self, log):
         """Returns the calls of a log, and removes it."""
@@ -112,6 +121,12 @@ class Call:
         self.number, self.name = int(number), name
         self.file, self.place, self.result = int(file), int(place), int(result)
         self.given = bytes.fromhex(given)
+
+
+def some(cases, count, dice):
+    """Returns all of the cases, or COUNT of them by chance."""
+    cases = list(cases)
+    return cases if len(cases) <= count else dice.sample(cases, count)
 
 
 def read(path):

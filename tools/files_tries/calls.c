@@ -1,8 +1,8 @@
 /* Counts, logs and spoils the calls of the program that it is preloaded into. tools/files compiles it.
 
-   CALLS names a file that gets a line for each call: number, name, descriptor, place, result, and in hexadecimal what a
-   write moved or an open named. FAULT is `WAY NUMBER ERROR TIMES`: at the call of that number, counted from 1, and at
-   the TIMES - 1 calls of the same name after it,
+   CALLS names a file that gets a line for each call: number, name, descriptor, place, result, and in hexadecimal what
+   a write moved or an open named. FAULT is `WAY NUMBER ERROR TIMES`: at the call of that number, counted from 1, and
+   at the TIMES - 1 calls of the same name after it,
      kill        the process is killed before the call
      kill-half   half of a write is done, then the process is killed
      kill-after  the process is killed after the call

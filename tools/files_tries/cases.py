@@ -6,13 +6,13 @@ from files_tries.scripts import INIT, acknowledged, comes_again, provision, spli
 
 BACKUP = (
     '{"active":0,"aps":3,"links":[{"attribute":2,"code":true,"floor":7,"key":"66B6900981E1EE3CA4206B6B861C02BB",'
-    '"live":true,"partner":"00124B0000000002","told":false}],"nets":[{"floors":[{"floor":9,"sender":"00124B0000000002"}],'
-    '"key":"000102030405060708090A0B0C0D0E0F","limit":4,"live":true,"sequence":0,"started":true}],"nwk":0,"pairs":[],'
-    '"roll":"idle","version":3}'
+    '"live":true,"partner":"00124B0000000002","told":false}],'
+    '"nets":[{"floors":[{"floor":9,"sender":"00124B0000000002"}],"key":"000102030405060708090A0B0C0D0E0F","limit":4,'
+    '"live":true,"sequence":0,"started":true}],"nwk":0,"pairs":[],"roll":"idle","version":3}'
 )
 NEW = [
-    INIT, provision("d", 1), provision("e", 2), "list", "remove d via c", provision("d", 3), "backup", "remove e via c",
-    INIT, provision("e", 2), "remove d via c", "remove e via c",
+    INIT, provision("d", 1), provision("e", 2), "list", "remove d via c", provision("d", 3), "backup",
+    "remove e via c", INIT, provision("e", 2), "remove d via c", "remove e via c",
 ]
 # 29 commits, so that the 33rd, which writes the whole record, falls into the script.
 COMMITS = [INIT, *turns(28), provision("r", 5)]
@@ -42,6 +42,10 @@ class Case:
         """Makes the store as it is before the script, and returns its path."""
         return self.bench.put(name, self.content)
 
+    def calls(self):
+        """Returns the calls of the script, served alone."""
+        return self.bench.calls(self.put(), self.commands)
+
     def lines_of(self, ran):
         """Returns the commands' lines of a run, or None where they or the status aren't what a fault may leave."""
         lines = split_status(ran.status, ran.output)
@@ -64,7 +68,10 @@ class Case:
         return f"{told} commands were acknowledged, and the store has {stored or repr(shown[:60])}"
 
     def judge_rest(self, store, output):
-        """Goes on after this output, and returns what is wrong with that, or None. A store that isn't one is deleted."""
+        """Goes on after this output, and returns what is wrong with that, or None.
+
+        What is no store, since making it was cut, is deleted first.
+        """
         told = acknowledged(output)
         if self.is_in_first(told) and self.bench.shown(store).startswith("status"):
             os.remove(store)
@@ -88,23 +95,22 @@ class Case:
 
 def two_gates(bench, case):
     """Returns the bytes of a store that was cut inside a whole record's commit, with the gates of both slots open."""
-    log = bench.path("calls")
-    store = case.put()
-    bench.run(store, case.commands, log=log)
-    for call in bench.logged(log):
+    for call in (call for call in case.calls() if call.name == "write"):
         store = case.put()
-        bench.run(store, case.commands, fault=f"kill-after {call.number} 0 1") if call.name == "write" else None
+        bench.run(store, case.commands, fault=f"kill-after {call.number} 0 1")
         content = read(store)
-        if call.name == "write" and content[0] == content[65536] == 0xA5:
+        if content[0] == content[65536] == 0xA5:
             return content
     raise SystemExit("files: no moment of the script had two open gates")
 
 
 def all_cases(bench):
-    """Returns the four cases: a new store, one with a whole record ahead, one with two open gates, and a restored one."""
-    store = bench.put("base")
-    bench.served(store, COMMITS)
-    new = Case(bench, "new", None, NEW)
-    old = Case(bench, "old", read(store), OLD)
-    gates = Case(bench, "gates", two_gates(bench, old), OLD[6:] + OLD[:6])
-    return [new, old, gates, Case(bench, "restored", None, RESTORED)]
+    """Returns the four cases: a new store, one before a whole record, one with two open gates, and a restored one."""
+    if bench.cases is None:
+        store = bench.put("base")
+        bench.served(store, COMMITS)
+        new = Case(bench, "new", None, NEW)
+        old = Case(bench, "old", read(store), OLD)
+        gates = Case(bench, "gates", two_gates(bench, old), OLD[6:] + OLD[:6])
+        bench.cases = [new, old, gates, Case(bench, "restored", None, RESTORED)]
+    return bench.cases

@@ -4,6 +4,7 @@ import os
 import random
 from collections import Counter
 
+from files_tries.bench import some
 from files_tries.cases import all_cases
 
 # Each way to spoil a call, with its error and how often, and the names of the calls that it is for; None is all.
@@ -39,7 +40,8 @@ class Fault:
 
     def __str__(self):
         why = f" with {errno.errorcode[self.error]}" if self.error else ""
-        return f"faults: {self.case.name}: call {self.call.number}, {self.call.name}({self.call.file}): {self.way}{why}"
+        call = self.call
+        return f"faults: {self.case.name}: call {call.number}, {call.name}({call.file}): {self.way}{why}"
 
     def statuses(self):
         """Returns the statuses that the program may end with."""
@@ -50,17 +52,14 @@ class Fault:
         if self.way in ("short", "half") or is_repeated:
             return (0,)
         failed = 3 if file == 0 else 4 if file == 1 else 7
-        # A half that was the rest needs no second call; what was asked of the path may not matter; others may be repeated.
+        # One byte has no half. What was asked of the path may not matter. An interrupted call may be repeated.
         may_pass = self.way == "half-fail" or name == "statx" or self.error == errno.EINTR
         return (0, failed) if may_pass else (failed,)
 
 
 def all_faults(case):
     """Returns each fault of a case's script."""
-    log = case.bench.path("calls")
-    case.bench.run(case.put(), case.commands, log=log)
-    calls = case.bench.logged(log)
-    found = []
+    calls, found = case.calls(), []
     for at, call in enumerate(calls):
         found += [Fault(case, calls, at, way) for way in WAYS if way[3] is None or call.name in way[3]]
     return found
@@ -103,7 +102,7 @@ def try_fault(fault):
 def faults(bench, count, seed):
     """Tries COUNT faults at most, and returns the line of counts."""
     every = [fault for case in all_cases(bench) for fault in all_faults(case)]
-    tried = every if len(every) <= count else random.Random(seed).sample(every, count)
+    tried = some(every, count, random.Random(seed))
     statuses = Counter(try_fault(fault) for fault in tried)
     ends = ", ".join(f"{number} with status {status}" for status, number in sorted(statuses.items(), key=str))
     return f"{len(tried)} faults, of which ended {ends}"

@@ -4,17 +4,12 @@ import re
 import threading
 import time
 
+from files_tries.bench import some
 from files_tries.cases import all_cases
 from files_tries.scripts import INIT, acknowledged, comes_again, provision
 
 LONG = [provision("d", number // 2) if number % 2 == 0 else "remove d via c" for number in range(2000)]
 WAYS = ("kill", "kill-half", "kill-after")
-
-
-def some(cases, count, dice):
-    """Returns all of the cases, or COUNT of them by chance."""
-    cases = list(cases)
-    return cases if len(cases) <= count else dice.sample(cases, count)
 
 
 def system_calls(case):
@@ -46,10 +41,8 @@ def kill_at_calls(cases, count, dice):
     """Kills before, within and after each call of the store and the streams; returns the number of runs."""
     every = []
     for case in cases:
-        log = case.bench.path("calls")
-        case.bench.run(case.put(), case.commands, log=log)
-        calls = case.bench.logged(log)
-        every += [(case, call, way) for call in calls for way in WAYS if way != "kill-half" or call.name == "write"]
+        for call in case.calls():
+            every += [(case, call, way) for way in WAYS if way != "kill-half" or call.name == "write"]
     tried = some(every, count, dice)
     for case, call, way in tried:
         store = case.put()
@@ -80,8 +73,9 @@ class Long:
         """Returns how many commands a store holds, or None where its rows aren't those of a prefix."""
         rows = [row for row in self.bench.shown(self.store).splitlines() if row.startswith("link ")]
         count = 2 * len(rows) - (1 if rows and rows[-1].endswith(" live") else 0)
-        last = self.rows[len(rows) - 1 : len(rows)]
-        expected = self.rows[: len(rows) - 1] + [row.replace(" dropped", " live") if count % 2 else row for row in last]
+        expected = self.rows[: len(rows)]
+        if count % 2:
+            expected[-1] = expected[-1].replace(" dropped", " live")
         return count if rows == expected else None
 
     def run_killed(self):
@@ -104,7 +98,8 @@ class Long:
         self.acknowledged += told
         self.outputs.append(output)
         if stored is None or not self.done + told <= stored <= self.done + told + 1:
-            self.bench.found(f"kills: {told} after {self.done} were acknowledged, and the store has {stored}", self.store, LONG)
+            what = f"kills: {told} commands after {self.done} were acknowledged, and the store has {stored}"
+            self.bench.found(what, self.store, LONG)
         if comes_again(*self.outputs):
             self.bench.found(f"kills: counters came again: {comes_again(*self.outputs)}", self.store, LONG)
         self.done = stored or 0

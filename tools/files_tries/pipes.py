@@ -40,7 +40,8 @@ def slow(bench, count, dice):
         output, said = process.communicate()
         ran = Ran(process.returncode, output.decode("latin1"), said.decode("latin1"))
         if ran != Ran(0, case.output, "") or is_early or bench.shown(store) != case.states[-1]:
-            bench.found(f"pipes: a slow script ended with {ran.status}, said {ran.said!r}; early file: {is_early}", store, NEW)
+            what = f"pipes: a slow script ended with {ran.status}, said {ran.said!r}, early file {is_early}"
+            bench.found(what, store, NEW)
     return count
 
 
@@ -59,7 +60,9 @@ def slow_reader(bench):
         if shown not in case.states[acknowledged(output) - (not line.startswith((b"ok", b"refuse"))) :]:
             bench.found(f"pipes: after {output[-40:]!r} the store doesn't have that command", bench.path("copy"), NEW)
     process.stderr.close()
-    return 1 + (process.wait() != 0 and bench.found("pipes: a slow reader ended the script", store, NEW) or 0)
+    if process.wait() != 0:
+        bench.found(f"pipes: a slow reader ended the script with {process.returncode}", store, NEW)
+    return 1
 
 
 def closed_streams(bench, content):
@@ -123,10 +126,11 @@ def odd_paths(room):
     unix = socket.socket(socket.AF_UNIX)
     unix.bind(f"{room}/socket")
     unix.close()
-    names = ("folder", "folder/", ".", "fifo", "link", "loop", "socket", "none/store", "file/store", "name/", "n" * 256)
-    faults = [f"{room}/{name}" for name in names]
-    devices = [f"/dev/{name}" for name in ("null", "zero", "full", "urandom", "tty") if os.path.exists(f"/dev/{name}")]
-    return [*((it, 7) for it in [*faults, *devices, "", "p/" * 2500]), (f"{room}/file", 8), (os.fsencode(room) + b"/\xff", 2)]
+    things = ("folder", "folder/", ".", "fifo", "link", "loop", "socket")
+    nothings = ("none/store", "file/store", "name/", "n" * 256, "p/" * 2500)
+    devices = [f"/dev/{name}" for name in ("null", "zero", "full", "urandom") if os.path.exists(f"/dev/{name}")]
+    faults = [*(f"{room}/{name}" for name in things + nothings), *devices, ""]
+    return [*((path, 7) for path in faults), (f"{room}/file", 8), (os.fsencode(room) + b"/\xff", 2)]
 
 
 def holds(room):
@@ -159,7 +163,8 @@ def paths(bench):
 def missing(bench):
     """Serves what needs no file on a path that isn't there: it reads as empty, and no file is made."""
     store, tried = bench.put("missing"), 0
-    scripts = ([], ["list"], ["backup"], ["list", provision("d", 1), "remove d via c", "backup"], ["boom"], ["init 00"])
+    several = ["list", provision("d", 1), "remove d via c", "backup"]
+    scripts = ([], ["list"], ["backup"], several, ["boom"], ["init 00"])
     for commands in scripts:
         ran = bench.run(store, commands)
         lines = "".join(f"refuse {5 + at} empty\n" for at in range(len(commands)))
@@ -182,7 +187,8 @@ def names(bench):
             ran = bench.run(store, ["list"] if name == "alias" and mask else [INIT], preexec_fn=lambda: os.umask(mask))
             mode = os.stat(store).st_mode & 0o777 if os.path.exists(store) else 0
             if ran.status != 0 or mode != 0o600 or ran.said or name != "alias" and os.path.getsize(store) != 131072:
-                bench.found(f"pipes: the store {name[:20]!r} was made with mode {mode:o}, status {ran.status}", store, [INIT])
+                what = f"pipes: the store {name[:20]!r} was made with mode {mode:o}, status {ran.status}"
+                bench.found(what, store, [INIT])
             tried += 1
     return tried
 
@@ -198,7 +204,8 @@ def modes(bench, content):
         lines = ran.said.splitlines()
         is_said = len(lines) == 1 and lines[0].startswith(WARNING) if mode & 0o077 else not lines
         if ran.status != 0 or not is_said:
-            bench.found(f"pipes: a store of mode {mode:o} ended with {ran.status} and says {ran.said!r}", store, ["list"])
+            what = f"pipes: a store of mode {mode:o} ended with {ran.status} and says {ran.said!r}"
+            bench.found(what, store, ["list"])
     return 16
 
 
@@ -208,7 +215,7 @@ def odd_warning(bench, content):
     os.chmod(store, 0o644)
     ran = bench.run(store, ["list"])
     if ran.status != 0 or ran.said.count("\n") != 1:
-        bench.found(f"pipes: the warning for a name with a line feed has {ran.said.count(chr(10))} lines", None, ["list"])
+        bench.found(f"pipes: the warning for a name with a line feed is {ran.said!r}", None, ["list"])
     return 1
 
 
@@ -230,7 +237,8 @@ def pipes(bench, count, seed):
     store = bench.put("base")
     bench.served(store, [INIT, provision("r", 5)])
     content = read(store)
-    streams = slow(bench, count, dice) + slow_reader(bench) + closed_streams(bench, content) + full_output(bench, content)
+    streams = slow(bench, count, dice) + slow_reader(bench)
+    streams += closed_streams(bench, content) + full_output(bench, content)
     named = paths(bench) + missing(bench) + names(bench)
     return (
         f"{streams} runs with slow, closed and full streams, {named} on paths and names, "

@@ -1,4 +1,4 @@
-"""Loss of power: every image that the disk's model allows, after each call of a script, is listed: it must be old or new."""
+"""Loss of power: every image that the disk's model allows, after each call of a script, must be old or new."""
 import hashlib
 import itertools
 import random
@@ -91,10 +91,8 @@ def chosen(new, old, dice):
 
 def record(case):
     """Runs the script of a case, and returns its writes and syncs of the store and its lines, in their order."""
-    bench, store, log = case.bench, case.put(), case.bench.path("calls")
-    bench.run(store, case.commands, log=log)
-    events, names = [], {}
-    for call in bench.logged(log):
+    store, events, names = case.put(), [], {}
+    for call in case.bench.calls(store, case.commands):
         if call.name == "open" and call.result >= 0:
             names[call.result] = call.given.decode()
         elif call.name == "write" and call.file == 1:

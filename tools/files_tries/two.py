@@ -4,7 +4,7 @@ import random
 import signal
 import threading
 
-from files_tries.bench import Ran, read
+from files_tries.bench import Ran, read, some
 from files_tries.cases import Case, all_cases
 from files_tries.scripts import INIT, acknowledged, comes_again, provision, turns
 
@@ -45,10 +45,7 @@ class Pair:
         return self.bench.put("store", self.content)
 
     def calls(self):
-        """Returns the calls of the first script, served alone."""
-        log = self.bench.path("calls")
-        self.bench.run(self.put(), self.first, log=log)
-        return self.bench.logged(log)
+        return self.bench.calls(self.put(), self.first)
 
     def expected(self, served):
         """Returns the rows of the store after these scripts, one after the other."""
@@ -121,37 +118,29 @@ def killed_at(case, calls, number):
     case.check(ended(process, signal.SIGKILL), f"two: {case.name}: killed at call {number} with the lock", store)
 
 
-def some(numbers, count, dice):
-    numbers = list(numbers)
-    return numbers if len(numbers) <= count else sorted(dice.sample(numbers, count))
-
-
 def hold(pairs, count, dice):
     """Holds the first process at each of its calls, for each pair; returns the number of tries."""
-    tried = 0
+    every = []
     for pair in pairs:
         calls = pair.calls()
-        numbers = range(1, len(calls) + 1)
-        for number in some(numbers, count, dice):
-            held_at(pair, calls, number)
-        for number in some(numbers[len(calls) // 4 :], count // 2, dice):
-            crossed_at(pair, calls, number)
-        tried += min(len(calls), count) + min(len(numbers[len(calls) // 4 :]), count // 2)
-    return tried
+        every += [(held_at, pair, calls, call.number) for call in calls]
+        every += [(crossed_at, pair, calls, call.number) for call in calls if is_locked_at(calls, call.number)]
+    tried = some(every, count, dice)
+    for way, pair, calls, number in tried:
+        way(pair, calls, number)
+    return len(tried)
 
 
 def kill(cases, count, dice):
     """Kills a process that has the lock at each of its calls; returns the number of tries."""
-    tried = 0
+    every = []
     for case in cases:
-        log = case.bench.path("calls")
-        case.bench.run(case.put(), case.commands, log=log)
-        calls = case.bench.logged(log)
-        numbers = some((call.number for call in calls if is_locked_at(calls, call.number)), count, dice)
-        for number in numbers:
-            killed_at(case, calls, number)
-        tried += len(numbers)
-    return tried
+        calls = case.calls()
+        every += [(case, calls, call.number) for call in calls if is_locked_at(calls, call.number)]
+    tried = some(every, count, dice)
+    for case, calls, number in tried:
+        killed_at(case, calls, number)
+    return len(tried)
 
 
 def rounds(bench, count):
@@ -182,9 +171,10 @@ def backups(bench, count):
     while served.is_alive() and len(made) < count:
         made.append(bench.run(store, ["backup"]))
     served.join()
-    hub = outputs[0]
-    if hub.status != 0 or acknowledged(hub.output) != len(commands) or comes_again(hub.output):
-        bench.found(f"two: beside backups a script ended with {hub.status}, {acknowledged(hub.output)} acknowledged", store)
+    status, told, again = outputs[0].status, acknowledged(outputs[0].output), comes_again(outputs[0].output)
+    if status != 0 or told != len(commands) or again:
+        what = f"two: beside backups a script ended with {status}, {told} acknowledged, counters again {again}"
+        bench.found(what, store, commands)
     for ran in made:
         if ran.status != 0 and (ran.status, ran.output) != REFUSED:
             bench.found(f"two: a backup beside a script ended with {ran}", store, ["backup"])
@@ -211,6 +201,6 @@ def two(bench, count, seed):
     refused = rounds(bench, count)
     made, beside = backups(bench, 10 * count)
     return (
-        f"{held} pairs of which one was held at a call, {killed} killed with the lock, {count} rounds with {refused} refused, "
-        f"{made} backups beside a script with {beside} refused"
+        f"{held} pairs of which one was held at a call, {killed} killed with the lock, "
+        f"{count} rounds with {refused} refused, {made} backups beside a script with {beside} refused"
     )
