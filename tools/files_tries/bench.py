@@ -4,13 +4,14 @@ import shutil
 import subprocess
 import sys
 import tempfile
+import time
 from collections import namedtuple
 
 from files_tries import scripts
 
 TOP = os.path.dirname(os.path.dirname(os.path.dirname(os.path.abspath(__file__))))
 FOUND = f"{TOP}/out/files"
-SECONDS = 60
+SECONDS = 600
 MOST_KEPT = 20
 
 Ran = namedtuple("Ran", "status output said")
@@ -99,6 +100,17 @@ class Bench:
             lines = it.read().splitlines()
         os.remove(log)
         return [Call(*line.split(" ")) for line in lines]
+
+    def each(self, what, tried, count):
+        """Yields the first of what is to be tried, and says once a minute on standard error how far it came."""
+        said = time.monotonic()
+        for number, it in enumerate(tried):
+            if number == count:
+                return
+            if time.monotonic() > said + 60:
+                said = time.monotonic()
+                print(f"files: {what}: {number} of {count}, {self.violations} violations", file=sys.stderr, flush=True)
+            yield it
 
     def found(self, what, store=None, commands=()):
         """Says what is wrong, and keeps the store and the script; of the first 20 violations."""

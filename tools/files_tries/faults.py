@@ -103,6 +103,6 @@ def faults(bench, count, seed):
     """Tries COUNT faults at most, and returns the line of counts."""
     every = [fault for case in all_cases(bench) for fault in all_faults(case)]
     tried = some(every, count, random.Random(seed))
-    statuses = Counter(try_fault(fault) for fault in tried)
+    statuses = Counter(try_fault(fault) for fault in bench.each("faults", tried, len(tried)))
     ends = ", ".join(f"{number} with status {status}" for status, number in sorted(statuses.items(), key=str))
     return f"{len(tried)} faults, of which ended {ends}"

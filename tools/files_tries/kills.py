@@ -29,7 +29,7 @@ def kill_at_system_calls(cases, count, dice):
     """Kills at each system call by strace; returns the number of runs."""
     every = [(case, *call) for case in cases for call in system_calls(case)]
     tried = some(every, count, dice)
-    for case, name, number in tried:
+    for case, name, number in cases[0].bench.each("kills at system calls", tried, len(tried)):
         store = case.put()
         how = ["-e", f"trace={name}", "-e", f"inject={name}:signal=KILL:when={number}"]
         ran = case.bench.run(store, case.commands, before=["strace", "-f", "-o", "/dev/null", *how])
@@ -44,7 +44,7 @@ def kill_at_calls(cases, count, dice):
         for call in case.calls():
             every += [(case, call, way) for way in WAYS if way != "kill-half" or call.name == "write"]
     tried = some(every, count, dice)
-    for case, call, way in tried:
+    for case, call, way in cases[0].bench.each("kills at calls", tried, len(tried)):
         store = case.put()
         ran = case.bench.run(store, case.commands, fault=f"{way} {call.number} 0 1")
         case.check(ran, f"kills: {case.name}: {way} at call {call.number}, {call.name}", store)
@@ -110,7 +110,7 @@ class Long:
 def kill_at_moments(bench, count, dice):
     """Kills COUNT runs at random moments; returns the line of counts."""
     long = Long(bench, dice)
-    for _ in range(count):
+    for _ in bench.each("kills at random", range(count), count):
         long.round()
     return f"{count} at random moments, of which {long.killed} cut a script; {long.acknowledged} commands acknowledged"
 

@@ -27,7 +27,7 @@ def closing(*files):
 def slow(bench, count, dice):
     """Sends COUNT scripts in pieces: nothing comes out and no file is made before the end, and then all of it."""
     case = Case(bench, "slow", None, NEW)
-    for _ in range(count):
+    for _ in bench.each("slow scripts", range(count), count):
         store, text = case.put(), script(NEW)
         how = {"stdin": subprocess.PIPE, "stdout": subprocess.PIPE, "stderr": subprocess.PIPE}
         process = subprocess.Popen([bench.program, "admin", store], **how)

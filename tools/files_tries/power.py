@@ -134,22 +134,22 @@ def moments(case):
 
 
 class Tries:
-    """The images that were listed, each once for each number of acknowledged commands."""
+    """The images that were listed, each once for each number of acknowledged commands, and what they showed."""
 
-    def __init__(self, bench, count):
-        self.bench, self.count = bench, count
-        self.listed, self.shown = 0, {}
+    def __init__(self, bench):
+        self.bench, self.marks, self.named = bench, set(), 0
         self.ends = {"old": 0, "new": 0, "no store or an empty one": 0}
 
-    def look(self, case, output, image):
-        """Lists an image, or no file; each different image is listed once."""
+    def is_new(self, case, output, image):
+        """Returns whether an image, or no file, wasn't listed yet after the same commands, and notes it."""
         mark = (case.name, acknowledged(output), hashlib.sha1(image).digest() if image is not None else None)
-        if mark in self.shown:
-            return
-        self.shown[mark] = True
-        self.listed += 1
-        store = self.bench.put("image", image)
-        shown = self.bench.shown(store)
+        is_new = mark not in self.marks
+        self.marks.add(mark)
+        return is_new
+
+    def look(self, case, output, image):
+        """Lists an image, or no file, and judges what it shows."""
+        shown = self.bench.shown(self.bench.put("image", image))
         self.count_end(case, output, shown)
         why = case.judge(output, shown)
         if why:
@@ -192,18 +192,21 @@ def in_turn(cases, make, dice):
         yield from (it for it in row if it)
 
 
+def different(tries, cases, dice):
+    """Yields different images: each named one, and then random ones without end."""
+    for it in in_turn(cases, images_of, dice):
+        if tries.is_new(*it):
+            tries.named += 1
+            yield it
+    for it in in_turn(cases, random_images_of, dice):
+        if tries.is_new(*it):
+            yield it
+
+
 def power(bench, count, seed):
     """Tries COUNT different images, the named ones first, and returns the line of counts."""
-    dice, tries = random.Random(seed), Tries(bench, count)
-    cases = all_cases(bench)
-    for case, output, image in in_turn(cases, images_of, dice):
-        if tries.listed >= count:
-            break
-        tries.look(case, output, image)
-    named = tries.listed
-    for case, output, image in in_turn(cases, random_images_of, dice):
-        if tries.listed >= count:
-            break
+    dice, tries = random.Random(seed), Tries(bench)
+    for case, output, image in bench.each("power", different(tries, all_cases(bench), dice), count):
         tries.look(case, output, image)
     ends = ", ".join(f"{number} {end}" for end, number in tries.ends.items())
-    return f"{tries.listed} images, {named} of them by name and the others at random: {ends}"
+    return f"{count} images, {min(count, tries.named)} of them by name and the others at random: {ends}"

@@ -126,7 +126,7 @@ def hold(pairs, count, dice):
         every += [(held_at, pair, calls, call.number) for call in calls]
         every += [(crossed_at, pair, calls, call.number) for call in calls if is_locked_at(calls, call.number)]
     tried = some(every, count, dice)
-    for way, pair, calls, number in tried:
+    for way, pair, calls, number in pairs[0].bench.each("two, held", tried, len(tried)):
         way(pair, calls, number)
     return len(tried)
 
@@ -138,7 +138,7 @@ def kill(cases, count, dice):
         calls = case.calls()
         every += [(case, calls, call.number) for call in calls if is_locked_at(calls, call.number)]
     tried = some(every, count, dice)
-    for case, calls, number in tried:
+    for case, calls, number in cases[0].bench.each("two, killed", tried, len(tried)):
         killed_at(case, calls, number)
     return len(tried)
 
@@ -149,7 +149,7 @@ def rounds(bench, count):
     bench.served(store, [INIT, provision("r", 5)])
     scripts = (turns(300, "d", "r"), turns(300, "e", "r", 800))
     pair, refused, outputs = Pair(bench, "rounds", None, *scripts), 0, []
-    for number in range(count):
+    for number in bench.each("two, rounds", range(count), count):
         pair.content = read(store)
         processes = [bench.start(store, commands) for commands in scripts]
         runs = [(ended(process, signal.SIGCONT), commands) for process, commands in zip(processes, scripts)]
