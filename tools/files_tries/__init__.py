@@ -1,0 +1,1 @@
+"""The tries of tools/files, one module each, over the bench that runs the program."""

@@ -1,0 +1,206 @@
+"""Two processes on one store: one serves and the other is refused, and no counter comes twice."""
+import os
+import random
+import signal
+import threading
+
+from files_tries.bench import Ran, read, some
+from files_tries.cases import Case, all_cases
+from files_tries.scripts import INIT, acknowledged, comes_again, provision, turns
+
+FIRST = [INIT, provision("d", 1), "remove d via c", provision("d", 2)]
+SECOND = [INIT, provision("e", 3), "remove e via c", provision("e", 4)]
+REFUSED = (7, "store fault\n")
+
+
+def stopped(process):
+    """Waits until a process stops or ends, and returns whether it stopped."""
+    _, status = os.waitpid(process.pid, os.WUNTRACED)
+    if os.WIFSTOPPED(status):
+        return True
+    process.returncode = -os.WTERMSIG(status) if os.WIFSIGNALED(status) else os.WEXITSTATUS(status)
+    return False
+
+
+def ended(process, by):
+    """Sends a signal to a process that stopped, and returns how it ends."""
+    if process.returncode is None:
+        os.kill(process.pid, by)
+    output, said = process.communicate()
+    return Ran(process.returncode, output.decode("latin1"), said.decode("latin1"))
+
+
+def rows_of(listed):
+    """Returns the link rows of a list without their places."""
+    return sorted(line.split(" ", 2)[2] for line in listed.splitlines() if line.startswith("link "))
+
+
+class Pair:
+    """What two scripts make of a store, served by two processes."""
+
+    def __init__(self, bench, name, content, first, second):
+        self.bench, self.name, self.content, self.first, self.second = bench, name, content, first, second
+
+    def put(self):
+        return self.bench.put("store", self.content)
+
+    def calls(self):
+        return self.bench.calls(self.put(), self.first)
+
+    def expected(self, served):
+        """Returns the rows of the store after these scripts, one after the other."""
+        model = self.bench.put("model", self.content)
+        for commands in served:
+            self.bench.served(model, commands)
+        return rows_of(self.bench.served(model, ["list"]))
+
+    def judge(self, store, runs):
+        """Returns what is wrong after these runs, in the order in which they got the store, or None."""
+        for ran, commands in runs:
+            if ran.status != 0 and (ran.status, ran.output) != REFUSED:
+                return f"one ended with status {ran.status} and {ran.output[-60:]!r}"
+        again = comes_again(*(ran.output for ran, _ in runs))
+        if again:
+            return f"these counters came again: {again}"
+        listed = self.bench.run(store, ["list"])
+        rows = rows_of(listed.output) if listed.status == 0 else f"status {listed.status}: {listed.output[:60]!r}"
+        expected = self.expected([commands for ran, commands in runs if ran.status == 0])
+        return None if rows == expected else f"of acknowledged rows {expected} the store has {rows}"
+
+    def check(self, what, store, runs):
+        why = self.judge(store, runs)
+        if why:
+            said = ", ".join(str(ran.status) for ran, _ in runs)
+            self.bench.found(f"two: {self.name}: {what}: statuses {said}: {why}", store, self.second)
+
+
+def is_locked_at(calls, number):
+    """Returns whether a process has the lock before its call of a number."""
+    locks = [call.number for call in calls if call.name == "flock"]
+    return locks[0] < number <= calls[-1].number
+
+
+def held_at(pair, calls, number):
+    """Holds the first process before a call, serves the second script, and lets the first one go on."""
+    bench, store = pair.bench, pair.put()
+    first = bench.start(store, pair.first, fault=f"stop {number} 0 1")
+    stopped(first)
+    before = read(store)
+    second = bench.run(store, pair.second)
+    if is_locked_at(calls, number):
+        if (second.status, second.output) != REFUSED or read(store) != before:
+            bench.found(f"two: {pair.name}: held at call {number}: the second ended with {second}", store, pair.second)
+    runs = [(second, pair.second), (ended(first, signal.SIGCONT), pair.first)]
+    pair.check(f"the first was held before call {number}, {calls[number - 1].name}", store, runs)
+
+
+def crossed_at(pair, calls, number):
+    """Holds the first before it locks and the second after it did, and lets the first go on and then the second."""
+    bench, store = pair.bench, pair.put()
+    lock = next(call.number for call in calls if call.name == "flock")
+    first = bench.start(store, pair.first, fault=f"stop {lock} 0 1")
+    stopped(first)
+    second = bench.start(store, pair.second, fault=f"stop {number} 0 1")
+    stopped(second)
+    runs = [(ended(first, signal.SIGCONT), pair.first), (ended(second, signal.SIGCONT), pair.second)]
+    pair.check(f"the first was held before its lock and the second before call {number}", store, runs)
+
+
+def killed_at(case, calls, number):
+    """Holds a process before a call, looks that a second one is refused, kills the first and goes on."""
+    bench, store = case.bench, case.put()
+    process = bench.start(store, case.commands, fault=f"stop {number} 0 1")
+    stopped(process)
+    before = read(store)
+    second = bench.run(store, ["list"])
+    if is_locked_at(calls, number) and ((second.status, second.output) != REFUSED or read(store) != before):
+        bench.found(f"two: {case.name}: held at call {number}: a second ended with {second}", store, case.commands)
+    case.check(ended(process, signal.SIGKILL), f"two: {case.name}: killed at call {number} with the lock", store)
+
+
+def hold(pairs, count, dice):
+    """Holds the first process at each of its calls, for each pair; returns the number of tries."""
+    every = []
+    for pair in pairs:
+        calls = pair.calls()
+        every += [(held_at, pair, calls, call.number) for call in calls]
+        every += [(crossed_at, pair, calls, call.number) for call in calls if is_locked_at(calls, call.number)]
+    tried = some(every, count, dice)
+    for way, pair, calls, number in pairs[0].bench.each("two, held", tried, len(tried)):
+        way(pair, calls, number)
+    return len(tried)
+
+
+def kill(cases, count, dice):
+    """Kills a process that has the lock at each of its calls; returns the number of tries."""
+    every = []
+    for case in cases:
+        calls = case.calls()
+        every += [(case, calls, call.number) for call in calls if is_locked_at(calls, call.number)]
+    tried = some(every, count, dice)
+    for case, calls, number in cases[0].bench.each("two, killed", tried, len(tried)):
+        killed_at(case, calls, number)
+    return len(tried)
+
+
+def rounds(bench, count):
+    """Starts two scripts at once, round after round on one store; returns how many were refused."""
+    store = bench.put("rounds")
+    bench.served(store, [INIT, provision("r", 5)])
+    scripts = (turns(300, "d", "r"), turns(300, "e", "r", 800))
+    pair, refused, outputs = Pair(bench, "rounds", None, *scripts), 0, []
+    for number in bench.each("two, rounds", range(count), count):
+        pair.content = read(store)
+        processes = [bench.start(store, commands) for commands in scripts]
+        runs = [(ended(process, signal.SIGCONT), commands) for process, commands in zip(processes, scripts)]
+        refused += sum(ran.status == 7 for ran, _ in runs)
+        pair.check(f"round {number}", store, runs)
+        outputs += [ran.output for ran, _ in runs]
+        if comes_again(*outputs):
+            bench.found(f"two: round {number}: these counters came again: {comes_again(*outputs)}", store, scripts[0])
+    return refused
+
+
+def backups(bench, count):
+    """Makes backups beside a script of 2,000 commands; returns how many were made and how many refused."""
+    case = Case(bench, "beside", None, [INIT])
+    store, commands, outputs = case.put(), [INIT, *turns(1999)], []
+    served = threading.Thread(target=lambda: outputs.append(bench.run(store, commands)))
+    served.start()
+    made = []
+    while served.is_alive() and len(made) < count:
+        made.append(bench.run(store, ["backup"]))
+    served.join()
+    status, told, again = outputs[0].status, acknowledged(outputs[0].output), comes_again(outputs[0].output)
+    if status != 0 or told != len(commands) or again:
+        what = f"two: beside backups a script ended with {status}, {told} acknowledged, counters again {again}"
+        bench.found(what, store, commands)
+    for ran in made:
+        if ran.status != 0 and (ran.status, ran.output) != REFUSED:
+            bench.found(f"two: a backup beside a script ended with {ran}", store, ["backup"])
+    whole = bench.put("whole")
+    bench.served(whole, commands)
+    if bench.shown(whole) != bench.shown(store):
+        bench.found("two: beside backups a script left another store than alone", store, commands)
+    return len(made), sum(ran.status == 7 for ran in made)
+
+
+def two(bench, count, seed):
+    """Tries two processes in each way, and returns the line of counts."""
+    dice, cases = random.Random(seed), all_cases(bench)
+    held = hold(
+        [
+            Pair(bench, "new", None, FIRST, SECOND),
+            Pair(bench, "old", cases[1].content, FIRST, SECOND),
+            Pair(bench, "a backup of two gates", cases[2].content, ["backup"], turns(40)),
+        ],
+        count,
+        dice,
+    )
+    killed = kill(cases[:2], count, dice)
+    refused = rounds(bench, count)
+    made, beside = backups(bench, 10 * count)
+    return (
+        f"{held} pairs of which one was held at a call, {killed} killed with the lock, "
+        f"{count} rounds with {refused} refused, {made} backups beside a script with {beside} refused"
+    )
