@@ -6,6 +6,7 @@ import subprocess
 import tempfile
 
 from gabzetu import TOP
+from gabzetu.cli import Parser
 from gabzetu.errors import MISSING, UNWRITABLE, WRONG_INPUT, Stop, reason_of
 from gabzetu.output import say
 
@@ -30,7 +31,7 @@ CAPTURE = os.path.join(TOP, 'tools', 'data', 'mixed.pcap')
 
 def read_words(words):
     """Returns the arguments."""
-    parser = argparse.ArgumentParser(
+    parser = Parser(
         prog='tools/release', description=DESCRIPTION, formatter_class=argparse.RawDescriptionHelpFormatter
     )
     parser.add_argument('version', metavar='VERSION', help='the version, as the file VERSION has it')

@@ -13,8 +13,8 @@ HOW = 'Run the gate with its output in a file: .ci/run 2>&1 | tee out/gate.log'
 
 def read_gate(path):
     """Returns the last lines of a gate's log, from `rt: ok` on. Stops where the log isn't that of a passed gate."""
-    lines = read_input(path).decode('utf-8', 'replace').splitlines()
-    lines = [it.rstrip() for it in lines if it.strip()]
+    lines = [it.rstrip() for it in read_input(path).decode('utf-8', 'replace').splitlines() if it.strip()]
+    path = 'standard input' if path == '-' else path
     counts = [place for place, line in enumerate(lines) if COUNTED.fullmatch(line)]
     if not counts:
         raise Stop(f"{path}: no line 'N passed, 0 failed': the gate did not come to its end. {HOW}", WRONG_INPUT)

@@ -25,7 +25,8 @@ Files: *
 License: Expat or Apache-2.0
 
 License: Expat
-{mit}
+ {mit}
+
 License: Apache-2.0
  The text is in /usr/share/common-licenses/Apache-2.0, and in LICENSE-APACHE here.
 '''
@@ -91,11 +92,10 @@ def lay_documents(layout, gate):
 
 
 def lay_copyright(layout):
-    """Lays out the licences in the form of Debian's file `copyright`."""
+    """Lays out Debian's file `copyright`. LICENSE-MIT has a title, the line of the owners and the text."""
     with open(layout.source('LICENSE-MIT'), encoding='utf-8') as file:
-        lines = file.read().strip().splitlines()
-    owner = next((it for it in lines if it.startswith('Copyright')), 'Copyright: the Gabzetu authors')
-    mit = ''.join(f' {it.strip() or "."}\n' for it in lines if it != owner)
+        _, owner, *paragraphs = file.read().strip().split('\n\n')
+    mit = '\n.\n'.join(paragraphs).replace('\n', '\n ')
     owner = owner.replace('Copyright (c)', 'Copyright:')
     layout.write(f'{DOCS}/copyright', COPYRIGHT.format(copyright=owner, mit=mit))
 
