@@ -187,7 +187,9 @@ class Gate(Folder):
     def test_refuses_what_is_not_passed(self):
         self.refuse('', 'did not come to its end')
         self.refuse(GATE.replace('0 failed', '1 failed'), 'this gate is not passed')
-        self.refuse(GATE.replace('0 failed', '0 failed (zb_low and the crates below alone: not the gate)'), 'not passed')
+        self.refuse(
+            GATE.replace('0 failed', '0 failed (zb_low and the crates below alone: not the gate)'), 'not passed'
+        )
         self.refuse(GATE.replace('rt: ok', 'rt: FAILED'), 'as `rt ci` writes it')
         self.refuse(GATE + '4 passed, 2 failed\n', 'not passed')
         self.refuse(GATE + 'tools/test: one: failed\ntools/test: two: ok\n', 'tools/test: one: failed')
@@ -196,9 +198,7 @@ class Gate(Folder):
 
 class Needs(unittest.TestCase):
     def test_of_the_libraries_named_in_a_program(self):
-        self.assertEqual(
-            needs_of(b'\0GLIBC_2.9\0GLIBC_2.34\0libgcc_s.so.1\0'), ['libc6 (>= 2.34)', 'libgcc-s1']
-        )
+        self.assertEqual(needs_of(b'\0GLIBC_2.9\0GLIBC_2.34\0libgcc_s.so.1\0'), ['libc6 (>= 2.34)', 'libgcc-s1'])
         self.assertEqual(needs_of(b'nothing'), [])
 
 
