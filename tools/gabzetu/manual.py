@@ -78,8 +78,8 @@ def write_manual():
             '.SH ENVIRONMENT\n',
             tagged(
                 'GABZETU_TC',
-                'the path of the program tc. Without it it is /usr/lib/gabzetu/tc, else the one that '
-                './build built in a clone.',
+                'the path of the program tc. Without it it is lib/gabzetu/tc of this installation, else '
+                '/usr/lib/gabzetu/tc, else the one that ./build built in a clone.',
             ),
             '.SH SEE ALSO\ndocs/TUTORIAL.md, docs/FORMATS.md, docs/POLICY.md, docs/ADMIN.md, docs/SCENARIOS.md\n',
         ]

@@ -6,6 +6,8 @@ import subprocess
 from . import TOP
 from .errors import MISSING, Stop
 
+# Where the package is PREFIX/share/gabzetu, tc is PREFIX/lib/gabzetu/tc.
+BESIDE = os.path.normpath(os.path.join(TOP, '..', '..', 'lib', 'gabzetu', 'tc'))
 INSTALLED = '/usr/lib/gabzetu/tc'
 BUILT = os.path.join(TOP, 'crates', 'tc_cli', 'out', 'tc_cli')
 HOW_TO_GET_IT = (
@@ -23,7 +25,7 @@ def is_program(path):
 
 
 def find_tc():
-    """Returns the path of tc: $GABZETU_TC, else the installed one, else the one that ./build built.
+    """Returns the path of tc: $GABZETU_TC, else that of this installation, else /usr/lib/gabzetu/tc, else the built one.
 
     Raises Stop where there is none."""
     named = os.environ.get('GABZETU_TC')
@@ -31,7 +33,7 @@ def find_tc():
         if is_program(named):
             return os.path.abspath(named)
         raise Stop(f'GABZETU_TC is {named!r}, and no program that can be run is there.', MISSING)
-    for path in (INSTALLED, BUILT):
+    for path in (BESIDE, INSTALLED, BUILT):
         if is_program(path):
             return path
     raise Stop(HOW_TO_GET_IT, MISSING)

@@ -1,0 +1,206 @@
+"""Tests of tools/release, in a small repository of their own with a stand-in for tc."""
+import hashlib
+import os
+import re
+import shutil
+import subprocess
+import tempfile
+import unittest
+
+from gabzetu import TOP
+from gabzetu.errors import Stop
+from gabzetu.test.support import Folder
+from releasing.gate import read_gate
+from releasing.program import needs_of
+
+GATE = 'zb_low ran\nrt: ok; handles allowed: none; every proof was done in this run\n12 passed, 0 failed\n'
+LICENCE = 'MIT License\n\nCopyright (c) 2026 Somebody\n\nPermission is granted.\n\nAs it is.\n'
+AUTHOR = ['-c', 'user.name=a', '-c', 'user.email=a@example.org']
+TOOLS = ('git', 'dpkg-deb', 'zstd')
+missing = [it for it in TOOLS if not shutil.which(it)]
+# The stand-in is a small program of the system: nothing runs it.
+STAND_IN = shutil.which('true')
+INSTALLED = '''
+./usr/bin/gabzetu
+./usr/lib/gabzetu/tc
+./usr/lib/gabzetu/KIT
+./usr/share/gabzetu/gabzetu
+./usr/share/gabzetu/VERSION
+./usr/share/gabzetu/COMMIT
+./usr/share/gabzetu/tools/gabzetu/cli.py
+./usr/share/gabzetu/tools/gabzetu/explorer/web/page.html
+./usr/share/doc/gabzetu/README.md
+./usr/share/doc/gabzetu/docs/FORMATS.md
+./usr/share/doc/gabzetu/examples/join.sched
+./usr/share/doc/gabzetu/LICENSE-MIT
+./usr/share/doc/gabzetu/copyright
+./usr/share/doc/gabzetu/gate.txt
+./usr/share/doc/gabzetu/SHA256SUMS
+./usr/share/man/man1/gabzetu.1.gz
+./usr/share/bash-completion/completions/gabzetu
+./usr/share/zsh/vendor-completions/_gabzetu
+./usr/share/fish/vendor_completions.d/gabzetu.fish
+'''.split()
+
+
+def git(folder, *words):
+    subprocess.run(['git', *AUTHOR, *words], cwd=folder, stdout=subprocess.DEVNULL, check=True)
+
+
+def make_repository(folder):
+    """Writes and commits what a release takes from a repository."""
+    for name in ('gabzetu', 'VERSION', 'README.md', 'tools/release'):
+        os.makedirs(os.path.dirname(os.path.join(folder, name)), exist_ok=True)
+        shutil.copy(os.path.join(TOP, name), os.path.join(folder, name))
+    for name in ('docs', 'examples', 'tools/gabzetu', 'tools/releasing'):
+        shutil.copytree(
+            os.path.join(TOP, name), os.path.join(folder, name), ignore=shutil.ignore_patterns('__pycache__')
+        )
+    for name in ('LICENSE', 'LICENSE-MIT', 'LICENSE-APACHE'):
+        with open(os.path.join(folder, name), 'w', encoding='utf-8') as file:
+            file.write(LICENCE)
+    git(folder, 'init', '-q')
+    git(folder, 'add', '-A')
+    git(folder, 'commit', '-q', '-m', 'all')
+
+
+def release(top, *words, program=STAND_IN, version=None):
+    """Runs tools/release of a repository. Returns its status and what it said."""
+    with open(os.path.join(top, 'VERSION'), encoding='ascii') as file:
+        version = version or file.read().strip()
+    words = [version, '--gate', '-', '--kit', 'kit 1', '--program', program, '--no-root', *words]
+    ran = subprocess.run(
+        [os.path.join(top, 'tools', 'release'), *words],
+        input=GATE,
+        stdout=subprocess.PIPE,
+        stderr=subprocess.STDOUT,
+        encoding='utf-8',
+        check=False,
+    )
+    return ran.returncode, ran.stdout
+
+
+def output_of(*words):
+    return subprocess.run(words, stdout=subprocess.PIPE, encoding='utf-8', check=True).stdout
+
+
+@unittest.skipIf(missing, f'{" ".join(missing)} is missing')
+class Release(unittest.TestCase):
+    @classmethod
+    def setUpClass(cls):
+        cls.holder = tempfile.TemporaryDirectory()
+        cls.top, cls.out = (os.path.join(cls.holder.name, it) for it in ('top', 'out'))
+        os.mkdir(cls.top)
+        make_repository(cls.top)
+        cls.status, cls.said = release(cls.top, '-o', cls.out)
+
+    @classmethod
+    def tearDownClass(cls):
+        cls.holder.cleanup()
+
+    def made(self, ending):
+        """Returns the path of the file that was made with this ending."""
+        self.assertEqual(self.status, 0, self.said)
+        return next(os.path.join(self.out, it) for it in os.listdir(self.out) if it.endswith(ending))
+
+    def test_the_package_has_all_in_its_places(self):
+        rows = [it.split(None, 5) for it in output_of('dpkg-deb', '-c', self.made('.deb')).splitlines()]
+        names = {row[5].split(' -> ')[0] for row in rows}
+        self.assertEqual([it for it in INSTALLED if it not in names], [])
+        self.assertEqual([it for it in names if re.search('bin/tc$|/test/|/data/|__pycache__', it)], [])
+        self.assertEqual({row[1] for row in rows}, {'root/root'})
+        modes = {row[5]: row[0] for row in rows}
+        self.assertEqual(modes['./usr/lib/gabzetu/tc'], '-rwxr-xr-x')
+        self.assertEqual(modes['./usr/lib/gabzetu/KIT'], '-rw-r--r--')
+
+    def test_the_package_says_what_it_needs(self):
+        said = output_of('dpkg-deb', '-f', self.made('_amd64.deb'))
+        self.assertRegex(said, r'Depends: python3 \(>= 3.8\), libc6 \(>= 2\.\d+\)\n')
+        self.assertIn('Recommends: python3-scapy\n', said)
+
+    def test_the_archive_runs_where_it_is_unpacked(self):
+        room = os.path.join(self.holder.name, 'unpacked')
+        os.mkdir(room)
+        subprocess.run(['tar', '--zstd', '-xf', self.made('.tar.zst'), '-C', room], check=True)
+        prefix = os.path.realpath(os.path.join(room, os.listdir(room)[0]))
+        lines = output_of(os.path.join(prefix, 'bin', 'gabzetu'), '--version').splitlines()
+        self.assertIn(f'tc: {prefix}/lib/gabzetu/tc', lines)
+        self.assertIn('kit: kit 1', lines)
+        with open(os.path.join(prefix, 'share/doc/gabzetu/gate.txt'), encoding='utf-8') as file:
+            self.assertEqual(file.read(), GATE.split('\n', 1)[1])
+        self.check_sums(prefix, 'share/doc/gabzetu/SHA256SUMS')
+
+    def check_sums(self, folder, name):
+        with open(os.path.join(folder, name), encoding='utf-8') as file:
+            rows = [it.rstrip('\n').split('  ') for it in file]
+        self.assertTrue(rows)
+        for found, path in rows:
+            with open(os.path.join(folder, path), 'rb') as file:
+                self.assertEqual(hashlib.sha256(file.read()).hexdigest(), found, path)
+
+    def test_comes_out_the_same_again(self):
+        self.check_sums(os.path.dirname(self.made('SHA256SUMS')), 'SHA256SUMS')
+        again = os.path.join(self.holder.name, 'again')
+        self.assertEqual(release(self.top, '-o', again)[0], 0)
+        for name in os.listdir(self.out):
+            with open(os.path.join(self.out, name), 'rb') as one, open(os.path.join(again, name), 'rb') as other:
+                self.assertEqual(one.read(), other.read(), name)
+
+    def test_refuses_what_is_not_committed(self):
+        path = os.path.join(self.top, 'README.md')
+        with open(path, encoding='utf-8') as file:
+            before = file.read()
+        with open(path, 'a', encoding='utf-8') as file:
+            file.write('more\n')
+        try:
+            status, said = release(self.top)
+        finally:
+            with open(path, 'w', encoding='utf-8') as file:
+                file.write(before)
+        self.assertEqual(status, 65)
+        self.assertIn('README.md was edited after the commit', said)
+
+    def test_refuses_another_version(self):
+        status, said = release(self.top, version='77.0')
+        self.assertEqual(status, 65)
+        self.assertIn("VERSION says '", said)
+
+    def test_refuses_what_is_no_program(self):
+        status, said = release(self.top, program=os.path.join(self.top, 'gabzetu'))
+        self.assertEqual(status, 65)
+        self.assertIn('this is no x86-64 program', said)
+
+
+class Gate(Folder):
+    def read(self, text):
+        return read_gate(self.write('gate.log', text))
+
+    def refuse(self, text, why):
+        with self.assertRaisesRegex(Stop, why):
+            self.read(text)
+
+    def test_takes_the_last_lines(self):
+        after = 'tools/test: one: ok\ntools/test: two: skipped, x is missing\n'
+        self.assertEqual(self.read(GATE), GATE.splitlines()[1:])
+        self.assertEqual(self.read(GATE + after), (GATE + after).splitlines()[1:])
+
+    def test_refuses_what_is_not_passed(self):
+        self.refuse('', 'did not come to its end')
+        self.refuse(GATE.replace('0 failed', '1 failed'), 'this gate is not passed')
+        self.refuse(
+            GATE.replace('0 failed', '0 failed (zb_low and the crates below alone: not the gate)'), 'not passed'
+        )
+        self.refuse(GATE.replace('rt: ok', 'rt: FAILED'), 'as `rt ci` writes it')
+        self.refuse(GATE + '4 passed, 2 failed\n', 'not passed')
+        self.refuse(GATE + 'tools/test: one: failed\ntools/test: two: ok\n', 'tools/test: one: failed')
+        self.refuse(GATE + 'zb_low has 4 wrong edits, 3 at most\n', 'a step after `rt ci` failed')
+
+
+class Needs(unittest.TestCase):
+    def test_of_the_libraries_named_in_a_program(self):
+        self.assertEqual(needs_of(b'\0GLIBC_2.9\0GLIBC_2.34\0libgcc_s.so.1\0'), ['libc6 (>= 2.34)', 'libgcc-s1'])
+        self.assertEqual(needs_of(b'nothing'), [])
+
+
+if __name__ == '__main__':
+    unittest.main()

@@ -1,0 +1,155 @@
+"""Lays out what is installed, under a prefix: bin, lib and share."""
+import glob
+import gzip
+import hashlib
+import os
+import shutil
+import subprocess
+import sys
+
+from gabzetu.errors import WRONG_INPUT, Stop
+
+LICENCES = ('LICENSE', 'LICENSE-MIT', 'LICENSE-APACHE')
+COMPLETIONS = {
+    'bash': 'share/bash-completion/completions/gabzetu',
+    'zsh': 'share/zsh/vendor-completions/_gabzetu',
+    'fish': 'share/fish/vendor_completions.d/gabzetu.fish',
+}
+DOCS = 'share/doc/gabzetu'
+COPYRIGHT = '''Format: https://www.debian.org/doc/packaging-manuals/copyright-format/1.0/
+Upstream-Name: gabzetu
+Comment: the program tc has code of the Rattle kit in it, which has its own terms.
+
+Files: *
+{copyright}
+License: Expat or Apache-2.0
+
+License: Expat
+ {mit}
+
+License: Apache-2.0
+ The text is in /usr/share/common-licenses/Apache-2.0, and in LICENSE-APACHE here.
+'''
+SUMS = f'{DOCS}/SHA256SUMS'
+
+
+class Layout:
+    """A folder that becomes /usr, or the top of the unpacked archive."""
+
+    def __init__(self, sources, prefix):
+        self.sources, self.prefix = sources, prefix
+
+    def path(self, name):
+        """Returns the path of a name under the prefix, whose folder exists then."""
+        path = os.path.join(self.prefix, name)
+        os.makedirs(os.path.dirname(path), exist_ok=True)
+        return path
+
+    def source(self, name):
+        """Returns the path of a committed file. Stops where there is none."""
+        path = os.path.join(self.sources, name)
+        if not os.path.exists(path):
+            raise Stop(f'{name} is not committed, and a release has it', WRONG_INPUT)
+        return path
+
+    def write(self, name, data, mode=0o644):
+        """Writes bytes or text to a file under the prefix."""
+        with open(self.path(name), 'wb') as file:
+            file.write(data.encode() if isinstance(data, str) else data)
+        os.chmod(self.path(name), mode)
+
+    def copy(self, name, to):
+        """Copies a committed file or folder to a name under the prefix, the tests of the front end left out."""
+        source = self.source(name)
+        if os.path.isdir(source):
+            shutil.copytree(source, self.path(to), ignore=shutil.ignore_patterns('test', '__pycache__'))
+        else:
+            shutil.copy(source, self.path(to))
+
+
+def lay_front_end(layout, commit):
+    """Lays out `gabzetu` as a clone has it, under share/gabzetu, and a link to it in bin."""
+    for name in ('gabzetu', 'VERSION', 'tools/gabzetu'):
+        layout.copy(name, f'share/gabzetu/{name}')
+    layout.write('share/gabzetu/COMMIT', f'{commit.name[:12]}\n')
+    os.symlink('../share/gabzetu/gabzetu', layout.path('bin/gabzetu'))
+
+
+def lay_program(layout, program, kit):
+    """Lays out the program, and the version of the kit beside it."""
+    layout.write('lib/gabzetu/tc', program, 0o755)
+    layout.write('lib/gabzetu/KIT', f'{kit}\n')
+
+
+def lay_documents(layout, gate):
+    """Lays out pages, examples, licences and the gate's last lines. Links between the pages stay right."""
+    for path in sorted(glob.glob(os.path.join(layout.sources, '*.md'))):
+        layout.copy(os.path.basename(path), f'{DOCS}/{os.path.basename(path)}')
+    for name in ('docs', 'examples', *LICENCES):
+        layout.copy(name, f'{DOCS}/{name}')
+    os.remove(layout.path(f'{DOCS}/docs/gabzetu.1'))
+    layout.write(f'{DOCS}/gate.txt', '\n'.join(gate) + '\n')
+
+
+def lay_copyright(layout):
+    """Lays out Debian's file `copyright`. LICENSE-MIT has a title, the line of the owners and the text."""
+    with open(layout.source('LICENSE-MIT'), encoding='utf-8') as file:
+        _, owner, *paragraphs = file.read().strip().split('\n\n')
+    mit = '\n.\n'.join(paragraphs).replace('\n', '\n ')
+    owner = owner.replace('Copyright (c)', 'Copyright:')
+    layout.write(f'{DOCS}/copyright', COPYRIGHT.format(copyright=owner, mit=mit))
+
+
+def lay_help(layout):
+    """Lays out the man page and the completions."""
+    with open(layout.source('docs/gabzetu.1'), 'rb') as file:
+        layout.write('share/man/man1/gabzetu.1.gz', gzip.compress(file.read(), 9, mtime=0))
+    for shell, name in COMPLETIONS.items():
+        layout.write(name, completions_of(layout, shell))
+
+
+def completions_of(layout, shell):
+    """Returns what the laid out front end writes as completions for a shell."""
+    front = layout.path('share/gabzetu/gabzetu')
+    ran = subprocess.run([sys.executable, front, 'completions', shell], stdout=subprocess.PIPE, check=False)
+    if ran.returncode or not ran.stdout:
+        raise Stop(f'`gabzetu completions {shell}` ended with status {ran.returncode}', WRONG_INPUT)
+    return ran.stdout
+
+
+def files_of(folder):
+    """Returns the regular files of a folder, by their names below it, in order."""
+    found = [os.path.join(at, it) for at, _, names in os.walk(folder) for it in names]
+    return sorted(os.path.relpath(it, folder) for it in found if not os.path.islink(it))
+
+
+def sums_of(folder, kind='sha256'):
+    """Returns the check sums of the files of a folder, a line each, as sha256sum or md5sum writes them."""
+    rows = []
+    for name in files_of(folder):
+        with open(os.path.join(folder, name), 'rb') as file:
+            rows.append(f'{hashlib.new(kind, file.read()).hexdigest()}  {name}\n')
+    return ''.join(rows)
+
+
+def settle(folder, date):
+    """Gives all files and folders their modes and one time, so that the same release comes out again."""
+    for at, _, names in os.walk(folder, topdown=False):
+        for path in (os.path.join(at, it) for it in names):
+            if not os.path.islink(path):
+                os.chmod(path, 0o755 if os.stat(path).st_mode & 0o100 else 0o644)
+            os.utime(path, (date, date), follow_symlinks=False)
+        os.chmod(at, 0o755)
+        os.utime(at, (date, date))
+
+
+def lay_out(sources, prefix, commit, program, kit, gate):
+    """Lays out all that is installed, with the check sums of its files."""
+    layout = Layout(sources, prefix)
+    lay_front_end(layout, commit)
+    lay_program(layout, program, kit)
+    lay_documents(layout, gate)
+    lay_copyright(layout)
+    lay_help(layout)
+    layout.write(SUMS, sums_of(prefix))
+    settle(prefix, commit.date)
