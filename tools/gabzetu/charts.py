@@ -126,6 +126,7 @@ class Chart:
         )
 
     def box_row(self, node, box):
+        """Returns the row of a box at a node."""
         shape, colour = SHAPES[box.kind]
         lines = wrap(box.texts, 1)
         return Row([arc(self.name(node), shape, self.name(node), lines, textbgcolour=colour)], len(lines))

@@ -25,7 +25,7 @@ Key = collections.namedtuple('Key', 'number key origin packet by')
 
 
 def is_closed(layers):
-    """Says whether another key or address might open a further layer."""
+    """Returns whether another key or address might open a further layer."""
     return not layers or any(it.reason in CLOSED for it in layers)
 
 

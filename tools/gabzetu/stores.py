@@ -16,7 +16,7 @@ def try_script(script):
 
 
 def is_restored(status, lines):
-    """Says whether a script whose last command is `restore` made a store."""
+    """Returns whether a script whose last command is `restore` made a store."""
     return status == 0 and lines[-1:] != [] and lines[-1].startswith('ok ')
 
 

@@ -24,6 +24,7 @@ RUN_AGAIN = 'Look at the disk and run it again: it goes on from what is on the d
 
 
 def add_arguments(parser):
+    """Adds the words of the command."""
     parser.add_argument(
         'store', metavar='STORE', help='the file of the store; where there is none, `init` or `restore` makes it'
     )
@@ -40,6 +41,7 @@ class Lines:
         self.file = sys.stdout.buffer if path in (None, '-') else None
 
     def hand_on(self, line):
+        """Writes a line of tc, as it is or as a JSON line."""
         try:
             if self.file is None:
                 self.file = open(self.path, 'wb')
@@ -53,6 +55,7 @@ class Lines:
             ) from error
 
     def close(self):
+        """Closes OUT where it was opened."""
         if self.file not in (None, sys.stdout.buffer):
             self.file.close()
 
@@ -94,6 +97,7 @@ def serve(store, given, lines):
 
 
 def run(arguments):
+    """Runs the command, and returns the exit status."""
     given = read_input(arguments.script)
     os.umask(PRIVATE)
     lines = Lines(arguments.output, arguments.json)

@@ -9,9 +9,11 @@ DESCRIPTION = """Judges a transcript: `sound SEALS ACCEPTS WORD`, or `broken LIN
 
 
 def add_arguments(parser):
+    """Adds the words of the command."""
     parser.add_argument('transcript', metavar='TRANSCRIPT', help='a transcript, or - for standard input')
     add_output(parser)
 
 
 def run(arguments):
+    """Runs the command, and returns the exit status."""
     return run_file(arguments, ['audit'], 'transcript', arguments.transcript, read_verdict_line)

@@ -10,6 +10,7 @@ USAGE = f'COUNT is a number from 1 to 1000, START one up to 4294966295. {JOBS_US
 
 
 def add_arguments(parser):
+    """Adds the words of the command."""
     parser.add_argument('count', metavar='COUNT', help='the number of runs, 1 to 1000')
     parser.add_argument('start', metavar='START', nargs='?', default='0', help='the start value of the first run (0)')
     add_jobs(parser)
@@ -17,6 +18,7 @@ def add_arguments(parser):
 
 
 def run(arguments):
+    """Runs the command, and returns the exit status."""
     words = ['campaign', arguments.count, arguments.start, arguments.jobs]
     with progress.shown(f'{arguments.count} runs'):
         ran = program.run_tc(words)

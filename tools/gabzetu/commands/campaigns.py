@@ -37,6 +37,7 @@ CAPTURES = (b'\xa1\xb2\xc3\xd4', b'\xd4\xc3\xb2\xa1', b'\xa1\xb2\x3c\x4d', b'\x4
 
 
 def add_arguments(parser):
+    """Adds the words of the command."""
     parser.add_argument('kind', choices=list(KINDS), help='what is done')
     parser.add_argument('words', metavar='WORD', nargs='+', help='the words of that kind, as above')
     add_keys(parser)
@@ -64,6 +65,7 @@ def words_of(arguments, names):
 
 
 def run(arguments):
+    """Runs the command, and returns the exit status."""
     try:
         return KINDS[arguments.kind](arguments)
     except OSError as error:
@@ -73,6 +75,7 @@ def run(arguments):
 
 
 def do_schedule(arguments):
+    """Writes a made schedule."""
     start, count = words_of(arguments, 'START N')
     if start > MASK or not 1 <= count <= MOST:
         raise Stop(f'START is 0 to {MASK}, and N is 1 to {MOST}', WRONG_USE)
@@ -151,6 +154,7 @@ def name_run(results, runs, start, number):
 
 
 def do_runs(arguments):
+    """Plays made schedules in calls of `tc campaign`, and adds up their totals."""
     count, start, results = words_of(arguments, 'COUNT START RESULTS')
     if count < 1 or start + count > LAST:
         raise Stop(f'no {count} start values from {start} on: they are 0 to {LAST - 1}', WRONG_USE)
@@ -190,6 +194,7 @@ def key_words(arguments):
 
 
 def do_captures(arguments):
+    """Opens each file of a folder, and adds up what was found."""
     given, results = words_of(arguments, 'FOLDER RESULTS')
     folder = os.path.abspath(given)
     files = sorted(

@@ -30,6 +30,7 @@ ENDINGS = ('.svg', '.png', '.msc')
 
 
 def add_arguments(parser):
+    """Adds the words of the command."""
     parser.add_argument('transcript', metavar='TRANSCRIPT', help='the transcript, - for the standard input')
     parser.add_argument('out', metavar='OUT', nargs='+', help='a picture, which ends in .svg, .png or .msc')
     parser.add_argument('--from', dest='first', type=int, default=1, metavar='EVENT', help='the first event to draw')
@@ -80,6 +81,7 @@ def draw(text, out):
 
 
 def run(arguments):
+    """Runs the command, and returns the exit status."""
     check_outs(arguments.out)
     history = make_history(read_transcript(arguments.transcript), arguments.schedule)
     text = make_chart(history, arguments.first, arguments.last, arguments.node)

@@ -26,6 +26,7 @@ Verdict = collections.namedtuple('Verdict', 'status line cause output')
 
 
 def add_arguments(parser):
+    """Adds the words of the command."""
     parser.add_argument('files', metavar='FILE', nargs='+', help='a file, or - for standard input')
     parser.add_argument(
         '--kind', choices=sorted(diagnosis.READERS), help='what the files are; without it their lines tell'
@@ -47,6 +48,7 @@ def ask_tc(kind, data):
 
 
 def object_of(name, mistake):
+    """Returns the fields of a mistake, without those that it has not."""
     fields = {'file': name, **mistake._asdict()}
     return {key: value for key, value in fields.items() if value is not None}
 
@@ -122,4 +124,5 @@ def check(arguments, path):
 
 
 def run(arguments):
+    """Runs the command, and returns the exit status."""
     return max(check(arguments, path) for path in arguments.files)

@@ -30,6 +30,7 @@ NETWORK = b'\x62\x1a'
 
 
 def add_arguments(parser):
+    """Adds the words of the command."""
     parser.add_argument('transcript', metavar='TRANSCRIPT', nargs='?', help='a transcript, or - for standard input')
     parser.add_argument(
         '--made', nargs=2, metavar=('COUNT', 'START'), type=int, help='compare the runs of `campaign COUNT START`'
@@ -37,6 +38,7 @@ def add_arguments(parser):
 
 
 def run(arguments):
+    """Runs the command, and returns the exit status."""
     if (arguments.transcript is None) == (arguments.made is None):
         raise Stop('compare takes a transcript, or --made COUNT START', WRONG_USE)
     if not shutil.which('tshark'):
@@ -195,6 +197,7 @@ def finish(count, same, opened, neither, found, wrong):
 
 
 def compare_transcript(path):
+    """Compares the frames of a transcript, and returns the exit status."""
     frames, keys = frames_and_keys(read_input(path).decode('ascii', 'replace'))
     if not frames:
         raise Stop(f'{path}: no frames are in it', UNREADABLE)

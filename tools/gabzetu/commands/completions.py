@@ -10,10 +10,12 @@ DESCRIPTION = """Writes the completions for a shell. Where they go:
 
 
 def add_arguments(parser):
+    """Adds the words of the command."""
     parser.add_argument('shell', choices=['bash', 'fish', 'zsh'], help='the shell')
 
 
 def run(arguments):
+    """Runs the command, and returns the exit status."""
     from ..completions import SHELLS
 
     write_output(None, SHELLS[arguments.shell]())

@@ -20,6 +20,7 @@ LONGEST = 110
 
 
 def add_arguments(parser):
+    """Adds the words of the command."""
     parser.add_argument('transcript', metavar='TRANSCRIPT', help='a transcript, or - for standard input')
     parser.add_argument('event', metavar='EVENT', nargs='?', help='the number of the event; 0 is the start')
     parser.add_argument('--broken', nargs=2, metavar=('LINE', 'CLAIM'), help='a line that breaks a claim')
@@ -28,6 +29,7 @@ def add_arguments(parser):
 
 
 def number_of(word, what):
+    """Returns the number that a word is. Raises Stop where it is none."""
     if not word.isdigit():
         raise Stop(f'{what} is a number, and {word!r} is none', WRONG_USE)
     return int(word)
@@ -43,11 +45,13 @@ class Teller:
         self.is_full = is_full
 
     def tell_line(self, line, mark=' '):
+        """Returns a line of a transcript and its sentence, in lines."""
         text = printable(line.text if self.is_full or len(line.text) <= LONGEST else line.text[:LONGEST] + '..')
         said = printable(self.speaker.say(line.fields)) if line.fields else 'this is no line of a transcript'
         return [f'{mark}{line.number:6}  {text}', f'{"":9}{said}']
 
     def tell_lines(self, lines, marked=None):
+        """Returns lines of a transcript and their sentences. `marked` is the number of the line to point at."""
         return [it for line in lines for it in self.tell_line(line, '>' if line.number == marked else ' ')]
 
     def tell_heard(self, story):
@@ -162,6 +166,7 @@ def ask_audit(arguments, data):
 
 
 def run(arguments):
+    """Runs the command, and returns the exit status."""
     data = read_input(arguments.transcript)
     lines = stories.read_text(data.decode('ascii', 'replace'))
     if arguments.event is not None and arguments.broken:

@@ -31,6 +31,7 @@ NO_AUDIT = ['', None, 'not audited, since tc is missing', 0]
 
 
 def add_arguments(parser):
+    """Adds the words of the command."""
     parser.add_argument('input', metavar='FILE', help='the transcript or report, - for the standard input')
     parser.add_argument('out', metavar='OUT.html', help='the page, - for the standard output')
     parser.add_argument('--schedule', metavar='S', help='the schedule that was played')
@@ -47,6 +48,7 @@ def audit(text):
 
 
 def title_of(path):
+    """Returns the title of the page of an input."""
     return 'standard input' if path == '-' else os.path.basename(path)
 
 
@@ -77,6 +79,7 @@ def read_text(path):
 
 
 def run(arguments):
+    """Runs the command, and returns the exit status."""
     text = read_text(arguments.input)
     data = explore_report(text, arguments) if is_report(text) else explore_transcript(text, arguments)
     title, digest = title_of(arguments.input), hashlib.sha256(text.encode()).hexdigest()

@@ -30,6 +30,7 @@ REFUSED = 5
 
 
 def add_arguments(parser):
+    """Adds the words of the command."""
     parser.add_argument('backup', metavar='BACKUP', help='the JSON file, or - for standard input')
     parser.add_argument(
         '--skip', metavar='N', type=int, help=f'what is added to the counters ({A_DAY} for each day since the backup)'
@@ -207,6 +208,7 @@ def tell_rest(backup, skip):
 
 
 def run(arguments):
+    """Runs the command, and returns the exit status."""
     backup = parse_backup(read_input(arguments.backup), arguments.backup)
     skip = choose_skip(arguments.skip, backup.made, datetime.datetime.now(datetime.timezone.utc))
     carried = carried_devices(backup)

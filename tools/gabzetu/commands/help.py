@@ -8,6 +8,7 @@ SUMMARY = 'describe a command, or the lines of schedules, captures, scripts and 
 
 
 def add_arguments(parser):
+    """Adds the words of the command."""
     parser.add_argument(
         'topic',
         metavar='TOPIC',
@@ -17,6 +18,7 @@ def add_arguments(parser):
 
 
 def run(arguments):
+    """Runs the command, and returns the exit status."""
     topic = arguments.topic
     parsers = cli.parsers_of(cli.make_parser())
     if topic is None:

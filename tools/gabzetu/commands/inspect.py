@@ -6,6 +6,7 @@ SUMMARY = 'open the frames of a text capture, and write a report'
 
 
 def add_arguments(parser):
+    """Adds the words of the command."""
     parser.add_argument(
         'capture', metavar='CAPTURE', help='a text capture (gabzetu help capture), or - for standard input'
     )
@@ -14,6 +15,7 @@ def add_arguments(parser):
 
 
 def run(arguments):
+    """Runs the command, and returns the exit status."""
     return run_file(
         arguments, ['inspect', arguments.jobs], 'capture', arguments.capture, read_report_line, JOBS_USAGE
     )

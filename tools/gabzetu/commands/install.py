@@ -7,11 +7,13 @@ SUMMARY = 'write the link key of an install code'
 
 
 def add_arguments(parser):
+    """Adds the words of the command."""
     parser.add_argument('code', metavar='CODE', help='the digits of the install code, those of its CRC included')
     add_output(parser)
 
 
 def run(arguments):
+    """Runs the command, and returns the exit status."""
     ran = program.run_tc(['install', arguments.code])
     status = finish(arguments, ran, read_key_line)
     tell('code', repr(arguments.code), ran, b'')

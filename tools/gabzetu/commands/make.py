@@ -7,11 +7,13 @@ SUMMARY = 'write the made schedule for N routers and devices'
 
 
 def add_arguments(parser):
+    """Adds the words of the command."""
     parser.add_argument('count', metavar='N', help='the number of routers and devices, 1 to 60')
     add_output(parser)
 
 
 def run(arguments):
+    """Runs the command, and returns the exit status."""
     ran = program.run_tc(['make', arguments.count])
     status = finish(arguments, ran, read_text_line)
     tell('made', f'make {arguments.count}', ran, b'', 'N is a number from 1 to 60.')

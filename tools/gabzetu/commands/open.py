@@ -33,6 +33,7 @@ inspect` says.'''
 
 
 def add_arguments(parser):
+    """Adds the words of the command."""
     parser.add_argument('capture', metavar='CAPTURE', help='a capture file, or - for standard input')
     add_keys(parser)
     parser.add_argument(
@@ -160,6 +161,7 @@ def finish(shown, arguments):
 
 
 def run(arguments):
+    """Runs the command, and returns the exit status."""
     ring = read_ring(arguments)
     capture = Capture(arguments.capture, arguments.fcs, arguments.zep_port, arguments.follow)
     opener = Opener(ring, default_jobs())

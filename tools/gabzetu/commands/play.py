@@ -6,6 +6,7 @@ SUMMARY = 'play a schedule, and write its transcript'
 
 
 def add_arguments(parser):
+    """Adds the words of the command."""
     parser.add_argument(
         'schedule', metavar='SCHEDULE', help='a schedule (gabzetu help schedule), or - for standard input'
     )
@@ -13,4 +14,5 @@ def add_arguments(parser):
 
 
 def run(arguments):
+    """Runs the command, and returns the exit status."""
     return run_file(arguments, ['play'], 'schedule', arguments.schedule, read_transcript_line)

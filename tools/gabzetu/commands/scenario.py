@@ -11,6 +11,7 @@ each event that is refused a comment says why. `gabzetu help scenario` has the l
 
 
 def add_arguments(parser):
+    """Adds the words of the command."""
     parser.add_argument('scenario', metavar='SCENARIO', help='a scenario, or - for standard input')
     parser.add_argument(
         '-o', '--output', metavar='OUT', help='write to this file, all or nothing, and not to standard output'
@@ -18,6 +19,7 @@ def add_arguments(parser):
 
 
 def run(arguments):
+    """Runs the command, and returns the exit status."""
     name, data = told.base_name(arguments.scenario), read_input(arguments.scenario)
     with progress.shown(f'scenario {name}'):
         text = write_schedule(name, data)

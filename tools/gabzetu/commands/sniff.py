@@ -14,6 +14,7 @@ KEY_DIGITS = 32
 
 
 def add_arguments(parser):
+    """Adds the words of the command."""
     parser.add_argument('capture', metavar='CAPTURE', help='a pcap file, or - for standard input')
     parser.add_argument('keys', metavar='KEY', nargs='*', help='a key of 32 digits, or an install code with its CRC')
     add_jobs(parser)
@@ -31,6 +32,7 @@ def fault_of_key(word):
 
 
 def run(arguments):
+    """Runs the command, and returns the exit status."""
     words = ['sniff', arguments.jobs, *arguments.keys]
     status = run_file(
         arguments, words, 'pcap', arguments.capture, read_report_line, f'{JOBS_USAGE} There may be 256 keys.'

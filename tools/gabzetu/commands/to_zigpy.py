@@ -49,6 +49,7 @@ def read_channel(word):
 
 
 def add_arguments(parser):
+    """Adds the words of the command."""
     parser.add_argument('backup', metavar='BACKUP', help='what `backup` writes, or - for standard input')
     parser.add_argument(
         '--script', metavar='SCRIPT', help='a script of admin: its centre and peer lines say who has which address'
@@ -94,6 +95,7 @@ def read_addresses(path):
 
 
 def warn(condition, text):
+    """Says on standard error what holds, where it does."""
     if condition:
         say(f'gabzetu: {text}')
 
@@ -155,6 +157,7 @@ def tell_missing(arguments, coordinator, devices):
 
 
 def run(arguments):
+    """Runs the command, and returns the exit status."""
     if not 0 <= arguments.skip <= MOST_COUNTER:
         raise Stop(f'--skip is 0 to {MOST_COUNTER}', WRONG_USE)
     rows = read_rows(arguments.backup)

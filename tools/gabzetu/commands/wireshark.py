@@ -23,6 +23,7 @@ BROADCASTS, NETWORK = (0xFFFC, 0xFFFD, 0xFFFF), 0x1A62
 
 
 def add_arguments(parser):
+    """Adds the words of the command."""
     parser.add_argument('kind', choices=list(KINDS), help='what is written')
     parser.add_argument('file', metavar='FILE', help='the file to read, or - for standard input')
     parser.add_argument('out', metavar='OUT', nargs='?', help='the file to write, or - for standard output')
@@ -36,6 +37,7 @@ def add_arguments(parser):
 
 
 def run(arguments):
+    """Runs the command, and returns the exit status."""
     if arguments.out is None and arguments.kind != 'keys':
         raise Stop(
             f'wireshark {arguments.kind} takes the name of the file to write, or - for standard output', WRONG_USE
@@ -67,6 +69,7 @@ def with_packet(label, numbers):
 
 
 def write_keys(arguments):
+    """Writes the keys of a report or backup as lines of zigbee_pc_keys."""
     labels = read_key_file(arguments.file)
     if arguments.capture:
         numbers = packet_numbers(arguments.capture)
@@ -105,6 +108,7 @@ def read_transcript(path):
 
 
 def write_frames(arguments):
+    """Writes the frames of a transcript as a pcap."""
     nodes, frames = read_transcript(arguments.file)
     if not frames:
         raise Stop(f'{arguments.file}: no frames are in it', UNREADABLE)
@@ -116,6 +120,7 @@ def write_frames(arguments):
 
 
 def write_packets(arguments):
+    """Writes the packets of a capture as a pcap of link type 230."""
     capture, written = Capture(arguments.file, arguments.fcs, arguments.zep_port), 0
     with open_output(arguments.out) as file:
         file.write(pcap.HEADER)

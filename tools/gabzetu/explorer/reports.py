@@ -24,6 +24,7 @@ class ReportPage:
         self.anatomies = Anatomies(self.texts)
 
     def lane(self, pan, short):
+        """Returns the place of the lane of a short address in a PAN."""
         return self.lanes.place((pan or '', short))
 
     def ends(self, place):
@@ -163,7 +164,7 @@ def check_capture(report, heard, path):
 
 
 def secured(data):
-    """Says whether a frame has a sealed NWK layer."""
+    """Returns whether a frame has a sealed NWK layer."""
     try:
         return frames.read_nwk(data).payload is None
     except frames.Malformed:

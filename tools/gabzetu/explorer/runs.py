@@ -24,6 +24,7 @@ class Run:
         return self.places.get(name, -1)
 
     def box(self, box):
+        """Returns the place of a box."""
         return self.boxes.place((box.kind, tuple(self.texts.place(text) for text in box.texts)))
 
     def fold(self, event, boxes):

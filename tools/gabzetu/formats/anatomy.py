@@ -83,6 +83,7 @@ class Cursor:
         self.at = len(self.data)
 
     def section(self):
+        """Returns the section that was read."""
         return Section(self.kind, self.title, self.data, tuple(self.fields))
 
 

@@ -50,12 +50,15 @@ class Reader:
         self.addresses = {}
 
     def fault_of_meaning(self, form, line):
+        """Returns the mistake of a line of a known form, or none."""
         return getattr(self, f'take_{form.first}')(line, form.values(line))
 
     def take_key(self, line, values):
+        """Counts a key, and returns the mistake of its line, or none."""
         return self.count_key(line)
 
     def take_code(self, line, values):
+        """Counts an install code, and returns the mistake of its line, or none."""
         word = values['CODE']
         fault = fault_of_code(word.text)
         return mistake(line, word.column, word.text, fault, 'bad-code') if fault else self.count_key(line)
@@ -68,6 +71,7 @@ class Reader:
         return None
 
     def take_addr(self, line, values):
+        """Notes a short address, and returns the mistake of its line, or none."""
         word = values['SHORT']
         earlier = self.addresses.setdefault(word.text.upper(), line.number)
         if earlier != line.number:
@@ -77,6 +81,7 @@ class Reader:
         return None
 
     def take_frame(self, line, values):
+        """Counts a frame, and returns the mistake of its line, or none."""
         self.frames += 1
         if self.frames > MOST_FRAMES:
             return mistake(line, 1, line.text, f'a capture has at most {MOST_FRAMES} frames', 'too-many')

@@ -25,6 +25,7 @@ def check_of(body):
 
 
 def address_size(mode):
+    """Returns the number of bytes of an address of this mode."""
     return {2: 2, 3: 8}.get(mode, 0)
 
 

@@ -33,7 +33,7 @@ KEY_TYPES = {1: 'network key', 3: 'application key', 4: 'link key'}
 
 
 def command_words(content):
-    """Says what an APS command is, and of a Transport-Key which key it carries."""
+    """Returns what an APS command is, and of a Transport-Key which key it carries."""
     name = APS_COMMANDS.get(content[0], f'APS command {content[0]:02X}')
     if content[0] == 5 and len(content) >= 18:
         return f'{name}: {KEY_TYPES.get(content[1], f"key of type {content[1]}")} {content[2:18].hex().upper()}'
@@ -41,13 +41,13 @@ def command_words(content):
 
 
 def tunnel_words(layers):
-    """Says what a Tunnel is, and what is in it as far as it is open."""
+    """Returns what a Tunnel is, and what is in it as far as it is open."""
     inner = [it.content for it in layers if it.kind == 'inner' and it.content not in (None, '-')]
     return f'Tunnel of {command_words(bytes.fromhex(inner[0]))}' if inner else 'Tunnel'
 
 
 def payload_words(payload, layers):
-    """Says what an APS frame carries."""
+    """Returns what an APS frame carries."""
     aps = headers.read_aps(payload)
     content = content_of(aps, layers)
     if aps.kind == headers.ACK:
@@ -60,7 +60,7 @@ def payload_words(payload, layers):
 
 
 def describe(frame, layers):
-    """Says what a frame carries as far as it is open, or nothing where its NWK layer is closed or is none."""
+    """Returns what a frame carries as far as it is open, or nothing where its NWK layer is closed or is none."""
     try:
         payload = payload_of(frame.nwk, layers) if frame.nwk else None
         if payload is None:

@@ -23,6 +23,7 @@ class Malformed(Exception):
 
 
 def take(data, at, size):
+    """Returns the bytes at a place, and the place after them. Raises Malformed where there are fewer."""
     if at + size > len(data):
         raise Malformed('header cut')
     return data[at : at + size], at + size

@@ -42,7 +42,7 @@ def read_schedule(path):
 
 
 def may_deliver(words):
-    """Says whether a line may be of a delivery whose frame the transcript doesn't show."""
+    """Returns whether a line may be of a delivery whose frame the transcript doesn't show."""
     if words[0] == 'refuse':
         return words[2] != 'event' or words[3] == 'down'
     return words[0] == 'stopped' or (words[0] == 'down' and words[2] == 'disk')

@@ -88,6 +88,7 @@ def keys_of_json(value):
 
 
 def number_of(word):
+    """Returns the number that a word is, decimal or with 0x."""
     return int(word, 16) if word[:2] in ('0x', '0X') else int(word)
 
 

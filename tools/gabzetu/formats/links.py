@@ -62,7 +62,7 @@ def in_zep(data):
 
 
 def looks_like_zep(data):
-    """Says whether a payload of UDP has a ZEP header whose length is that of what stands behind it."""
+    """Returns whether a payload of UDP has a ZEP header whose length is that of what stands behind it."""
     if data[:2] != b'EX' or len(data) < 4 or data[2] not in ZEP_FORMS or (data[2] == 2 and data[3] != 1):
         return False
     size, _, length = ZEP_FORMS[data[2]]
@@ -96,6 +96,7 @@ class Links:
             self.udp = scapy.layers.inet.UDP
 
     def in_udp(self, packet):
+        """Returns what the ZEP packet in a UDP packet holds. Raises LeftOut where there is none."""
         self.load()
         kind = self.scapy.config.conf.l2types.num2layer.get(packet.link)
         if kind is None:

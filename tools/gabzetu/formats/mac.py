@@ -30,6 +30,7 @@ def read_address(packet, at, mode):
 
 
 def read_pan(packet, at):
+    """Returns the PAN at a place, and the place after it. Raises LeftOut where the header is cut."""
     if at + 2 > len(packet):
         raise LeftOut('MAC header cut')
     return digits(packet[at : at + 2]), at + 2

@@ -9,6 +9,7 @@ MOST = 60
 
 
 def rotated(word, count):
+    """Returns a word of 32 bits, rotated to the left."""
     return (word << count | word >> 32 - count) & MASK
 
 
@@ -56,6 +57,7 @@ def crc(data):
 
 
 def name(i):
+    """Returns the name of node i; 0 is the centre."""
     return f'd{i}' if i else 'c'
 
 

@@ -73,9 +73,11 @@ class Peeked(io.RawIOBase):
         self.first, self.file = first, file
 
     def readable(self):
+        """Returns true: it can be read."""
         return True
 
     def readinto(self, buffer):
+        """Fills a buffer, first with the bytes that were looked at, and returns their number."""
         data = self.first[: len(buffer)] or self.file.read1(len(buffer))
         self.first = self.first[len(data) :]
         buffer[: len(data)] = data

@@ -33,6 +33,7 @@ class Known:
 
 
 def level_words(auxiliary):
+    """Returns the words on a security level that is not read, or none."""
     return (
         f'level {auxiliary.level} ({LEVELS[auxiliary.level]}), which is not read'
         if auxiliary.level not in (0, 5)
@@ -41,7 +42,7 @@ def level_words(auxiliary):
 
 
 def why_malformed(payload):
-    """Says what kind of frame it is that tc does not read as NWK."""
+    """Returns what kind of frame it is that tc does not read as NWK."""
     if len(payload) >= 1 and payload[0] >> 2 & 15 == headers.GREEN_POWER:
         return 'Green Power frame (NWK version 3), which is not read'
     if len(payload) >= 1 and payload[0] & 3 == headers.INTER_PAN and payload[0] >> 2 & 15 == headers.VERSION:
@@ -52,7 +53,7 @@ def why_malformed(payload):
 
 
 def why_nwk(frame, known):
-    """Says why the NWK layer of a frame has no key."""
+    """Returns why the NWK layer of a frame has no key."""
     auxiliary = frame.nwk.auxiliary
     if auxiliary.identifier != 1:
         return f'NWK layer under a {KINDS[auxiliary.identifier]}, which is not read'
@@ -69,7 +70,7 @@ def why_nwk(frame, known):
 
 
 def why_aps(frame, layers, reason):
-    """Says why the APS layer of a frame did not open."""
+    """Returns why the APS layer of a frame did not open."""
     nwk = frame.nwk
     if reason == 'no-source':
         return f'APS: the EUI of {nwk.source} is not known'

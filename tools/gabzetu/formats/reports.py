@@ -27,7 +27,7 @@ WITH_CHECK, PACKET_NUMBER = 195, re.compile(r'#\s*packet\s+(\d+)', re.ASCII)
 
 
 def is_report(text):
-    """Says whether a text is a report, by its end line."""
+    """Returns whether a text is a report, by its end line."""
     return END.search(text) is not None
 
 
@@ -55,13 +55,13 @@ def parse_report(text, path):
 
 
 def is_digits(text, size=None):
-    """Says whether a text is bytes in digits, of a number of digits where it is given."""
+    """Returns whether a text is bytes in digits, of a number of digits where it is given."""
     pattern = f'[0-9A-F]{{{size}}}' if size else '-|(?:[0-9A-F]{2})+'
     return re.fullmatch(pattern, text, re.ASCII) is not None
 
 
 def is_well_formed(fields):
-    """Says whether the fields of a report's line are such as tc writes them."""
+    """Returns whether the fields of a report's line are such as tc writes them."""
     numbers = [name for name in ('k', 'counter', 'round', 'frames', 'keys', 'rounds') if name in fields]
     if not all(isinstance(fields[name], int) for name in numbers):
         return False

@@ -219,6 +219,7 @@ class Reader:
     # ---- declarations
 
     def take_node(self, found, line, values):
+        """Notes a node, and returns the mistake of its line, or none."""
         name, role, eui, short = (values[it].text for it in ('NAME', 'ROLE', 'EUI', 'SHORT'))
         eui, short = eui.upper(), short.upper()
         fault = (
@@ -233,6 +234,7 @@ class Reader:
 
     @staticmethod
     def fault_of_short(line, role, word):
+        """Returns the mistake of a short address that this role has not, or none."""
         if role == 'centre' and word.text != '0000':
             return mistake(line, word.column, word.text, 'the short address of the centre is 0000')
         if role != 'centre' and not 1 <= int(word.text, 16) <= 0xFFF7:
@@ -240,6 +242,7 @@ class Reader:
         return None
 
     def fault_of_taken(self, line, values):
+        """Returns the mistake of a name, address or centre that is there already, or none."""
         for name, old in self.nodes.items():
             word, what = taken(values, name, old.eui, old.short)
             if old.role == 'centre' and values['ROLE'].text == 'centre' and name != values['NAME'].text:
@@ -251,6 +254,7 @@ class Reader:
 
     @staticmethod
     def fault_of_blocks(line, values):
+        """Returns the mistake of a block out of its range, or none."""
         for key, most in BLOCKS.items():
             word = values[key]
             if not 1 <= int(word.text) <= most:
@@ -258,6 +262,7 @@ class Reader:
         return None
 
     def take_code(self, found, line, values):
+        """Notes an install code, and returns the mistake of its line, or none."""
         name, word = values['NAME'].text, values['CODE']
         if name in self.codes:
             return mistake(line, 1, line.text, f"'{name}' has a code already", 'duplicate-node', self.codes[name][0])
@@ -290,6 +295,7 @@ class Reader:
         return None
 
     def take_netkey(self, found, line, values):
+        """Notes a network key, and returns the mistake of its line, or none."""
         name, word = values['NAME'].text, values['KEY']
         earlier = next((number for number, _, what in self.netkeys if what == f"netkey of '{name}'"), None)
         if earlier:
@@ -299,6 +305,7 @@ class Reader:
         return fault
 
     def take_draw(self, found, line, values):
+        """Notes a key of the supply, and returns the mistake of its line, or none."""
         fault = self.fault_of_key(line, values['KEY'], self.draws + self.netkeys)
         self.draws.append((line.number, values['KEY'].text.upper(), 'draw'))
         return fault
@@ -320,6 +327,7 @@ class Reader:
         return None
 
     def take_counter(self, found, line, values):
+        """Notes a declared counter, and returns the mistake of its line, or none."""
         name, layer = values['NAME'].text, values['LAYER'].text
         earlier = self.counters.setdefault((name, layer), line.number)
         if earlier != line.number:
@@ -331,6 +339,7 @@ class Reader:
     # ---- events
 
     def fault_of_event(self, found, line, values):
+        """Counts an event, and returns the mistake of its line, or none."""
         fault = None
         if found.first == 'provision':
             fault = self.fault_of_code(line, values['NAME'].text, values['CODE'])
@@ -355,6 +364,7 @@ class Reader:
         return None
 
     def fault_of_node(self, line, word, role, place):
+        """Returns the mistake of a name at a place for this role, or none."""
         node = self.nodes.get(word.text)
         if node is None:
             message = f'no node of this name is declared before this line{suggestion(word.text, self.nodes)}'

@@ -76,6 +76,7 @@ class Reader:
         self.commands = 0
 
     def fault_of_meaning(self, form, line):
+        """Returns the mistake of a line of a known form, or none."""
         values = form.values(line)
         if form.first == 'centre':
             return self.take_centre(line, values)
@@ -91,6 +92,7 @@ class Reader:
         return fault
 
     def take_centre(self, line, values):
+        """Notes the centre, and returns the mistake of its line, or none."""
         if self.centre is not None:
             return mistake(line, 1, line.text, 'there is a centre already', 'syntax', self.centre)
         self.centre = line.number
@@ -103,6 +105,7 @@ class Reader:
         return None
 
     def take_peer(self, line, values):
+        """Notes a router or device, and returns the mistake of its line, or none."""
         if self.first_command is not None:
             message = (
                 f'a peer after a command: all peers come first, and the first command is line {self.first_command}'
@@ -119,6 +122,7 @@ class Reader:
         return fault
 
     def fault_of_taken(self, line, values):
+        """Returns the mistake of a name or address that is taken, or none."""
         for name, old in self.stations.items():
             word, what = taken(values, name, old.eui, old.short)
             if word:
@@ -126,6 +130,7 @@ class Reader:
         return None
 
     def fault_of_station(self, line, word, wanted):
+        """Returns the mistake of a name of no station with one of these roles, or none."""
         station = self.stations.get(word.text)
         if station is None:
             message = f'no node of this name comes before this line{suggestion(word.text, self.stations)}'
@@ -136,6 +141,7 @@ class Reader:
         return None
 
     def fault_of_provision(self, line, values):
+        """Returns the mistake of a `provision` line, or none."""
         word = values['CODE']
         fault = self.fault_of_station(line, values['NAME'], ['router', 'device'])
         if fault is None and fault_of_code(word.text):
@@ -143,6 +149,7 @@ class Reader:
         return fault
 
     def fault_of_remove(self, line, values):
+        """Returns the mistake of a `remove` line, or none."""
         name, parent = values['NAME'], values['PARENT']
         if name.text == parent.text:
             return mistake(line, parent.column, parent.text, 'a node is not its own parent', 'unknown-node')
@@ -152,6 +159,7 @@ class Reader:
 
     @staticmethod
     def fault_of_restore(line, values):
+        """Returns the mistake of a backup that is no JSON, or none."""
         word = values['BACKUP']
         try:
             json.loads(word.text)

@@ -58,9 +58,11 @@ class Speaker:
         return known(fields) if known else ''
 
     def say_node(self, it):
+        """Returns the sentence of a `node` line."""
         return f'{it["name"]} is a {it["role"]} at {it["eui"]}, short address {it["short"]}'
 
     def say_given(self, it):
+        """Returns the sentence of a `given` line."""
         if it['row'] == 'net':
             return f'{it["node"]} holds the network key {frames.short_key(it["key"])}, sequence {it["seq"]}'
         return (
@@ -69,12 +71,15 @@ class Speaker:
         )
 
     def say_counter(self, it):
+        """Returns the sentence of a `counter` line."""
         return f'{it["node"]} has used the {it["layer"]} counters below {it["n"]}'
 
     def say_reserve(self, it):
+        """Returns the sentence of a `reserve` line."""
         return f'{it["node"]} reserves the {it["layer"]} counters below {it["limit"]}'
 
     def say_floor(self, it):
+        """Returns the sentence of a `floor` line."""
         return (
             f'{it["node"]} takes no {it["layer"]} counter below {it["value"]} from {self.name(it["sender"])} any '
             'more under key '
@@ -82,23 +87,29 @@ class Speaker:
         )
 
     def say_draw(self, it):
+        """Returns the sentence of a `draw` line."""
         return f'the centre takes the key {frames.short_key(it["key"])} from its supply'
 
     def say_drop(self, it):
+        """Returns the sentence of a `drop` line."""
         if it['row'] == 'net':
             return f'{it["node"]} drops the network key {frames.short_key(it["key"])}'
         return f'{it["node"]} drops the link key {frames.short_key(it["key"])} with {self.name(it["partner"])}'
 
     def say_install(self, it):
+        """Returns the sentence of an `install` line."""
         return f'{it["node"]} has a new network key {frames.short_key(it["key"])}, sequence {it["seq"]}'
 
     def say_active(self, it):
+        """Returns the sentence of an `active` line."""
         return f'{it["node"]} seals under the network key {frames.short_key(it["key"])} from now on'
 
     def say_start(self, it):
+        """Returns the sentence of a `start` line."""
         return f'{it["node"]} begins under the network key {frames.short_key(it["key"])} at counter {it["value"]}'
 
     def say_row(self, it):
+        """Returns the sentence of a `row` line."""
         attribute = ATTRIBUTES.get(it['attribute'], it['attribute'])
         return (
             f'{it["node"]} has the link key {frames.short_key(it["key"])} with {self.name(it["partner"])}: '
@@ -106,19 +117,24 @@ class Speaker:
         )
 
     def say_pair(self, it):
+        """Returns the sentence of a `pair` line."""
         pair = f'{self.name(it["first"])} and {self.name(it["second"])}'
         return f'the centre keeps {frames.short_key(it["key"])} as the key of {pair}'
 
     def say_state(self, it):
+        """Returns the sentence of a `state` line."""
         return f'{it["node"]} is {it["state"]}: it {STATES.get(it["state"], "is in this state")}'
 
     def say_live(self, it):
+        """Returns the sentence of a `live` line."""
         return f'{self.name(it["device"])} is a member from now on'
 
     def say_removed(self, it):
+        """Returns the sentence of a `removed` line."""
         return f'{self.name(it["device"])} is no member any more'
 
     def say_roll(self, it):
+        """Returns the sentence of a `roll` line."""
         return (
             'a rollover of the network key begins'
             if it['roll'] == 'sending'
@@ -126,15 +142,19 @@ class Speaker:
         )
 
     def say_told(self, it):
+        """Returns the sentence of a `told` line."""
         return f'{self.name(it["device"])} counts as told of the new network key'
 
     def say_untold(self, it):
+        """Returns the sentence of an `untold` line."""
         return f'{self.name(it["device"])} counts as not told of the new network key, and will be told again'
 
     def say_commit(self, it):
+        """Returns the sentence of a `commit` line."""
         return f'the changes above are stored on the disk of {it["node"]}'
 
     def say_term(self, it, verb):
+        """Returns the sentence of a sealed or accepted term, which begins with the verb."""
         key = f'{LABELS.get(it["label"], it["label"])} {frames.short_key(it["base"])}'
         what = self.content(it.get('event', 0), it)
         return (
@@ -143,21 +163,26 @@ class Speaker:
         )
 
     def say_accept(self, it):
+        """Returns the sentence of an `accept` line."""
         return self.say_term(it, f'{it["node"]} accepts')
 
     def say_seal(self, it):
+        """Returns the sentence of a `seal` line."""
         return self.say_term(it, f'{it["node"]} seals')
 
     def say_forge(self, it):
+        """Returns the sentence of a `forge` line."""
         return self.say_term(it, 'a stranger seals')
 
     def say_refuse(self, it):
+        """Returns the sentence of a `refuse` line."""
         detail = it.get('detail')
         shown = policy.DETAILS.get(it['reason'], '{}').format(self.name(str(detail))) if detail is not None else ''
         place = 'the event' if it['layer'] == 'event' else f'the {LAYERS.get(it["layer"], it["layer"])} of the frame'
         return f'{it["node"]} refuses {place}: {it["reason"]}' + (f'; {shown}' if shown else '')
 
     def say_send(self, it):
+        """Returns the sentence of a `send` line."""
         what = self.what_goes_out(it)
         return f'frame {it["frame"]} goes on the air' + (f': {what}' if what else '')
 
@@ -170,22 +195,28 @@ class Speaker:
             return ''
 
     def say_inject(self, it):
+        """Returns the sentence of an `inject` line."""
         return f'a stranger sends frame {it["frame"]}'
 
     def say_stopped(self, it):
+        """Returns the sentence of a `stopped` line."""
         return f'the disk of {it["node"]} stopped in this event; {it["node"]} has no power until it boots'
 
     def say_down(self, it):
+        """Returns the sentence of a `down` line."""
         why = 'it was reset' if it['cause'] == 'reset' else 'its disk failed'
         return f'{it["node"]} has no power until it boots: {why}'
 
     def say_boot(self, it):
+        """Returns the sentence of a `boot` line."""
         return f'{it["node"]} starts again from its disk'
 
     def say_dump(self, it):
+        """Returns the sentence of a `dump` line."""
         return f'the record on the disk of {it["node"]}'
 
     def say_end(self, it):
+        """Returns the sentence of an `end` line."""
         ideal = (
             'whatever was accepted was sealed or forged before'
             if it['ideal']

@@ -71,7 +71,7 @@ class NoTranscript(Stop):
 
 
 def is_line(line):
-    """Says whether a line, but the end line, has the form of a transcript's line."""
+    """Returns whether a line, but the end line, has the form of a transcript's line."""
     number, _, rest = line.partition(' ')
     kind, _, words = rest.partition(' ')
     return number.isdigit() and len(number) <= 10 and kind in PATTERNS and PATTERNS[kind].fullmatch(words) is not None

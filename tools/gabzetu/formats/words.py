@@ -50,6 +50,7 @@ class Name:
         self.name = name
 
     def fault(self, word):
+        """Returns what is wrong with a word, or none."""
         if len(word) > LONGEST_NAME:
             return f'a name has at most {LONGEST_NAME} characters, and this has {len(word)}'
         bad = re.search('[^a-z0-9]', word)
@@ -68,6 +69,7 @@ class Number:
         self.wanted = f'a number from {low} to {high}'
 
     def fault(self, word):
+        """Returns what is wrong with a word, or none."""
         if re.fullmatch('0[xX][0-9a-fA-F]+', word):
             return f'numbers are decimal: write {int(word, 16)}'
         if not re.fullmatch('[0-9]+', word):
@@ -98,6 +100,7 @@ class Digits:
         self.wanted = f'{what} of {size} hexadecimal digits'
 
     def fault(self, word):
+        """Returns what is wrong with a word, or none."""
         fault = fault_of_digits(word)
         if fault or len(word) == self.size:
             return fault
@@ -111,6 +114,7 @@ class Eui(Digits):
         super().__init__(name, 16, 'an IEEE address')
 
     def fault(self, word):
+        """Returns what is wrong with a word, or none."""
         fault = super().fault(word)
         if fault is None and word.upper() in ('0' * 16, 'F' * 16):
             return f'an IEEE address of all {word[0].upper()} is no address of a node'
@@ -125,6 +129,7 @@ class Bytes:
         self.wanted = f'{low} to {high} bytes of 2 hexadecimal digits each' + ('' if low else ', or - for none')
 
     def fault(self, word):
+        """Returns what is wrong with a word, or none."""
         if word == '-':
             return f'{self.name} is {self.wanted}, so not -' if self.low else None
         fault = fault_of_digits(word)
@@ -144,6 +149,7 @@ class Code:
     wanted = 'an install code and its CRC'
 
     def fault(self, word):
+        """Returns what is wrong with a word, or none."""
         if word == '-':
             return None
         fault = fault_of_digits(word)
@@ -160,6 +166,7 @@ class Choice:
         self.wanted = ' or '.join(words) if len(words) < 3 else ', '.join(words[:-1]) + ' or ' + words[-1]
 
     def fault(self, word):
+        """Returns what is wrong with a word, or none."""
         if word in self.words:
             return None
         found = self.others.get(word.lower()) or near(word, self.words)
@@ -175,6 +182,7 @@ class Literal:
         self.wanted = f"the word '{word}'"
 
     def fault(self, word):
+        """Returns what is wrong with a word, or none."""
         return None if word == self.word else f"the word '{self.word}' belongs here"
 
 
@@ -185,6 +193,7 @@ class Seed:
     wanted = 'a word of letters and digits'
 
     def fault(self, word):
+        """Returns what is wrong with a word, or none."""
         return None if word.isalnum() else f'SEED is {self.wanted}'
 
 
@@ -195,6 +204,7 @@ class Rest:
         self.name, self.wanted = name, wanted
 
     def fault(self, word):
+        """Returns what is wrong with a word, or none."""
         return None
 
 

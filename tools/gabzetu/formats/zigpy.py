@@ -27,6 +27,7 @@ class Bad(Exception):
 
 
 def is_count(value, most):
+    """Returns whether a value is a whole number from 0 to `most`."""
     return isinstance(value, int) and not isinstance(value, bool) and 0 <= value <= most
 
 

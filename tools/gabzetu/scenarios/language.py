@@ -13,6 +13,7 @@ class Names(Rest):
         super().__init__('NAME ..', 'one or more names')
 
     def fault(self, word):
+        """Returns what is wrong with names, or none."""
         return next(filter(None, map(Name().fault, word.split(' '))), None)
 
 

@@ -2,12 +2,14 @@
 import fcntl
 import json
 import os
+import re
 import stat
 import unittest
 from unittest import mock
 
 from gabzetu import TOP
 from gabzetu.commands import admin
+from gabzetu.formats import fields
 from gabzetu.test.support import Folder, example, needs_tc, run
 
 JOIN = example('join.sched')
@@ -16,6 +18,11 @@ CODE = '83FED3407A939723A5C639B26916D505C3B5'
 
 def read(path):
     with open(path, encoding='ascii') as file:
+        return file.read()
+
+
+def read_page(path):
+    with open(path, encoding='utf-8') as file:
         return file.read()
 
 
@@ -184,6 +191,18 @@ class Admin(Folder):
         ran = run('admin', self.path('hub.store'), example('admin.script'))
         self.assertEqual((ran.status, ran.output), (8, ''))
         self.assertIn('no store: there is no store in this file', ran.said)
+
+
+class Page(unittest.TestCase):
+    """The names of the fields are on the page."""
+
+    def test_the_page_has_each_field(self):
+        page = read_page(os.path.join(TOP, 'docs', 'FORMATS.md')).split('\n## JSON lines of gabzetu\n')[1]
+        shown = set(re.findall('`([a-z]+)`', page))
+        tables = [fields.REPORT, fields.LAYERS, fields.STORE, fields.VERDICTS, {'end': [fields.END, fields.TERM]}]
+        for kind, forms in [it for table in tables for it in table.items()]:
+            names = re.sub('=[a-z]+', '', ' '.join(forms)).split()
+            self.assertEqual({kind, *names} - shown, set(), kind)
 
 
 if __name__ == '__main__':
