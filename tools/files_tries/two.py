@@ -5,7 +5,7 @@ import signal
 import threading
 
 from files_tries.bench import Ran, read, some
-from files_tries.cases import Case, all_cases
+from files_tries.cases import all_cases
 from files_tries.scripts import INIT, acknowledged, comes_again, provision, turns
 
 FIRST = [INIT, provision("d", 1), "remove d via c", provision("d", 2)]
@@ -161,28 +161,36 @@ def rounds(bench, count):
     return refused
 
 
-def backups(bench, count):
-    """Makes backups beside a script of 2,000 commands; returns how many were made and how many refused."""
-    case = Case(bench, "beside", None, [INIT])
-    store, commands, outputs = case.put(), [INIT, *turns(1999)], []
+def backups(bench, whole, commands):
+    """Makes backups beside a script until it ends; returns how many were made and how many refused."""
+    store, outputs = bench.put("store"), []
     served = threading.Thread(target=lambda: outputs.append(bench.run(store, commands)))
     served.start()
     made = []
-    while served.is_alive() and len(made) < count:
+    while served.is_alive():
         made.append(bench.run(store, ["backup"]))
     served.join()
     status, told, again = outputs[0].status, acknowledged(outputs[0].output), comes_again(outputs[0].output)
+    if (status, outputs[0].output) == REFUSED:  # a backup had the store at that moment
+        return 0, 0
     if status != 0 or told != len(commands) or again:
         what = f"two: beside backups a script ended with {status}, {told} acknowledged, counters again {again}"
         bench.found(what, store, commands)
     for ran in made:
         if ran.status != 0 and (ran.status, ran.output) != REFUSED:
             bench.found(f"two: a backup beside a script ended with {ran}", store, ["backup"])
-    whole = bench.put("whole")
-    bench.served(whole, commands)
-    if bench.shown(whole) != bench.shown(store):
+    if bench.shown(store) != whole:
         bench.found("two: beside backups a script left another store than alone", store, commands)
     return len(made), sum(ran.status == 7 for ran in made)
+
+
+def beside(bench, count):
+    """Serves COUNT scripts of 2,000 commands with backups beside them; returns the numbers of backups."""
+    commands, alone = [INIT, *turns(1999)], bench.put("whole")
+    bench.served(alone, commands)
+    whole = bench.shown(alone)
+    tried = [backups(bench, whole, commands) for _ in bench.each("two, backups", range(count), count)]
+    return sum(made for made, _ in tried), sum(refused for _, refused in tried)
 
 
 def two(bench, count, seed):
@@ -194,13 +202,14 @@ def two(bench, count, seed):
             Pair(bench, "old", cases[1].content, FIRST, SECOND),
             Pair(bench, "a backup of two gates", cases[2].content, ["backup"], turns(40)),
         ],
-        count,
+        4 * count,
         dice,
     )
-    killed = kill(cases[:2], count, dice)
+    killed = kill(cases[:2], 4 * count, dice)
     refused = rounds(bench, count)
-    made, beside = backups(bench, 10 * count)
+    scripts = 1 + count // 10
+    made, late = beside(bench, scripts)
     return (
         f"{held} pairs of which one was held at a call, {killed} killed with the lock, "
-        f"{count} rounds with {refused} refused, {made} backups beside a script with {beside} refused"
+        f"{count} rounds with {refused} refused, {made} backups beside {scripts} scripts with {late} refused"
     )
