@@ -1,13 +1,13 @@
 """gabzetu admin: carries out a script on a centre's store in a file."""
 import os
-import subprocess
 import sys
 import tempfile
 
 from .. import program, told
 from ..errors import UNWRITABLE, Stop, reason_of
 from ..formats.fields import read_store_line
-from ..output import read_input
+from ..formats.grammar import printable
+from ..output import read_input, say
 from ..program import Completed
 from ..runs import add_output, json_lines, tell
 
@@ -19,6 +19,7 @@ also where a later command fails. A new STORE and OUT hold keys: only their owne
 it runs. A second run at the same time ends with `store fault` and changes nothing."""
 
 KINDS = (b'net ', b'link ', b'send ', b'ok ', b'refuse ', b'{')
+WARNING = b'tc: others may read or write '
 PRIVATE = 0o077
 RUN_AGAIN = 'Look at the disk and run it again: it goes on from what is on the disk.'
 
@@ -84,16 +85,25 @@ def drop_cache(store):
 def serve(store, given, lines):
     """Runs the script, hands on what it writes, and returns the status and the line of a fault."""
     fault = b''
-    with tempfile.TemporaryFile() as script:
+    with tempfile.TemporaryFile() as script, tempfile.TemporaryFile() as said:
         script.write(given)
         script.seek(0)
-        with program.start_tc(['admin', store], stdin=script, stderr=subprocess.DEVNULL) as process:
+        with program.start_tc(['admin', store], stdin=script, stderr=said) as process:
             for line in process.stdout:
                 if line.startswith(KINDS):
                     lines.hand_on(line)
                 else:
                     fault = line
+        said.seek(0)
+        hand_on_warnings(said)
     return Completed(process.returncode, fault)
+
+
+def hand_on_warnings(said):
+    """Says what tc warned of. Its other sentences are on statuses, for which the front end has its own."""
+    for line in said:
+        if line.startswith(WARNING):
+            say(f'gabzetu: {printable(line.decode("utf-8", "replace").rstrip()[len("tc: "):])}')
 
 
 def run(arguments):

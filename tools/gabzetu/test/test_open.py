@@ -23,6 +23,7 @@ from gabzetu.test import captures, support
 from gabzetu.test.captures import CODE, LINK, data, packets_of, pcap
 from gabzetu.test.support import Folder, Ran, needs_tc
 
+LONGEST = 600  # seconds, for a machine that is busy with other work
 FIRST, SECOND = '000102030405060708090A0B0C0D0E0F', '101112131415161718191A1B1C1D1E1F'
 OTHER_LINKS = ('606162636465666768696A6B6C6D6E6F', '707172737475767778797A7B7C7D7E7F')
 OPENED = {
@@ -259,7 +260,7 @@ class Live(Folder):
         process.stdin.write(content[:1000])
         process.stdin.flush()
         self.assertIn(6, self.first_packets(process, 12))
-        output, _ = process.communicate(content[1000:], timeout=60)
+        output, _ = process.communicate(content[1000:], timeout=LONGEST)
         self.assertEqual([it['kind'] for it in map(json.loads, output.splitlines())][-1], 'end')
         self.assertIn(29, opened_of(map(json.loads, output.splitlines())))
 
@@ -275,7 +276,7 @@ class Live(Folder):
             file.flush()
             self.assertIn(29, self.first_packets(process, 30))
         process.send_signal(2)
-        output, _ = process.communicate(timeout=60)
+        output, _ = process.communicate(timeout=LONGEST)
         self.assertEqual(json.loads(output.splitlines()[-1])['packets'], 30)
         self.assertEqual(process.returncode, 0)
 
@@ -285,7 +286,7 @@ class Live(Folder):
         process.stdin.write(pcap(230, packets[1:2]))
         process.stdin.flush()
         self.assertEqual(json.loads(process.stdout.readline())['layers'], [{'kind': 'nwk', 'reason': 'no-key'}])
-        output, _ = process.communicate(pcap(230, packets[4:5])[24:], timeout=60)
+        output, _ = process.communicate(pcap(230, packets[4:5])[24:], timeout=LONGEST)
         objects = list(map(json.loads, output.splitlines()))
         self.assertEqual(opened_of(objects), {1: (FIRST, LINK), 2: (LINK,)})
         self.assertEqual(objects[-1]['opened'], 2)

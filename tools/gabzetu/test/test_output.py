@@ -11,6 +11,8 @@ from gabzetu import output, progress
 from gabzetu.errors import Stop
 from gabzetu.test.support import Folder
 
+LONGEST = 60  # seconds, for a machine that is busy with other work
+
 
 class Output(Folder):
     def test_keeps_the_mode_of_the_file_that_it_replaces(self):
@@ -48,10 +50,12 @@ class Output(Folder):
 
 class Progress(unittest.TestCase):
     def shown(self, is_watched):
-        said = io.StringIO()
+        """Returns what is shown of some work, which goes on until something is shown where that is expected."""
+        said, last = io.StringIO(), time.monotonic() + (LONGEST if is_watched else 0.2)
         with mock.patch.object(sys, 'stderr', said), mock.patch.object(progress, 'FIRST_AFTER', 0.01):
             with mock.patch.object(progress, 'is_watched', lambda: is_watched), progress.shown('work'):
-                time.sleep(0.2)
+                while not said.getvalue() and time.monotonic() < last:
+                    time.sleep(0.01)
         return said.getvalue()
 
     def test_is_shown_on_a_terminal_and_taken_away(self):

@@ -153,6 +153,13 @@ class Admin(Folder):
         self.assertIn('the first line is the centre', ran.said)
         self.assertEqual(read(self.path('said')), 'before')
 
+    def test_a_store_that_others_may_read_is_reported(self):
+        run('admin', self.path('hub.store'), example('admin.script'))
+        os.chmod(self.path('hub.store'), 0o644)
+        ran = run('admin', self.path('hub.store'), example('admin.script'))
+        self.assertEqual(ran.status, 0)
+        self.assertIn(f'gabzetu: others may read or write {self.path("hub.store")}, which holds keys', ran.said)
+
     def test_a_second_run_at_the_same_time_is_refused(self):
         run('admin', self.path('hub.store'), example('admin.script'))
         with open(self.path('hub.store'), 'rb') as store:
