@@ -78,6 +78,19 @@ class Bench:
         ran = self.run(store, ["list", "backup"])
         return ran.output if ran.status == 0 else f"status {ran.status}: {ran.output}"
 
+    def shown_of_each(self, images):
+        """Returns what each of these images shows, as `shown` does, by one process that forks; None is no file."""
+        for number, image in enumerate(images):
+            self.put(f"image{number:06}", image)
+        with open(self.path("script"), "wb") as it:
+            it.write(scripts.script(["list", "backup"]))
+        env = dict(os.environ, LD_PRELOAD=self.library, STORES=str(len(images)), SCRIPT=self.path("script"))
+        words = [self.program, "admin", self.path("image000000")]
+        ran = subprocess.run(words, env=env, stdout=subprocess.PIPE, stderr=subprocess.DEVNULL, check=True)
+        outputs = [read(self.path(f"image{number:06}.out")).decode("latin1") for number in range(len(images))]
+        statuses = ran.stdout.decode().split()
+        return [out if status == "0" else f"status {status}: {out}" for status, out in zip(statuses, outputs)]
+
     def put(self, name, content=None):
         """Makes a store of these bytes, or none, and returns its path."""
         path = self.path(name)

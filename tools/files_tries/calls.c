@@ -11,7 +11,11 @@
      short       a read or write moves one byte
      half        a read or write moves half
      half-fail   a read or write moves half, and the next one fails with ERROR
-     nothing     a write moves no byte and returns 0 */
+     nothing     a write moves no byte and returns 0
+
+   STORES is a number: so often the program forks before it begins, and each of them serves the script in the file
+   SCRIPT on a store of its own, whose number stands in the six digits at the end of its path. Its output goes into
+   PATH.out, and its status is a line of standard output. */
 #define _GNU_SOURCE
 #include <errno.h>
 #include <fcntl.h>
@@ -22,6 +26,7 @@
 #include <string.h>
 #include <sys/stat.h>
 #include <sys/syscall.h>
+#include <sys/wait.h>
 #include <unistd.h>
 
 struct call {
@@ -37,7 +42,33 @@ static long wanted, times = 1, error, count, hits;
 static const char *spoiled = "";
 static int calls = -1, halved = -1; /* the log, and the descriptor whose call was halved and whose next one fails */
 
-__attribute__((constructor)) static void start(void) {
+static void move(const char *path, int flags, int to) {
+    int file = (int)syscall(SYS_openat, AT_FDCWD, path, flags, 0600);
+    if (file < 0 || dup2(file, to) < 0) _exit(70);
+    syscall(SYS_close, file);
+}
+
+/* Returns in each process that serves a store, with the store's path in the words; the first process ends here. */
+static void serve_each(char *path, long stores) {
+    char out[4096], *digits = path + strlen(path) - 6;
+    for (long store = 0; store < stores; store++) {
+        sprintf(digits, "%06ld", store);
+        pid_t child = fork();
+        if (child == 0) {
+            snprintf(out, sizeof out, "%s.out", path);
+            move(getenv("SCRIPT"), O_RDONLY, 0);
+            move(out, O_WRONLY | O_CREAT | O_TRUNC, 1);
+            return;
+        }
+        int status = -1;
+        if (child < 0 || waitpid(child, &status, 0) < 0) _exit(70);
+        dprintf(1, "%d\n", WIFEXITED(status) ? WEXITSTATUS(status) : -WTERMSIG(status));
+    }
+    _exit(0);
+}
+
+__attribute__((constructor)) static void start(int count_of_words, char **words) {
+    if (getenv("STORES") && count_of_words == 3) serve_each(words[2], atol(getenv("STORES")));
     const char *fault = getenv("FAULT"), *path = getenv("CALLS");
     if (fault && sscanf(fault, "%15s %ld %ld %ld", way, &wanted, &error, &times) != 4) _exit(70);
     if (path) calls = (int)syscall(SYS_openat, AT_FDCWD, path, O_WRONLY | O_CREAT | O_APPEND | O_CLOEXEC, 0600);

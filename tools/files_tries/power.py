@@ -8,6 +8,8 @@ from files_tries.bench import read
 from files_tries.scripts import acknowledged
 
 GATE = 0xA5
+# Images that are listed by one process and its forks.
+BATCH = 200
 
 
 class Disk:
@@ -147,13 +149,13 @@ class Tries:
         self.marks.add(mark)
         return is_new
 
-    def look(self, case, output, image):
-        """Lists an image, or no file, and judges what it shows."""
-        shown = self.bench.shown(self.bench.put("image", image))
-        self.count_end(case, output, shown)
-        why = case.judge(output, shown)
-        if why:
-            self.bench.found(f"power: {case.name}: {why}", self.bench.put("image", image), ["list", "backup"])
+    def look(self, batch):
+        """Lists a batch of images, and judges what they show."""
+        for (case, output, image), shown in zip(batch, self.bench.shown_of_each([image for _, _, image in batch])):
+            self.count_end(case, output, shown)
+            why = case.judge(output, shown)
+            if why:
+                self.bench.found(f"power: {case.name}: {why}", self.bench.put("image", image), ["list", "backup"])
 
     def count_end(self, case, output, shown):
         told = acknowledged(output)
@@ -203,10 +205,16 @@ def different(tries, cases, dice):
             yield it
 
 
+def batches(images, size):
+    """Yields the images in lists of a size."""
+    return iter(lambda: list(itertools.islice(images, size)), [])
+
+
 def power(bench, count, seed):
     """Tries COUNT different images, the named ones first, and returns the line of counts."""
     dice, tries = random.Random(seed), Tries(bench)
-    for case, output, image in bench.each("power", different(tries, all_cases(bench), dice), count):
-        tries.look(case, output, image)
+    images = bench.each("power", different(tries, all_cases(bench), dice), count)
+    for batch in batches(images, BATCH):
+        tries.look(batch)
     ends = ", ".join(f"{number} {end}" for end, number in tries.ends.items())
     return f"{count} images, {min(count, tries.named)} of them by name and the others at random: {ends}"
