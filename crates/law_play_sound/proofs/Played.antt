@@ -101,10 +101,10 @@ none_bad output lines is line bad = all_good bad.before bad.rest lines bad.prope
 module _ (output : Bytes) (v : Verdict) (only : (other : Verdict) → IsSoundText output other → other ≡ v) (all_lines : (line : ℕ) → IsFirstBad output line → ⊥)
     (unbroken : (line clause : ℕ) → IsBrokenText output line clause → ⊥) (short : length output ≤ longest) (before after : Option Bytes) (old new : ℕ) where
   ends_sound : (s : Status) → Audits s (Some output) before after old new → EndsSound v s before after
-  ends_sound status.Ok a = subst (λ x. Appends before after (sound_line x)) (only a.1 a.2) a.3
+  ends_sound status.Ok a = subst (λ x. Appends before after (sound_line x)) (only a.1.0 a.1.1) a.1.2
   ends_sound status.Usage a = absurd a
   ends_sound status.ReadFault a = tt
-  ends_sound status.WriteFault a = subst (λ x. AppendsFront before after (sound_line x)) (only a.0.1 a.0.2) a.0.3
+  ends_sound status.WriteFault a = subst (λ x. AppendsFront before after (sound_line x)) (only a.0.1.0 a.0.1.1) a.0.1.2
   ends_sound (status.Refused line c) a = absurd (all_lines line a.0.1)
   ends_sound status.NoMemory a = tt
   ends_sound status.DiskFault a = absurd a

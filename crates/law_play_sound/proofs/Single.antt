@@ -1,5 +1,5 @@
 -- Of any text an audit may say one thing alone.
-use Rattle.std.proofs.Common.{◌≡◌, ◌≢◌, ℕ, ◌+◌, List, [], ◌∷◌, ◌++◌, length, Option, Some, None, refl, sym, ap, ◌∙◌, append_assoc}
+use Rattle.std.proofs.Common.{◌≡◌, ◌≢◌, ℕ, suc, ◌+◌, List, [], ◌∷◌, ◌++◌, length, Option, Some, None, refl, sym, ap, ◌∙◌, append_assoc}
 use Rattle.zb_audit.specs.Faults as audit
 use Rattle.zb_audit.specs.Faults.{first_fault}
 use Rattle.zb_audit.specs.declared.fault.BadLine.{BadLine}
@@ -24,10 +24,10 @@ one_verdict judges bytes v w a b =
     let same = alike judges bytes a.lines b.lines a.transcript b.transcript in
     same_verdict v w (a.sound.seals ∙ (same.seals ∙ sym b.sound.seals)) (a.sound.accepts ∙ (same.accepts ∙ sym b.sound.accepts)) (a.sound.locked ∙ (same.locked ∙ sym b.sound.locked))
 
-line_of : BadLine → ℕ
+abbrev line_of : BadLine → ℕ
 line_of bad = bad.line
 
-claim_of : BadLine → ℕ
+abbrev claim_of : BadLine → ℕ
 claim_of bad = bad.clause
 
 some_bad : (a b : BadLine) → Some a ≡ Some b → a ≡ b
@@ -53,7 +53,7 @@ as_many [] (y ∷ ys) r s px py br bs e = absurd (br y (texts ys ++ s) py.0 (e �
 as_many (x ∷ xs) [] r s px py br bs e = absurd (bs x (texts xs ++ r) px.0 (sym e ∙ append_assoc (text x) (texts xs) r))
 as_many (x ∷ xs) (y ∷ ys) r s px py br bs e =
     let rest = one_front x y (texts xs ++ r) (texts ys ++ s) px.0 py.0 (sym (append_assoc (text x) (texts xs) r) ∙ (e ∙ append_assoc (text y) (texts ys) s)) in
-    ap (λ n. n + 1) (as_many xs ys r s px.1 py.1 br bs rest.1)
+    ap suc (as_many xs ys r s px.1 py.1 br bs rest.1)
 
 one_bad : (bytes : Bytes) (line other : ℕ) → IsFirstBad bytes line → IsFirstBad bytes other → line ≡ other
 one_bad bytes line other a b =
