@@ -123,7 +123,11 @@ class Release(unittest.TestCase):
         os.mkdir(room)
         subprocess.run(['tar', '--zstd', '-xf', self.made('.tar.zst'), '-C', room], check=True)
         prefix = os.path.realpath(os.path.join(room, os.listdir(room)[0]))
-        lines = output_of(os.path.join(prefix, 'bin', 'gabzetu'), '--version').splitlines()
+        # the program of the archive, and not one that the caller names
+        own = {name: value for name, value in os.environ.items() if name != 'GABZETU_TC'}
+        words = [os.path.join(prefix, 'bin', 'gabzetu'), '--version']
+        ran = subprocess.run(words, stdout=subprocess.PIPE, check=True, env=own)
+        lines = ran.stdout.decode().splitlines()
         self.assertIn(f'tc: {prefix}/lib/gabzetu/tc', lines)
         self.assertIn('kit: kit 1', lines)
         with open(os.path.join(prefix, 'share/doc/gabzetu/gate.txt'), encoding='utf-8') as file:
