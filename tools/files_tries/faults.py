@@ -1,10 +1,9 @@
 """Faults: each call of a script fails in turn, is interrupted, or moves a part."""
 import errno
-import os
 import random
 from collections import Counter
 
-from files_tries.bench import some
+from files_tries.bench import read, some
 from files_tries.cases import all_cases
 
 # Each way to spoil a call, with its error and how often, and the names of the calls that it is for; None is all.
@@ -32,7 +31,7 @@ class Fault:
         self.way, self.error, self.times, _ = way
         makes = [call.number for call in calls if call.name == "open" and call.file == -1]
         seeks = [call.number for call in calls if call.name == "lseek" and call.file > 2]
-        # From the call that makes the file until its room is filled. The file is removed where one of them fails.
+        # From the call that makes the file until its room is filled. The file is left empty where one of them fails.
         self.is_in_make = case.content is None and makes[0] <= self.call.number < seeks[0]
 
     def words(self):
@@ -82,7 +81,7 @@ def judge(fault, ran, calls, store):
         return f"standard error says {ran.said!r}"
     if fault.error != errno.EINTR and writes_after_failed_sync(calls):
         return "the store was written after a failed sync"
-    if fault.is_in_make and ran.status == 7 and os.path.lexists(store):
+    if fault.is_in_make and ran.status == 7 and read(store):
         return "a half made file was left"
     return None
 

@@ -161,16 +161,17 @@ def paths(bench):
 
 
 def missing(bench):
-    """Serves what needs no file on a path that isn't there: it reads as empty, and no file is made."""
-    store, tried = bench.put("missing"), 0
+    """Serves what needs no file on no file and on an empty one: it reads as empty, and nothing is made or changed."""
+    tried = 0
     several = ["list", provision("d", 1), "remove d via c", "backup"]
     scripts = ([], ["list"], ["backup"], several, ["boom"], ["init 00"])
-    for commands in scripts:
+    for content, commands in itertools.product((None, b""), scripts):
+        store = bench.put("missing", content)
         ran = bench.run(store, commands)
         lines = "".join(f"refuse {5 + at} empty\n" for at in range(len(commands)))
         expected = Ran(5, "refused 5 syntax\n", ran.said) if commands in (["boom"], ["init 00"]) else Ran(0, lines, "")
-        if ran != expected or os.path.lexists(store):
-            bench.found(f"pipes: {commands} on no file ended with {ran.status} and {ran.output!r}", store, commands)
+        if ran != expected or read(store) != content:
+            bench.found(f"pipes: {commands} on {content} ended with {ran.status} and {ran.output!r}", store, commands)
         tried += 1
     return tried
 
@@ -186,7 +187,7 @@ def names(bench):
                 os.remove(store)
             ran = bench.run(store, ["list"] if name == "alias" and mask else [INIT], preexec_fn=lambda: os.umask(mask))
             mode = os.stat(store).st_mode & 0o777 if os.path.exists(store) else 0
-            if ran.status != 0 or mode != 0o600 or ran.said or name != "alias" and os.path.getsize(store) != 131072:
+            if ran.status != 0 or mode != 0o600 or ran.said or os.path.getsize(store) != 131072:
                 what = f"pipes: the store {name[:20]!r} was made with mode {mode:o}, status {ran.status}"
                 bench.found(what, store, [INIT])
             tried += 1

@@ -74,10 +74,17 @@ class Pair:
             self.bench.found(f"two: {self.name}: {what}: statuses {said}: {why}", store, self.second)
 
 
+def lock_of(calls):
+    """Returns the number of the call that locks the store for the rest of the run: the last one that locks it.
+
+    An empty file is locked once before, only to see that it is empty.
+    """
+    return [call.number for call in calls if call.name == "flock"][-1]
+
+
 def is_locked_at(calls, number):
-    """Returns whether a process has the lock before its call of a number."""
-    locks = [call.number for call in calls if call.name == "flock"]
-    return locks[0] < number <= calls[-1].number
+    """Returns whether a process has the lock before its call of a number, and keeps it."""
+    return lock_of(calls) < number <= calls[-1].number
 
 
 def held_at(pair, calls, number):
@@ -97,8 +104,7 @@ def held_at(pair, calls, number):
 def crossed_at(pair, calls, number):
     """Holds the first before it locks and the second after it did, and lets the first go on and then the second."""
     bench, store = pair.bench, pair.put()
-    lock = next(call.number for call in calls if call.name == "flock")
-    first = bench.start(store, pair.first, fault=f"stop {lock} 0 1")
+    first = bench.start(store, pair.first, fault=f"stop {lock_of(calls)} 0 1")
     stopped(first)
     second = bench.start(store, pair.second, fault=f"stop {number} 0 1")
     stopped(second)
@@ -193,12 +199,22 @@ def beside(bench, count):
     return sum(made for made, _ in tried), sum(refused for _, refused in tried)
 
 
+def new_pairs(bench):
+    """Returns the pairs that make one store: where there is no file, and where there is an empty one."""
+    return [Pair(bench, "new", None, FIRST, SECOND), Pair(bench, "empty", b"", FIRST, SECOND)]
+
+
+def makers(bench, count, seed):
+    """Holds one of two makers of a store at COUNT calls at most, and returns the line of counts."""
+    return f"{hold(new_pairs(bench), count, random.Random(seed))} pairs that make one store, one held at a call"
+
+
 def two(bench, count, seed):
     """Tries two processes in each way, and returns the line of counts."""
     dice, cases = random.Random(seed), all_cases(bench)
     held = hold(
         [
-            Pair(bench, "new", None, FIRST, SECOND),
+            *new_pairs(bench),
             Pair(bench, "old", cases[1].content, FIRST, SECOND),
             Pair(bench, "a backup of two gates", cases[2].content, ["backup"], turns(40)),
         ],

@@ -20,6 +20,7 @@ ENVIRONMENT = {
 }
 ARCHIVES = 'var/cache/apt/archives'
 EXAMPLES = '/usr/share/doc/gabzetu/examples'
+HUB = ('/usr/lib/gabzetu/tc_centre', '/usr/lib/gabzetu/tc')
 INSTALL = ('apt-get', 'install', '-y', '-q', '--no-install-recommends', '-o', 'APT::Keep-Downloaded-Packages=true')
 
 
@@ -196,6 +197,17 @@ def try_open(root, capture):
     return None
 
 
+def try_hub(root):
+    """Runs the example of a hub, and audits its log. Returns why that was left out, or none."""
+    if not os.path.exists(root.at('/usr/lib/gabzetu/tc_centre')):
+        return 'tc_centre is not in the package'
+    said = root.run('python3', f'{EXAMPLES}/hub.py', *HUB, '/root/hub.store', '/root/hub.log')
+    want('says 02' in said, f'the example of a hub says {said!r}')
+    root.run('/usr/share/gabzetu/tools/hub-log', '/root/hub.log', '-o', '/root/hub.transcript')
+    root.run('gabzetu', 'audit', '/root/hub.transcript')
+    return None
+
+
 def try_help(root):
     """Wants the man page and the completions where the system looks for them."""
     root.run('gzip', '-t', '/usr/share/man/man1/gabzetu.1.gz')
@@ -230,6 +242,7 @@ def try_release(archive, package, version, capture, mirror):
         'versions': lambda root: try_version(root, 'gabzetu', version, '/usr/lib/gabzetu/tc'),
         'play and audit': lambda root: play_and_compare(root, 'gabzetu', EXAMPLES),
         'explore': try_explore,
+        'hub': try_hub,
         'man page and completions': try_help,
         'open': lambda root: try_open(root, capture),
         'remove the package': try_purge,

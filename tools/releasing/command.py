@@ -16,9 +16,9 @@ from .gate import read_gate
 DESCRIPTION = '''Makes the release of a passed gate in out/release: gabzetu-VERSION-x86_64-linux.tar.zst,
 gabzetu_VERSION_amd64.deb and SHA256SUMS.
 
-Both install gabzetu, and the program as lib/gabzetu/tc, with pages, examples, man page, completions, licences,
-check sums, the gate's last lines and the kit's version. VERSION is that of the file VERSION. The files are those of
-the commit, so the same commit, program and log make the same bytes.
+Both install gabzetu, and the programs as lib/gabzetu/tc and tc_centre, with pages, examples, man page, completions,
+licences, check sums, the gate's last lines and the kit's version. VERSION is that of the file VERSION. The files are
+those of the commit, so the same commit, program and log make the same bytes.
 
 Then it tries them in a clean Debian root, which debootstrap makes in out/clean-root and which is kept there: it
 installs the package, plays an example, opens a capture and makes a page. That needs root.
@@ -37,6 +37,7 @@ def read_words(words):
     parser.add_argument('version', metavar='VERSION', help='the version, as the file VERSION has it')
     parser.add_argument('--gate', metavar='LOG', required=True, help='what the gate printed, or - for standard input')
     parser.add_argument('--program', metavar='TC', help='the program (the one that ./build built, or $GABZETU_TC)')
+    parser.add_argument('--centre', metavar='TC_CENTRE', help='the living centre (the built one, if there is one)')
     parser.add_argument('--kit', metavar='LINE', help='the version of the kit (what `rt version` prints)')
     parser.add_argument('--edited', action='store_true', help='take what is committed although files were edited')
     parser.add_argument('--no-root', action='store_true', help='leave out the trial in a clean root')
@@ -64,6 +65,17 @@ def check_edits(is_taken):
         say(f'release: {len(edited)} edited files are taken as they were committed')
 
 
+def read_programs(arguments):
+    """Returns the bytes of the programs by their names: tc, and the living centre where it is there."""
+    programs = {'tc': program.read_program(program.find_program(arguments.program))}
+    centre = program.find_centre(arguments.centre)
+    if centre is None:
+        say('release: tc_centre is not built, and is left out: `./build tc_centre` makes it')
+    else:
+        programs['tc_centre'] = program.read_program(centre)
+    return programs
+
+
 def make_release(arguments, room, out):
     """Makes the two archives and their check sums in `out`. `room` is a folder for what is between."""
     gate = read_gate(arguments.gate)
@@ -71,11 +83,11 @@ def make_release(arguments, room, out):
     at = commit.read_commit()
     commit.check_version(arguments.version, at)
     kit = read_kit(arguments.kit)
-    data = program.read_program(program.find_program(arguments.program))
+    programs = read_programs(arguments)
     sources = commit.unpack_commit(at, os.path.join(room, 'sources'))
     root = os.path.join(room, 'root')
-    layout.lay_out(sources, os.path.join(root, 'usr'), at, data, kit, gate)
-    about = packing.About(arguments.version, at, program.needs_of(data))
+    layout.lay_out(sources, os.path.join(root, 'usr'), at, programs, kit, gate)
+    about = packing.About(arguments.version, at, program.needs_of(b''.join(programs.values())))
     archive = packing.pack_archive(os.path.join(root, 'usr'), out, about)
     package = packing.pack_deb(root, out, about)
     packing.write_sums(out)

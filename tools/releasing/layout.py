@@ -75,10 +75,15 @@ def lay_front_end(layout, commit):
     os.symlink('../share/gabzetu/gabzetu', layout.path('bin/gabzetu'))
 
 
-def lay_program(layout, program, kit):
-    """Lays out the program, and the version of the kit beside it."""
-    layout.write('lib/gabzetu/tc', program, 0o755)
+def lay_programs(layout, programs, kit):
+    """Lays out the programs by their names, and the version of the kit beside them. With the living centre comes the
+    tool for its logs."""
+    for name, data in programs.items():
+        layout.write(f'lib/gabzetu/{name}', data, 0o755)
     layout.write('lib/gabzetu/KIT', f'{kit}\n')
+    if 'tc_centre' in programs:
+        for name in ('tools/hub-log', 'tools/hub'):
+            layout.copy(name, f'share/gabzetu/{name}')
 
 
 def lay_documents(layout, gate):
@@ -143,11 +148,11 @@ def settle(folder, date):
         os.utime(at, (date, date))
 
 
-def lay_out(sources, prefix, commit, program, kit, gate):
+def lay_out(sources, prefix, commit, programs, kit, gate):
     """Lays out all that is installed, with the check sums of its files."""
     layout = Layout(sources, prefix)
     lay_front_end(layout, commit)
-    lay_program(layout, program, kit)
+    lay_programs(layout, programs, kit)
     lay_documents(layout, gate)
     lay_copyright(layout)
     lay_help(layout)

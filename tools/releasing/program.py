@@ -1,4 +1,4 @@
-"""Judges the file that is to be released as tc: what it is, how old, and what it needs of the system."""
+"""Judges the files that are to be released as tc and tc_centre: what they are, how old, and what they need."""
 import os
 import re
 
@@ -6,6 +6,8 @@ from gabzetu import TOP
 from gabzetu.errors import MISSING, WRONG_INPUT, Stop
 from gabzetu.output import read_input
 from gabzetu.program import BUILT, is_program
+
+CENTRE = os.path.join(TOP, 'crates', 'tc_centre', 'out', 'tc_centre')
 
 X86_64 = b'\x7fELF\x02\x01'
 MACHINE = b'\x3e\x00'
@@ -22,13 +24,22 @@ def find_program(path):
         return named
     if not is_program(BUILT):
         raise Stop('no program is built: run ./build, or name one by --program', MISSING)
-    check_age()
+    check_age(BUILT)
     return BUILT
 
 
-def check_age():
-    """Stops where a source is newer than the built program."""
-    built = os.stat(BUILT).st_mtime
+def find_centre(path):
+    """Returns the path of the living centre: the given one, else the built one; none where neither is there."""
+    if path and not is_program(path):
+        raise Stop(f'{path}: no program that can be run is there', MISSING)
+    if not path and is_program(CENTRE):
+        check_age(CENTRE)
+    return path or (CENTRE if is_program(CENTRE) else None)
+
+
+def check_age(program):
+    """Stops where a source is newer than a built program."""
+    built = os.stat(program).st_mtime
     crates = os.path.join(TOP, 'crates')
     for folder in (os.path.join(crates, name, kind) for name in os.listdir(crates) for kind in ('src', 'specs')):
         for at, _, names in os.walk(folder):

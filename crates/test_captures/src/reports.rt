@@ -6,7 +6,7 @@ use std::test::Fail;
 use std::thread::Threads;
 use zb_base::MemSink;
 use zb_capture::read_capture;
-use zb_inspect::{InspectFault, report};
+use zb_inspect::{InspectFault, report, ring};
 use zb_parallel::{Gate, NoGate};
 
 /// Writes the report on a capture of at most 4,096 bytes by so many jobs, to a sink whose calls of some numbers fail.
@@ -112,6 +112,18 @@ fn worked_captures_have_their_reports(rt: HostRuntime) -> Result<(), Fail> {
             let (ended, sink) = reported(&rt, capture, jobs, &NoGate, &[])?;
             assert!(rt; ended == Ok(()) && sink.taken() == report);
         }
+    }
+    Ok(())
+}
+
+#[test]
+fn a_ring_has_the_found_key_with_its_frame_and_round(rt: HostRuntime) -> Result<(), Fail> {
+    let capture = read_capture(rt.alloc(), CAPTURE)?;
+    let ring = ring(&rt, rt.alloc(), &capture)?;
+    let found: [Option<(u32, u32)>; 2] = [None, Some((3, 1))];
+    assert!(rt; ring.rounds == 2 && ring.keys.as_slice().len() == found.len());
+    for (key, found) in ring.keys.as_slice().iter().zip(found) {
+        assert!(rt; key.found == found);
     }
     Ok(())
 }

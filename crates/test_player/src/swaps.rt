@@ -4,7 +4,7 @@ use arrayvec::ArrayVec;
 use std::alloc::Global;
 use std::test::Fail;
 use zb_base::{MemSink, NoMemory};
-use zb_disk::MemDisk;
+use zb_disk::{Disk, MemDisk};
 use zb_player::{Bench, Still, play};
 use zb_sched::read;
 use zb_store::Store;
@@ -63,6 +63,8 @@ enum Alone {
     Works,
     Fails(u8),
     Stops(u8),
+    /// It is off until the power comes back.
+    IsOff,
 }
 
 /// A disk that is put under the centre.
@@ -84,8 +86,8 @@ const BOOT_AND_DUMP: &[u8] = b"boot c\nsay c 1A2B -\ndump c\n";
 
 /// The first case is a worked example. In the others a boot that finds no record of a centre, or a call of the disk
 /// that fails, ends as the disk's fault; a stop ends as a stop; a dump shows no bytes where no record of a centre
-/// stands.
-const CASES: [Case; 9] = [
+/// stands. On a disk that was off already nothing falls that was armed: it is still to come, and nothing is stored.
+const CASES: [Case; 11] = [
     Case {
         event: 4,
         bytes: FURTHER,
@@ -172,6 +174,21 @@ end 5 3 0 0 yes yes
 end 8 3 0 0 yes yes
 ",
     },
+    Case {
+        event: 5,
+        bytes: FURTHER,
+        alone: Alone::IsOff,
+        more: b"stop c 0 -\nboot c\nboot c\nboot c\n",
+        played: b"5 down c disk\n6 stopped c\n7 boot c\nend 7 2 0 0 yes yes\n",
+    },
+    Case {
+        event: 6,
+        bytes: FURTHER,
+        alone: Alone::IsOff,
+        more: b"boot c\nstop c 5 A5\nsay c 1A2B -\nboot c\ndump c\n",
+        played: b"4 boot c\n6 down c disk\n7 boot c\n8 dump c 0300000000000000000000000100000000010203\
+                  0405060708090A0B0C0D0E0F0003280000000000000000\nend 8 2 0 0 yes yes\n",
+    },
 ];
 
 /// A bench that puts a disk under the centre, which is the first node, before one event.
@@ -202,6 +219,10 @@ fn disk_of(alloc: Global, case: &Case) -> Result<MemDisk, NoMemory> {
         Alone::Works => {}
         Alone::Fails(call) => disk.arm_fail(call),
         Alone::Stops(calls) => disk.arm_stop(calls, ArrayVec::new()),
+        Alone::IsOff => {
+            disk.arm_stop(0, ArrayVec::new());
+            let _ = disk.sync();
+        }
     }
     Ok(disk)
 }

@@ -13,7 +13,7 @@ use std::{env, fs, io};
 use zb_base::OrMemory;
 use zb_trace::{Line, put_line};
 use zb_trace_read::{TraceError, read_lines};
-use zb_trace_watch::Watch;
+use zb_trace_watch::{ideal, private};
 
 fn main(rt: HostRuntime) -> io::Result<()> {
     for name in env::args(&rt)?.skip(1) {
@@ -55,9 +55,9 @@ fn read_whole(alloc: Global, bytes: &[u8]) -> Result<Vec<Line>, OrMemory<TraceEr
 
 /// Returns the two words of a watch over the lines.
 fn watched(alloc: Global, lines: &[Line]) -> Result<(&'static str, &'static str), AllocError> {
-    match Watch::over(alloc, lines) {
-        Ok(watch) => Ok((yes_or_no(watch.ideal()), yes_or_no(watch.private()))),
-        Err(_) => Err(AllocError),
+    match (ideal(alloc, lines), private(alloc, lines)) {
+        (Ok(ideal), Ok(private)) => Ok((yes_or_no(ideal), yes_or_no(private))),
+        _ => Err(AllocError),
     }
 }
 

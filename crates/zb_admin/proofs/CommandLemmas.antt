@@ -1,24 +1,28 @@
 -- One command: what its calls leave is what its definition says.
 use Rattle.std.proofs.Common.{◌≡◌, ◌⊎◌, ℕ, ◌++◌, ◌∷◌, inl, inr, Bool, true, false, List, [], Option, Some, None, Result, Ok, Err, IfErr, OnOk, IsTrue, option_map, refl, sym, ap, ◌∙◌, subst}
 use Rattle.std.specs.Prelude.{codes, is_some, IsOk}
-use Rattle.zb_admin.specs.Commands.{HasHandled, HasLaidOut, IsCarriedOut, IsCommandFault, IsEventFault, IsLayOutFault, IsShort, IsTold, is_own, items_of, lays_out}
+use Rattle.zb_centre_store.specs.Calls.{HasHandled, HasLaidOut, IsEventFault, IsLayOutFault, IsShort, is_own}
+use Rattle.zb_admin.specs.Commands.{items_of}
+use Rattle.zb_admin.specs.Commands.{IsCarriedOut, IsCommandFault, lays_out}
 use Rattle.zb_admin.specs.Served.{Done, IsRefusal, does, done, handled, on_empty, on_store, outcome_lines}
-use Rattle.zb_admin.specs.Standing.{IsEmpty, IsUp, IsWornOut, Stands, StandsAs, StandsAsEither, recorded}
-use Rattle.zb_admin.specs.Texts.{listed, ok_line, refuse_line}
+use Rattle.zb_centre_store.specs.Standing.{IsEmpty, IsUp, IsWornOut, Stands, StandsAsEither}
+use Rattle.zb_centre_store.specs.Rows.{listed}
+use Rattle.zb_admin.specs.Texts.{ok_line, refuse_line}
 use Rattle.zb_admin.proofs.RunLemmas.{page_more}
+use Rattle.zb_centre_store.proofs.StoreLemmas.{images_stand}
 use Rattle.zb_backup.specs.Format.{backup_text}
-use Rattle.zb_admin.proofs.RefusedLemmas.{is_no_refusal, refused_by, some_mapped}
-use Rattle.zb_admin.specs.declared.fault.AdminFault.{AdminFault}
-use Rattle.zb_admin.specs.declared.fault.AdminFault.TheVariants.{Disk, NoStore, BadStore, Worn, Write, NoMemory}
+use Rattle.zb_centre_store.proofs.RefusedLemmas.{some_mapped}
+use Rattle.zb_admin.proofs.RefusedLemmas.{is_no_refusal, refused_by}
+use Rattle.zb_centre_store.specs.declared.fault.AdminFault.{AdminFault}
+use Rattle.zb_centre_store.specs.declared.fault.AdminFault.TheVariants.{Disk, NoStore, BadStore, Worn, Write, NoMemory}
 use Rattle.zb_disk.proofs.Moments.{started, still_refl}
 use Rattle.zb_base.specs.Outside.{Unrisen}
 use Rattle.zb_disk.specs.View.{Telling, View, IsStill}
-use Rattle.zb_host.specs.Hosts.{Gives, Hosted}
-use Rattle.zb_host.specs.declared.outcome.Outcome.{Outcome}
+use Rattle.zb_host.specs.Hosts.{Hosted}
+use Rattle.zb_core.specs.CorePlans.{CorePlan}
 use Rattle.zb_model.specs.Answer.{Answer, answer}
 use Rattle.zb_node_types.specs.Changes.{reason}
-use Rattle.zb_node_types.specs.declared.refusal.Refusal.{Refusal}
-use Rattle.zb_seal.specs.declared.term.Term.{Term}
+use Rattle.zb_plan.specs.Answers.{IsAnswer}
 use Rattle.zb_base.specs.declared.key.Key.{Key}
 use Rattle.zb_model.specs.Play.{no_station}
 use Rattle.zb_model.specs.Rules.{Setting}
@@ -28,9 +32,8 @@ use Rattle.zb_script.specs.declared.script.Order.TheVariants.{Init, Provision, R
 use Rattle.zb_script.specs.declared.script.Step.{Step}
 use Rattle.zb_store.specs.Layout.{Standing, stands}
 use Rattle.zb_stored_tables.specs.Cores.{CoreValue}
-use Rattle.zb_stored_tables.specs.Stored.{restored}
 use Rattle.zb_text.specs.Pages.{ended, page}
-use Rattle.zb_model.specs.Data.{Centre, Task}
+use Rattle.zb_model.specs.Data.{Task}
 use Rattle.zb_model_real.specs.Real.{real}
 
 pub always : {T E P : Type 0} (r : Result T E) → P → OnOk r P
@@ -40,14 +43,6 @@ always (Err e) p = tt
 pub on_ok_then : {T E P Q : Type 0} (r : Result T E) → (P → Q) → OnOk r P → OnOk r Q
 on_ok_then (Ok x) f p = f p
 on_ok_then (Err e) f p = tt
-
--- every image represents what the centre has
-pub images_stand : (c : Setting) (b : Option NodeState) (centre : Option (Hosted CoreValue)) (v : View) → Stands c b centre v → (image : List ℕ) → v.images image → StandsAs b image
-images_stand c None None v empty image there = empty.images image there
-images_stand c None (Some host) v stood image there = absurd stood
-images_stand c (Some s) None v stood image there = absurd stood
-images_stand c (Some s) (Some host) v up image there =
-    (up.standing, up.current.held.whole image there, subst (λ (x : CoreValue). Gives (restored Centre) up.standing (recorded x)) up.core up.current.gives_it)
 
 pub no_setting : Setting
 no_setting = record { me = no_station; stations = [] }
@@ -70,16 +65,16 @@ pub short_command : (tells : Telling) (old new : View) (centre : Option (Hosted 
 short_command tells old new centre (Ok x) short same = tt
 short_command tells old new centre (Err f) short same = subst (IsCommandFault tells old centre new) (sym short) same
 
-pub told_lines : (line : ℕ) (out : Outcome Term Refusal) (a : Answer) → IsTold out a → outcome_lines line (option_map reason out.refused) (items_of out.frame) ≡ outcome_lines line a.refusal a.frame
-told_lines line out a is = ap (λ r. outcome_lines line r (items_of out.frame)) is.refusal ∙ ap (λ f. outcome_lines line a.refusal f) is.frame
+pub told_lines : (line : ℕ) (p : CorePlan) (a : Answer) → IsAnswer p a → outcome_lines line (option_map reason p.out.refused) (items_of p.out.frame) ≡ outcome_lines line a.refusal a.frame
+told_lines line p a is = ap (λ r. outcome_lines line r (items_of p.out.frame)) is.refusal ∙ ap (λ f. outcome_lines line a.refusal f) is.frame
 
 -- a refused event of its own
-pub event_spared : (tells : Telling) (c : Setting) (line : ℕ) (task : Task) (s : NodeState) (before after : Hosted CoreValue) (old new : View) (out : Outcome Term Refusal) → HasHandled tells c task before old (Ok out) after new → IsTrue tells.content → IsUp c s before old → is_own task ≡ true
+pub event_spared : (tells : Telling) (c : Setting) (line : ℕ) (task : Task) (s : NodeState) (before after : Hosted CoreValue) (old new : View) (p : CorePlan) → HasHandled tells c task before old (Ok p) after new → IsTrue tells.content → IsUp c s before old → is_own task ≡ true
     → IsRefusal (handled c line task s) → IsStill old new × ((handled c line task s).after ≡ Some s)
-event_spared tells c line task s before after old new out h told up own refusal =
+event_spared tells c line task s before after old new p h told up own refusal =
     let a = answer real c s task in
     let some : is_some a.refusal ≡ true = refused_by line a.refusal a.frame (handled c line task s).after refusal in
-    let kept = h.spared own (sym (some_mapped reason out.refused) ∙ ap is_some (h.told s up).refusal ∙ some) in
+    let kept = h.spared own (sym (some_mapped reason p.out.refused) ∙ ap is_some (h.told s up).refusal ∙ some) in
     (kept.0, ap (λ (x : CoreValue). Some x.tables) (sym (h.up told s up).core ∙ kept.1 ∙ up.core))
 
 pub lays_some : (o : Order) (s : NodeState) → lays_out o (Some s) ≡ false

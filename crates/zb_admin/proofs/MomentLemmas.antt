@@ -3,12 +3,13 @@
 use Rattle.std.proofs.Common.{◌≡◌, ℕ, zero, suc, Bool, true, false, inl, inr, List, [], ◌∷◌, ◌++◌, drop, length, take, Option, Some, refl, sym, ap, ◌∙◌, subst, append_assoc, append-nil}
 use Rattle.std.proofs.KnownBytes.{Appends-nil, Appends-trans}
 use Rattle.std.specs.Io.KnownBytes.{Appends}
-use Rattle.zb_admin.specs.Commands.{IsBetween, WasThereOrEmpty, lays_out}
+use Rattle.zb_centre_store.specs.Calls.{WasThereOrEmpty}
+use Rattle.zb_admin.specs.Commands.{IsBetween, lays_out}
 use Rattle.zb_admin.specs.Moments.{Covers, Goes, IsOfRun, IsRun, MakesStore, Moment, Stretch, calls, writes, new_store, standing_after, text_after}
-use Rattle.zb_admin.specs.Outside.{Outside}
+use Rattle.zb_centre_store.specs.Outside.{Outside}
 use Rattle.zb_admin.specs.Served.{done, on_store, served}
 use Rattle.zb_admin.specs.Serving.{Ended, Runs}
-use Rattle.zb_admin.specs.Standing.{StandsAs, StandsAsEither}
+use Rattle.zb_centre_store.specs.Standing.{StandsAs, StandsAsEither}
 use Rattle.zb_admin.proofs.CommandLemmas.{lays_some}
 use Rattle.zb_admin.proofs.RunLemmas.{front_behind, front_within, page_more}
 use Rattle.zb_base.specs.Outside.{AppendsFront}

@@ -4,10 +4,10 @@ use Rattle.std.proofs.Common.{◌≡◌, ℕ, zero, suc, inl, inr, List, [], ◌
 use Rattle.std.proofs.KnownBytes.{Appends-nil, Appends-trans}
 use Rattle.std.specs.Io.KnownBytes.{Appends}
 use Rattle.zb_admin.specs.Served.{done, served}
-use Rattle.zb_admin.specs.Outside.{Outside}
+use Rattle.zb_centre_store.specs.Outside.{Outside}
 use Rattle.zb_admin.specs.Serving.{Ended, Runs}
-use Rattle.zb_admin.specs.Standing.{StandsAs}
-use Rattle.zb_admin.specs.declared.fault.AdminFault.{AdminFault}
+use Rattle.zb_centre_store.specs.Standing.{StandsAs}
+use Rattle.zb_centre_store.specs.declared.fault.AdminFault.{AdminFault}
 use Rattle.zb_base.specs.Outside.{AppendsFront}
 use Rattle.zb_model.specs.Data.{Bytes}
 use Rattle.zb_model.specs.Rules.{Setting}

@@ -3,15 +3,16 @@ use Rattle.std.proofs.Common.{◌≡◌, ℕ, ◌≤◌, ◌<◌, ◌+◌, inl, 
 use Rattle.std.proofs.KnownBytes.{Appends-nil}
 use Rattle.std.proofs.lemmas.List.{drop_all, drop_more}
 use Rattle.std.specs.Io.KnownBytes.{Appends}
-use Rattle.zb_admin.specs.Commands.{IsCarriedOut, IsCommandFault, IsJudged, IsJudgeFault, WasThereOrEmpty, lays_out, tables_in}
+use Rattle.zb_centre_store.specs.Calls.{IsJudged, IsJudgeFault, WasThereOrEmpty, tables_in}
+use Rattle.zb_admin.specs.Commands.{IsCarriedOut, IsCommandFault, lays_out}
 use Rattle.zb_admin.specs.Served.{done}
 use Rattle.zb_admin.specs.Moments.{IsRun}
-use Rattle.zb_admin.specs.Outside.{Outside}
+use Rattle.zb_centre_store.specs.Outside.{Outside}
 use Rattle.zb_admin.specs.Serving.{Ended, HasServed, IsAdminFault, IsServiceFault, IsStored, Runs, Serves}
-use Rattle.zb_admin.specs.Standing.{CanBeServed, Stands, found_on}
-use Rattle.zb_admin.specs.declared.fault.AdminFault.{AdminFault}
-use Rattle.zb_admin.specs.declared.fault.AdminFault.TheVariants.{Disk, NoStore, BadStore, Worn, Write, NoMemory}
-use Rattle.zb_admin.proofs.CommandLemmas.{images_stand}
+use Rattle.zb_centre_store.specs.Standing.{CanBeServed, Stands, found_on}
+use Rattle.zb_centre_store.specs.declared.fault.AdminFault.{AdminFault}
+use Rattle.zb_centre_store.specs.declared.fault.AdminFault.TheVariants.{Disk, NoStore, BadStore, Worn, Write, NoMemory}
+use Rattle.zb_centre_store.proofs.StoreLemmas.{images_stand}
 use Rattle.zb_admin.proofs.MomentLemmas.{all_of_run, script_goes}
 use Rattle.zb_admin.proofs.RunLemmas.{run_front, run_last, run_whole}
 use Rattle.zb_base.specs.Outside.{AppendsFront, Rose, Unrisen}

@@ -1,9 +1,5 @@
-pub mod RowWords
 pub mod Texts
 pub mod Served
-pub mod Standing
-pub mod Faults
 pub mod Commands
-pub mod Outside
 pub mod Moments
 pub mod Serving

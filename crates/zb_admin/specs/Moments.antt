@@ -1,10 +1,11 @@
 -- The moments of a whole script: what a crash at each of them leaves on the disk, and what was written by then.
 use Rattle.std.specs.Prelude.{ℕ, ◌≡◌, ◌⊎◌, true, List, [], ◌∷◌, take, drop, Option}
 use Rattle.std.specs.Io.KnownBytes.{Appends}
-use Rattle.zb_admin.specs.Commands.{WasThereOrEmpty, lays_out}
-use Rattle.zb_admin.specs.Outside.{Outside}
+use Rattle.zb_centre_store.specs.Calls.{WasThereOrEmpty}
+use Rattle.zb_admin.specs.Commands.{lays_out}
+use Rattle.zb_centre_store.specs.Outside.{Outside}
 use Rattle.zb_admin.specs.Served.{served, served_text}
-use Rattle.zb_admin.specs.Standing.{StandsAs}
+use Rattle.zb_centre_store.specs.Standing.{StandsAs}
 use Rattle.zb_base.specs.Outside.{AppendsFront}
 use Rattle.zb_disk.specs.View.{LeavesOnly}
 use Rattle.zb_model.specs.Data.{Bytes}

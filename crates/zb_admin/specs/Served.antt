@@ -1,14 +1,15 @@
 -- What a script's commands write, and what stands after them. What stands is the tables of the centre, with their
 -- counters in memory; or nothing, where the disk is empty.
-use Rattle.std.specs.Prelude.{ℕ, ◌≡◌, List, [], ◌∷◌, ◌++◌, codes, Option, Some, None, Result, Ok, Err}
-use Rattle.zb_admin.specs.Texts.{ok_line, refuse_line, send_line, reason_text, listed}
+use Rattle.std.specs.Prelude.{ℕ, ◌≡◌, List, [], ◌∷◌, ◌++◌, codes, Option, Some, None}
+use Rattle.zb_centre_store.specs.Rows.{listed}
+use Rattle.zb_admin.specs.Texts.{ok_line, refuse_line, send_line, reason_text}
 use Rattle.zb_backup.specs.Format.{backup_text}
+use Rattle.zb_centre_store.specs.Makings.{first_tables, tables_of}
 use Rattle.zb_install.specs.Code.{code_key}
-use Rattle.zb_keys.specs.Declarations.{first_state}
 use Rattle.zb_model.specs.Answer.{answer, answered}
-use Rattle.zb_model.specs.Data.{Bytes, Centre, Task, DoProvision, DoRemove, Reason}
+use Rattle.zb_model.specs.Data.{Bytes, Task, DoProvision, DoRemove, Reason}
 use Rattle.zb_model.specs.Rules.{Setting}
-use Rattle.zb_model.specs.State.{NodeState, new_node, shown}
+use Rattle.zb_model.specs.State.{NodeState, shown}
 use Rattle.zb_model_real.specs.Real.{real}
 use Rattle.zb_record.specs.Records.{record_read}
 use Rattle.zb_script.specs.declared.script.Order.{Order}
@@ -45,17 +46,6 @@ outcome_lines number None frame = sent_lines frame ++ ok_line number ∷ []
 -- The policy's answer to it, with the counters that the centre has. A refusal changes nothing.
 abbrev pub handled : Setting → ℕ → Task → NodeState → Done
 handled c number task s = let a = answer real c s task in record { lines = outcome_lines number a.refusal a.frame; after = Some (shown (answered a s)) }
-
--- ---- a new store
-
--- a centre with this network key, of sequence 0, and nothing else
-abbrev pub first_tables : Bytes → NodeState
-first_tables key = first_state Centre (Some (key, 0)) None 0 0
-
--- the tables of a record; a script has no other bytes
-abbrev pub tables_of : Result NodeState ℕ → NodeState
-tables_of (Ok s) = s
-tables_of (Err place) = new_node Centre
 
 -- ---- a command, where a store stands and where none does
 

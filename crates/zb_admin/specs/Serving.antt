@@ -1,13 +1,14 @@
 -- What serving a script does to the disk and to the output, command by command, and what follows of it.
 use Rattle.std.specs.Prelude.{ℕ, ◌≡◌, ◌⊎◌, List, [], ◌∷◌, Option, Some, Result, Ok, Err, IfErr, OnOk, OnErr, IsTrue}
 use Rattle.std.specs.Io.KnownBytes.{Appends}
-use Rattle.zb_admin.specs.declared.fault.AdminFault.{AdminFault}
-use Rattle.zb_admin.specs.declared.fault.AdminFault.TheVariants.{Disk, NoStore, BadStore, Worn, Write, NoMemory}
-use Rattle.zb_admin.specs.Commands.{IsBetween, WasThereOrEmpty, lays_out}
-pub use Rattle.zb_admin.specs.Outside.{Outside, outside}
+use Rattle.zb_centre_store.specs.declared.fault.AdminFault.{AdminFault}
+use Rattle.zb_centre_store.specs.declared.fault.AdminFault.TheVariants.{Disk, NoStore, BadStore, Worn, Write, NoMemory}
+use Rattle.zb_centre_store.specs.Calls.{WasThereOrEmpty}
+use Rattle.zb_admin.specs.Commands.{IsBetween, lays_out}
+pub use Rattle.zb_centre_store.specs.Outside.{Outside, outside}
 use Rattle.zb_admin.specs.Moments.{IsOfRun, IsRun}
 use Rattle.zb_admin.specs.Served.{IsRefusal, done, served, served_text}
-use Rattle.zb_admin.specs.Standing.{CanBeServed, IsWornOut, Stands, StandsAs, found_on}
+use Rattle.zb_centre_store.specs.Standing.{CanBeServed, IsWornOut, Stands, StandsAs, found_on}
 use Rattle.zb_base.specs.Outside.{AppendsFront, Rose, Unrisen}
 use Rattle.zb_disk.specs.View.{View, IsStill, LeavesOnly}
 use Rattle.zb_host.specs.Hosts.{Hosted}

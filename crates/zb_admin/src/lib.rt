@@ -2,11 +2,8 @@
 //! changes is stored before its lines are written.
 #![tactic(auto)]
 
-mod fault;
 mod lines;
-mod rows;
 mod service;
-mod store;
 
-pub use fault::AdminFault;
 pub use service::serve;
+pub use zb_centre_store::AdminFault;

@@ -1,12 +1,14 @@
 //! Serving a script: command by command.
-ghost use Rattle.std.specs.Prelude.{◌≡◌, ◌≢◌, ◌≤◌, ◌⊎◌, ◌++◌, ◌∷◌, [], Option as Maybe, Some, None, Ok, Err, false, true, is_some, option_map, IfErr, IfOk, IsOk, OnOk, OnErr, IsTrue};
+ghost use Rattle.std.specs.Prelude.{◌≡◌, ◌≢◌, ◌≤◌, ◌⊎◌, ◌++◌, ◌∷◌, [], Option as Maybe, Some, None, Ok, Err, false, true, is_some, option_map, IfErr, IsOk, OnOk, OnErr, IsTrue};
 ghost use Rattle.std.specs.Io.KnownBytes.{Appends};
 ghost use Rattle.std.specs.List.{AllByRecursion};
-ghost use Rattle.zb_admin.specs.Commands.{HasStore, IsCarriedOut, IsCommandFault, IsShort, is_own, items_of, lays_out};
+ghost use Rattle.zb_centre_store.specs.Calls.{HasStore, IsShort, is_own};
+ghost use Rattle.zb_admin.specs.Commands.{IsCarriedOut, IsCommandFault, items_of, lays_out};
 ghost use Rattle.zb_admin.specs.Served.{done, handled, on_empty, on_store, outcome_lines, sent_lines};
 ghost use Rattle.zb_admin.specs.Serving.{HasServed, IsServiceFault, Runs, Serves, outside};
-ghost use Rattle.zb_admin.specs.Standing.{IsEmpty, IsUp, Stands};
-ghost use Rattle.zb_admin.specs.Texts.{listed, ok_line, refuse_line};
+ghost use Rattle.zb_centre_store.specs.Standing.{IsEmpty, IsUp, Stands};
+ghost use Rattle.zb_centre_store.specs.Rows.{listed};
+ghost use Rattle.zb_admin.specs.Texts.{ok_line, refuse_line};
 ghost use Rattle.zb_backup.specs.Format.{backup_text};
 ghost use Rattle.zb_base.specs.Config.{IsConfig};
 ghost use Rattle.zb_base.specs.Outside.{AppendsFront, Rose, Unrisen};
@@ -21,21 +23,20 @@ ghost use Rattle.zb_script.specs.Scripts.{IsScript, IsStep};
 ghost use Rattle.zb_stored_tables.specs.Cores.{CoreValue, IsOfRole};
 ghost use Rattle.zb_text.specs.Pages.{ended, page as page_of};
 
-use crate::AdminFault;
 use crate::lines::{put_ok, put_refusal, put_refused, put_sent};
-use crate::rows::put_tables;
-use crate::store::{centre_tables, handle, init, judge, restore};
 use std::alloc::{AllocError, Global};
-use zb_backup::write_backup;
 use zb_base::{Config, Failed, Frame, Sink};
 use zb_centre::{Centre, CentreEvent};
+use zb_centre_store::{
+    AdminFault, centre_tables, handle, init, judge, put_backup, put_tables, restore,
+};
 use zb_disk::Disk;
 use zb_host::{Host, Outcome};
 use zb_keys::Tables;
 use zb_node_types::Refusal;
 use zb_script::{Order, Script, Step};
 use zb_seal::Term;
-use zb_text::page::{end_line, hand_out, put};
+use zb_text::page::hand_out;
 
 // Prints the frame that goes on the air, if there is one.
 fn put_frame(page: &mut Vec<u8>, frame: &Option<Frame>) -> Result<(), AllocError>
@@ -112,9 +113,7 @@ fn back_up(alloc: Global, page: &mut Vec<u8>, line: u32, tables: &Tables) -> Res
         ≡ page.old.items ++ (ended (backup_text tables.now) ++ page_of (ok_line line ∷ []))) }
     ensures short { IsShort result }
 {
-    let text = write_backup(alloc, tables)?;
-    put(page, text.as_slice())?;
-    end_line(page)?;
+    put_backup(alloc, page, tables)?;
     confirm(page, line)?;
     Ok(())
 }
@@ -139,7 +138,7 @@ fn handle_event<D: Disk>(
     ensures unrisen { OnOk result (Unrisen (D.state disk.old).faults (D.state disk.new).faults) }
 {
     match handle(host, disk, event) {
-        Ok(out) => tell(page, line, &out),
+        Ok(plan) => tell(page, line, &plan.out),
         Err(fault) => Err(fault),
     }
 }

@@ -1,5 +1,5 @@
 -- A boot: nothing falls, or something falls on it.
-use Rattle.std.proofs.Common.{◌≡◌, ◌==◌, ℕ, List, get_or, Bool, true, false, Option, Some, None, Ok, refl, sym, ◌∙◌, ap, subst}
+use Rattle.std.proofs.Common.{◌≡◌, ◌==◌, arith, ℕ, List, get_or, ◌&&◌, Bool, true, false, not, nat_lt, Option, Some, None, Ok, refl, sym, ◌∙◌, ap, subst}
 use Rattle.std.specs.List.{concat}
 use Rattle.std.proofs.lemmas.Bool.{false≢true, lt-ltb, le-leb}
 use Rattle.zb_base.specs.Outside.{risen, Unrisen}
@@ -7,7 +7,7 @@ use Rattle.zb_base.specs.declared.fault.OrMemory.{OrMemory}
 use Rattle.zb_base.specs.declared.fault.OrMemory.TheVariants.{Fault, NoMemory as Lacking}
 use Rattle.zb_node_types.specs.declared.change.Change.{Change}
 use Rattle.zb_disk.specs.View.{Only, View}
-use Rattle.zb_disk.specs.Memory.{Medium, is_stopped, powered, memory_tells, memory_view}
+use Rattle.zb_disk.specs.Memory.{Medium, is_stopped, will_refuse, powered, memory_tells, memory_view}
 use Rattle.zb_store.specs.Layout.{Standing, IsWhole, stands as stands_on}
 use Rattle.zb_store.specs.Steps.{WentThrough}
 use Rattle.zb_store.specs.Store.{AllWhole, OpenStop, both_gates_open, open_calls}
@@ -21,9 +21,8 @@ use Rattle.zb_host.specs.HostFaults.{IsBootFault}
 use Rattle.zb_host.specs.Calls.{Words, IsBooted}
 use Rattle.zb_host.proofs.Lives.{same_standing, same_record}
 use Rattle.zb_model.specs.Play.{Armed, NotArmed, StopAfter, FailAt, BootCalls, count_of, falls, leaves_both}
-use Rattle.zb_armed_host.specs.declared.fall.Fall.{Fall}
-use Rattle.zb_armed_host.specs.declared.fall.Fall.TheVariants.{Failed}
-use Rattle.zb_armed_host.specs.Arms.{armed_medium, disarmed_medium}
+use Rattle.zb_armed_host.specs.declared.fall.Fallen.{Fallen}
+use Rattle.zb_armed_host.specs.Arms.{armed_medium, disarmed_medium, fired_seen}
 use Rattle.zb_armed_host.specs.Driven.{memory_words, IsAtRest, IsDown, WasBooted, HasFallenAtBoot, boot_cause, fall_seen}
 use Rattle.zb_armed_host.proofs.Ties.{boot_stop_leaves, boot_fail_leaves}
 use Rattle.zb_armed_host.proofs.Armings.{on, taken_back, on_once_powered, powered_calls, armed_bytes, armed_calls, disarmed_calls, armed_only, disarmed_current, missed, unarmed_then}
@@ -77,13 +76,13 @@ gates_fail s call old m true is rest stop fell = open_failure_gates s (armed_med
 gates_fail s call old m false is rest stop fell = open_closed s (armed_medium (FailAt call) old) m stop rest.only is ∙ sym (shut (FailAt call))
 
 -- an open that ended early, on a disk on which this was armed
-pub fell_at_open : (s : Standing) (a : Armed) (old m : Medium) (fall : Fall) → IsAtRest s old → OpenStop memory_tells s (memory_view (armed_medium a old)) (memory_view m)
-    → fall ≡ fall_seen (is_stopped m.arming) → Only (powered m).bytes (memory_view (powered m)).images
-    → HasFallenAtBoot s a old fall (disarmed_medium a (powered m))
-fell_at_open s NotArmed old m fall rest stop is only =
+pub fell_at_open : (s : Standing) (a : Armed) (old m : Medium) (fallen : Fallen) → IsAtRest s old → OpenStop memory_tells s (memory_view (armed_medium a old)) (memory_view m)
+    → fallen.fall ≡ fall_seen (is_stopped old.arming) (is_stopped m.arming) → fallen.fired ≡ fired_seen a (is_stopped old.arming) (is_stopped m.arming) (will_refuse m.arming)
+    → Only (powered m).bytes (memory_view (powered m)).images → HasFallenAtBoot s a old fallen (disarmed_medium a (powered m))
+fell_at_open s NotArmed old m fallen rest stop is did only =
     let (n, low, ended) = open_within s old m stop (on old rest.unarmed) in
     absurd (false≢true (sym (rest.unarmed n) ∙ ended.refused refl))
-fell_at_open s (StopAfter calls torn) old m fall rest stop is only =
+fell_at_open s (StopAfter calls torn) old m fallen rest stop is did only =
     let a = StopAfter calls torn in
     let armed = armed_medium a old in
     let run = open_calls old.bytes in
@@ -91,7 +90,8 @@ fell_at_open s (StopAfter calls torn) old m fall rest stop is only =
     let fell : falls a (BootCalls (both_gates_open old.bytes)) ≡ true = lt-ltb calls (count_of (BootCalls (both_gates_open old.bytes))) it.within in
     record {
       fell = fell;
-      is = is ∙ ap fall_seen it.off;
+      is = is ∙ ap (λ (b : Bool). fall_seen b (is_stopped m.arming)) (on old rest.unarmed) ∙ ap (fall_seen false) it.off;
+      fired = did ∙ ap (λ (b : Bool). not b && is_stopped m.arming) (on old rest.unarmed) ∙ it.off;
       rest = record {
         only = only;
         whole = open_stands s armed m calls stop rest.whole rest.only refl;
@@ -100,7 +100,7 @@ fell_at_open s (StopAfter calls torn) old m fall rest stop is only =
       gates = gates_stop s calls torn old m (both_gates_open old.bytes) refl rest stop fell;
       calls = powered_calls m ∙ it.made;
     }
-fell_at_open s (FailAt call) old m fall rest stop is only =
+fell_at_open s (FailAt call) old m fallen rest stop is did only =
     let a = FailAt call in
     let armed = armed_medium a old in
     let run = open_calls old.bytes in
@@ -108,7 +108,9 @@ fell_at_open s (FailAt call) old m fall rest stop is only =
     let fell : falls a (BootCalls (both_gates_open old.bytes)) ≡ true = le-leb call (count_of (BootCalls (both_gates_open old.bytes))) it.within in
     record {
       fell = fell;
-      is = is ∙ ap fall_seen it.on;
+      is = is ∙ ap (λ (b : Bool). fall_seen b (is_stopped m.arming)) (on old rest.unarmed) ∙ ap (fall_seen false) it.on;
+      fired = did ∙ ap (λ (b : Bool). not b && nat_lt 0 call && not (will_refuse m.arming)) (on old rest.unarmed)
+          ∙ ap (λ (b : Bool). b && not (will_refuse m.arming)) (lt-ltb 0 call (omega (arith, it.first))) ∙ ap not it.spent;
       rest = record {
         only = only;
         whole = open_failure_stands s armed m call stop rest.whole rest.only refl;
@@ -120,13 +122,21 @@ fell_at_open s (FailAt call) old m fall rest stop is only =
 
 -- ---- why a boot failed
 
-abbrev fault_in : OrMemory Fall → Fall
-fault_in (Fault fall) = fall
-fault_in Lacking = Failed
+abbrev fault_in : Fallen → OrMemory Fallen → Fallen
+fault_in other (Fault fallen) = fallen
+fault_in other Lacking = other
 
-abbrev IsLack : OrMemory Fall → Type 0
-IsLack (Fault fall) = ⊥
+abbrev IsLack : OrMemory Fallen → Type 0
+IsLack (Fault fallen) = ⊥
 IsLack Lacking = Unit {0}
+
+-- a fault that is told is how the call ended
+pub fault_of : (seen fallen : Fallen) (fault : HostFault) → boot_cause fault seen ≡ Fault fallen → seen ≡ fallen
+fault_of seen fallen (Disk changes) cause = ap (fault_in seen) cause
+fault_of seen fallen NoMemory cause = absurd (subst IsLack cause tt)
+fault_of seen fallen NoRecord cause = ap (fault_in seen) cause
+fault_of seen fallen (BadRecord at) cause = ap (fault_in seen) cause
+fault_of seen fallen Worn cause = ap (fault_in seen) cause
 
 abbrev IsThere : Option Standing → Type 0
 IsThere None = ⊥
@@ -137,27 +147,28 @@ IsGood (gives w) = Unit {0}
 IsGood (bad at) = ⊥
 
 -- a boot that lacked memory left the count of faults
-pub lacked : (restored : Restoring) (old new : View) (fault : HostFault) (fall : Fall) → boot_cause fault fall ≡ Lacking
+pub lacked : (restored : Restoring) (old new : View) (fault : HostFault) (fallen : Fallen) → boot_cause fault fallen ≡ Lacking
     → IsBootFault memory_tells restored old new fault → Unrisen old.faults new.faults
-lacked restored old new (Disk changes) fall cause of_fault = absurd (subst IsLack (sym cause) tt)
-lacked restored old new NoMemory fall cause of_fault = of_fault
-lacked restored old new NoRecord fall cause of_fault = absurd (subst IsLack (sym cause) tt)
-lacked restored old new (BadRecord at) fall cause of_fault = absurd (subst IsLack (sym cause) tt)
-lacked restored old new Worn fall cause of_fault = absurd of_fault
+lacked restored old new (Disk changes) fallen cause of_fault = absurd (subst IsLack (sym cause) tt)
+lacked restored old new NoMemory fallen cause of_fault = of_fault
+lacked restored old new NoRecord fallen cause of_fault = absurd (subst IsLack (sym cause) tt)
+lacked restored old new (BadRecord at) fallen cause of_fault = absurd (subst IsLack (sym cause) tt)
+lacked restored old new Worn fallen cause of_fault = absurd of_fault
 
 -- a boot of a node at rest fails for the disk or for out of memory alone
-pub has_fallen_at_boot : {C : Type 0} (words : Words C Medium) (s : Standing) (w : List ℕ) (a : Armed) (old m : Medium) (fault : HostFault) (seen fall : Fall) → IsDown words s w a old
+pub has_fallen_at_boot : {C : Type 0} (words : Words C Medium) (s : Standing) (w : List ℕ) (a : Armed) (old m : Medium) (fault : HostFault) (seen fallen : Fallen) → IsDown words s w a old
     → IsBootFault memory_tells words.restored (memory_view (armed_medium a old)) (memory_view m) fault
     → ((changes : _) → fault ≡ Disk changes → OpenStop memory_tells s (memory_view (armed_medium a old)) (memory_view m))
-    → seen ≡ fall_seen (is_stopped m.arming) → Only (powered m).bytes (memory_view (powered m)).images → boot_cause fault seen ≡ Fault fall
-    → HasFallenAtBoot s a old fall (disarmed_medium a (powered m))
-has_fallen_at_boot words s w a old m (Disk changes) seen fall down of_fault stopped is only cause =
-    fell_at_open s a old m fall down.rest (stopped changes refl) (sym (ap fault_in cause) ∙ is) only
-has_fallen_at_boot words s w a old m NoMemory seen fall down of_fault stopped is only cause = absurd (subst IsLack cause tt)
-has_fallen_at_boot words s w a old m NoRecord seen fall down of_fault stopped is only cause =
+    → seen.fall ≡ fall_seen (is_stopped old.arming) (is_stopped m.arming) → seen.fired ≡ fired_seen a (is_stopped old.arming) (is_stopped m.arming) (will_refuse m.arming)
+    → Only (powered m).bytes (memory_view (powered m)).images → boot_cause fault seen ≡ Fault fallen → HasFallenAtBoot s a old fallen (disarmed_medium a (powered m))
+has_fallen_at_boot words s w a old m (Disk changes) seen fallen down of_fault stopped is did only cause =
+    let same : fallen ≡ seen = sym (ap (fault_in seen) cause) in
+    fell_at_open s a old m fallen down.rest (stopped changes refl) (ap (λ (f : Fallen). f.fall) same ∙ is) (ap (λ (f : Fallen). f.fired) same ∙ did) only
+has_fallen_at_boot words s w a old m NoMemory seen fallen down of_fault stopped is did only cause = absurd (subst IsLack cause tt)
+has_fallen_at_boot words s w a old m NoRecord seen fallen down of_fault stopped is did only cause =
     absurd (subst IsThere (sym (armed_stands s a old down.rest) ∙ of_fault refl) tt)
-has_fallen_at_boot words s w a old m (BadRecord at) seen fall down of_fault stopped is only cause =
+has_fallen_at_boot words s w a old m (BadRecord at) seen fallen down of_fault stopped is did only cause =
     let (r, there, wrong) = of_fault refl in
     let same = same_standing r s (armed_medium a old).bytes there (armed_stands s a old down.rest) in
     absurd (subst IsGood (sym down.gives_it ∙ sym (ap (λ (x : Standing). words.restored x.content (concat x.payloads)) same) ∙ wrong) tt)
-has_fallen_at_boot words s w a old m Worn seen fall down of_fault stopped is only cause = absurd of_fault
+has_fallen_at_boot words s w a old m Worn seen fallen down of_fault stopped is did only cause = absurd of_fault

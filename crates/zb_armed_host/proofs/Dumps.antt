@@ -1,5 +1,5 @@
 -- What the disk of a node shows.
-use Rattle.std.proofs.Common.{◌≡◌, ℕ, List, false, Option, Some, None, Result, Ok, Err, IfOk, [], refl, sym, ◌∙◌, ap, subst}
+use Rattle.std.proofs.Common.{◌≡◌, inl, inr, ℕ, List, false, Option, Some, None, Result, Ok, Err, IfOk, [], refl, sym, ◌∙◌, ap, subst}
 use Rattle.std.proofs.lemmas.Bool.{false≢true}
 use Rattle.std.specs.List.{concat}
 use Rattle.zb_base.specs.declared.fault.OrMemory.{OrMemory}
@@ -18,7 +18,7 @@ use Rattle.zb_host.specs.Plans.{Restored, gives, bad, IsRestoreFault}
 use Rattle.zb_host.specs.Hosts.{Restoring, Gives}
 use Rattle.zb_host.proofs.Lives.{same_standing}
 use Rattle.zb_armed_host.specs.Arms.{IsUnarmed}
-use Rattle.zb_armed_host.specs.Driven.{IsShown, lacks_memory, core_lacks_memory, IsRecordIn, IsRecordOf}
+use Rattle.zb_armed_host.specs.Driven.{IsShown, lacks_memory, core_lacks_memory, IsRecordIn, IsRecordOn, IsRecordOf}
 use Rattle.zb_armed_host.proofs.Armings.{on}
 
 abbrev IsThere : Option Standing → Type 0
@@ -70,17 +70,37 @@ shown_then restored m content payloads room (Ok r) read shown = λ s w whole qui
     let there = ap (λ (c : List ℕ). restored c payloads) (read.2 ∙ ap (λ (x : Standing). x.content) same) in
     shown w (there ∙ ap (λ (q : List ℕ). restored s.content q) (read.3 ∙ ap (λ (x : Standing). concat x.payloads) same) ∙ given)
 
+-- what the bytes give that are read is what those that stand give
+given_there : (restored : Restoring) (content payloads bytes room : List ℕ) (shown : Option ℕ) → AreContents content payloads bytes → IsRecordIn (restored content payloads) shown room → IsRecordOn restored (stands bytes) shown room
+given_there restored content payloads bytes room shown read is =
+    let there = ap (λ (c : List ℕ). restored c payloads) read.2 ∙ ap (λ (q : List ℕ). restored read.0.content q) read.3 in
+    subst (λ (found : Option Standing). IsRecordOn restored found shown room) (sym read.1) (subst (λ (given : Restored). IsRecordIn given shown room) there is)
+
 pub record_then : {E : Type 0} (restored : Restoring) (m : Medium) (content payloads room : List ℕ) (result : Result (Option ℕ) E) → AreContents content payloads m.bytes
-    → IfOk result (λ r. IsRecordIn (restored content payloads) r room) → IfOk result (λ r. IsRecordOf restored (stands m.bytes) r room)
+    → IfOk result (λ r. IsRecordIn (restored content payloads) r room) → IfOk result (λ r. IsRecordOf restored m r room)
 record_then restored m content payloads room (Err e) read shown = tt
-record_then restored m content payloads room (Ok None) read shown = nothing (stands m.bytes)
-  where
-    nothing : (found : Option Standing) → IsRecordOf restored found None room
-    nothing None = tt
-    nothing (Some s) = tt
-record_then restored m content payloads room (Ok (Some len)) read shown =
-    subst (λ (found : Option Standing). IsRecordOf restored found (Some len) room) (sym read.1)
-    (sym (ap (λ (c : List ℕ). restored c payloads) read.2 ∙ ap (λ (q : List ℕ). restored read.0.content q) read.3) ∙ shown)
+record_then restored m content payloads room (Ok None) read shown = inr (given_there restored content payloads m.bytes room None read shown)
+record_then restored m content payloads room (Ok (Some len)) read shown = given_there restored content payloads m.bytes room (Some len) read shown
+
+-- a disk that isn't read is off, or nothing stands on it
+pub none_then : {T : Type 0} (restored : Restoring) (m : Medium) (new : View) (room : List ℕ) (fault : StoreFault) → lacks_memory fault ≡ false
+    → OnlyReads {T = T} memory_tells (memory_view m) new (Err fault) → IsReadFault memory_tells (memory_view m) new fault → IsRecordOf restored m None room
+none_then restored m new room store.Disk lacks reads of_fault = inl (sym (off_now m.arming) ∙ reads.refusal refl refl)
+none_then restored m new room store.NoRecord lacks reads of_fault = inr (subst (λ (found : Option Standing). IsRecordOn restored found None room) (sym (of_fault refl)) tt)
+none_then restored m new room (store.TooLarge len) lacks reads of_fault = absurd of_fault
+none_then restored m new room store.NoMemory lacks reads of_fault = absurd (false≢true (sym lacks))
+none_then restored m new room store.Worn lacks reads of_fault = absurd of_fault
+
+-- bytes of which no core is made give none
+pub none_given : (fault : OrMemory KeyError) (given : Restored) (room : List ℕ) → core_lacks_memory fault ≡ false → IsRestoreFault given fault → IsRecordIn given None room
+none_given Lacking given room lacks of_fault = absurd (false≢true (sym lacks))
+none_given (Fault (KeyOld place)) given room lacks of_fault = absurd of_fault
+none_given (Fault KeysFull) given room lacks of_fault = absurd of_fault
+none_given (Fault RowsFull) given room lacks of_fault = absurd of_fault
+none_given (Fault (KeyInUse partner)) given room lacks of_fault = absurd of_fault
+none_given (Fault NoRow) given room lacks of_fault = absurd of_fault
+none_given (Fault WrongHash) given room lacks of_fault = absurd of_fault
+none_given (Fault (BadRecord at)) given room lacks of_fault = (at, of_fault)
 
 -- what the proof of `dump` uses
-pub ruleset dumps = (unopened, shown_then, record_then)
+pub ruleset dumps = (unopened, shown_then, record_then, none_then)

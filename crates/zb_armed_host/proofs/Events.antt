@@ -1,10 +1,10 @@
 -- An event of a node that is up: nothing falls, or something falls on its commit.
-use Rattle.std.proofs.Common.{◌≡◌, ◌≢◌, ◌&&◌, ℕ, List, [], ◌∷◌, Option, Some, None, Result, Err, Bool, true, false, if◌then◌else◌, refl, sym, ◌∙◌, ap, subst, arith}
+use Rattle.std.proofs.Common.{◌≡◌, ◌≢◌, ◌&&◌, ℕ, List, [], ◌∷◌, Option, Some, None, Result, Err, Bool, true, false, not, nat_lt, if◌then◌else◌, refl, sym, ◌∙◌, ap, subst, arith}
 use Rattle.std.proofs.lemmas.Bool.{false≢true, lt-ltb, le-leb}
 use Rattle.zb_base.specs.Outside.{risen}
 use Rattle.zb_node_types.specs.declared.change.Change.{Change}
 use Rattle.zb_disk.specs.View.{Only}
-use Rattle.zb_disk.specs.Memory.{Medium, is_stopped, powered, memory_tells, memory_view}
+use Rattle.zb_disk.specs.Memory.{Medium, is_stopped, will_refuse, powered, memory_tells, memory_view}
 use Rattle.zb_store.specs.Layout.{Standing, IsWhole}
 use Rattle.zb_store.specs.Steps.{WentThrough, StoppedWithin}
 use Rattle.zb_store.specs.Store.{Place, both_gates_open}
@@ -17,11 +17,11 @@ use Rattle.zb_host.specs.HostFaults.{IsUnstored}
 use Rattle.zb_host.specs.Calls.{Words}
 use Rattle.zb_host.proofs.Stops.{stands_then, within_then, gates_then}
 use Rattle.zb_model.specs.Play.{Armed, NotArmed, StopAfter, FailAt, count_of, falls}
-use Rattle.zb_armed_host.specs.declared.fall.Fall.{Fall}
-use Rattle.zb_armed_host.specs.Arms.{IsUnarmed, armed_medium, disarmed_medium, commit_of, calls_after}
+use Rattle.zb_armed_host.specs.declared.fall.Fallen.{Fallen}
+use Rattle.zb_armed_host.specs.Arms.{IsUnarmed, armed_medium, disarmed_medium, commit_of, calls_after, fired_seen}
 use Rattle.zb_armed_host.specs.Driven.{IsUp, WasHandled, HasFallen, fall_seen}
 use Rattle.zb_armed_host.proofs.Ties.{stop_stands, fail_stands, stop_leaves, fail_leaves}
-use Rattle.zb_armed_host.proofs.Armings.{taken_back, on_once_powered, powered_calls, armed_calls, disarmed_calls, disarmed_current, rearmed, none_falls, missed, unarmed_then}
+use Rattle.zb_armed_host.proofs.Armings.{on, taken_back, on_once_powered, powered_calls, armed_calls, disarmed_calls, disarmed_current, rearmed, none_falls, missed, unarmed_then}
 
 abbrev Empty : List Change → Type 0
 Empty [] = Unit {0}
@@ -100,14 +100,14 @@ module _ (whole : Bool) (s : Standing) (content payload : List ℕ) (old m : Med
       (λ x. append_gates s payload armed m x) (λ x. put_failure_gates s content armed m call x refl) stop
 
 -- it fell on the event's commit
-fell_some : {C : Type 0} (words : Words C Medium) (s : Standing) (a : Armed) (before after : Hosted C) (old m : Medium) (e : Change) (es : List Change) (fall : Fall) → IsUp words s a before old
+fell_some : {C : Type 0} (words : Words C Medium) (s : Standing) (a : Armed) (before after : Hosted C) (old m : Medium) (e : Change) (es : List Change) (fallen : Fallen) → IsUp words s a before old
     → CommitStop memory_tells (writes_whole before) s (words.recorded after.core) (words.payload (e ∷ es)) (memory_view (armed_medium a old)) (memory_view m)
     → Gives words.restored (next_standing (writes_whole before) s (words.recorded after.core) (words.payload (e ∷ es))) (words.recorded after.core)
-    → fall ≡ fall_seen (is_stopped m.arming) → Only (powered m).bytes (memory_view (powered m)).images
-    → HasFallen words s a before old (e ∷ es) fall after (disarmed_medium a (powered m))
-fell_some words s NotArmed before after old m e es fall up stop gives is only =
+    → fallen.fall ≡ fall_seen (is_stopped old.arming) (is_stopped m.arming) → fallen.fired ≡ fired_seen a (is_stopped old.arming) (is_stopped m.arming) (will_refuse m.arming) → Only (powered m).bytes (memory_view (powered m)).images
+    → HasFallen words s a before old (e ∷ es) fallen after (disarmed_medium a (powered m))
+fell_some words s NotArmed before after old m e es fallen up stop gives is did only =
     absurd (none (writes_whole before) s (words.recorded after.core) (words.payload (e ∷ es)) old m up.unarmed stop)
-fell_some words s (StopAfter calls torn) before after old m e es fall up stop gives is only =
+fell_some words s (StopAfter calls torn) before after old m e es fallen up stop gives is did only =
     let whole = writes_whole before in
     let content = words.recorded after.core in
     let payload = words.payload (e ∷ es) in
@@ -119,7 +119,8 @@ fell_some words s (StopAfter calls torn) before after old m e es fall up stop gi
     record {
       some = some e es;
       fell = fell;
-      is = is ∙ ap fall_seen it.off;
+      is = is ∙ ap (λ (b : Bool). fall_seen b (is_stopped m.arming)) (on old up.unarmed) ∙ ap (fall_seen false) it.off;
+      fired = did ∙ ap (λ (b : Bool). not b && is_stopped m.arming) (on old up.unarmed) ∙ it.off;
       gives_it = gives;
       rest = record {
         only = only;
@@ -129,7 +130,7 @@ fell_some words s (StopAfter calls torn) before after old m e es fall up stop gi
       gates = gates_stop whole s content payload old m calls torn stop ∙ sym (stop_leaves whole calls torn fell);
       calls = powered_calls m ∙ it.made;
     }
-fell_some words s (FailAt call) before after old m e es fall up stop gives is only =
+fell_some words s (FailAt call) before after old m e es fallen up stop gives is did only =
     let whole = writes_whole before in
     let content = words.recorded after.core in
     let payload = words.payload (e ∷ es) in
@@ -141,7 +142,9 @@ fell_some words s (FailAt call) before after old m e es fall up stop gives is on
     record {
       some = some e es;
       fell = fell;
-      is = is ∙ ap fall_seen it.on;
+      is = is ∙ ap (λ (b : Bool). fall_seen b (is_stopped m.arming)) (on old up.unarmed) ∙ ap (fall_seen false) it.on;
+      fired = did ∙ ap (λ (b : Bool). not b && nat_lt 0 call && not (will_refuse m.arming)) (on old up.unarmed)
+          ∙ ap (λ (b : Bool). b && not (will_refuse m.arming)) (lt-ltb 0 call (omega (arith, it.first))) ∙ ap not it.spent;
       gives_it = gives;
       rest = record {
         only = only;
@@ -152,13 +155,13 @@ fell_some words s (FailAt call) before after old m e es fall up stop gives is on
       calls = powered_calls m ∙ it.made;
     }
 
-pub has_fallen : {C : Type 0} (words : Words C Medium) (s : Standing) (a : Armed) (before after : Hosted C) (old m : Medium) (changes : List Change) (fall : Fall) → IsUp words s a before old → changes ≢ []
+pub has_fallen : {C : Type 0} (words : Words C Medium) (s : Standing) (a : Armed) (before after : Hosted C) (old m : Medium) (changes : List Change) (fallen : Fallen) → IsUp words s a before old → changes ≢ []
     → CommitStop memory_tells (writes_whole before) s (words.recorded after.core) (words.payload changes) (memory_view (armed_medium a old)) (memory_view m)
     → Gives words.restored (next_standing (writes_whole before) s (words.recorded after.core) (words.payload changes)) (words.recorded after.core)
-    → fall ≡ fall_seen (is_stopped m.arming) → Only (powered m).bytes (memory_view (powered m)).images
-    → HasFallen words s a before old changes fall after (disarmed_medium a (powered m))
-has_fallen words s a before after old m [] fall up there stop gives is only = absurd (there refl)
-has_fallen words s a before after old m (e ∷ es) fall up there stop gives is only = fell_some words s a before after old m e es fall up stop gives is only
+    → fallen.fall ≡ fall_seen (is_stopped old.arming) (is_stopped m.arming) → fallen.fired ≡ fired_seen a (is_stopped old.arming) (is_stopped m.arming) (will_refuse m.arming) → Only (powered m).bytes (memory_view (powered m)).images
+    → HasFallen words s a before old changes fallen after (disarmed_medium a (powered m))
+has_fallen words s a before after old m [] fallen up there stop gives is did only = absurd (there refl)
+has_fallen words s a before after old m (e ∷ es) fallen up there stop gives is did only = fell_some words s a before after old m e es fallen up stop gives is did only
 
 abbrev generation_in : Option Place → ℕ
 generation_in None = 0
@@ -175,15 +178,15 @@ pub err_is : {f g : CommitFault} → f ≡ g → err f ≡ err g
 err_is is = ap err is
 
 -- an event that failed, by its fault: no other comes of a host that is up over such a disk
-pub fallen_by : {C : Type 0} (words : Words C Medium) (s : Standing) (a : Armed) (before after : Hosted C) (old m : Medium) (fault : CommitFault) (items : List Change) (fall : Fall) → IsUp words s a before old
+pub fallen_by : {C : Type 0} (words : Words C Medium) (s : Standing) (a : Armed) (before after : Hosted C) (old m : Medium) (fault : CommitFault) (items : List Change) (fallen : Fallen) → IsUp words s a before old
     → IsUnstored (writes_whole before) before.store (memory_view (armed_medium a old)) (memory_view m) fault → items ≢ []
     → (fault ≡ commit.Disk → HasStopped memory_tells words.restored (writes_whole before) s (words.recorded after.core) (words.payload items) (memory_view (armed_medium a old)) (memory_view m))
-    → fall ≡ fall_seen (is_stopped m.arming) → Only (powered m).bytes (memory_view (powered m)).images
-    → HasFallen words s a before old items fall after (disarmed_medium a (powered m))
-fallen_by words s a before after old m commit.Disk items fall up of_fault some stopped is only =
+    → fallen.fall ≡ fall_seen (is_stopped old.arming) (is_stopped m.arming) → fallen.fired ≡ fired_seen a (is_stopped old.arming) (is_stopped m.arming) (will_refuse m.arming) → Only (powered m).bytes (memory_view (powered m)).images
+    → HasFallen words s a before old items fallen after (disarmed_medium a (powered m))
+fallen_by words s a before after old m commit.Disk items fallen up of_fault some stopped is did only =
     let stop = stopped refl in
-    has_fallen words s a before after old m items fall up some stop.0 stop.1 is only
-fallen_by words s a before after old m commit.Worn items fall up of_fault some stopped is only =
+    has_fallen words s a before after old m items fallen up some stop.0 stop.1 is did only
+fallen_by words s a before after old m commit.Worn items fallen up of_fault some stopped is did only =
     let p = of_fault.1.0 in
     let same : p.generation ≡ s.generation = ap generation_in (sym of_fault.1.1 ∙ up.current.place) in
     let last : p.generation ≡ 18446744073709551615 = of_fault.1.2 in

@@ -1,5 +1,6 @@
 pub mod Ties
 pub mod Armings
+pub mod Ended
 pub mod Events
 pub mod Boots
 pub mod Resets

@@ -1,7 +1,8 @@
 -- What is armed on a node's disk, in the model's words and in those of the disk.
-use Rattle.std.specs.Prelude.{ℕ, ◌+◌, ◌≤◌, ◌≡◌, Bool, true, false}
+use Rattle.std.specs.Prelude.{ℕ, ◌+◌, ◌≤◌, ◌≡◌, ◌&&◌, Bool, true, false, not, nat_le, nat_lt, if◌then◌else◌}
 use Rattle.zb_disk.specs.declared.memory.Arming.TheVariants as disk
-use Rattle.zb_disk.specs.Memory.{Medium, refuses, armed}
+use Rattle.zb_disk.specs.declared.memory.Arming.{Arming}
+use Rattle.zb_disk.specs.Memory.{Medium, refuses, is_stopped, armed}
 use Rattle.zb_model.specs.Play.{Armed, NotArmed, StopAfter, FailAt, Calls, NoCalls, EntryCalls, RecordCalls, BootCalls, count_of}
 use Rattle.zb_base.specs.Outside.{risen}
 use Rattle.zb_store.specs.Power.{stop_commits, failure_commits}
@@ -24,7 +25,19 @@ IsArming (FailAt call) = 1 ≤ call
 abbrev pub IsUnarmed : Medium → Type 0
 IsUnarmed m = (k : ℕ) → refuses m.arming k ≡ false
 
--- a disk that isn't off, once this is armed on it
+-- the arming of a disk once this is armed on it, which a disk that is off doesn't take
+abbrev pub arming_on : Armed → Arming → Arming
+arming_on NotArmed x = x
+arming_on (StopAfter calls torn) x = armed x (disk.Stop calls)
+arming_on (FailAt call) x = armed x (disk.Fail call)
+
+-- a disk once this is armed on it
+abbrev pub armed_on : Armed → Medium → Medium
+armed_on NotArmed m = m
+armed_on (StopAfter calls torn) m = record m { arming = armed m.arming (disk.Stop calls); torn = if is_stopped m.arming then m.torn else torn }
+armed_on (FailAt call) m = record m { arming = armed m.arming (disk.Fail call) }
+
+-- the same of a disk that isn't off
 abbrev pub armed_medium : Armed → Medium → Medium
 armed_medium NotArmed m = m
 armed_medium (StopAfter calls torn) m = record m { arming = disk.Stop calls; torn = torn }
@@ -46,6 +59,18 @@ abbrev pub arms_stand : Armed → Bool
 arms_stand NotArmed = false
 arms_stand (StopAfter calls torn) = stop_commits calls torn
 arms_stand (FailAt call) = failure_commits call
+
+-- whether what is armed falls on one of so many calls of a disk that is off, or isn't
+abbrev pub falls_within : Armed → Bool → ℕ → Bool
+falls_within NotArmed was_off made = false
+falls_within (StopAfter calls torn) was_off made = not was_off && nat_lt calls made
+falls_within (FailAt call) was_off made = not was_off && nat_lt 0 call && nat_le call made
+
+-- the same as a disk shows it after the calls: by whether it is off now, and will refuse a further call
+abbrev pub fired_seen : Armed → Bool → Bool → Bool → Bool
+fired_seen NotArmed was_off is_off refuses_more = false
+fired_seen (StopAfter calls torn) was_off is_off refuses_more = not was_off && is_off
+fired_seen (FailAt call) was_off is_off refuses_more = not was_off && nat_lt 0 call && not refuses_more
 
 -- the count of a disk's calls after these; it stops at 2^64 - 1
 abbrev pub calls_after : ℕ → Calls → ℕ

@@ -1,5 +1,5 @@
 -- What a call of a node's host leaves of the host and of the disk, in the model's words.
-use Rattle.std.specs.Prelude.{ℕ, ◌≡◌, ◌≢◌, ◌<◌, ◌==◌, get_or, take, Option, Some, None, List, [], ◌∷◌, Bool, true, false, if◌then◌else◌}
+use Rattle.std.specs.Prelude.{ℕ, ◌≡◌, ◌≢◌, ◌<◌, ◌==◌, ◌⊎◌, get_or, take, Option, Some, None, List, [], ◌∷◌, Bool, true, false, if◌then◌else◌}
 use Rattle.std.specs.List.{concat}
 use Rattle.zb_base.specs.Outside.{risen}
 use Rattle.zb_base.specs.declared.fault.OrMemory.{OrMemory}
@@ -7,29 +7,42 @@ use Rattle.zb_base.specs.declared.fault.OrMemory.TheVariants.{Fault, NoMemory as
 use Rattle.zb_node_types.specs.declared.change.Change.{Change}
 use Rattle.zb_node_types.specs.declared.fault.KeyError.{KeyError}
 use Rattle.zb_disk.specs.View.{Only}
-use Rattle.zb_disk.specs.Memory.{Medium, memory_tells, memory_view}
-use Rattle.zb_store.specs.Layout.{Standing, IsWhole}
+use Rattle.zb_disk.specs.Memory.{Medium, is_stopped, off_after, memory_tells, memory_view}
+use Rattle.zb_store.specs.Layout.{Standing, IsWhole, stands as stands_on}
+use Rattle.zb_store.specs.Steps.{calls_then}
 use Rattle.zb_store.specs.Store.{both_gates_open}
 use Rattle.zb_store.specs.declared.fault.StoreFault.{StoreFault}
 use Rattle.zb_store.specs.declared.fault.StoreFault.TheVariants as store
 use Rattle.zb_host.specs.declared.fault.HostFault.{HostFault}
 use Rattle.zb_host.specs.declared.fault.HostFault.TheVariants.{Disk, NoMemory, NoRecord, BadRecord, Worn}
-use Rattle.zb_host.specs.Plans.{Restored, gives}
+use Rattle.zb_host.specs.Plans.{Restored, gives, bad}
 use Rattle.zb_host.specs.Hosts.{Restoring, Gives, Hosted, IsCurrent, writes_whole, next_standing}
 use Rattle.zb_host.specs.Calls.{Words, words_of}
 use Rattle.zb_model.specs.Play.{Armed, NotArmed, StopAfter, FailAt, Calls, NoCalls, BootCalls, falls, stands, leaves_both}
 use Rattle.zb_armed_host.specs.declared.fall.Fall.{Fall}
 use Rattle.zb_armed_host.specs.declared.fall.Fall.TheVariants.{Stopped, Failed}
-use Rattle.zb_armed_host.specs.Arms.{IsArming, IsUnarmed, commit_of, calls_after, fallen_calls}
+use Rattle.zb_armed_host.specs.declared.fall.Fallen.{Fallen}
+use Rattle.zb_armed_host.specs.Arms.{IsArming, IsUnarmed, arming_on, falls_within, commit_of, calls_after, fallen_calls}
 
 -- what the laws on calls have of a core, over a disk in memory
 abbrev pub memory_words : {C : Type 0} → Restoring → (C → List ℕ) → (List Change → List ℕ) → Words C Medium
 memory_words restored recorded payload = words_of memory_tells memory_view restored recorded payload
 
--- how a call ended, by whether the disk is off
-abbrev pub fall_seen : Bool → Fall
-fall_seen true = Stopped
-fall_seen false = Failed
+-- how a call ended, by whether the disk was off before it and is off after it: stopped where it went off on it
+abbrev pub fall_seen : Bool → Bool → Fall
+fall_seen true is_off = Failed
+fall_seen false true = Stopped
+fall_seen false false = Failed
+
+-- How a call of a host ended that went wrong, on any disk. So many writes and syncs were made, as the disk counts
+-- them. It is stopped where the disk went off on one of them, and what was armed fired where it falls on one of them.
+-- The power is back.
+pub record HasEnded (a : Armed) (old : Medium) (fallen : Fallen) (new : Medium) : Type 0 where
+  pub made : ℕ
+  pub calls : new.calls ≡ calls_then old.calls made
+  pub fall : fallen.fall ≡ fall_seen (is_stopped old.arming) (off_after (arming_on a old.arming) made)
+  pub fired : fallen.fired ≡ falls_within a (is_stopped old.arming) made
+  pub on : is_stopped new.arming ≡ false
 
 -- how a call ends on which this falls
 abbrev pub fall_of : Armed → Fall
@@ -75,22 +88,23 @@ pub record WasHandled {C : Type 0} (words : Words C Medium) (s : Standing) (a : 
 
 -- An event on whose commit it fell. The host is down and the disk at rest; what stands is as the model says, and so is
 -- whether the gates of both slots are open.
-pub record HasFallen {C : Type 0} (words : Words C Medium) (s : Standing) (a : Armed) (before : Hosted C) (old : Medium) (changes : List Change) (fall : Fall) (after : Hosted C) (new : Medium) : Type 0 where
+pub record HasFallen {C : Type 0} (words : Words C Medium) (s : Standing) (a : Armed) (before : Hosted C) (old : Medium) (changes : List Change) (fallen : Fallen) (after : Hosted C) (new : Medium) : Type 0 where
   pub some : changes ≢ []
   pub fell : falls a (calls_in (writes_whole before) changes) ≡ true
-  pub is : fall ≡ fall_of a
+  pub is : fallen.fall ≡ fall_of a
+  pub fired : fallen.fired ≡ true
   pub gives_it : Gives words.restored (next_of words s before changes after) (words.recorded after.core)
   pub rest : IsAtRest (if stands a (calls_in (writes_whole before) changes) then next_of words s before changes after else s) new
   pub gates : both_gates_open new.bytes ≡ leaves_both a (calls_in (writes_whole before) changes)
   pub calls : new.calls ≡ risen old.calls (fallen_calls a)
 
 -- why a boot failed
-abbrev pub boot_cause : HostFault → Fall → OrMemory Fall
-boot_cause (Disk changes) fall = Fault fall
-boot_cause NoMemory fall = Lacking
-boot_cause NoRecord fall = Fault fall
-boot_cause (BadRecord at) fall = Fault fall
-boot_cause Worn fall = Fault fall
+abbrev pub boot_cause : HostFault → Fallen → OrMemory Fallen
+boot_cause (Disk changes) fallen = Fault fallen
+boot_cause NoMemory fallen = Lacking
+boot_cause NoRecord fallen = Fault fallen
+boot_cause (BadRecord at) fallen = Fault fallen
+boot_cause Worn fallen = Fault fallen
 
 -- A node that is down over a disk at rest, which represents the core of this record, and what is to be armed.
 pub record IsDown {C : Type 0} (words : Words C Medium) (s : Standing) (w : List ℕ) (a : Armed) (m : Medium) : Type 0 where
@@ -109,9 +123,10 @@ pub record WasBooted {C : Type 0} (words : Words C Medium) (s : Standing) (w : L
   pub unarmed : IsUnarmed new
 
 -- A boot on which it fell: what stood stands, and the model says whether the gates of both slots are still open.
-pub record HasFallenAtBoot (s : Standing) (a : Armed) (old : Medium) (fall : Fall) (new : Medium) : Type 0 where
+pub record HasFallenAtBoot (s : Standing) (a : Armed) (old : Medium) (fallen : Fallen) (new : Medium) : Type 0 where
   pub fell : falls a (BootCalls (both_gates_open old.bytes)) ≡ true
-  pub is : fall ≡ fall_of a
+  pub is : fallen.fall ≡ fall_of a
+  pub fired : fallen.fired ≡ true
   pub rest : IsAtRest s new
   pub gates : both_gates_open new.bytes ≡ leaves_both a (BootCalls (both_gates_open old.bytes))
   pub calls : new.calls ≡ risen old.calls (fallen_calls a)
@@ -121,16 +136,21 @@ abbrev pub IsShown : Option ℕ → List ℕ → List ℕ → Type 0
 IsShown None room w = ⊥
 IsShown (Some len) room w = take len room ≡ w
 
--- what is shown, if anything is, is the record of the core that these bytes give
+-- what is shown is the record of the core that these bytes give, and nothing where they give none
 abbrev pub IsRecordIn : Restored → Option ℕ → List ℕ → Type 0
-IsRecordIn given None room = Unit {0}
+IsRecordIn given None room = (at : ℕ) × (given ≡ bad at)
 IsRecordIn given (Some len) room = given ≡ gives (take len room)
 
--- and of what stands, if anything does
-abbrev pub IsRecordOf : Restoring → Option Standing → Option ℕ → List ℕ → Type 0
-IsRecordOf restored found None room = Unit {0}
-IsRecordOf restored None (Some len) room = ⊥
-IsRecordOf restored (Some s) (Some len) room = restored s.content (concat s.payloads) ≡ gives (take len room)
+-- the same of what stands, and nothing where nothing does
+abbrev pub IsRecordOn : Restoring → Option Standing → Option ℕ → List ℕ → Type 0
+IsRecordOn restored None None room = Unit {0}
+IsRecordOn restored None (Some len) room = ⊥
+IsRecordOn restored (Some s) shown room = IsRecordIn (restored s.content (concat s.payloads)) shown room
+
+-- the same of a disk: nothing is shown too where it is off
+abbrev pub IsRecordOf : Restoring → Medium → Option ℕ → List ℕ → Type 0
+IsRecordOf restored m None room = (is_stopped m.arming ≡ true) ⊎ IsRecordOn restored (stands_on m.bytes) None room
+IsRecordOf restored m (Some len) room = IsRecordOn restored (stands_on m.bytes) (Some len) room
 
 -- whether a call of a store, or of a core, lacked memory
 abbrev pub lacks_memory : StoreFault → Bool

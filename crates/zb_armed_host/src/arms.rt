@@ -1,7 +1,7 @@
 //! What is armed on a node's disk.
-ghost use Rattle.std.specs.Prelude.{◌≡◌, false};
-ghost use Rattle.zb_disk.specs.Memory.{is_stopped};
-ghost use Rattle.zb_armed_host.specs.Arms.{armed_of, armed_medium, arms_stand, disarmed_medium};
+ghost use Rattle.std.specs.Prelude.{◌≡◌, Bool, false};
+ghost use Rattle.zb_disk.specs.Memory.{is_stopped, will_refuse};
+ghost use Rattle.zb_armed_host.specs.Arms.{armed_of, armed_on, armed_medium, arms_stand, disarmed_medium, fired_seen};
 
 use arrayvec::ArrayVec;
 use zb_disk::MemDisk;
@@ -27,8 +27,9 @@ pub enum Arms {
     },
 }
 
-/// Arms a disk that isn't off. It counts from now on.
+/// Arms a disk. It counts from now on. A disk that is off stays as it is.
 pub(crate) fn arm(disk: &mut MemDisk, arms: &Arms)
+    ensures any { disk.new ≡ armed_on (armed_of arms.now) disk.old }
     ensures armed { is_stopped disk.old.arming ≡ false → disk.new ≡ armed_medium (armed_of arms.now) disk.old }
     ensures faults { disk.new.faults ≡ disk.old.faults }
 {
@@ -56,6 +57,18 @@ pub(crate) fn disarm(disk: &mut MemDisk, arms: &Arms)
     match arms {
         Arms::Unarmed => {}
         Arms::Stop { .. } | Arms::Fail { .. } => disk.disarm(),
+    }
+}
+
+/// Returns whether what was armed fell on a call, on a disk that was off before it or wasn't.
+pub(crate) fn has_fired(disk: &MemDisk, arms: &Arms, was_off: bool) -> bool
+    ensures { result ≡ fired_seen (armed_of arms.now) was_off
+        (is_stopped disk.now.arming) (will_refuse disk.now.arming) }
+{
+    match arms {
+        Arms::Unarmed => false,
+        Arms::Stop { .. } => !was_off && disk.is_off(),
+        Arms::Fail { call } => !was_off && 0 < *call && !disk.will_refuse(),
     }
 }
 

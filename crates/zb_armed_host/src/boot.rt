@@ -5,11 +5,11 @@ ghost use Rattle.zb_base.specs.Config.{IsConfig};
 ghost use Rattle.zb_base.specs.Outside.{Unrisen};
 ghost use Rattle.zb_store.specs.Layout.{Standing};
 ghost use Rattle.zb_armed_host.specs.Arms.{armed_of};
-ghost use Rattle.zb_armed_host.specs.Driven.{memory_words, IsDown, WasBooted, HasFallenAtBoot, boot_cause};
+ghost use Rattle.zb_armed_host.specs.Driven.{memory_words, IsDown, WasBooted, HasEnded, HasFallenAtBoot, boot_cause};
 
 use crate::arms::{arm, disarm};
 use crate::fall::recover;
-use crate::{Arms, Fall};
+use crate::{Arms, Fallen};
 use std::alloc::Global;
 use zb_base::{Config, OrMemory};
 use zb_disk::MemDisk;
@@ -17,7 +17,7 @@ use zb_host::{Core, Host, HostFault};
 
 /// Boots a node that is down from its disk, with what is armed on that.
 ///
-/// Where what was armed falls, or the boot fails otherwise, the power of the disk is back, and nothing is armed.
+/// Where what was armed falls, or the boot fails otherwise, the power of the disk is back, and nothing of it is armed.
 /// Requires a configuration of a node of the core's role.
 ///
 /// # Errors
@@ -27,7 +27,7 @@ pub fn boot_armed<C: Core>(
     config: &Config,
     disk: &mut MemDisk,
     arms: &Arms,
-) -> Result<Host<C>, OrMemory<Fall>>
+) -> Result<Host<C>, OrMemory<Fallen>>
     requires config { IsConfig config.now }
     requires role { C.is_of_role config.now }
 
@@ -41,12 +41,17 @@ pub fn boot_armed<C: Core>(
         → IsDown (memory_words C.restored C.recorded C.payload) s w (armed_of arms.now) disk.old
         → WasBooted (memory_words C.restored C.recorded C.payload) s w (armed_of arms.now)
         disk.old h disk.new) }
-    ensures fallen { IfErr result (λ e. (fall : _) → e ≡ OrMemory.Fault fall → (s : Standing) (w : List ℕ)
+    ensures fallen { IfErr result (λ e. (fallen : _) → e ≡ OrMemory.Fault fallen → (s : Standing) (w : List ℕ)
         → IsDown (memory_words C.restored C.recorded C.payload) s w (armed_of arms.now) disk.old
-        → HasFallenAtBoot s (armed_of arms.now) disk.old fall disk.new) }
+        → HasFallenAtBoot s (armed_of arms.now) disk.old fallen disk.new) }
+
+    // How it ended on any disk.
+    ensures ended { IfErr result (λ e. (fallen : _) → e ≡ OrMemory.Fault fallen
+        → HasEnded (armed_of arms.now) disk.old fallen disk.new) }
     ensures up { IfOk result (λ h. IsTrue (is_some h.store)) }
     ensures lacks { IfErr result (λ e. e ≡ OrMemory.NoMemory → Unrisen disk.old.faults disk.new.faults) }
 {
+    let was_off = disk.is_off();
     arm(disk, arms);
     match Host::boot(alloc, config, disk) {
         Ok(host) => {
@@ -54,21 +59,21 @@ pub fn boot_armed<C: Core>(
             Ok(host)
         }
         Err(fault) => {
-            let fall = recover(disk, arms);
-            Err(cause_of(fault, fall))
+            let fallen = recover(disk, arms, was_off);
+            Err(cause_of(fault, fallen))
         }
     }
 }
 
 // Why a boot failed: out of memory, or that it ended so.
-fn cause_of(fault: HostFault, fall: Fall) -> OrMemory<Fall>
-    ensures { result ≡ boot_cause fault fall }
+fn cause_of(fault: HostFault, fallen: Fallen) -> OrMemory<Fallen>
+    ensures { result ≡ boot_cause fault fallen }
 {
     match fault {
         HostFault::NoMemory => OrMemory::NoMemory,
         HostFault::Disk { .. }
         | HostFault::NoRecord
         | HostFault::BadRecord { .. }
-        | HostFault::Worn => OrMemory::Fault(fall),
+        | HostFault::Worn => OrMemory::Fault(fallen),
     }
 }

@@ -14,7 +14,7 @@ mod shown;
 pub use crate::arms::Arms;
 pub use crate::boot::boot_armed;
 pub use crate::event::run;
-pub use crate::fall::{Cut, Fall};
+pub use crate::fall::{Cut, Fall, Fallen};
 pub use crate::law::{nothing_armed_stays, one_gate_stands_open, stops_and_failures};
 pub use crate::power::reset;
 pub use crate::shown::dump;

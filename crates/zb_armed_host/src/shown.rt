@@ -4,7 +4,7 @@ ghost use Rattle.zb_base.specs.Config.{IsConfig};
 ghost use Rattle.zb_disk.specs.View.{IsStill};
 ghost use Rattle.zb_base.specs.Outside.{Unrisen};
 ghost use Rattle.zb_disk.specs.Memory.{memory_view};
-ghost use Rattle.zb_store.specs.Layout.{Standing, IsWhole, stands};
+ghost use Rattle.zb_store.specs.Layout.{Standing, IsWhole};
 ghost use Rattle.zb_base.specs.Sizes.{record_room, payloads_room};
 ghost use Rattle.zb_host.specs.Plans.{gives};
 ghost use Rattle.zb_host.specs.Hosts.{Gives};
@@ -20,7 +20,8 @@ use zb_store::{Store, StoreFault};
 
 /// Writes the record that the disk of a node represents, up or down, and returns its length.
 ///
-/// It answers None where the disk fails or represents no record of such a node, and changes nothing on the disk.
+/// It answers None where the disk is off, nothing stands on it, or what stands is no record of such a node. It changes
+/// nothing on the disk.
 /// Requires a configuration of a node of the core's role, and room for `RECORD_ROOM` bytes.
 ///
 /// # Errors
@@ -37,7 +38,7 @@ pub fn dump<C: Core>(
     requires room { record_room ≤ length room.old }
     ensures still { IsStill (memory_view disk.old) (memory_view disk.new) }
     ensures lacks { OnErr result (Unrisen disk.old.faults disk.new.faults) }
-    ensures exact { IfOk result (λ r. IsRecordOf C.restored (stands disk.old.bytes) r room.new) }
+    ensures exact { IfOk result (λ r. IsRecordOf C.restored disk.old r room.new) }
     ensures shown { IfOk result (λ r. (s : Standing) (w : List ℕ) → IsWhole s disk.old.bytes → IsUnarmed disk.old
         → Gives C.restored s w → IsShown r room.new w) }
 {
@@ -53,7 +54,7 @@ pub fn dump<C: Core>(
 }
 
 // Writes the record of the core that a record and the payloads after it give.
-#[tactic(auto, using(crate::proofs::Dumps::unread, crate::proofs::Dumps::written, crate::proofs::Dumps::given_again))]
+#[tactic(auto, using(crate::proofs::Dumps::unread, crate::proofs::Dumps::written, crate::proofs::Dumps::given_again, crate::proofs::Dumps::none_given))]
 fn read_record<C: Core>(
     alloc: Global,
     config: &Config,

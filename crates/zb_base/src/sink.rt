@@ -94,8 +94,13 @@ impl Sink for MemSink {
         ensures listed { is_err result ≡
             (has self.old.fails (risen self.old.calls 1)
             || nat_lt self.old.room (length self.old.taken + length piece.now)) }
-        ensures counted { self.new.calls ≡ risen self.old.calls 1 }
         ensures kept { OnErr result (self.new.taken ≡ self.old.taken) }
+        // It counts each call once, and each failed one. Its room, and which calls are to fail, stay.
+        ensures after { self.new ≡ record self.old {
+          taken = self.new.taken;
+          calls = risen self.old.calls 1;
+          faults = (if is_err result then risen self.old.faults 1 else self.old.faults);
+        } }
     {
         self.calls = self.calls.saturating_add(1);
         if has_number(self.fails.as_slice(), self.calls)

@@ -134,7 +134,12 @@ impl Source for MemSource {
         ensures listed { is_err result ≡ has self.old.fails (risen self.old.calls 1) }
         // It gives as much as there is room for.
         ensures full { IfOk result (λ n. n ≡ min (length buf.old) (length self.old.rest)) }
-        ensures counted { self.new.calls ≡ risen self.old.calls 1 }
+        // It counts each call once, and each failed one. Which calls are to fail stays.
+        ensures after { self.new ≡ record self.old {
+          rest = self.new.rest;
+          calls = risen self.old.calls 1;
+          faults = (if is_err result then risen self.old.faults 1 else self.old.faults);
+        } }
     {
         self.calls = self.calls.saturating_add(1);
         if has_number(self.fails.as_slice(), self.calls) {

@@ -1,5 +1,5 @@
 -- The task of the policy that an event of the trust centre represents.
-use Rattle.std.specs.Prelude.{◌≡◌, option_map}
+use Rattle.std.specs.Prelude.{◌≡◌, option_map, refl}
 use Rattle.zb_base.specs.declared.key.Key.{Key}
 use Rattle.zb_centre.specs.declared.event.CentreEvent.{CentreEvent}
 use Rattle.zb_centre.specs.declared.event.CentreEvent.TheVariants.{Provision, Remove, Roll, Switch, Again, Child, Deliver, Timer, Say, Share}
@@ -19,3 +19,7 @@ task_of (Share device partner) = DoShare device.0 partner.0
 
 abbrev pub IsTaskOf : CentreEvent → Task → Type 0
 IsTaskOf event task = task ≡ task_of event
+
+-- there is a task for each event
+pub some_task : (e : CentreEvent) → (task : Task) × IsTaskOf e task
+some_task e = (task_of e, refl)

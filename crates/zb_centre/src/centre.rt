@@ -1,108 +1,35 @@
-//! The core of the trust centre.
-ghost use Rattle.std.specs.Prelude.{◌≡◌};
-ghost use Rattle.zb_core.proofs.PlanLaws.{core_plan_adds, core_plan_idle, core_plan_keeps, core_plan_short};
-ghost use Rattle.zb_core.specs.CorePlans.{IsCoreAfter, IsCorePlan};
-ghost use Rattle.zb_centre.specs.Tasks.{IsTaskOf};
+//! The core of the trust centre: the policy of its role.
+ghost use Rattle.zb_centre.specs.Tasks.{IsTaskOf, some_task};
 ghost use Rattle.zb_model.specs.Data as model;
-ghost use Rattle.zb_model.specs.Record.{payload, record_of};
-ghost use Rattle.zb_node_types.specs.Changes.{edits};
-ghost use Rattle.zb_stored_tables.specs.Cores.{IsBooted, IsOfRole};
-ghost use Rattle.zb_stored_tables.specs.Stored.{restored};
-ghost use Rattle.zb_stored_tables.proofs.CoreValues.{value_newest};
 
 use crate::event::CentreEvent;
 use crate::planning::plan_centre;
-use std::alloc::Global;
-use std::marker::Model;
-use zb_base::{Config, OrMemory, Role};
-use zb_core::NodeCore;
-use zb_host::{Core, Outcome, Plan};
-use zb_node_types::{Changes, KeyError, Refusal};
+use zb_base::Role;
+use zb_core::{NodeCore, Policy, PolicyCore};
+use zb_host::{Outcome, Plan};
+use zb_node_types::Refusal;
 use zb_seal::Term;
-use zb_stored_tables::change_bytes;
 
-/// Decides what the trust centre does.
-///
-/// A contract sees it as its setting and its tables.
-#[derive(Drop)]
-pub struct Centre {
-    node: NodeCore,
-}
+/// Plans what the trust centre does.
+pub struct CentrePolicy;
 
-impl Model for Centre {
-    ghost use Rattle.std.specs.Prelude.{◌≡◌};
-    ghost use Rattle.zb_model.specs.Data as model;
-    ghost use Rattle.zb_stored_tables.specs.Cores.{CoreValue};
-
-    ghost Value = { CoreValue };
-
-    ghost view = { λ c. c.node };
-
-    ghost invariant = { λ c. c.node.setting.me.role ≡ model.Centre };
-}
-
-impl Core for Centre {
+impl Policy for CentrePolicy {
     type Event = CentreEvent;
 
-    type Out = Outcome<Term, Refusal>;
+    ghost of = { model.Centre };
 
-    ghost recorded = { λ c. record_of c.tables };
+    ghost stands_for = { IsTaskOf };
 
-    ghost is_plan = { IsCorePlan model.Centre IsTaskOf };
-
-    ghost is_after = { IsCoreAfter };
-
-    ghost payload = { λ changes. payload (edits changes) };
-
-    ghost restored = { restored model.Centre };
-
-    ghost is_of_role = { IsOfRole model.Centre };
-
-    ghost is_booted = { IsBooted model.Centre };
-
-    fn plan(&self, event: &CentreEvent, plan: &mut Plan<Outcome<Term, Refusal>>) {
-        plan_centre(&self.node, event, plan);
-        self.node.keep(plan);
+    fn role() -> Role {
+        Role::Centre
     }
 
-    fn apply(&mut self, plan: &Plan<Outcome<Term, Refusal>>) {
-        self.node.apply(plan);
+    fn plan(node: &NodeCore, event: &CentreEvent, plan: &mut Plan<Outcome<Term, Refusal>>) {
+        plan_centre(node, event, plan);
     }
 
-    fn record(&self, into: &mut [u8]) -> u32 {
-        self.node.record(into)
-    }
-
-    fn change_bytes(changes: &Changes, into: &mut [u8]) -> u32 {
-        change_bytes(changes, into)
-    }
-
-    fn restore(
-        alloc: Global,
-        config: &Config,
-        content: &[u8],
-        payloads: &[u8],
-    ) -> Result<Centre, OrMemory<KeyError>> {
-        let node = NodeCore::restore(alloc, Role::Centre, config, content, payloads)?;
-        Ok(Centre { node })
-    }
-
-    ghost short = { core_plan_short model.Centre IsTaskOf };
-
-    ghost adds = { core_plan_adds model.Centre IsTaskOf };
-
-    ghost keeps = { core_plan_keeps model.Centre IsTaskOf };
-
-    ghost newest = { value_newest };
-
-    ghost idle = { core_plan_idle model.Centre IsTaskOf };
+    ghost some = { some_task };
 }
 
-impl Centre {
-    /// Returns what the centre has: its network, tables and base keys.
-    pub fn node(&self) -> &NodeCore
-        ensures { result.now ≡ self.now }
-    {
-        &self.node
-    }
-}
+/// Decides what the trust centre does.
+pub type Centre = PolicyCore<CentrePolicy>;

@@ -5,5 +5,5 @@ mod centre;
 mod event;
 mod planning;
 
-pub use centre::Centre;
+pub use centre::{Centre, CentrePolicy};
 pub use event::CentreEvent;

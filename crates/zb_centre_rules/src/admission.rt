@@ -1,35 +1,14 @@
 //! A device is admitted by the link key of its install code.
-ghost use Rattle.std.specs.Prelude.{◌≡◌, ◌≤◌, ◌∷◌, [], length, map};
+ghost use Rattle.std.specs.Prelude.{◌≡◌};
 ghost use Rattle.zb_base.specs.declared.place.Place.TheVariants.{Event};
-ghost use Rattle.zb_node_types.specs.Changes.{edits};
-ghost use Rattle.zb_model.specs.Data.{Live, Moved, Provisional, Row};
 ghost use Rattle.zb_model.specs.OwnEvents.{provision};
-ghost use Rattle.zb_rules.specs.Outcomes.{decided, told, most_changes, Keeps};
+ghost use Rattle.zb_rules.specs.Outcomes.{decided, told, Keeps};
 
-use arrayvec::ArrayVec;
-use zb_base::{Attribute, Eui, Key, Place};
+use zb_base::{Eui, Key, Place};
 use zb_keys::Tables;
-use zb_node_types::{Change, Changes, Refusal};
-use zb_rows::{has_link, is_live, links_full, other_user};
-use zb_rules::{Effect, add};
-
-/// Lists what an admission changes: the code's row is new or revived, provisional, and the device is live.
-fn admitted(device: Eui, key: &Key) -> Changes
-    ensures made { edits result.items ≡ map Moved (Row device.0 key.now.0 Provisional ∷ Live device.0 ∷ []) }
-    ensures few { length result.items ≤ most_changes }
-{
-    let mut changes = ArrayVec::new();
-    add(
-        &mut changes,
-        Change::Row {
-            partner: device,
-            key: *key,
-            attribute: Attribute::Provisional,
-        },
-    );
-    add(&mut changes, Change::Live { device });
-    changes
-}
+use zb_node_types::Refusal;
+use zb_rows::is_live;
+use zb_rules::{Effect, refused};
 
 /// Admits a device by the link key of its install code.
 ///
@@ -46,16 +25,8 @@ pub fn provision(tables: &Tables, device: Eui, key: &Key) -> Result<Effect, Refu
             place: Place::Event,
         });
     }
-    if !has_link(tables, device, key) && links_full(tables) {
-        return Err(Refusal::RowsFull {
-            place: Place::Event,
-        });
-    }
-    match other_user(tables, device, key) {
-        Some(row) => Err(Refusal::KeyInUse {
-            place: Place::Event,
-            partner: row.partner,
-        }),
-        None => Ok(Effect::of_changes(admitted(device, key))),
+    match zb_row_changes::provision(tables, device, key) {
+        Ok(changes) => Ok(Effect::of_changes(changes)),
+        Err(error) => Err(refused(Place::Event, error)),
     }
 }

@@ -20,6 +20,7 @@ use zb_cmd::Command;
 use zb_keys::{Pair, Tables};
 use zb_node_types::{Change, Changes, Refusal};
 use zb_record::LinkRow;
+use zb_row_changes::add_pair;
 use zb_rows::{is_any_spent, is_live, pairs_full, unless_held};
 use zb_rules::{Effect, Heard, add, sending};
 use zb_send::{Body, Sending};
@@ -116,21 +117,9 @@ fn paired(device: Eui, partner: Eui, key: &Key) -> Changes
         (Draw key.now.0 ∷ Paired (lesser device.0 partner.0) (greater device.0 partner.0) key.now.0 ∷ []) }
     ensures few { length result.items ≤ most_changes }
 {
-    let (first, second) = if device.0 < partner.0 {
-        (device, partner)
-    } else {
-        (partner, device)
-    };
     let mut changes = ArrayVec::new();
     add(&mut changes, Change::Draw { key: *key });
-    add(
-        &mut changes,
-        Change::Pair {
-            first,
-            second,
-            key: *key,
-        },
-    );
+    add_pair(&mut changes, device, partner, key);
     changes
 }
 

@@ -10,13 +10,13 @@ ghost use Rattle.zb_record.specs.RowViews.{link_key};
 ghost use Rattle.zb_rules.specs.Outcomes.{decided, told, most_changes, Keeps};
 ghost use Rattle.zb_send.specs.Sendings.{sending_of, CanBeSent};
 
-use arrayvec::ArrayVec;
 use zb_base::{Eui, Label, Layer, Place};
 use zb_cmd::Command;
 use zb_keys::Tables;
 use zb_node_types::{Change, Changes, Refusal};
 use zb_record::LinkRow;
-use zb_rows::{add_drop_partner, is_any_spent, is_live, is_spent};
+use zb_row_changes::drop_partner;
+use zb_rows::{is_any_spent, is_live, is_spent};
 use zb_rules::{Effect, add, sending};
 use zb_send::{Body, Sending};
 use zb_setting::Network;
@@ -26,8 +26,7 @@ fn removed(tables: &Tables, device: Eui) -> Changes
     ensures made { edits result.items ≡ map Moved (drop_partner tables.now device.0 ++ Removed device.0 ∷ []) }
     ensures few { length result.items ≤ most_changes }
 {
-    let mut changes = ArrayVec::new();
-    add_drop_partner(tables, &mut changes, device);
+    let mut changes = drop_partner(tables, device);
     add(&mut changes, Change::Removed { device });
     changes
 }

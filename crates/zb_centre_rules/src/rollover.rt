@@ -3,7 +3,7 @@ ghost use Rattle.std.specs.Prelude.{◌≡◌, ◌≤◌, ◌+◌, ◌%◌, ◌+
 ghost use Rattle.std.specs.Option.{option_copied};
 ghost use Rattle.zb_base.specs.declared.place.Place.TheVariants.{Event};
 ghost use Rattle.zb_node_types.specs.Changes.{edits};
-ghost use Rattle.zb_model.specs.Data.{Active, Moved, Roll, SwitchKey, Told, Untold};
+ghost use Rattle.zb_model.specs.Data.{Active, Moved, Roll, SwitchKey, Told};
 ghost use Rattle.zb_model.specs.Frames.{clear_broadcast, to_all};
 ghost use Rattle.zb_model.specs.OwnEvents.{again, centre_timer, roll, switch_over, switch_to};
 ghost use Rattle.zb_model.specs.Rules.{Clear, sends};
@@ -18,8 +18,8 @@ use zb_cmd::Command;
 use zb_keys::Tables;
 use zb_node_types::{Change, Changes, Refusal};
 use zb_record::NetRow;
-use zb_roll::{may_switch, next_member};
-use zb_rows::{add_drop_old, is_any_spent, is_live, is_spent, is_told, nets_full, unless_held};
+use zb_roll::{add_start, may_switch, next_member};
+use zb_rows::{is_any_spent, is_live, is_spent, is_told, nets_full, unless_held};
 use zb_rules::{Effect, add, sending};
 use zb_send::Body;
 use zb_setting::Network;
@@ -116,20 +116,7 @@ fn rolled(tables: &Tables, net: &NetRow, key: &Key) -> Changes
 {
     let mut changes = ArrayVec::new();
     add(&mut changes, Change::Draw { key: *key });
-    add_drop_old(tables, &mut changes);
-    add(
-        &mut changes,
-        Change::Install {
-            key: *key,
-            sequence: net.sequence.wrapping_add(1),
-        },
-    );
-    add(
-        &mut changes,
-        Change::Roll {
-            rollover: Rollover::Sending,
-        },
-    );
+    add_start(&mut changes, tables, net, key);
     changes
 }
 
@@ -261,7 +248,5 @@ pub fn again(tables: &Tables, device: Eui) -> Result<Effect, Refusal>
             place: Place::Event,
         });
     }
-    let mut changes = ArrayVec::new();
-    add(&mut changes, Change::Untold { device });
-    Ok(Effect::of_changes(changes))
+    Ok(Effect::of_changes(zb_roll::again(tables, device)))
 }

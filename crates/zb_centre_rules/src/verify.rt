@@ -1,29 +1,24 @@
 //! A device proves that it holds its link key.
-ghost use Rattle.std.specs.Prelude.{◌≡◌, ◌≤◌, ◌++◌, ◌∷◌, [], length, map, option_map, true};
-ghost use Rattle.std.specs.Option.{option_copied};
+ghost use Rattle.std.specs.Prelude.{◌≡◌, option_map, true};
 ghost use Rattle.zb_base.specs.declared.place.Place.TheVariants.{Aps};
-ghost use Rattle.zb_node_types.specs.Changes.{edits};
-ghost use Rattle.zb_model.specs.Commands.{names_eui, proves, take_verify, verified_current};
-ghost use Rattle.zb_model.specs.Data.{ConfirmKey, ForData, Moved, Row, Verified};
-ghost use Rattle.zb_model.specs.Rules.{Secret, drop_row, sends, short_of};
-ghost use Rattle.zb_model.specs.State.{current};
+ghost use Rattle.zb_model.specs.Commands.{names_eui, take_verify};
+ghost use Rattle.zb_model.specs.Data.{ConfirmKey, ForData};
+ghost use Rattle.zb_model.specs.Rules.{Secret, sends, short_of};
 ghost use Rattle.zb_model_real.specs.Real.{real};
 ghost use Rattle.zb_centre_rules.specs.Forms.{is_verify_form};
 ghost use Rattle.zb_centre_rules.specs.Steps.{confirmed_by};
-ghost use Rattle.zb_record.specs.RowViews.{link_key};
 ghost use Rattle.zb_rules.specs.Hearing.{heard_of};
-ghost use Rattle.zb_rules.specs.Outcomes.{decided, told, most_changes, Keeps};
+ghost use Rattle.zb_rules.specs.Outcomes.{decided, told, Keeps};
 ghost use Rattle.zb_send.specs.Sendings.{sending_of, CanBeSent};
 
 use arrayvec::ArrayVec;
-use zb_base::{Attribute, Eui, Key, Label, Place};
+use zb_base::{Eui, Key, Label, Place};
 use zb_cmd::Command;
 use zb_keys::Tables;
-use zb_mmo::verify_hash;
-use zb_node_types::{Change, Changes, Refusal};
-use zb_record::LinkRow;
+use zb_node_types::Refusal;
+use zb_row_changes::{is_proved, verified, verified_row};
 use zb_rows::{is_any_spent, is_live};
-use zb_rules::{Effect, Heard, add, add_drop, sending};
+use zb_rules::{Effect, Heard, sending};
 use zb_send::{Body, Sending};
 use zb_setting::Network;
 
@@ -44,27 +39,6 @@ fn is_verify(network: &Network, heard: &Heard, kind: u8, device: Eui) -> bool
     network.is_centre() && heard.is_clear() && kind == 4 && names(heard, device)
 }
 
-/// Returns whether the hash is that of the row's key.
-#[tactic(auto, unfolding(zb_model_real::specs::Real::real))]
-fn is_proved(row: Option<&LinkRow>, hash: &[u8; 16]) -> bool
-    ensures { result ≡ proves real hash.now (option_map link_key (option_copied row.entry)) }
-{
-    match row {
-        Some(row) => verify_hash(&row.key) == *hash,
-        None => false,
-    }
-}
-
-/// Returns the current row of a device where it is verified.
-fn verified_row<'a>(tables: &'a Tables, device: Eui) -> Option<&'a LinkRow>
-    ensures { option_map link_key (option_copied result) ≡ verified_current tables.now device.0 }
-{
-    match tables.current(device) {
-        None => None,
-        Some(row) => { if row.is_verified() { Some(row) } else { None } }
-    }
-}
-
 /// Returns what confirms a key to a device, sealed for data under that key.
 fn confirmation(network: &Network, device: Eui, key: &Key) -> Option<Sending>
     ensures what { option_map sending_of result ≡ sends (short_of network.now device.0) true
@@ -82,25 +56,6 @@ fn confirmation(network: &Network, device: Eui, key: &Key) -> Option<Sending>
         command,
     };
     sending(network.short_of(device), true, body)
-}
-
-/// Lists what a proof of the offered key changes: it is verified, and the current one is dropped.
-fn verified(tables: &Tables, device: Eui, key: &Key) -> Changes
-    ensures made { edits result.items ≡ map Moved
-        (drop_row (current tables.now device.0) ++ (Row device.0 key.now.0 Verified ∷ [])) }
-    ensures few { length result.items ≤ most_changes }
-{
-    let mut changes = ArrayVec::new();
-    add_drop(&mut changes, tables.current(device));
-    add(
-        &mut changes,
-        Change::Row {
-            partner: device,
-            key: *key,
-            attribute: Attribute::Verified,
-        },
-    );
-    changes
 }
 
 /// Confirms the key that the hash is of: the offered one, which then is verified, or the verified current one.

@@ -2,7 +2,7 @@
 use Rattle.std.specs.Prelude.{◌≡◌, ◌<◌, ◌≤◌, ◌⊎◌, ℕ, length, Option, IfSome, Ok, Err}
 use Rattle.std.specs.Io.KnownBytes.{Keeps}
 use Rattle.zb_admin.specs.Serving.{Ended, Outside, Serves}
-use Rattle.zb_admin.specs.declared.fault.AdminFault.TheVariants as fault
+use Rattle.zb_centre_store.specs.declared.fault.AdminFault.TheVariants as fault
 use Rattle.zb_base.specs.Outside.{Rose}
 use Rattle.zb_model.specs.Data.{Bytes}
 use Rattle.zb_script.specs.Reading.{script_in}

@@ -1,7 +1,7 @@
 -- How the program ends: the number and the text of each status.
 use Rattle.std.specs.Prelude.{ℕ, ◌++◌, [], ◌∷◌, codes, decimal, Result, Ok, Err}
-use Rattle.zb_admin.specs.declared.fault.AdminFault.{AdminFault}
-use Rattle.zb_admin.specs.declared.fault.AdminFault.TheVariants as served
+use Rattle.zb_centre_store.specs.declared.fault.AdminFault.{AdminFault}
+use Rattle.zb_centre_store.specs.declared.fault.AdminFault.TheVariants as served
 use Rattle.zb_capture.specs.declared.fault.CaptureCause.{CaptureCause}
 use Rattle.zb_capture.specs.declared.fault.CaptureCause.TheVariants as capture
 use Rattle.zb_install.specs.declared.code_error.CodeError.{CodeError}

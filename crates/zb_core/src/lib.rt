@@ -5,6 +5,8 @@
 mod carrying;
 mod law;
 mod node;
+mod policy;
 
 pub use law::{an_answer_can_be_stored, an_answer_leads_to_the_state_that_the_policy_says};
 pub use node::NodeCore;
+pub use policy::{Policy, PolicyCore};

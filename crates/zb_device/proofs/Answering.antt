@@ -75,13 +75,3 @@ pub event_answer : (c : Setting) (s : NodeState) (e : DeviceEvent) (task : Task)
 unfolding answer
 event_answer c s e task r member other is a =
     rw (the_task e task other is, own_plan_is c s (own_task e) (not_delivered e other), member_own c s (own_task e) member) a
-
--- there is a task for each event
-pub some_task : (e : DeviceEvent) → (task : Task) × IsTaskOf e task
-some_task Knock = (DoKnock, refl)
-some_task Rejoin = (DoRejoin, refl)
-some_task (Deliver bytes) = (Received bytes.items None, (None, refl))
-some_task Timer = (DoTimer, refl)
-some_task (Say to bytes) = (SayTo to.0 bytes.items, refl)
-some_task (Ask partner) = (AskFor partner.0, refl)
-some_task (Tell partner bytes) = (TellTo partner.0 bytes.items, refl)

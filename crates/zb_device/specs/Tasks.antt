@@ -1,5 +1,5 @@
 -- The tasks of the policy that an event of a device or router represents.
-use Rattle.std.specs.Prelude.{◌≡◌, None, Option}
+use Rattle.std.specs.Prelude.{◌≡◌, None, Option, refl}
 use Rattle.zb_device.specs.declared.event.DeviceEvent.{DeviceEvent}
 use Rattle.zb_device.specs.declared.event.DeviceEvent.TheVariants.{Knock, Rejoin, Deliver, Timer, Say, Ask, Tell}
 use Rattle.zb_model.specs.Data.{Bytes, Task, SayTo, TellTo, DoKnock, DoRejoin, DoTimer, AskFor, Received}
@@ -23,3 +23,13 @@ own_task Timer = DoTimer
 own_task (Say to bytes) = SayTo to.0 bytes.items
 own_task (Ask partner) = AskFor partner.0
 own_task (Tell partner bytes) = TellTo partner.0 bytes.items
+
+-- there is a task for each event
+pub some_task : (e : DeviceEvent) → (task : Task) × IsTaskOf e task
+some_task Knock = (DoKnock, refl)
+some_task Rejoin = (DoRejoin, refl)
+some_task (Deliver bytes) = (Received bytes.items None, (None, refl))
+some_task Timer = (DoTimer, refl)
+some_task (Say to bytes) = (SayTo to.0 bytes.items, refl)
+some_task (Ask partner) = (AskFor partner.0, refl)
+some_task (Tell partner bytes) = (TellTo partner.0 bytes.items, refl)

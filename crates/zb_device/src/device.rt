@@ -1,108 +1,35 @@
-//! The core of a device.
-ghost use Rattle.std.specs.Prelude.{◌≡◌};
-ghost use Rattle.zb_core.proofs.PlanLaws.{core_plan_adds, core_plan_idle, core_plan_keeps, core_plan_short};
-ghost use Rattle.zb_core.specs.CorePlans.{IsCoreAfter, IsCorePlan};
-ghost use Rattle.zb_device.specs.Tasks.{IsTaskOf};
+//! The core of a device: the policy of its role.
+ghost use Rattle.zb_device.specs.Tasks.{IsTaskOf, some_task};
 ghost use Rattle.zb_model.specs.Data as model;
-ghost use Rattle.zb_model.specs.Record.{payload, record_of};
-ghost use Rattle.zb_node_types.specs.Changes.{edits};
-ghost use Rattle.zb_stored_tables.specs.Cores.{IsBooted, IsOfRole};
-ghost use Rattle.zb_stored_tables.specs.Stored.{restored};
-ghost use Rattle.zb_stored_tables.proofs.CoreValues.{value_newest};
 
 use crate::event::DeviceEvent;
 use crate::member::plan_member;
-use std::alloc::Global;
-use std::marker::Model;
-use zb_base::{Config, OrMemory, Role};
-use zb_core::NodeCore;
-use zb_host::{Core, Outcome, Plan};
-use zb_node_types::{Changes, KeyError, Refusal};
+use zb_base::Role;
+use zb_core::{NodeCore, Policy, PolicyCore};
+use zb_host::{Outcome, Plan};
+use zb_node_types::Refusal;
 use zb_seal::Term;
-use zb_stored_tables::change_bytes;
 
-/// Decides what a device does.
-///
-/// A contract sees it as its setting and its tables.
-#[derive(Drop)]
-pub struct Device {
-    node: NodeCore,
-}
+/// Plans what a device does.
+pub struct DevicePolicy;
 
-impl Model for Device {
-    ghost use Rattle.std.specs.Prelude.{◌≡◌};
-    ghost use Rattle.zb_model.specs.Data as model;
-    ghost use Rattle.zb_stored_tables.specs.Cores.{CoreValue};
-
-    ghost Value = { CoreValue };
-
-    ghost view = { λ c. c.node };
-
-    ghost invariant = { λ c. c.node.setting.me.role ≡ model.Device };
-}
-
-impl Core for Device {
+impl Policy for DevicePolicy {
     type Event = DeviceEvent;
 
-    type Out = Outcome<Term, Refusal>;
+    ghost of = { model.Device };
 
-    ghost recorded = { λ c. record_of c.tables };
+    ghost stands_for = { IsTaskOf };
 
-    ghost is_plan = { IsCorePlan model.Device IsTaskOf };
-
-    ghost is_after = { IsCoreAfter };
-
-    ghost payload = { λ changes. payload (edits changes) };
-
-    ghost restored = { restored model.Device };
-
-    ghost is_of_role = { IsOfRole model.Device };
-
-    ghost is_booted = { IsBooted model.Device };
-
-    fn plan(&self, event: &DeviceEvent, plan: &mut Plan<Outcome<Term, Refusal>>) {
-        plan_member(&self.node, event, plan);
-        self.node.keep(plan);
+    fn role() -> Role {
+        Role::Device
     }
 
-    fn apply(&mut self, plan: &Plan<Outcome<Term, Refusal>>) {
-        self.node.apply(plan);
+    fn plan(node: &NodeCore, event: &DeviceEvent, plan: &mut Plan<Outcome<Term, Refusal>>) {
+        plan_member(node, event, plan);
     }
 
-    fn record(&self, into: &mut [u8]) -> u32 {
-        self.node.record(into)
-    }
-
-    fn change_bytes(changes: &Changes, into: &mut [u8]) -> u32 {
-        change_bytes(changes, into)
-    }
-
-    fn restore(
-        alloc: Global,
-        config: &Config,
-        content: &[u8],
-        payloads: &[u8],
-    ) -> Result<Device, OrMemory<KeyError>> {
-        let node = NodeCore::restore(alloc, Role::Device, config, content, payloads)?;
-        Ok(Device { node })
-    }
-
-    ghost short = { core_plan_short model.Device IsTaskOf };
-
-    ghost adds = { core_plan_adds model.Device IsTaskOf };
-
-    ghost keeps = { core_plan_keeps model.Device IsTaskOf };
-
-    ghost newest = { value_newest };
-
-    ghost idle = { core_plan_idle model.Device IsTaskOf };
+    ghost some = { some_task };
 }
 
-impl Device {
-    /// Returns what the device has: its network, tables and base keys.
-    pub fn node(&self) -> &NodeCore
-        ensures { result.now ≡ self.now }
-    {
-        &self.node
-    }
-}
+/// Decides what a device does.
+pub type Device = PolicyCore<DevicePolicy>;

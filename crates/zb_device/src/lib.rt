@@ -5,6 +5,6 @@ mod device;
 mod event;
 mod member;
 
-pub use device::Device;
+pub use device::{Device, DevicePolicy};
 pub use event::DeviceEvent;
 pub use member::plan_member;

@@ -1,13 +1,13 @@
 -- The calls of a disk in memory meet what the trait says of them.
-use Rattle.std.proofs.Common.{◌≡◌, inr, ℕ, ◌+◌, ◌-◌, ◌≤◌, List, length, replicate, Bool, true, false, nat_le, nat_lt, ◌==◌, if◌then◌else◌, cond, Ok, Err, refl, sym, ◌∙◌, ap, subst, arith}
-use Rattle.std.proofs.lemmas.Bool.{false≢true, le-leb, le-ltb, lt-ltb, eqb-true}
+use Rattle.std.proofs.Common.{◌≡◌, inr, ℕ, zero, suc, ◌+◌, ◌-◌, ◌≤◌, List, length, replicate, Bool, true, false, nat_le, nat_lt, ◌==◌, if◌then◌else◌, cond, Ok, Err, refl, sym, ◌∙◌, ap, subst, arith}
+use Rattle.std.proofs.lemmas.Bool.{false≢true, le-leb, le-ltb, lt-ltb, eqb-true, eq-eqb}
 use Rattle.std.proofs.lemmas.Bool.Decides.{nat_tests}
 use Rattle.zb_base.specs.Outside.{risen}
 use Rattle.zb_disk.specs.declared.memory.Arming.{Arming}
 use Rattle.zb_disk.specs.declared.memory.Arming.TheVariants.{Unarmed, Stop, Fail, Stopped}
 use Rattle.zb_disk.specs.View.{Torn}
 use Rattle.zb_disk.specs.Calls.{IsCounted, IsWrite, IsSync, Elapses}
-use Rattle.zb_disk.specs.Memory.{Medium, IsImage, refuses, after_call, is_stopped, off_after, counted, stored, synced, memory_tells, memory_view}
+use Rattle.zb_disk.specs.Memory.{Medium, IsImage, refuses, will_refuse, after_call, is_stopped, off_after, counted, stored, synced, memory_tells, memory_view}
 use Rattle.zb_disk.specs.MemoryLaws.{image_seen}
 use Rattle.zb_disk.proofs.Lists.{overwrite_spread}
 use Rattle.zb_disk.proofs.Images.{stored_is, torn_from, torn_to, one_image, lowered}
@@ -38,6 +38,21 @@ off_now Unarmed = refl
 off_now (Stop calls) = le-ltb calls 0 (omega arith)
 off_now (Fail call) = refl
 off_now Stopped = refl
+
+-- it is going to refuse a call exactly where it refuses the one of some number
+
+pub refuses_some : (a : Arming) (k : ℕ) → refuses a k ≡ true → will_refuse a ≡ true
+refuses_some Unarmed k here = here
+refuses_some (Stop calls) k here = refl
+refuses_some (Fail call) k here = lt-ltb 0 call (omega (arith, eqb-true (k + 1) call here))
+refuses_some Stopped k here = refl
+
+pub refuses_none : (a : Arming) → ((k : ℕ) → refuses a k ≡ false) → will_refuse a ≡ false
+refuses_none Unarmed none = refl
+refuses_none (Stop calls) none = absurd (false≢true (sym (none calls) ∙ le-leb calls calls (omega arith)))
+refuses_none (Fail zero) none = refl
+refuses_none (Fail (suc call)) none = absurd (false≢true (sym (none call) ∙ eq-eqb (call + 1) (suc call) (omega arith)))
+refuses_none Stopped none = absurd (false≢true (sym (none 0)))
 
 on_after : (a : Arming) → refuses a 0 ≡ false → off_after (after_call a) 0 ≡ false
 on_after Unarmed goes = refl

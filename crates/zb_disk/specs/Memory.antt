@@ -39,6 +39,13 @@ is_stopped (Stop calls) = false
 is_stopped (Fail call) = false
 is_stopped Stopped = true
 
+-- whether it is going to refuse a write or a sync
+abbrev pub will_refuse : Arming → Bool
+will_refuse Unarmed = false
+will_refuse (Stop calls) = true
+will_refuse (Fail call) = nat_lt 0 call
+will_refuse Stopped = true
+
 -- whether it refuses to read once so many more writes and syncs were asked for: a stop has fallen on one of them
 abbrev pub off_after : Arming → ℕ → Bool
 off_after Unarmed k = false

@@ -11,14 +11,15 @@ use zb_base::{Failed, NoMemory};
 
 /// A disk whose bytes are those of a file. It tells nothing of content.
 ///
-/// The file is opened at first use, for this process alone. Where it is missing it reads as empty, and is made by the
-/// first write. After a failed sync every call fails: what the disk has is known only when the file is opened anew.
+/// The file is opened at first use, for this process alone. Where it is missing or empty it reads as empty, and is
+/// made by the first write. After a failed sync every call fails: what the disk has is known only when the file is
+/// opened anew.
 #[derive(Drop)]
 pub struct FileDisk<'a, T: StoreFiles + AllocGlobal + Drop> {
     rt: &'a T,
     path: String,
     file: Option<T::File>,
-    // No file has that name.
+    // No file has that name, or an empty one.
     is_missing: bool,
     // The file was made, and its name may not be on the disk yet.
     is_new: bool,
@@ -51,7 +52,7 @@ impl<'a, T: StoreFiles + AllocGlobal + Drop> FileDisk<'a, T> {
         })
     }
 
-    // Takes the file out, which is opened at first use; None where no file has its name. Each call puts it back.
+    // Takes the file out, which is opened at first use; None where it is missing or empty. Each call puts it back.
     fn take_file(&mut self) -> io::Result<Option<T::File>>
         ensures calls { self.new.calls ≡ self.old.calls }
         ensures faults { self.new.faults ≡ self.old.faults }
@@ -70,7 +71,7 @@ impl<'a, T: StoreFiles + AllocGlobal + Drop> FileDisk<'a, T> {
         Ok(found)
     }
 
-    // Takes the file out for a write, which makes it where it is missing.
+    // Takes the file out for a write, which makes it where it is missing or empty.
     fn take_or_make(&mut self) -> io::Result<T::File>
         ensures calls { self.new.calls ≡ self.old.calls }
         ensures faults { self.new.faults ≡ self.old.faults }

@@ -3,7 +3,7 @@ ghost use Rattle.std.specs.Prelude.{OnOk, get_or, if◌then◌else◌, ◌-◌, 
 ghost use Rattle.zb_disk.specs.View.{overwrite, window, Only, IsUnsynced};
 ghost use Rattle.zb_base.specs.Outside.{risen};
 ghost use Rattle.zb_disk.specs.Calls.{IsRead, IsWrite, IsSync};
-ghost use Rattle.zb_disk.specs.Memory.{Medium, patch, refuses, after_call, is_stopped, armed, tear, torn_by, counted, stored, synced, after_read, after_write, after_sync, powered, fresh, memory_tells, memory_view};
+ghost use Rattle.zb_disk.specs.Memory.{Medium, patch, refuses, after_call, is_stopped, armed, tear, torn_by, counted, stored, synced, will_refuse, after_read, after_write, after_sync, powered, fresh, memory_tells, memory_view};
 ghost use Rattle.zb_disk.specs.MemoryInside.{flags_around, IsBeyond, IsOutside};
 ghost use Rattle.zb_disk.specs.MemoryLaws.{image_seen};
 
@@ -194,6 +194,17 @@ impl MemDisk {
         match self.arming {
             Arming::Unarmed | Arming::Stop { .. } | Arming::Fail { .. } => false,
             Arming::Stopped => true,
+        }
+    }
+
+    /// Returns whether the disk is going to refuse a write or a sync: what was armed hasn't fallen, or the disk is off.
+    pub fn will_refuse(&self) -> bool
+        ensures { result ≡ will_refuse self.now.arming }
+    {
+        match self.arming {
+            Arming::Unarmed => false,
+            Arming::Fail { call } => 0 < call,
+            Arming::Stop { .. } | Arming::Stopped => true,
         }
     }
 

@@ -1,4 +1,6 @@
 //! What a store asks of the system: a file that this process alone has open and that its owner alone may read.
+//!
+//! Nothing is ever deleted here: a file that one process gives up may be another's store already.
 ghost use Rattle.std.specs.Prelude.{◌≤◌};
 
 use crate::DISK_ROOM;
@@ -12,19 +14,24 @@ const BLOCKS: usize = DISK_ROOM / 4096;
 
 /// Opens and makes the files of stores.
 pub trait StoreFiles: Files {
-    /// Opens the file of a store for this process alone, or returns None where nothing has that name.
+    /// Opens the file of a store for this process alone, or returns None where nothing stands at that path: no file,
+    /// or an empty one.
     ///
     /// It stays locked until it is dropped or the process ends, however it ends.
     ///
     /// # Errors
-    /// `WouldBlock` where another process has it open, `InvalidInput` where it is no regular file, and those of the
-    /// system's calls.
+    /// `WouldBlock` where another process has it open, `InvalidInput` where it is no regular file or the path is
+    /// empty, `NotFound` where the path names another file by the time it is locked, and those of the system's calls.
     fn open_store(&self, path: &str) -> io::Result<Option<Self::File>>;
 
-    /// Makes the file of a new store for its owner alone, with room for the whole disk, and locks it.
+    /// Makes the file of a new store for its owner alone, or takes an empty one, locks it, and gives it room for the
+    /// whole disk.
+    ///
+    /// Of two processes that make one store at once, the one that locks the file first has it.
     ///
     /// # Errors
-    /// `AlreadyExists` where something has that name, and those of the system's calls. Then no file was made.
+    /// `AlreadyExists` where the file isn't empty, those of `open_store`, and those of the system's calls. Then no
+    /// file was made, or it was left empty.
     fn make_store(&self, path: &str) -> io::Result<Self::File>;
 
     /// Syncs the folder in which a path lies, so that the name of a new file is on the disk.
@@ -36,37 +43,34 @@ pub trait StoreFiles: Files {
 
 impl StoreFiles for HostRuntime {
     fn open_store(&self, path: &str) -> io::Result<Option<File>> {
-        match fs::metadata(self, path) {
-            Ok(found) => {
-                if !found.is_file() {
-                    return Err(io::Error::from(ErrorKind::InvalidInput));
-                }
-            }
-            Err(error) if error.kind() == ErrorKind::NotFound => return missing(self, path),
-            Err(error) => return Err(error),
+        if is_free(self, path)? {
+            return Ok(None);
         }
-        let mut options = OpenOptions::new();
-        options.read(true);
-        options.write(true);
-        let file = locked(options.open(self, path)?)?;
+        let file = opened(self, path)?;
         warn_of_readers(self, path, &file)?;
+        if file.metadata()?.len() == 0 {
+            return Ok(None);
+        }
         // what an earlier process wrote and did not sync
         file.sync_all()?;
         Ok(Some(file))
     }
 
     fn make_store(&self, path: &str) -> io::Result<File> {
-        let mut options = OpenOptions::new();
-        options.read(true);
-        options.write(true);
-        options.create_new(true);
-        options.mode(0o600);
-        let made = options.open(self, path)?;
-        match filled(made) {
-            Ok(file) => Ok(file),
+        let mut file = match made(self, path) {
+            Ok(file) => taken(self, path, file)?,
+            Err(error) if error.kind() == ErrorKind::AlreadyExists => opened(self, path)?,
+            Err(error) => return Err(error),
+        };
+        // another process may have made the store before this one had the lock
+        if file.metadata()?.len() != 0 {
+            return Err(io::Error::from(ErrorKind::AlreadyExists));
+        }
+        match fill(&mut file) {
+            Ok(()) => Ok(file),
             Err(error) => {
-                // nothing was said of it yet, and a half made file would be no store
-                let _ = fs::remove_file(self, path);
+                // a half made file would be no store; who finds it empty may make it
+                let _ = file.set_len(0);
                 Err(error)
             }
         }
@@ -77,12 +81,29 @@ impl StoreFiles for HostRuntime {
     }
 }
 
-/// Returns None where the name is free, in a folder that exists; a link that leads nowhere has the name already.
-fn missing(rt: &HostRuntime, path: &str) -> io::Result<Option<File>> {
-    if fs::symlink_metadata(rt, path).is_ok() || !fs::metadata(rt, folder_of(path))?.is_dir() {
+/// Returns whether nothing has that name yet.
+///
+/// # Errors
+/// `InvalidInput` where it names no regular file, and where no file can be made so.
+fn is_free(rt: &HostRuntime, path: &str) -> io::Result<bool> {
+    match fs::metadata(rt, path) {
+        Ok(found) if found.is_file() => Ok(false),
+        Ok(_) => Err(io::Error::from(ErrorKind::InvalidInput)),
+        Err(error) if error.kind() == ErrorKind::NotFound => {
+            check_name(rt, path)?;
+            Ok(true)
+        }
+        Err(error) => Err(error),
+    }
+}
+
+/// Refuses an empty path, a link that leads nowhere, which has the name already, and a folder that isn't one.
+fn check_name(rt: &HostRuntime, path: &str) -> io::Result<()> {
+    let is_taken = path.is_empty() || fs::symlink_metadata(rt, path).is_ok();
+    if is_taken || !fs::metadata(rt, folder_of(path))?.is_dir() {
         return Err(io::Error::from(ErrorKind::InvalidInput));
     }
-    Ok(None)
+    Ok(())
 }
 
 /// Returns the folder in which a path lies.
@@ -92,6 +113,34 @@ fn folder_of(path: &str) -> &str {
         Some(at) => &path[..at],
         None => ".",
     }
+}
+
+/// Makes an empty file for its owner alone.
+fn made(rt: &HostRuntime, path: &str) -> io::Result<File> {
+    let mut options = OpenOptions::new();
+    options.read(true);
+    options.write(true);
+    options.create_new(true);
+    options.mode(0o600);
+    options.open(rt, path)
+}
+
+/// Opens the file at a path, and takes it.
+fn opened(rt: &HostRuntime, path: &str) -> io::Result<File> {
+    let mut options = OpenOptions::new();
+    options.read(true);
+    options.write(true);
+    taken(rt, path, options.open(rt, path)?)
+}
+
+/// Locks an open file, and looks that the path names it then: who made it may have deleted it before.
+fn taken(rt: &HostRuntime, path: &str, file: File) -> io::Result<File> {
+    let file = locked(file)?;
+    let (found, named) = (file.metadata()?, fs::metadata(rt, path)?);
+    if !found.is_file() || found.dev() != named.dev() || found.ino() != named.ino() {
+        return Err(io::Error::from(ErrorKind::NotFound));
+    }
+    Ok(file)
 }
 
 /// Locks an open file, as a descriptor above those of the standard streams.
@@ -110,14 +159,13 @@ fn locked(file: File) -> io::Result<File> {
     }
 }
 
-/// Locks a new file, and fills its whole room with zeros, so that no later write lacks room on a full disk.
-fn filled(made: File) -> io::Result<File> {
-    let mut file = locked(made)?;
+/// Fills the whole room of an empty file with zeros, so that no later write lacks room on a full disk.
+fn fill(file: &mut File) -> io::Result<()> {
     let zeros = [0; 4096];
     for _ in 0..BLOCKS {
         file.write_all(&zeros)?;
     }
-    Ok(file)
+    Ok(())
 }
 
 /// Says on standard error that others may read or write the store. It holds keys.
@@ -125,7 +173,8 @@ fn warn_of_readers(rt: &HostRuntime, path: &str, file: &File) -> io::Result<()> 
     if file.metadata()?.mode() & 0o077 != 0 {
         // who has closed standard error misses a warning, and nothing else
         let _ = eprintln!(rt;
-            "tc: others may read or write {path}, which holds keys: chmod 600 is meant for it"
+            "tc: others may read or write {}, which holds keys: chmod 600 is meant for it",
+            path.escape_debug()
         );
     }
     Ok(())

@@ -1,6 +1,7 @@
 //! A disk in memory that keeps each write and sync, and so tells its past moments.
-ghost use Rattle.std.specs.Prelude.{◌≡◌, ◌+◌, ◌≤◌, ◌<◌, ◌^◌, ◌&&◌, ◌++◌, length, IfOk, is_err, not, nat_lt, nat_le, vec_capacity};
-ghost use Rattle.zb_disk.specs.Calls.{IsWrite, IsSync};
+ghost use Rattle.std.specs.Prelude.{◌≡◌, ◌+◌, ◌≤◌, ◌<◌, ◌^◌, ◌&&◌, ◌++◌, length, IfOk, OnOk, is_err, false, not, nat_lt, nat_le, vec_capacity};
+ghost use Rattle.zb_disk.specs.View.{window};
+ghost use Rattle.zb_disk.specs.Calls.{IsRead, IsWrite, IsSync};
 ghost use Rattle.zb_disk.specs.Trail.{replayed, has_room, refused, kept_write, kept_sync, fresh_trail, after_write, after_sync, trail_tells, trail_view};
 ghost use Rattle.zb_disk.specs.TrailLaws.{left_now, trail_counts_now, trail_only_now};
 
@@ -142,11 +143,24 @@ impl Disk for TrailDisk {
 
     ghost only_now = { trail_only_now };
 
-    fn size(&mut self) -> Result<u64, Failed> {
+    // It never fails, and changes nothing.
+    fn size(&mut self) -> Result<u64, Failed>
+        ensures size { IfOk result (λ n. n ≡ length (replayed self.old.start self.old.steps)) }
+        ensures read { IsRead trail_tells (trail_view self.old) (trail_view self.new) result }
+        ensures went { is_err result ≡ false }
+        ensures after { self.new ≡ self.old }
+    {
         Ok(self.bytes.len() as u64)
     }
 
-    fn read(&mut self, at: u64, buf: &mut [u8]) -> Result<(), Failed> {
+    // Nor does this.
+    fn read(&mut self, at: u64, buf: &mut [u8]) -> Result<(), Failed>
+        ensures bytes { OnOk result
+            (buf.new ≡ window (replayed self.old.start self.old.steps) at (length buf.old)) }
+        ensures read { IsRead trail_tells (trail_view self.old) (trail_view self.new) result }
+        ensures went { is_err result ≡ false }
+        ensures after { self.new ≡ self.old }
+    {
         copy_window(&self.bytes, at, buf);
         Ok(())
     }

@@ -8,7 +8,7 @@ use Rattle.zb_store.specs.declared.fault.StoreFault.{StoreFault}
 use Rattle.zb_store.specs.declared.fault.StoreFault.TheVariants.{Disk, NoRecord, TooLarge, NoMemory, Worn}
 use Rattle.zb_base.specs.Sizes.{entries_room, payload_room, record_room}
 use Rattle.zb_store.specs.Layout.{Standing, IsWhole, stands}
-use Rattle.zb_store.specs.Steps.{WentThrough}
+use Rattle.zb_store.specs.Steps.{WentThrough, WasAsked}
 use Rattle.zb_store.specs.Store.{Place, place_of, IsHeld, IsReady, IsWholeEither, appended, replaced, AppendStop, PutStop}
 use Rattle.zb_host.specs.Plans.{Restored, gives}
 
@@ -101,3 +101,4 @@ pub record IsCommit (tells : Telling) (whole : Bool) (content payload : List ℕ
   pub untouched : IsErrOf result Worn → IsStill old new
   pub count : old.faults ≤ new.faults
   pub unrisen : OnOk result (Unrisen old.faults new.faults)
+  pub asked : WasAsked tells old new

@@ -4,10 +4,10 @@ ghost use Rattle.zb_base.specs.Config.{IsConfig};
 ghost use Rattle.zb_disk.specs.View.{IsStill};
 ghost use Rattle.zb_base.specs.Outside.{Unrisen};
 ghost use Rattle.zb_store.specs.Layout.{Standing, stands};
-ghost use Rattle.zb_store.specs.Steps.{WentThrough};
+ghost use Rattle.zb_store.specs.Steps.{WentThrough, WasAsked};
 ghost use Rattle.std.specs.List.{concat};
 ghost use Rattle.zb_store.specs.Store.{IsHeld, AllWhole, open_calls, OpenStop};
-ghost use Rattle.zb_host.specs.declared.plan.Plan.{Plan as plan};
+ghost use Rattle.zb_host.specs.declared.plan.Plan.{Plan as APlan};
 ghost use Rattle.zb_host.specs.Hosts.{IsCurrent, writes_whole, commit_calls, HasStopped, IsWorn};
 ghost use Rattle.zb_host.specs.HostFaults.{IsHandleFault, IsUnstored, commit_fault, told_fault};
 ghost use Rattle.zb_host.specs.Calls.{words_of, handled, IsHandled, IsBooted};
@@ -60,7 +60,7 @@ impl<C: Core> Host<C> {
         requires up { IsTrue (is_some self.old.store) }
 
         // The changes and what goes out are those of a plan of the core, and the core is the one after it.
-        ensures planned { (p : plan C.Out) × C.is_plan self.old.core event.now p
+        ensures planned { (p : APlan C.Out) × C.is_plan self.old.core event.now p
             × C.is_after self.old.core p self.new.core × IfOk result (λ r. (r.0 ≡ p.changes) × (r.1 ≡ p.out))
             × IfErr result (λ e. (e ≡ HostFault.Disk p.changes) ⊎ (e ≡ HostFault.Worn)) }
 
@@ -99,6 +99,7 @@ impl<C: Core> Host<C> {
             (IsHandleFault (writes_whole self.old) self.old.store (D.state disk.old) (D.state disk.new)) }
         ensures count { (D.state disk.old).faults ≤ (D.state disk.new).faults }
         ensures unrisen { OnOk result (Unrisen (D.state disk.old).faults (D.state disk.new).faults) }
+        ensures asked { WasAsked D.tells (D.state disk.old) (D.state disk.new) }
     {
         let mut plan = Plan::new();
         match self.handle_into(disk, event, &mut plan) {
@@ -110,7 +111,7 @@ impl<C: Core> Host<C> {
     /// Handles an event as `handle` does, and writes its changes and what goes out into `plan`.
     ///
     /// What stood in `plan` is gone. Requires a host that is up. After a fault the host is down, and `plan` has the
-    /// changes that were to be stored.
+    /// changes that were to be stored, and nothing that goes out.
     ///
     /// # Errors
     /// `Disk`; `Worn`.
@@ -123,8 +124,13 @@ impl<C: Core> Host<C> {
         requires up { IsTrue (is_some self.old.store) }
 
         // What is written is a plan of the core, and the core is the one after it.
-        ensures planned { C.is_plan self.old.core event.now plan.new }
-        ensures after { C.is_after self.old.core plan.new self.new.core }
+        ensures planned { OnOk result (C.is_plan self.old.core event.now plan.new) }
+        ensures after { OnOk result (C.is_after self.old.core plan.new self.new.core) }
+
+        // After a fault it has the changes of such a plan, and nothing goes out.
+        ensures withheld { OnErr result ((p : APlan C.Out) × C.is_plan self.old.core event.now p
+            × C.is_after self.old.core p self.new.core × (plan.new.changes ≡ p.changes)
+            × C.Out.is_default plan.new.out) }
 
         // A crash at any moment leaves the old record's core or the new one's. What goes out goes out where every
         // image represents the new. After a fault the host is down.
@@ -161,6 +167,7 @@ impl<C: Core> Host<C> {
             (IsUnstored (writes_whole self.old) self.old.store (D.state disk.old) (D.state disk.new)) }
         ensures count { (D.state disk.old).faults ≤ (D.state disk.new).faults }
         ensures unrisen { OnOk result (Unrisen (D.state disk.old).faults (D.state disk.new).faults) }
+        ensures asked { WasAsked D.tells (D.state disk.old) (D.state disk.new) }
     {
         self.core.plan(event, plan);
         self.core.apply(plan);
@@ -181,7 +188,10 @@ impl<C: Core> Host<C> {
                 self.whole = false;
                 Ok(())
             }
-            Err(fault) => Err(fault_of(fault)),
+            Err(fault) => {
+                plan.withhold();
+                Err(fault_of(fault))
+            }
         }
     }
 
@@ -222,6 +232,7 @@ impl<C: Core> Host<C> {
         ensures count { (D.state disk.old).faults ≤ (D.state disk.new).faults }
         ensures up { IfOk result (λ h. IsTrue (is_some h.store)) }
         ensures unrisen { OnOk result (Unrisen (D.state disk.old).faults (D.state disk.new).faults) }
+        ensures asked { WasAsked D.tells (D.state disk.old) (D.state disk.new) }
     {
         let room = match make_room(alloc) {
             Ok(room) => room,

@@ -24,6 +24,11 @@ pub struct Outcome<T, R> {
 }
 
 impl<T, R> Default for Outcome<T, R> {
+    ghost use Rattle.std.specs.Prelude.{◌≡◌, None};
+
+    ghost is_default = { λ x. (x.accepted_nwk ≡ None) × (x.accepted_aps ≡ None) × (x.refused ≡ None)
+        × (x.sealed_aps ≡ None) × (x.sealed_nwk ≡ None) × (x.frame ≡ None) };
+
     /// Makes the outcome of an event that gives nothing.
     fn default() -> Outcome<T, R> {
         Outcome::nothing()

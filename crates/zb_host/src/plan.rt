@@ -21,15 +21,24 @@ pub struct Plan<O> {
     pub out: O,
 }
 
-impl<O: Default> Plan<O> {
-    /// Makes the place of plans: there are no changes.
+impl<O: Default + Drop> Plan<O> {
+    /// Makes the place of plans: there are no changes, and nothing goes out.
     pub fn new() -> Plan<O>
-        ensures { result.changes.items ≡ [] }
+        ensures changes { result.changes.items ≡ [] }
+        ensures out { O.is_default result.out }
     {
         Plan {
             changes: Changes::new(),
             out: O::default(),
         }
+    }
+
+    /// Takes back what goes out, and leaves the changes.
+    pub fn withhold(&mut self)
+        ensures out { O.is_default self.new.out }
+        ensures changes { self.new.changes ≡ self.old.changes }
+    {
+        self.out = O::default();
     }
 }
 
@@ -43,7 +52,7 @@ pub trait Core: Drop {
     /// What happens to the node.
     type Event;
 
-    /// What goes out.
+    /// What goes out: by default nothing.
     type Out: Default + Drop;
 
     /// The core's record.

@@ -75,12 +75,12 @@ pub(crate) fn look_at(
         }
         Seen::Unopened => {
             let all_shown = show_unopened(alloc, frames, addrs, keys, known, from, count)?;
-            keep(alloc, block, all_shown, leads)?;
+            keep_again(alloc, block, all_shown, leads)?;
         }
         Seen::Lines(lines) => block.seen = Seen::Lines(lines),
         Seen::Whole(all_shown) => {
             let all_shown = show_again(frames, addrs, keys, known, from, all_shown);
-            keep(alloc, block, all_shown, leads)?;
+            keep_again(alloc, block, all_shown, leads)?;
         }
     }
     Ok(())
@@ -220,7 +220,7 @@ fn refresh(addrs: &Addresses<'_>, keys: &[SealingKeys], known: u32, frame: &Fram
     *seen = show_more(addrs, keys, known, frame, before);
 }
 
-/// Keeps what the frames of a block show, and adds the keys that their opened contents carry.
+/// Keeps what the frames of a block show at the first look, and adds the keys that their opened contents carry.
 fn keep(
     alloc: Global,
     block: &mut Block,
@@ -237,6 +237,25 @@ fn keep(
     Ok(())
 }
 
+/// Keeps what the frames of a block show at a later look, and adds the keys that their opened contents carry.
+///
+/// All that unopened frames show is kept, too: where rounds find one key each, no frame is read anew in each of them.
+fn keep_again(
+    alloc: Global,
+    block: &mut Block,
+    all_shown: Vec<Shown>,
+    leads: &mut Vec<Lead>,
+) -> Result<(), AllocError>
+    requires { block.old.first + vec_len all_shown < 2 ^ 32 }
+    ensures same { OnOk result (SameFrames block.old block.new) }
+    ensures stands { OnOk result (StandsFor block.old.first all_shown.items block.new.seen) }
+    ensures leads { OnOk result (leads.new.items ≡ leads.old.items ++ leads_in block.old.first all_shown.items) }
+{
+    add_all_leads(leads, block.first, all_shown.as_slice())?;
+    block.seen = settle_again(alloc, block.first, all_shown)?;
+    Ok(())
+}
+
 /// Keeps nothing of frames that no key opened, the lines of frames of which no layer is closed, or else all they show.
 fn settle(alloc: Global, first: u32, all_shown: Vec<Shown>) -> Result<Seen, AllocError>
     requires { first + vec_len all_shown < 2 ^ 32 }
@@ -244,7 +263,17 @@ fn settle(alloc: Global, first: u32, all_shown: Vec<Shown>) -> Result<Seen, Allo
 {
     if are_unopened(all_shown.as_slice()) {
         Ok(Seen::Unopened)
-    } else if are_settled(all_shown.as_slice()) {
+    } else {
+        settle_again(alloc, first, all_shown)
+    }
+}
+
+/// Keeps the lines of frames of which no layer is closed, or else all they show.
+fn settle_again(alloc: Global, first: u32, all_shown: Vec<Shown>) -> Result<Seen, AllocError>
+    requires { first + vec_len all_shown < 2 ^ 32 }
+    ensures { IfOk result (λ seen. StandsFor first all_shown.items seen) }
+{
+    if are_settled(all_shown.as_slice()) {
         Ok(Seen::Lines(lines_of(alloc, first, all_shown.as_slice())?))
     } else {
         Ok(Seen::Whole(all_shown))

@@ -1,21 +1,15 @@
 //! A link key with a partner comes.
-ghost use Rattle.std.specs.Prelude.{◌≡◌, ◌≤◌, ◌++◌, ◌∷◌, [], length, map};
+ghost use Rattle.std.specs.Prelude.{◌≡◌};
 ghost use Rattle.zb_base.specs.declared.place.Place.TheVariants.{Aps};
-ghost use Rattle.zb_node_types.specs.Changes.{edits};
 ghost use Rattle.zb_model.specs.Commands.{take_app_key};
-ghost use Rattle.zb_model.specs.Data.{Moved, Row, Verified};
-ghost use Rattle.zb_model.specs.Rules.{drop_partner};
 ghost use Rattle.zb_member_rules.specs.Forms.{is_app_key_form};
 ghost use Rattle.zb_rules.specs.Hearing.{heard_of};
-ghost use Rattle.zb_rules.specs.Outcomes.{decided, told, most_changes, Keeps};
+ghost use Rattle.zb_rules.specs.Outcomes.{decided, told, Keeps};
 
-use crate::link_key::{has_key, row_refusal};
-use arrayvec::ArrayVec;
-use zb_base::{Attribute, Eui, Key, Label, Place};
+use zb_base::{Eui, Key, Label, Place};
 use zb_keys::Tables;
-use zb_node_types::{Change, Changes, Refusal};
-use zb_rows::{add_drop_partner, live_link};
-use zb_rules::{Effect, Heard, add, is_rejoining};
+use zb_node_types::Refusal;
+use zb_rules::{Effect, Heard, is_rejoining, refused};
 use zb_setting::Network;
 
 /// Returns whether the command is a Transport-Key of a key with a partner in the form in which it is taken.
@@ -27,25 +21,6 @@ fn is_app_key(network: &Network, heard: &Heard, partner: Eui) -> bool
         && heard.is_sealed_for(Label::Load)
         && heard.is_from_centre(network)
         && !(partner == network.eui() || network.from_centre(partner))
-}
-
-/// Lists what a key with a partner changes: it takes the place of the partner's live rows, verified.
-fn shared(tables: &Tables, partner: Eui, key: &Key) -> Changes
-    ensures made { edits result.items ≡ map Moved (drop_partner tables.now partner.0
-        ++ (Row partner.0 key.now.0 Verified ∷ [])) }
-    ensures few { length result.items ≤ most_changes }
-{
-    let mut changes = ArrayVec::new();
-    add_drop_partner(tables, &mut changes, partner);
-    add(
-        &mut changes,
-        Change::Row {
-            partner,
-            key: *key,
-            attribute: Attribute::Verified,
-        },
-    );
-    changes
 }
 
 /// Takes a Transport-Key of a link key with a partner: nothing where it is the partner's live key; else it takes the
@@ -75,11 +50,8 @@ pub fn take_app_key(
     if is_rejoining(tables.state()) {
         return Err(Refusal::WrongState { place: Place::Aps });
     }
-    if has_key(live_link(tables, partner), key) {
-        return Ok(Effect::nothing());
-    }
-    match row_refusal(tables, partner, key) {
-        Some(refusal) => Err(refusal),
-        None => Ok(Effect::of_changes(shared(tables, partner, key))),
+    match zb_row_changes::partner(tables, partner, key) {
+        Ok(changes) => Ok(Effect::of_changes(changes)),
+        Err(error) => Err(refused(Place::Aps, error)),
     }
 }

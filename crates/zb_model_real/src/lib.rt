@@ -24,8 +24,9 @@ pub fn terms_go_out_as_they_are_sealed()
     ensures commands { (c : Command) → real.spelled (model_command c) ≡ command c }
 {}
 
-/// States that what a real frame opens to is of its layer, and has the base key under which it was opened and the source and
-/// counter that the frame shows.
+/// States that what a real frame opens to is of its layer, and has the base key under which it was opened.
+///
+/// It has the source and counter that the frame shows.
 pub fn frames_open_as_they_show()
     ensures nwk { (bytes key : Bytes) (f : NwkShown) (aux : NwkAuxiliary) (t : model.Term)
         → real.read_nwk bytes ≡ Some f → f.auxiliary ≡ Some aux → real.open_nwk bytes key ≡ Some t

@@ -1,5 +1,5 @@
 -- What the calls of a host leave is the condition that the model says.
-use Rattle.std.proofs.Common.{◌≡◌, ◌≢◌, ◌+◌, ℕ, Bool, true, false, if◌then◌else◌, List, [], ◌∷◌, length, get_or, Option, Some, None, Result, Ok, Err, is_some, refl, sym, ◌∙◌, ap, subst, arith}
+use Rattle.std.proofs.Common.{◌≡◌, ◌≢◌, ◌+◌, ◌&&◌, ℕ, Bool, true, false, if◌then◌else◌, List, [], ◌∷◌, length, get_or, Option, Some, None, Result, Ok, Err, is_some, refl, sym, ◌∙◌, ap, subst, arith}
 use Rattle.std.proofs.lemmas.Bool.{false≢true, ne_eqb}
 use Rattle.zb_base.specs.Outside.{risen}
 use Rattle.zb_base.specs.declared.fault.OrMemory.{OrMemory}
@@ -19,6 +19,7 @@ use Rattle.zb_armed_host.specs.declared.arms.Arms.{Arms}
 use Rattle.zb_armed_host.specs.declared.arms.Arms.TheVariants.{Unarmed}
 use Rattle.zb_armed_host.specs.declared.fall.Cut.{Cut as CutEvent}
 use Rattle.zb_armed_host.specs.declared.fall.Fall.{Fall}
+use Rattle.zb_armed_host.specs.declared.fall.Fallen.{Fallen}
 use Rattle.zb_host.specs.Hosts.{Gives, Hosted, IsCurrent, writes_whole}
 use Rattle.zb_model.specs.Answer.{Answer, answer, answered}
 use Rattle.zb_model.specs.Data.{Edit, Role}
@@ -29,7 +30,7 @@ use Rattle.zb_model.specs.Rules.{Setting}
 use Rattle.zb_model.specs.State.{NodeState, after_boot, applied_all, shown}
 use Rattle.zb_model_real.specs.Real.{real}
 use Rattle.law_tables_suffice.proofs.Answered.{answered_same, boot_same}
-use Rattle.law_run_steps.specs.Conditions.{Condition, after_arming, after_cut_boot, after_fall, after_power_on, after_reset, after_storing, after_whole, calls_by, commits_with}
+use Rattle.law_run_steps.specs.Conditions.{Condition, after_arming, after_cut, after_cut_boot, after_fall, after_power_on, after_reset, after_storing, after_whole, calls_by, commits_with}
 use Rattle.zb_setting.specs.Settings.{setting_for}
 use Rattle.zb_player_node.proofs.Standing.{after_alike, boot_alike, calls_are, same_given, stored_as, stored_later, stored_next, writes_are}
 use Rattle.zb_player_node.specs.Answers.{CanHave, CanStart, HasBooted, HasGiven, HasMade, IsPlanFor, IsStarted, IsStillDown, IsUpAgain, WasAnswered, WasCut, start_condition}
@@ -241,9 +242,9 @@ cut_now x number node s next es true both m stored then_stored rest gates settin
 cut_now x number node s next es false both m stored then_stored rest gates setting role = down_now x number node s both m stored rest gates setting role
 
 pub was_cut : (task : model.Task) (node : NodeValue) (r : Running) (after : Hosted CoreValue) (p : CorePlan) (cut : CutEvent) (kept : List Change) (old new : Medium)
-    → (suits r.role task ≡ true → HasGiven r.role task (armed_of node.arms) r.host old p (Err cut) after new) → kept ≡ (if arms_stand (armed_of node.arms) then p.changes.items else [])
+    → (suits r.role task ≡ true → HasGiven r.role task (armed_of node.arms) r.host old p (Err cut) after new) → kept ≡ (if cut.fallen.fired && arms_stand (armed_of node.arms) then p.changes.items else [])
     → (x : Condition) (number : ℕ) → IsIn x number (record node { machine = Some r }) old → CanHave x number task
-    → WasCut (answer real x.setting x.state task) x number kept cut.fall old (record node { machine = None; arms = Unarmed }) new
+    → WasCut (answer real x.setting x.state task) x number kept cut.fallen.fall old (record node { machine = None; arms = if cut.fallen.fired then Unarmed else node.arms }) new
 was_cut task node r after p cut kept old new gave kept_are x number is can =
     let role = x.setting.me.role in
     let armed = x.disk.armed in
@@ -251,20 +252,27 @@ was_cut task node r after p cut kept old new gave kept_are x number is can =
     let s = is.standing in
     let given = given_of x number task node r old p (Err cut) after new is can gave in
     let items = p.changes.items in
+    let q = given.0.0 in
+    let same : items ≡ q.changes.items = given.0.2 in
     let run = (running_of x.up x s r old is.powered).0 in
-    let fallen : HasFallen (words_for role) s armed r.host old items cut.fall after new = given.1 s (up_of x number task s r old is.stored run is.unarmed is.arming can) in
-    let it = went x number task s r p after old is.stored run can given.0 in
-    let next = next_of (words_for role) s r.host items after in
+    let gave_way : HasFallen (words_for role) s armed r.host old items cut.fallen after new = given.1 s (up_of x number task s r old is.stored run is.unarmed is.arming can) in
+    let fallen : HasFallen (words_for role) s armed r.host old q.changes.items cut.fallen after new =
+    subst (λ (l : List Change). HasFallen (words_for role) s armed r.host old l cut.fallen after new) same gave_way in
+    let it = went x number task s r q after old is.stored run can given.0.1 in
+    let next = next_of (words_for role) s r.host q.changes.items after in
     let calls = calls_by x.commits a.edits in
-    let stood = ap arms_stand is.armed ∙ cut_stands armed (writes_whole r.host) items fallen.some fallen.fell ∙ ap (stands armed) it.calls in
+    let stands_so = ap (λ (b : Bool). b && arms_stand (armed_of node.arms)) fallen.fired in
+    let left = ap (λ (b : Bool). let n : NodeValue = record node { machine = None; arms = if b then Unarmed else node.arms } in n) fallen.fired in
+    let stood = ap arms_stand is.armed ∙ cut_stands armed (writes_whole r.host) q.changes.items fallen.some fallen.fell ∙ ap (stands armed) it.calls in
     record {
       fell = sym (ap (falls armed) it.calls) ∙ fallen.fell;
-      stored_are = ap edits kept_are ∙ edits_if (arms_stand (armed_of node.arms)) items ∙ ap (λ (b : Bool). if b then edits items else []) stood
+      stored_are = ap edits kept_are ∙ ap (λ (b : Bool). edits (if b then items else [])) stands_so ∙ edits_if (arms_stand (armed_of node.arms)) items
+          ∙ ap (λ (l : List Change). if arms_stand (armed_of node.arms) then edits l else []) same ∙ ap (λ (b : Bool). if b then edits q.changes.items else []) stood
           ∙ ap (λ (es : List Edit). if stands armed calls then es else []) it.answer_is.changes;
       fall_is = fallen.is;
       calls = fallen.calls;
-      leaves = cut_now x (number + 1) node s next a.edits (stands armed calls) (leaves_both armed calls) new (stored_later role x.state x.commits number s is.stored) (it.stored fallen.gives_it)
-          (subst (λ (k : Calls). IsAtRest (if stands armed k then next else s) new) it.calls fallen.rest) (fallen.gates ∙ ap (leaves_both armed) it.calls) is.setting is.role;
+      leaves = subst (λ (n : NodeValue). IsIn (after_cut a x) (number + 1) n new) (sym left) (cut_now x (number + 1) node s next a.edits (stands armed calls) (leaves_both armed calls) new (stored_later role x.state x.commits number s is.stored) (it.stored fallen.gives_it)
+          (subst (λ (k : Calls). IsAtRest (if stands armed k then next else s) new) it.calls fallen.rest) (fallen.gates ∙ ap (leaves_both armed) it.calls) is.setting is.role);
     }
 
 -- ---- a boot
@@ -272,7 +280,7 @@ was_cut task node r after p cut kept old new gave kept_are x number is can =
 down_of : (x : Condition) (number : ℕ) (node : NodeValue) (m : Medium) (is : IsIn x number node m) → x.up ≡ false → IsDown (words_for x.setting.me.role) is.standing (record_of x.state) x.disk.armed m
 down_of x number node m is off = record { rest = at_rest_of x.up x is.standing node.machine m off is.powered; gives_it = is.stored.gives_it; arming = is.arming }
 
-made_of : (x : Condition) (number : ℕ) (node : NodeValue) (old : Medium) (result : Result Running (OrMemory Fall)) (new : Medium) → IsIn x number node old
+made_of : (x : Condition) (number : ℕ) (node : NodeValue) (old : Medium) (result : Result Running (OrMemory Fallen)) (new : Medium) → IsIn x number node old
     → HasMade (model_role node.peer.role) node.config (armed_of node.arms) old result new → HasMade x.setting.me.role node.config x.disk.armed old result new
 made_of x number node old result new is made =
     subst (λ (a : Armed). HasMade x.setting.me.role node.config a old result new) is.armed (subst (λ (role : Role). HasMade role node.config (armed_of node.arms) old result new) is.role made)
@@ -308,17 +316,18 @@ was_booted node r old new made0 x number is off =
       };
     }
 
-pub boot_fell : (node : NodeValue) (fall : Fall) (old new : Medium) → HasMade (model_role node.peer.role) node.config (armed_of node.arms) old (Err (Fault fall)) new
-    → (x : Condition) (number : ℕ) → IsIn x number node old → x.up ≡ false → IsStillDown x number fall old (record node { arms = Unarmed }) new
-boot_fell node fall old new made0 x number is off =
+pub boot_fell : (node : NodeValue) (seen : Fallen) (old new : Medium) → HasMade (model_role node.peer.role) node.config (armed_of node.arms) old (Err (Fault seen)) new
+    → (x : Condition) (number : ℕ) → IsIn x number node old → x.up ≡ false → IsStillDown x number seen.fall old (record node { arms = if seen.fired then Unarmed else node.arms }) new
+boot_fell node seen old new made0 x number is off =
     let role = x.setting.me.role in
     let s = is.standing in
-    let fallen = made_of x number node old (Err (Fault fall)) new is made0 s (record_of x.state) (down_of x number node old is off) in
+    let fallen = (made_of x number node old (Err (Fault seen)) new is made0).0 s (record_of x.state) (down_of x number node old is off) in
+    let left = ap (λ (b : Bool). let n : NodeValue = record node { arms = if b then Unarmed else node.arms } in n) fallen.fired in
     record {
       fell = sym (ap (λ (b : Bool). falls x.disk.armed (BootCalls b)) is.gates) ∙ fallen.fell;
       fall_is = fallen.is;
       calls = fallen.calls;
-      leaves = record {
+      leaves = subst (λ (n : NodeValue). IsIn (after_cut_boot x) (number + 1) n new) (sym left) (record {
         standing = s;
         stored = stored_later role x.state x.commits number s is.stored;
         powered = down_by x.up (after_cut_boot x) s node.machine new off (none_of x.up x s node.machine old off is.powered) fallen.rest;
@@ -328,7 +337,7 @@ boot_fell node fall old new made0 x number is off =
         arming = tt;
         setting = is.setting;
         role = is.role;
-      };
+      });
     }
 
 -- ---- a reset, arming, a later event

@@ -1,5 +1,5 @@
 -- What a node's calls leave, in the model's words.
-use Rattle.std.specs.Prelude.{ℕ, ◌≡◌, ◌+◌, ◌<◌, ◌^◌, Bool, true, false, if◌then◌else◌, List, [], Option, Some, None, Result, Ok, Err, is_some, ⊤}
+use Rattle.std.specs.Prelude.{ℕ, ◌≡◌, ◌+◌, ◌<◌, ◌^◌, ◌&&◌, ◌⊎◌, length, Bool, true, false, if◌then◌else◌, List, [], Option, Some, None, Result, Ok, Err, is_some, ⊤}
 use Rattle.std.specs.List.{concat}
 use Rattle.arrayvec.specs.declared.array_vec.ArrayVec.{ArrayVec}
 use Rattle.zb_base.specs.Outside.{risen}
@@ -8,11 +8,13 @@ use Rattle.zb_base.specs.declared.fault.OrMemory.TheVariants.{Fault, NoMemory}
 use Rattle.zb_base.specs.declared.node.Config.{Config}
 use Rattle.zb_core.specs.CorePlans.{CorePlan, IsCoreAfter}
 use Rattle.zb_disk.specs.Memory.{Medium, memory_view}
-use Rattle.zb_armed_host.specs.Arms.{IsUnarmed, calls_after, fallen_calls}
-use Rattle.zb_armed_host.specs.Driven.{IsUp, WasHandled, HasFallen, IsDown, WasBooted, HasFallenAtBoot, fall_of}
+use Rattle.zb_armed_host.specs.Arms.{IsUnarmed, armed_of, arms_stand, calls_after, fallen_calls}
+use Rattle.zb_armed_host.specs.Driven.{IsUp, WasHandled, HasFallen, IsDown, WasBooted, HasFallenAtBoot, HasEnded, IsRecordOf, fall_of}
+use Rattle.zb_armed_host.specs.declared.arms.Arms.TheVariants.{Unarmed}
 use Rattle.zb_armed_host.specs.declared.fall.Cut.{Cut as CutEvent}
 use Rattle.zb_armed_host.specs.declared.fall.Fall.{Fall}
-use Rattle.zb_host.specs.Hosts.{Hosted}
+use Rattle.zb_armed_host.specs.declared.fall.Fallen.{Fallen}
+use Rattle.zb_host.specs.Hosts.{Hosted, Restoring}
 use Rattle.zb_model.specs.Answer.{Answer, answer}
 use Rattle.zb_model.specs.Data.{Role}
 use Rattle.zb_model.specs.Data as model
@@ -88,6 +90,39 @@ abbrev pub HasBooted : NodeValue → Medium → Option Fall → NodeValue → Me
 HasBooted old m None new m' = (x : Condition) (number : ℕ) → IsIn x number old m → x.up ≡ false → IsUpAgain x number m new m'
 HasBooted old m (Some fall) new m' = (x : Condition) (number : ℕ) → IsIn x number old m → x.up ≡ false → IsStillDown x number fall m new m'
 
+-- ---- of a node over any disk
+
+-- How an event was cut. What was armed stays where it didn't fall, and then no change is told as stored.
+pub record WasCutOn (old : NodeValue) (m : Medium) (fall : Fall) (stored : List Change) (new : NodeValue) (m' : Medium) : Type 0 where
+  pub fallen : Fallen
+  pub ended : HasEnded (armed_of old.arms) m fallen m'
+  pub fall_is : fall ≡ fallen.fall
+  pub arms : new.arms ≡ (if fallen.fired then Unarmed else old.arms)
+  pub none : (fallen.fired && arms_stand (armed_of old.arms)) ≡ false → stored ≡ []
+
+-- what became of an event: what is armed stays too where it was handled
+abbrev pub HasHandledOn : NodeValue → Medium → Option Handled → List Change → NodeValue → Medium → Type 0
+HasHandledOn old m None stored new m' = (new ≡ old) × (m' ≡ m)
+HasHandledOn old m (Some Whole) stored new m' = new.arms ≡ old.arms
+HasHandledOn old m (Some (Cut fall)) stored new m' = WasCutOn old m fall stored new m'
+
+-- How a boot was cut: likewise.
+pub record WasCutAtBoot (old : NodeValue) (m : Medium) (fall : Fall) (new : NodeValue) (m' : Medium) : Type 0 where
+  pub fallen : Fallen
+  pub ended : HasEnded (armed_of old.arms) m fallen m'
+  pub fall_is : fall ≡ fallen.fall
+  pub node_is : new ≡ record old { arms = if fallen.fired then Unarmed else old.arms }
+
+abbrev pub HasBootedOn : NodeValue → Medium → Option Fall → NodeValue → Medium → Type 0
+HasBootedOn old m None new m' = new.arms ≡ old.arms
+HasBootedOn old m (Some fall) new m' = WasCutAtBoot old m fall new m'
+
+-- the bytes of a dump: the record of what stands, and none where none is shown
+abbrev pub IsDump : Restoring → Medium → List ℕ → Type 0
+IsDump restored m bytes = ((bytes ≡ []) × IsRecordOf restored m None []) ⊎ IsRecordOf restored m (Some (length bytes)) bytes
+
+-- ---- of a node at the start
+
 -- the condition of a node at the start: it is up, and made no commit
 abbrev pub start_condition : Setting → NodeState → Condition
 start_condition setting state = record { setting = setting; state = state; commits = 0; up = true; disk = new_disk }
@@ -117,21 +152,25 @@ pub record IsPlanFor (role : Role) (task : model.Task) (before : CoreValue) (p :
 abbrev pub Changes : Type 0
 Changes = ArrayVec Change 16 (Unit {0})
 
+-- these are the changes of a plan for the event
+abbrev pub HasCut : Role → model.Task → Hosted CoreValue → List Change → Hosted CoreValue → Type 0
+HasCut role task before changes after = (p : CorePlan) × IsPlanFor role task before.core p after.core × (changes ≡ p.changes.items)
+
 -- What an event of a host gave: its plan, and what is left of the host and its disk.
 abbrev pub HasGiven : Role → model.Task → Armed → Hosted CoreValue → Medium → CorePlan → Result (Unit {0}) CutEvent → Hosted CoreValue → Medium → Type 0
 HasGiven role task a before old p (Ok u) after new = IsPlanFor role task before.core p after.core
     × ((s : Standing) → IsUp (words_for role) s a before old → WasHandled (words_for role) s a before old p.changes.items after new)
-HasGiven role task a before old p (Err cut) after new = IsPlanFor role task before.core p after.core
-    × ((s : Standing) → IsUp (words_for role) s a before old → HasFallen (words_for role) s a before old p.changes.items cut.fall after new)
+HasGiven role task a before old p (Err cut) after new = HasCut role task before p.changes.items after
+    × ((s : Standing) → IsUp (words_for role) s a before old → HasFallen (words_for role) s a before old p.changes.items cut.fallen after new)
 
 -- what a boot made: a host with the core of what stands, or nothing
-abbrev pub HasMade : Role → Config → Armed → Medium → Result Running (OrMemory Fall) → Medium → Type 0
+abbrev pub HasMade : Role → Config → Armed → Medium → Result Running (OrMemory Fallen) → Medium → Type 0
 HasMade role config a old (Ok r) new = (r.role ≡ role) × (is_some r.host.store ≡ true) × ((s : Standing) (w : List ℕ) → IsDown (words_for role) s w a old
     → IsBooted role config s.content (concat s.payloads) r.host.core × WasBooted (words_for role) s w a old r.host new)
-HasMade role config a old (Err (Fault fall)) new = (s : Standing) (w : List ℕ) → IsDown (words_for role) s w a old → HasFallenAtBoot s a old fall new
+HasMade role config a old (Err (Fault fallen)) new = ((s : Standing) (w : List ℕ) → IsDown (words_for role) s w a old → HasFallenAtBoot s a old fallen new) × HasEnded a old fallen new
 HasMade role config a old (Err NoMemory) new = ⊤
 
 -- the host that a boot made, of whichever role
-abbrev pub made : Result Machine (OrMemory Fall) → Result Running (OrMemory Fall)
+abbrev pub made : Result Machine (OrMemory Fallen) → Result Running (OrMemory Fallen)
 made (Ok machine) = Ok (running machine)
 made (Err fault) = Err fault

@@ -1,10 +1,10 @@
 //! The host of a node, of whichever role it is.
-ghost use Rattle.std.specs.Prelude.{◌≡◌, ◌≤◌, ℕ, List, true, is_some, length, option_map, IfOk, IfErr, IsTrue, OnOk};
+ghost use Rattle.std.specs.Prelude.{◌≡◌, ◌≤◌, ◌&&◌, ℕ, List, true, is_some, length, option_map, IfOk, IfErr, IsTrue, OnOk};
 ghost use Rattle.zb_base.specs.Config.{IsConfig};
 ghost use Rattle.zb_disk.specs.View.{IsStill};
 ghost use Rattle.zb_disk.specs.Memory.{memory_view};
 ghost use Rattle.zb_armed_host.specs.Arms.{IsUnarmed, armed_of, arms_stand};
-ghost use Rattle.zb_armed_host.specs.Driven.{IsShown};
+ghost use Rattle.zb_armed_host.specs.Driven.{HasEnded, IsShown, IsRecordOf};
 ghost use Rattle.zb_host.specs.Hosts.{Gives};
 ghost use Rattle.zb_model.specs.Data as model;
 ghost use Rattle.zb_player_node.specs.Answers.{HasGiven, HasMade, made};
@@ -19,7 +19,7 @@ ghost use Rattle.zb_stored_tables.specs.Stored.{restored};
 use crate::roles::{centre_event, device_event, router_event};
 use crate::task::Task;
 use std::alloc::Global;
-use zb_armed_host::{Arms, Cut, Fall, boot_armed, dump, run};
+use zb_armed_host::{Arms, Cut, Fallen, boot_armed, dump, run};
 use zb_base::{Config, NoMemory, OrMemory, Place, Role};
 use zb_centre::Centre;
 use zb_disk::MemDisk;
@@ -62,7 +62,8 @@ fn handle_centre(
     requires up { IsTrue (is_some host.old.store) }
     ensures given { suits model.Centre (model_task task) ≡ true → HasGiven model.Centre (model_task task)
         (armed_of arms.now) host.old disk.old plan.new result host.new disk.new }
-    ensures stored { IfErr result (λ cut. cut.stored ≡ arms_stand (armed_of arms.now)) }
+    ensures ended { IfErr result (λ cut. HasEnded (armed_of arms.now) disk.old cut.fallen disk.new) }
+    ensures stored { IfErr result (λ cut. cut.stored ≡ (cut.fallen.fired && arms_stand (armed_of arms.now))) }
     ensures up { OnOk result (IsTrue (is_some host.new.store)) }
 {
     match centre_event(task) {
@@ -85,7 +86,8 @@ fn handle_router(
     requires up { IsTrue (is_some host.old.store) }
     ensures given { suits model.Router (model_task task) ≡ true → HasGiven model.Router (model_task task)
         (armed_of arms.now) host.old disk.old plan.new result host.new disk.new }
-    ensures stored { IfErr result (λ cut. cut.stored ≡ arms_stand (armed_of arms.now)) }
+    ensures ended { IfErr result (λ cut. HasEnded (armed_of arms.now) disk.old cut.fallen disk.new) }
+    ensures stored { IfErr result (λ cut. cut.stored ≡ (cut.fallen.fired && arms_stand (armed_of arms.now))) }
     ensures up { OnOk result (IsTrue (is_some host.new.store)) }
 {
     match router_event(task) {
@@ -108,7 +110,8 @@ fn handle_device(
     requires up { IsTrue (is_some host.old.store) }
     ensures given { suits model.Device (model_task task) ≡ true → HasGiven model.Device (model_task task)
         (armed_of arms.now) host.old disk.old plan.new result host.new disk.new }
-    ensures stored { IfErr result (λ cut. cut.stored ≡ arms_stand (armed_of arms.now)) }
+    ensures ended { IfErr result (λ cut. HasEnded (armed_of arms.now) disk.old cut.fallen disk.new) }
+    ensures stored { IfErr result (λ cut. cut.stored ≡ (cut.fallen.fired && arms_stand (armed_of arms.now))) }
     ensures up { OnOk result (IsTrue (is_some host.new.store)) }
 {
     match device_event(task) {
@@ -133,7 +136,7 @@ impl Machine {
         config: &Config,
         disk: &mut MemDisk,
         arms: &Arms,
-    ) -> Result<Machine, OrMemory<Fall>>
+    ) -> Result<Machine, OrMemory<Fallen>>
         requires config { IsConfig config.now }
         requires role { IsOfRole (model_role role) config.now }
         ensures { HasMade (model_role role) config.now (armed_of arms.now) disk.old (made result) disk.new }
@@ -166,7 +169,8 @@ impl Machine {
         ensures given { suits (running self.old).role (model_task task) ≡ true
             → HasGiven (running self.old).role (model_task task) (armed_of arms.now)
             (running self.old).host disk.old plan.new result (running self.new).host disk.new }
-        ensures stored { IfErr result (λ cut. cut.stored ≡ arms_stand (armed_of arms.now)) }
+        ensures ended { IfErr result (λ cut. HasEnded (armed_of arms.now) disk.old cut.fallen disk.new) }
+        ensures stored { IfErr result (λ cut. cut.stored ≡ (cut.fallen.fired && arms_stand (armed_of arms.now))) }
         ensures role { (running self.new).role ≡ (running self.old).role }
         ensures up { OnOk result (IsTrue (is_some (running self.new).host.store)) }
     {
@@ -179,8 +183,8 @@ impl Machine {
 
     /// Writes the record that the disk of a node of that role represents, and returns its length.
     ///
-    /// It answers None where the disk fails or represents no record of such a node. Requires a configuration of a node
-    /// of that role, and room for a record.
+    /// It answers None where the disk is off, nothing stands on it, or what stands is no record of such a node.
+    /// Requires a configuration of a node of that role, and room for a record.
     ///
     /// # Errors
     /// `NoMemory`.
@@ -195,6 +199,7 @@ impl Machine {
         requires role { IsOfRole (model_role role) config.now }
         requires room { record_room ≤ length room.old }
         ensures still { IsStill (memory_view disk.old) (memory_view disk.new) }
+        ensures exact { IfOk result (λ r. IsRecordOf (restored (model_role role)) disk.old r room.new) }
         ensures shown { IfOk result (λ r. (s : Standing) (w : List ℕ) → IsWhole s disk.old.bytes
             → IsUnarmed disk.old → Gives (restored (model_role role)) s w → IsShown r room.new w) }
     {

@@ -1,5 +1,5 @@
 //! A node.
-ghost use Rattle.std.specs.Prelude.{◌≡◌, ◌+◌, ◌≤◌, ℕ, List, [], true, None, if◌then◌else◌, is_some, IfOk};
+ghost use Rattle.std.specs.Prelude.{◌≡◌, ◌+◌, ◌≤◌, ℕ, List, [], true, None, if◌then◌else◌, is_some, take, IfOk, MatchOption};
 ghost use Rattle.zb_base.specs.Config.{IsConfig};
 ghost use Rattle.zb_disk.specs.Memory.{Medium};
 ghost use Rattle.zb_armed_host.specs.Driven.{IsShown};
@@ -8,12 +8,13 @@ ghost use Rattle.zb_model.specs.Record.{record_of};
 ghost use Rattle.zb_model.specs.Rules.{Setting};
 ghost use Rattle.zb_model.specs.State.{NodeState};
 ghost use Rattle.law_run_steps.specs.Conditions.{Condition, after_arming, after_reset};
-ghost use Rattle.zb_player_node.specs.Answers.{CanStart, HasBooted, HasHandled, IsStarted};
+ghost use Rattle.zb_player_node.specs.Answers.{CanStart, HasBooted, HasBootedOn, HasHandled, HasHandledOn, IsDump, IsStarted};
 ghost use Rattle.zb_player_node.specs.Nodes.{IsIn};
 ghost use Rattle.zb_player_node.specs.Tasks.{model_task};
 ghost use Rattle.zb_node_types.specs.Changes.{model_role};
 ghost use Rattle.zb_store.specs.Layout.{Standing};
 ghost use Rattle.zb_stored_tables.specs.Cores.{IsOfRole};
+ghost use Rattle.zb_stored_tables.specs.Stored.{restored};
 
 use crate::machine::{Machine, NodePlan};
 use crate::task::Task;
@@ -78,9 +79,19 @@ fn keep_stored(stored: bool, changes: &mut Changes)
     }
 }
 
+// Takes back what was armed once it fell. What didn't fall is still to come.
+fn spend(arms: &mut Arms, fired: bool)
+    ensures { arms.new ≡ (if fired then Arms.Unarmed else arms.old) }
+{
+    if fired {
+        *arms = Arms::Unarmed;
+    }
+}
+
 // Keeps what is shown: so many bytes, or none where nothing is.
 fn keep_shown(room: &mut Vec<u8>, len: Option<u32>)
-    ensures { (bytes : List ℕ) → IsShown len room.old.items bytes → room.new.items ≡ bytes }
+    ensures shown { (bytes : List ℕ) → IsShown len room.old.items bytes → room.new.items ≡ bytes }
+    ensures exact { MatchOption len (room.new.items ≡ []) (λ n. room.new.items ≡ take n room.old.items) }
 {
     match len {
         Some(len) => room.truncate(len as usize),
@@ -160,9 +171,10 @@ impl Node {
     /// Handles an event, over the node's disk, and writes its changes and what goes out into `plan`.
     ///
     /// It answers None where the node is down. Where a stop or a failure falls on the event, or the disk fails, the
-    /// node is down after it.
+    /// node is down after it. What is armed and didn't fall stays, whatever the disk did.
     pub fn handle(&mut self, disk: &mut MemDisk, task: Task, plan: &mut NodePlan) -> Option<Handled>
         ensures event { HasHandled (model_task task) self.old disk.old result plan.new self.new disk.new }
+        ensures any { HasHandledOn self.old disk.old result plan.new.changes.items self.new disk.new }
         ensures peer { self.new.peer ≡ self.old.peer }
         ensures config { self.new.config ≡ self.old.config }
     {
@@ -173,8 +185,10 @@ impl Node {
                 Err(cut) => {
                     keep_stored(cut.stored, &mut plan.changes);
                     self.machine = None;
-                    self.arms = Arms::Unarmed;
-                    Some(Handled::Cut { fall: cut.fall })
+                    spend(&mut self.arms, cut.fallen.fired);
+                    Some(Handled::Cut {
+                        fall: cut.fallen.fall,
+                    })
                 }
             },
         }
@@ -191,12 +205,14 @@ impl Node {
         reset(disk);
     }
 
-    /// Boots the node, which is down, from its disk. It answers how the boot ended, where it didn't end well.
+    /// Boots the node, which is down, from its disk. It answers how the boot ended, where it didn't end well. What is
+    /// armed and didn't fall stays, whatever the disk did.
     ///
     /// # Errors
     /// `NoMemory`.
     pub fn boot(&mut self, alloc: Global, disk: &mut MemDisk) -> Result<Option<Fall>, NoMemory>
         ensures booted { IfOk result (λ r. HasBooted self.old disk.old r self.new disk.new) }
+        ensures any { IfOk result (λ r. HasBootedOn self.old disk.old r self.new disk.new) }
         ensures peer { self.new.peer ≡ self.old.peer }
         ensures config { self.new.config ≡ self.old.config }
     {
@@ -211,21 +227,24 @@ impl Node {
                 self.machine = Some(machine);
                 Ok(None)
             }
-            Err(OrMemory::Fault(fall)) => {
-                self.arms = Arms::Unarmed;
-                Ok(Some(fall))
+            Err(OrMemory::Fault(fallen)) => {
+                spend(&mut self.arms, fallen.fired);
+                Ok(Some(fallen.fall))
             }
             Err(OrMemory::NoMemory) => Err(NoMemory),
         }
     }
 
-    /// Returns the record that the node's disk represents: no bytes where it represents none of such a node.
+    /// Returns the record that the node's disk represents.
+    ///
+    /// It has no bytes where the disk is off, nothing stands on it, or what stands is no record of such a node.
     ///
     /// # Errors
     /// `NoMemory`.
     pub fn dump(&self, alloc: Global, disk: &mut MemDisk) -> Result<Vec<u8>, NoMemory>
         ensures record_is { IfOk result (λ r. (x : Condition) (number : ℕ) → IsIn x number self.now disk.old
             → (r.items ≡ record_of x.state) × IsIn x (number + 1) self.now disk.new) }
+        ensures exact { IfOk result (λ r. IsDump (restored (model_role self.now.peer.role)) disk.old r.items) }
         ensures calls { disk.new.calls ≡ disk.old.calls }
     {
         let mut room = Vec::with_capacity(alloc, RECORD_ROOM)?;

@@ -1,6 +1,7 @@
 pub mod Redone
 pub mod ReadAgain
 pub mod Lists
+pub mod LinkSets
 pub mod Placing
 pub mod Sound
 pub mod Steady

@@ -72,3 +72,27 @@ fill_end i old new rest total le so =
     let all : take i new ≡ new = take_all i new long in
     let one : all_floors_at (map net_seen (take i new)) (map net_seen (drop i old)) rest ≡ Ok (map net_seen new, rest) = rw (none, all) refl in
     sym so.reads ∙ one
+
+-- the same where the rows are kept as they are seen
+
+module _ {A : Type 0} (step : List A → Placed A) (count i : ℕ) (bytes : List ℕ) (rows : List A) (total : Result (List A × List ℕ) ℕ) where
+  pub row_read : (rest : List ℕ) (x : A) → i < count → step rows bytes ≡ Ok (x, rest) → rows_at step (count - i) rows bytes ≡ total → rows_at step (count - (i + 1)) (rows ++ x ∷ []) rest ≡ total
+  unfolding rows_at
+  row_read rest x lt read so =
+      let k : count - i ≡ suc (count - (i + 1)) = omega arith in
+      let one : rows_at step (count - i) rows bytes ≡ rows_at step (count - (i + 1)) (rows ++ x ∷ []) rest = rw (k, read) refl in
+      sym one ∙ so
+
+  pub row_refused : (e : ℕ) → i < count → step rows bytes ≡ Err e → rows_at step (count - i) rows bytes ≡ total → total ≡ Err e
+  unfolding rows_at
+  row_refused e lt read so =
+      let k : count - i ≡ suc (count - (i + 1)) = omega arith in
+      let one : rows_at step (count - i) rows bytes ≡ Err e = rw (k, read) refl in
+      sym so ∙ one
+
+  pub rows_read : count ≤ i → rows_at step (count - i) rows bytes ≡ total → total ≡ Ok (rows, bytes)
+  unfolding rows_at
+  rows_read le so =
+      let k : count - i ≡ 0 = omega arith in
+      let one : rows_at step (count - i) rows bytes ≡ Ok (rows, bytes) = rw k refl in
+      sym so ∙ one

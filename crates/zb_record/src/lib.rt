@@ -6,6 +6,7 @@ mod field;
 mod laws;
 mod link;
 pub mod link_row;
+mod links_so_far;
 mod net;
 pub mod net_row;
 mod pair;

@@ -5,13 +5,13 @@ ghost use Rattle.std.specs.Int.{w16, w32};
 ghost use Rattle.zb_node_types.specs.Changes.{model_role, model_attribute};
 ghost use Rattle.zb_cursor.specs.Reading.{byte_at, eui_at, key_at, number_at};
 ghost use Rattle.zb_cursor.specs.Spelling.{bit};
-ghost use Rattle.zb_model.specs.State.{is_centre, is_provisional, is_unverified, same_key};
-ghost use Rattle.zb_model.specs.Fits.{like_rows};
+ghost use Rattle.zb_model.specs.State.{is_centre, is_provisional, is_unverified};
 ghost use Rattle.zb_record.specs.Placed.{Answers, Gives, field, rows_at};
 ghost use Rattle.zb_record.specs.Rows.{link_seen, link_row, is_new_link, kinds_alike, told_apart, is_marked, link_fits, link_flags_fit, link_at, links_at, has_link_room};
 
 use crate::field::read_attribute;
 use crate::link_row::link_room;
+use crate::links_so_far::LinksSoFar;
 use crate::place::begin;
 use std::alloc::Global;
 use zb_base::{Attribute, Eui, Key, OrMemory, Role};
@@ -55,31 +55,10 @@ impl LinkRecord {
     }
 
     /// Returns whether it is only offered.
-    fn is_unverified(&self) -> bool
+    pub(crate) fn is_unverified(&self) -> bool
         ensures { result ≡ is_unverified (link_seen self.now).attribute }
     {
         matches!(self.attribute, Attribute::Unverified)
-    }
-
-    /// Returns whether both are live rows of one partner.
-    fn is_beside(&self, other: &LinkRecord) -> bool
-        ensures { result ≡ like_rows (link_seen self.now) (link_seen other.now) }
-    {
-        self.live && other.live && self.partner.0 == other.partner.0
-    }
-
-    /// Returns whether both are live rows of one partner, of one kind.
-    fn is_like(&self, other: &LinkRecord) -> bool
-        ensures { result ≡ kinds_alike (link_seen self.now) (link_seen other.now) }
-    {
-        self.is_beside(other) && self.is_unverified() == other.is_unverified()
-    }
-
-    /// Returns whether both are live rows of one partner, of which one is told and the other isn't.
-    fn is_told_apart(&self, other: &LinkRecord) -> bool
-        ensures { result ≡ told_apart (link_seen self.now) (link_seen other.now) }
-    {
-        self.is_beside(other) && self.told != other.told
     }
 
     /// Returns whether a told row is a live one of the centre, and a provisional one from a code.
@@ -105,77 +84,46 @@ impl LinkRecord {
     }
 }
 
-/// Returns whether there is a row of that key.
-fn has_key(rows: &[LinkRecord], key: &Key) -> bool
-    ensures { result ≡ list_any (λ r. same_key (link_seen r).key key.now.0) rows.now }
-{
-    rows.iter().any(|row| row.key == *key)
-}
-
-/// Returns whether no row has that key.
-#[tactic(auto, using(crate::proofs::Lists::any_map))]
-fn is_new(rows: &[LinkRecord], key: &Key) -> bool
-    ensures { result ≡ is_new_link (map link_seen rows.now) key.now }
-{
-    !has_key(rows, key)
-}
-
 /// Returns a key that no row has.
-fn read_new_key(reader: &mut Reader<usize>, rows: &[LinkRecord]) -> Result<Key, usize>
+fn read_new_key(reader: &mut Reader<usize>, rows: &LinksSoFar) -> Result<Key, usize>
     ensures { Gives (λ k. k) result reader.new.rest.now
-        (field key_at (is_new_link (map link_seen rows.now)) reader.old.rest.now) }
+        (field key_at (is_new_link rows.now) reader.old.rest.now) }
 {
     let left = begin(reader);
     let key = reader.key()?;
-    if is_new(rows, &key) {
+    if rows.is_new(&key) {
         Ok(key)
     } else {
         Err(left)
     }
 }
 
-/// Returns whether one of the rows is like another.
-fn has_like(rows: &[LinkRecord], other: &LinkRecord) -> bool
-    ensures { result ≡ list_any (λ r. kinds_alike (link_seen r) (link_seen other.now)) rows.now }
-{
-    rows.iter().any(|row| row.is_like(other))
-}
-
-/// Returns whether one of the rows is told where another isn't, or the other way round.
-fn has_told_apart(rows: &[LinkRecord], other: &LinkRecord) -> bool
-    ensures { result ≡ list_any (λ r. told_apart (link_seen r) (link_seen other.now)) rows.now }
-{
-    rows.iter().any(|row| row.is_told_apart(other))
-}
-
 /// Returns whether a row may stand after these.
-#[tactic(auto, using(crate::proofs::Lists::any_map))]
-fn row_fits(role: Role, rows: &[LinkRecord], row: &LinkRecord) -> bool
-    ensures { result ≡ link_fits (model_role role) (map link_seen rows.now) (link_seen row.now) }
+fn row_fits(role: Role, rows: &LinksSoFar, row: &LinkRecord) -> bool
+    ensures { result ≡ link_fits (model_role role) rows.now (link_seen row.now) }
 {
     row.is_marked(role) && is_alone(rows, row)
 }
 
 /// Returns whether a row has no like among these, and agrees with them.
-#[tactic(auto, using(crate::proofs::Lists::any_map))]
-fn is_alone(rows: &[LinkRecord], row: &LinkRecord) -> bool
-    ensures { result ≡ (not (list_any (λ y. kinds_alike y (link_seen row.now)) (map link_seen rows.now))
-        && not (list_any (λ y. told_apart y (link_seen row.now)) (map link_seen rows.now))) }
+fn is_alone(rows: &LinksSoFar, row: &LinkRecord) -> bool
+    ensures { result ≡ (not (list_any (λ y. kinds_alike y (link_seen row.now)) rows.now)
+        && not (list_any (λ y. told_apart y (link_seen row.now)) rows.now)) }
 {
-    !has_like(rows, row) && !has_told_apart(rows, row)
+    !rows.has_like(row) && !rows.has_told_apart(row)
 }
 
 /// Returns the flags of a row, and so the row but for its floor.
 fn read_flags(
     reader: &mut Reader<usize>,
     role: Role,
-    rows: &[LinkRecord],
+    rows: &LinksSoFar,
     partner: Eui,
     key: Key,
     attribute: Attribute,
 ) -> Result<u8, usize>
     ensures { Gives (λ b. b) result reader.new.rest.now
-        (field byte_at (link_flags_fit (model_role role) (map link_seen rows.now) partner.0 key.0
+        (field byte_at (link_flags_fit (model_role role) rows.now partner.0 key.0
         (model_attribute attribute)) reader.old.rest.now) }
 {
     let left = begin(reader);
@@ -193,21 +141,17 @@ fn read_flags(
 }
 
 /// Returns whether flags are known, and their row may stand after these.
-fn flags_fit(role: Role, rows: &[LinkRecord], row: LinkRecord, flags: u8) -> bool
-    ensures { result ≡ (nat_lt flags 8 && link_fits (model_role role) (map link_seen rows.now) (link_seen row)) }
+fn flags_fit(role: Role, rows: &LinksSoFar, row: LinkRecord, flags: u8) -> bool
+    ensures { result ≡ (nat_lt flags 8 && link_fits (model_role role) rows.now (link_seen row)) }
 {
     flags < 8 && row_fits(role, rows, &row)
 }
 
 /// Returns a link key, after these rows.
 #[tactic(auto, unfolding(crate::specs::Rows::link_at))]
-fn read_link(
-    reader: &mut Reader<usize>,
-    role: Role,
-    rows: &[LinkRecord],
-) -> Result<LinkRecord, usize>
+fn read_link(reader: &mut Reader<usize>, role: Role, rows: &LinksSoFar) -> Result<LinkRecord, usize>
     ensures { Gives link_seen result reader.new.rest.now
-        (link_at (model_role role) (map link_seen rows.now) reader.old.rest.now) }
+        (link_at (model_role role) rows.now reader.old.rest.now) }
 {
     let _left = begin(reader);
     let partner = reader.eui()?;
@@ -252,14 +196,14 @@ fn read_rows(
     ensures { Answers (λ v. map link_seen v.items) result reader.new.rest.now
         (rows_at (link_at (model_role role)) count [] reader.old.rest.now) }
 {
-    let mut rows = Vec::with_capacity(alloc, usize::from(count))?;
+    let mut rows = LinksSoFar::with_capacity(alloc, usize::from(count))?;
     for _ in 0..count {
-        match read_link(reader, role, rows.as_slice()) {
-            Ok(row) => rows.push(row)?,
+        match read_link(reader, role, &rows) {
+            Ok(row) => rows = rows.with(row)?,
             Err(left) => return Err(OrMemory::Fault(left)),
         }
     }
-    Ok(rows)
+    Ok(rows.into_rows())
 }
 
 /// Reads the link keys, with their number.

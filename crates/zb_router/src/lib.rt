@@ -6,5 +6,5 @@ mod planning;
 mod router;
 
 pub use event::RouterEvent;
-pub use router::Router;
+pub use router::{Router, RouterPolicy};
 pub use zb_device::{Device, DeviceEvent};

@@ -1,10 +1,12 @@
--- What the proof of a rule unfolds beside the rule's own word: the steps of its chain of refusals.
+-- What the proof of a rule unfolds beside the rule's own word: the steps of its chain of refusals, and the part of it
+-- that is about the rows of a partner.
 use Rattle.std.specs.Prelude.{⊤}
 use Rattle.zb_model.specs.Rules.{unless, found_or, choose}
+use Rattle.zb_row_changes.specs.Planned.{partner_rule}
 use Rattle.zb_model_real.specs.Real.{real}
 
 unfoldable pub steps : ⊤
-unfolding unless found_or choose
+unfolding unless found_or choose partner_rule
 steps = tt
 
 -- the same of a rule that asks a tool

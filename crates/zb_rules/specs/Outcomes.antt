@@ -1,18 +1,15 @@
 -- What a rule of the program answers, as the model's outcome: a refusal, or an effect, which is changes and what is
 -- sent.
-use Rattle.std.specs.Prelude.{◌≡◌, ◌≤◌, ℕ, ⊤, List, map, length, Option, Some, None, option_map, Result, Ok, Err}
+use Rattle.std.specs.Prelude.{◌≡◌, ◌≤◌, ℕ, List, length, Option, option_map, Result, Ok, Err}
 use Rattle.zb_base.specs.declared.place.Place.{Place}
 use Rattle.zb_node_types.specs.declared.refusal.Refusal.{Refusal}
 use Rattle.zb_node_types.specs.Changes.{edits, reason, place_of}
-use Rattle.zb_model.specs.Data.{Edit, Move, Moved, Reason}
-use Rattle.zb_model.specs.Rules.{Outcome, Stop, Does, Sending}
+use Rattle.zb_model.specs.Data.{Edit, Reason}
+use Rattle.zb_model.specs.Rules.{Sending}
 use Rattle.zb_rules.specs.declared.effect.Effect.{Effect}
 use Rattle.zb_send.specs.Sendings.{sending_of, CanBeSent}
-
 -- an outcome of the model: its reason, or its moves as changes and what it sends
-abbrev pub told : Outcome → Result (List Edit × Option Sending) Reason
-told (Stop why) = Err why
-told (Does moves sending) = Ok (map Moved moves, sending)
+pub use Rattle.zb_row_changes.specs.Planned.{told}
 
 -- an answer of the program in the same words
 abbrev pub decided : Result Effect Refusal → Result (List Edit × Option Sending) Reason
@@ -27,13 +24,3 @@ most_changes = 5
 abbrev pub Keeps : Place → Result Effect Refusal → Type 0
 Keeps at (Err refusal) = place_of refusal ≡ at
 Keeps at (Ok effect) = (length effect.changes.items ≤ most_changes) × CanBeSent effect.sending
-
--- a refusal, or moves after which nothing is sent
-abbrev pub refused_or : Option Refusal → List Move → Result (List Edit × Option Sending) Reason
-refused_or None moves = Ok (map Moved moves, None)
-refused_or (Some refusal) moves = Err (reason refusal)
-
--- a refusal, if there is one, stands at its place
-abbrev pub RefusesAt : Place → Option Refusal → Type 0
-RefusesAt at None = ⊤
-RefusesAt at (Some refusal) = place_of refusal ≡ at

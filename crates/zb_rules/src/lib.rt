@@ -2,12 +2,13 @@
 //! the rule of `say`.
 #![tactic(auto)]
 
-mod changes;
 mod effect;
 mod heard;
+mod refusing;
 mod saying;
 
-pub use changes::{add, add_drop};
 pub use effect::{Effect, sending};
 pub use heard::Heard;
+pub use refusing::refused;
 pub use saying::{is_rejoining, say};
+pub use zb_row_changes::{add, add_drop};

@@ -1,11 +1,13 @@
 //! A script while it is read: what each line does to it, or why the line may not stand there.
 
-ghost use Rattle.std.specs.Prelude.{◌≡◌, ◌≤◌, ◌&&◌, bytes_eq, find, length, map, true, Err, IfOk};
+ghost use Rattle.std.specs.Prelude.{◌≡◌, ◌≤◌, ◌&&◌, bytes_eq, find, length, map, true, Err, IfOk, OnErr};
 ghost use Rattle.std.specs.List.{list_any};
 ghost use Rattle.std.specs.Option.{option_copied, option_map};
+ghost use Rattle.zb_base.specs.Config.{IsConfig};
 ghost use Rattle.zb_base.specs.declared.fault.OrMemory.TheVariants.{Fault};
 ghost use Rattle.zb_sched.specs.Judge.{are_blocks};
 ghost use Rattle.zb_backup.specs.Reading.{backup_in};
+ghost use Rattle.zb_model.specs.Data as model;
 ghost use Rattle.zb_model.specs.Record.{record_of};
 ghost use Rattle.zb_base.specs.Sizes.{record_room};
 ghost use Rattle.zb_script.specs.Judge.{after_centre, after_peer, after_remove, after_sentence, commanded, device_named, has_begun, has_centre, is_parent, is_taken as clashes_with, parent_named, provided, restored, with_order};
@@ -14,6 +16,7 @@ ghost use Rattle.zb_script.specs.Reading.{after_line, start, Steps};
 ghost use Rattle.zb_script.specs.Scripts.{IsOrder, IsScript};
 ghost use Rattle.zb_script.specs.Views.{script_of, script_with, sentence_of, station_of};
 ghost use Rattle.zb_script.specs.SoFar.{Joins};
+ghost use Rattle.zb_stored_tables.specs.Cores.{IsOfRole};
 
 use crate::error::ScriptCause;
 use crate::line::{Line, read_line};
@@ -26,25 +29,26 @@ use zb_base::{Config, Eui, List, Name, OrMemory, Peer, RECORD_ROOM, Role, Short}
 use zb_install::InstallCode;
 use zb_keys::Tables;
 
-/// A script so far.
+/// A script so far: the network, and what is to be done.
 #[derive(Drop)]
 pub struct Draft {
-    peers: ArrayVec<Peer, 64>,
-    out_block: u32,
-    in_block: u32,
+    // The network so far, with the centre at its first place.
+    config: Config,
     steps: Vec<Step>,
 }
 
 impl Model for Draft {
+    ghost use Rattle.std.specs.Prelude.{◌≡◌};
     ghost use Rattle.zb_script.specs.Scripts.{Script};
     ghost use Rattle.zb_script.specs.Views.{script_with};
     ghost use Rattle.zb_script.specs.SoFar.{IsSoFar};
 
     ghost Value = { Script };
 
-    ghost view = { λ d. script_with d.peers.items d.out_block d.in_block d.steps.items };
+    ghost view = { λ d. script_with d.config.peers.items d.config.out_block d.config.in_block d.steps.items };
 
-    ghost invariant = { λ d. IsSoFar (script_with d.peers.items d.out_block d.in_block d.steps.items) };
+    ghost invariant = { λ d. (d.config.me ≡ 0)
+        × IsSoFar (script_with d.config.peers.items d.config.out_block d.config.in_block d.steps.items) };
 }
 
 /// Returns whether the name, EUI or short address of a node is that of a peer.
@@ -143,9 +147,12 @@ impl Draft {
         ensures { result ≡ start }
     {
         Draft {
-            peers: ArrayVec::new(),
-            out_block: 0,
-            in_block: 0,
+            config: Config {
+                me: 0,
+                peers: ArrayVec::new(),
+                out_block: 0,
+                in_block: 0,
+            },
             steps: Vec::new(alloc),
         }
     }
@@ -154,28 +161,41 @@ impl Draft {
     pub fn has_centre(&self) -> bool
         ensures { result ≡ has_centre self.now }
     {
-        !self.peers.is_empty()
+        !self.config.peers.is_empty()
+    }
+
+    /// Returns the configuration of the network so far, in which the centre is the first node.
+    ///
+    /// It is one that a node can be configured with once the centre was declared.
+    pub fn config(&self) -> &Config
+        ensures network { script_with result.now.peers.items result.now.out_block result.now.in_block self.now.steps
+            ≡ self.now }
+        ensures me { result.now.me ≡ 0 }
+        ensures config { has_centre self.now ≡ true → IsConfig result.now }
+        ensures centre { has_centre self.now ≡ true → IsOfRole model.Centre result.now }
+    {
+        &self.config
     }
 
     fn is_taken(&self, node: &Peer) -> bool
         ensures { result ≡ list_any
             (λ s. clashes_with node.now.name.bytes node.now.eui.0 node.now.short.0 s) self.now.stations }
     {
-        is_taken(self.peers.as_slice(), node)
+        is_taken(self.config.peers.as_slice(), node)
     }
 
     /// Returns the EUI of the router or device of a name.
-    fn device_named(&self, name: &Name) -> Option<Eui>
+    pub fn device_named(&self, name: &Name) -> Option<Eui>
         ensures { option_map (λ eui. eui.0) result ≡ device_named name.now.bytes self.now.stations }
     {
-        eui_of(find_device(self.peers.as_slice(), name))
+        eui_of(find_device(self.config.peers.as_slice(), name))
     }
 
     /// Returns the EUI of the centre or router of a name.
-    fn parent_named(&self, name: &Name) -> Option<Eui>
+    pub fn parent_named(&self, name: &Name) -> Option<Eui>
         ensures { option_map (λ eui. eui.0) result ≡ parent_named name.now.bytes self.now.stations }
     {
-        eui_of(find_parent(self.peers.as_slice(), name))
+        eui_of(find_parent(self.config.peers.as_slice(), name))
     }
 
     fn has_begun(&self) -> bool
@@ -184,15 +204,19 @@ impl Draft {
         !self.steps.is_empty()
     }
 
-    /// Takes the line of the centre.
-    fn take_centre(
+    /// Takes the line of the centre. A refused line changes nothing.
+    ///
+    /// # Errors
+    /// `Syntax`, where there is a centre; `Block`.
+    pub fn take_centre(
         &mut self,
         name: Name,
         eui: Eui,
         out_block: u32,
         in_block: u32,
     ) -> Result<(), OrMemory<ScriptCause>>
-        ensures { Steps result self.new (after_centre self.old name.bytes eui.0 out_block in_block) }
+        ensures steps { Steps result self.new (after_centre self.old name.bytes eui.0 out_block in_block) }
+        ensures kept { OnErr result (self.new ≡ self.old) }
     {
         if self.has_centre() {
             return refuse(ScriptCause::Syntax);
@@ -200,21 +224,26 @@ impl Draft {
         if !are_blocks(out_block, in_block) {
             return refuse(ScriptCause::Block);
         }
-        self.peers.push(Peer {
+        self.config.peers.push(Peer {
             name,
             eui,
             short: Short(0),
             role: Role::Centre,
         });
-        self.out_block = out_block;
-        self.in_block = in_block;
+        self.config.out_block = out_block;
+        self.config.in_block = in_block;
         Ok(())
     }
 
-    /// Takes the line of a peer.
-    fn take_peer(&mut self, peer: Peer) -> Result<(), OrMemory<ScriptCause>>
+    /// Takes the line of a peer, a router or a device. A refused line changes nothing.
+    ///
+    /// # Errors
+    /// `Syntax`, where there is no centre yet; `DuplicateNode`; `TooMany`.
+    pub fn take_peer(&mut self, peer: Peer) -> Result<(), OrMemory<ScriptCause>>
         requires { is_joiner peer.role ≡ true }
-        ensures { Steps result self.new (after_peer self.old peer.name.bytes peer.role peer.eui.0 peer.short.0) }
+        ensures steps { Steps result self.new
+            (after_peer self.old peer.name.bytes peer.role peer.eui.0 peer.short.0) }
+        ensures kept { OnErr result (self.new ≡ self.old) }
     {
         if !self.has_centre() || self.has_begun() {
             return refuse(ScriptCause::Syntax);
@@ -222,10 +251,10 @@ impl Draft {
         if self.is_taken(&peer) {
             return refuse(ScriptCause::DuplicateNode);
         }
-        if 64 <= self.peers.len() {
+        if 64 <= self.config.peers.len() {
             return refuse(ScriptCause::TooMany);
         }
-        self.peers.push(peer);
+        self.config.peers.push(peer);
         Ok(())
     }
 
@@ -370,19 +399,9 @@ impl Draft {
         ensures script { script_of result ≡ self }
         ensures valid { has_centre self ≡ true → IsScript result }
     {
-        let Draft {
-            peers,
-            out_block,
-            in_block,
-            steps,
-        } = self;
+        let Draft { config, steps } = self;
         Script {
-            config: Config {
-                me: 0,
-                peers,
-                out_block,
-                in_block,
-            },
+            config,
             steps: List::from_vec(steps),
         }
     }

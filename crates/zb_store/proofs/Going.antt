@@ -1,12 +1,12 @@
 -- How runs of writes and syncs join.
-use Rattle.std.proofs.Common.{◌≡◌, inl, inr, ℕ, ◌+◌, ◌-◌, List, [], ◌∷◌, length, IsTrue, Result, Ok, Err, refl, sym, ◌∙◌, ap, subst, arith}
-use Rattle.std.proofs.lemmas.Bool.{cases_lt}
+use Rattle.std.proofs.Common.{◌≡◌, inl, inr, ℕ, zero, suc, ◌+◌, ◌-◌, ◌<◌, List, [], ◌∷◌, length, Bool, IsTrue, if◌then◌else◌, Result, Ok, Err, refl, sym, ◌∙◌, ap, subst, arith, add-zero}
+use Rattle.std.proofs.lemmas.Bool.{cases_lt, ne_eqb}
 use Rattle.zb_disk.specs.View.{Telling, View, Torn, Only, IsStill, LeavesOnly, overwrite}
-use Rattle.zb_base.specs.Outside.{HasCause}
+use Rattle.zb_base.specs.Outside.{HasCause, risen}
 use Rattle.zb_disk.specs.Calls.{IsCounted, IsWrite, IsSync}
 use Rattle.zb_disk.proofs.Moments.{started, goes_on, goes_through, weakened}
 use Rattle.zb_store.specs.Layout.{open_gate}
-use Rattle.zb_store.specs.Steps.{WentThrough, StoppedAfter, TornFrom, PlaceStop, IsPlaced, staged, GateStop, IsStage, IsGated}
+use Rattle.zb_store.specs.Steps.{calls_then, WasAsked, WentThrough, StoppedAfter, TornFrom, PlaceStop, IsPlaced, staged, GateStop, IsStage, IsGated}
 
 -- one call
 pub one_through : {T E : Type 0} {tells : Telling} {old new : View} {x : T} → IsCounted {T = T} {E = E} tells old new (Ok x) → WentThrough tells 1 old new
@@ -24,6 +24,7 @@ one_stopped counted = record {
   calls = counted.calls;
   foretold = λ told k low. absurd (omega arith);
   refused = λ told. sym (counted.foretold told).refusal;
+  later = λ told. (counted.foretold told).later;
   off = λ told. (counted.foretold told).off 0;
   torn = λ told. (counted.foretold told).torn;
 }
@@ -60,6 +61,9 @@ stopped_then n m a b c first second = record {
   refused = λ told.
       let there : m + n ≡ n + m = omega arith in
       ap a.refuses (sym there) ∙ sym (first.later told m) ∙ second.refused told;
+  later = λ told k.
+      let there : k + (m + 1) + n ≡ k + (n + m + 1) = omega arith in
+      second.later told k ∙ first.later told (k + (m + 1)) ∙ ap a.refuses there;
   off = λ told.
       let there : m + 1 + n ≡ n + m + 1 = omega arith in
       second.off told ∙ first.off told (m + 1) ∙ ap a.off there;
@@ -82,9 +86,37 @@ still_stopped n a b c still run = record {
   calls = omega (arith, still.calls, run.calls);
   foretold = λ told k low. sym (still.refuses k) ∙ run.foretold told k low;
   refused = λ told. sym (still.refuses n) ∙ run.refused told;
+  later = λ told k. run.later told k ∙ still.refuses (k + (n + 1));
   off = λ told. run.off told ∙ still.off (n + 1);
   torn = λ told. run.torn told ∙ still.torn;
 }
+
+-- ---- how many writes and syncs were asked for
+
+some_then : (count n : ℕ) → 0 < n → calls_then count n ≡ risen count n
+some_then count n some = ap (λ (b : Bool). if b then count else risen count n) (ne_eqb n 0 (λ none. absurd (omega arith)))
+
+counts_then : (a b c n m : ℕ) → b ≡ calls_then a n → c ≡ calls_then b m → c ≡ calls_then a (n + m)
+counts_then a b c zero m first second = second ∙ ap (λ (k : ℕ). calls_then k m) first ∙ ap (λ (k : ℕ). calls_then a k) (omega arith)
+counts_then a b c (suc n) zero first second = second ∙ first ∙ ap (λ (k : ℕ). calls_then a k) (omega arith)
+counts_then a b c (suc n) (suc m) first second =
+    let front : b ≡ risen a (suc n) = first ∙ some_then a (suc n) (omega arith) in
+    let back : c ≡ risen b (suc m) = second ∙ some_then b (suc m) (omega arith) in
+    let counts : c ≡ risen a (suc n + suc m) = omega (arith, front, back) in
+    counts ∙ sym (some_then a (suc n + suc m) (omega arith))
+
+pub one_asked : {T E : Type 0} {tells : Telling} {old new : View} {r : Result T E} → IsCounted {T = T} {E = E} tells old new r → WasAsked tells old new
+one_asked counted = record { made = 1; calls = counted.calls; later = λ told. (counted.foretold told).later; off = λ told. (counted.foretold told).off }
+
+pub asked_then : {tells : Telling} (a b c : View) → WasAsked tells a b → WasAsked tells b c → WasAsked tells a c
+asked_then a b c first second =
+    let there : (k : ℕ) → k + second.made + first.made ≡ k + (first.made + second.made) = λ k. omega arith in
+    record {
+      made = first.made + second.made;
+      calls = counts_then a.calls b.calls c.calls first.made second.made first.calls second.calls;
+      later = λ told k. second.later told k ∙ first.later told (k + second.made) ∙ ap a.refuses (there k);
+      off = λ told k. second.off told k ∙ first.off told (k + second.made) ∙ ap a.off (there k);
+    }
 
 pub causes : {T E T' E' : Type 0} (a b c : ℕ) (x : T) (r : Result T' E') → HasCause {T = T} {E = E} a b (Ok x)
     → HasCause {T = T'} {E = E'} b c r → HasCause {T = T'} {E = E'} a c r
@@ -118,6 +150,7 @@ module _ (tells : Telling) (at : ℕ) (bytes : List ℕ) (v0 v1 v2 : View) (only
     past = goes_on v0 v0 v1 P begun write.counted.time write.torn;
     stopped = λ told steady. PlaceStop.before_write (one_stopped write.counted) (write.refused steady);
     cause = write.counted.cause;
+    asked = one_asked write.counted;
   }
 
   pub placed : {T E : Type 0} (x : T) (r : Result T E) → IsWrite {T = T} {E = E} tells at bytes v0 v1 (Ok x) → IsSync {T = T} {E = E} tells v1 v2 r → IsPlaced {T = T} {E = E} tells at bytes v0 v2 r
@@ -128,6 +161,7 @@ module _ (tells : Telling) (at : ℕ) (bytes : List ℕ) (v0 v1 v2 : View) (only
     past = goes_on v0 v1 v2 P (goes_on v0 v0 v1 P begun write.counted.time write.torn) sync.counted.time (λ c image. write.torn c (sync.images c image));
     stopped = tt;
     cause = causes v0.faults v1.faults v2.faults x (Ok y) write.counted.cause sync.counted.cause;
+    asked = asked_then v0 v1 v2 (one_asked write.counted) (one_asked sync.counted);
   }
   placed {T} {E} x (Err e) write sync = record {
     seen = tt;
@@ -140,6 +174,7 @@ module _ (tells : Telling) (at : ℕ) (bytes : List ℕ) (v0 v1 v2 : View) (only
       opens = λ d c image torn. sync.images_kept c (write.opens d c image torn);
     });
     cause = causes v0.faults v1.faults v2.faults x (Err e) write.counted.cause sync.counted.cause;
+    asked = asked_then v0 v1 v2 (one_asked write.counted) (one_asked sync.counted);
   }
 
 -- bytes after a gate, and then the gate
@@ -161,6 +196,7 @@ module _ (tells : Telling) (gate : ℕ) (bytes : List ℕ) (v0 v1 v2 : View) (re
       | PlaceStop.before_sync stop open_range ↦ GateStop.bytes_unsynced stop open_range.torn
     ];
     cause = first.cause;
+    asked = first.asked;
   }
 
   -- what the second write's images come from
@@ -175,6 +211,7 @@ module _ (tells : Telling) (gate : ℕ) (bytes : List ℕ) (v0 v1 v2 : View) (re
     past = λ told. goes_through v0 v1 v2 S (first_leaves (Ok x) first) (weakened v1 v2 (TornFrom v1.images gate 1) S (λ c torn. inr (from_stage first.durable (first.seen told) c torn)) second.past);
     stopped = tt;
     cause = causes v0.faults v1.faults v2.faults x (Ok y) first.cause second.cause;
+    asked = asked_then v0 v1 v2 first.asked second.asked;
   }
   gated_done {T} {E} x (Err e) first second reads_now = record {
     seen = tt;
@@ -189,4 +226,5 @@ module _ (tells : Telling) (gate : ℕ) (bytes : List ℕ) (v0 v1 v2 : View) (re
           (λ c torn. open_range.opens v1.seen c (reads_now told) (subst (λ (d : List ℕ). Torn gate 1 d c) (sym (first.seen told)) torn))
     ];
     cause = causes v0.faults v1.faults v2.faults x (Err e) first.cause second.cause;
+    asked = asked_then v0 v1 v2 first.asked second.asked;
   }

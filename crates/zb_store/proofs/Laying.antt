@@ -12,7 +12,7 @@ use Rattle.zb_store.proofs.Slots.{part, slot_part, slot_byte, overwrite_holds, o
 use Rattle.zb_store.proofs.Images.{holds_body, alone}
 use Rattle.zb_store.proofs.Stages.{written_byte}
 use Rattle.zb_store.proofs.Replacing.{length-body}
-use Rattle.zb_store.proofs.Going.{one_through, one_stopped, through_then, stopped_then, causes, still_through, still_stopped}
+use Rattle.zb_store.proofs.Going.{one_through, one_stopped, through_then, stopped_then, causes, still_through, still_stopped, one_asked, asked_then}
 
 -- what a `format` writes: a body from the second byte on, a closed gate further on, and then the first byte
 module _ (h : ℕ) (seen bytes : List ℕ) (some : 0 < length bytes) (fits : 1 + length bytes ≤ h) where
@@ -135,6 +135,7 @@ module _ (tells : Telling) (bytes : List ℕ) (v0 v1 v2 v3 : View) where
         let same = write.refused steady in
         FormatStop.unsynced 0 (omega arith) (one_stopped write.counted) (as_layout content bytes_are (λ c image. (c, same.images c image, (c, torn_same 1 (length bytes) c, torn_same 65536 1 c))));
     cause = write.counted.cause;
+    asked = one_asked write.counted;
   }
 
   second_stop : {T E : Type 0} (x : T) → IsWrite {T = T} {E = E} tells 1 bytes v0 v1 (Ok x) → (content : List ℕ) → bytes ≡ body 1 content → PlaceStop tells 65536 (0 ∷ []) v1 v3 → FormatStop tells content v0 v3
@@ -151,6 +152,7 @@ module _ (tells : Telling) (bytes : List ℕ) (v0 v1 v2 v3 : View) where
     through = tt;
     stopped = λ content bytes_are small told steady. second_stop x write content bytes_are (second.stopped told steady);
     cause = causes v0.faults v1.faults v3.faults x (Err e) write.counted.cause second.cause;
+    asked = asked_then v0 v1 v3 (one_asked write.counted) second.asked;
   }
 
   first_stop : {T E : Type 0} (x y : T) → IsWrite {T = T} {E = E} tells 1 bytes v0 v1 (Ok x) → IsPlaced {T = T} {E = E} tells (base_of true) (0 ∷ []) v1 v2 (Ok y) → IsTrue tells.content
@@ -188,12 +190,14 @@ module _ (tells : Telling) (bytes : List ℕ) (v0 v1 v2 v3 : View) where
     through = through_then 3 2 v0 v2 v3 (through_then 1 2 v0 v1 v2 (one_through write.counted) second.through) first.through;
     stopped = tt;
     cause = causes v0.faults v2.faults v3.faults y (Ok z) (causes v0.faults v1.faults v2.faults x (Ok y) write.counted.cause second.cause) first.cause;
+    asked = asked_then v0 v2 v3 (asked_then v0 v1 v2 (one_asked write.counted) second.asked) first.asked;
   }
   laid_out {T} {E} x y (Err e) write second first = record {
     held = tt;
     through = tt;
     stopped = λ content bytes_are small told steady. first_stop tells bytes v0 v1 v2 v3 x y write second told content bytes_are small (first.stopped told steady);
     cause = causes v0.faults v2.faults v3.faults y (Err e) (causes v0.faults v1.faults v2.faults x (Ok y) write.counted.cause second.cause) first.cause;
+    asked = asked_then v0 v2 v3 (asked_then v0 v1 v2 (one_asked write.counted) second.asked) first.asked;
   }
 
 -- what stands is one thing

@@ -5,9 +5,9 @@ use Rattle.std.proofs.lemmas.List.{get_or_past}
 use Rattle.zb_disk.specs.declared.memory.Arming.TheVariants.{Unarmed, Stop, Fail}
 use Rattle.zb_base.specs.Outside.{risen}
 use Rattle.zb_disk.specs.View.{Telling, View, Torn, Only, IsUnsynced, overwrite}
-use Rattle.zb_disk.specs.Memory.{Medium, IsImage, refuses, off_after, is_stopped, powered, settled, torn_by, memory_tells, memory_view}
+use Rattle.zb_disk.specs.Memory.{Medium, IsImage, refuses, will_refuse, off_after, is_stopped, powered, settled, torn_by, memory_tells, memory_view}
 use Rattle.zb_disk.specs.MemoryLaws.{image_seen}
-use Rattle.zb_disk.proofs.Calls.{off_now}
+use Rattle.zb_disk.proofs.Calls.{off_now, refuses_none}
 use Rattle.zb_disk.proofs.Images.{torn_stands}
 use Rattle.zb_disk.proofs.Tearing.{settled_image, settled_byte}
 use Rattle.zb_store.specs.Layout.{Standing, IsWhole, slot, base_of, gate_of, end_of, open_gate}
@@ -46,6 +46,11 @@ module _ (n : ℕ) (old new : Medium) (stop : StoppedAfter memory_tells n (memor
 
   now_on : (call : ℕ) → old.arming ≡ Fail call → is_stopped new.arming ≡ false
   now_on call armed = sym (off_now new.arming) ∙ stop.off refl ∙ ap (λ a. off_after a (n + 1)) armed
+
+  now_spent : (call : ℕ) → old.arming ≡ Fail call → will_refuse new.arming ≡ false
+  now_spent call armed =
+      let here = failure_is call armed in
+      refuses_none new.arming (λ k. stop.later refl k ∙ ap (λ a. refuses a (k + (n + 1))) armed ∙ ne_eqb (k + (n + 1) + 1) call (λ same. absurd (omega (arith, here, same))))
 
 -- a disk that isn't off stands as it reads
 as_read : (m : Medium) → is_stopped m.arming ≡ false → (powered m).bytes ≡ m.bytes
@@ -371,6 +376,7 @@ module _ (run : ℕ) (old new : Medium) where
         within = omega (arith, here, low);
         made = stop.calls ∙ ap (λ (k : ℕ). risen old.calls k) here;
         on = now_on n old new stop call armed;
+        spent = now_spent n old new stop call armed;
       }
 
   pub unarmed_none : StoppedWithin memory_tells run (memory_view old) (memory_view new) → old.arming ≡ Unarmed → ⊥

@@ -10,7 +10,7 @@ use Rattle.zb_store.specs.Store.{IsHeld, replaced, IsWholeEither, IsBothOpen, Is
 use Rattle.zb_store.proofs.Slots.{torn_slot, torn_other, slot_part, slot_byte, overwrite_holds, overwrite_torn, torn_again, torn_over, in_disk, IsIn, stands_in}
 use Rattle.zb_store.proofs.Images.{holds_body, alone, newer}
 use Rattle.zb_store.proofs.Stages.{not_not, long, stands_before, written_byte}
-use Rattle.zb_store.proofs.Going.{through_then, stopped_then, causes}
+use Rattle.zb_store.proofs.Going.{through_then, stopped_then, causes, asked_then}
 
 pub length-body : (generation : ℕ) (content : List ℕ) → length (body generation content) ≡ 13 + length content
 unfolding body
@@ -270,6 +270,7 @@ module _ (tells : Telling) (second : Bool) (bytes : List ℕ) (v0 v1 v2 : View) 
     through = tt;
     stopped = λ s content it held told steady. put_stopped tells s content v0 v1 held (reads0 told) it.small it.later ((as_gated s content failed it done).stopped told steady);
     cause = done.cause;
+    asked = done.asked;
   }
 
   last_moments : {T E : Type 0} (x : T) (r : Result T E) (s : Standing) (content : List ℕ) → IsGated {T = T} {E = E} tells (base_of second) bytes v0 v1 (Ok x) → IsPlaced tells (base_of (not second)) (0 ∷ []) v1 v2 r
@@ -291,6 +292,7 @@ module _ (tells : Telling) (second : Bool) (bytes : List ℕ) (v0 v1 v2 : View) 
     through = through_then 4 2 v0 v1 v2 first.through last.through;
     stopped = tt;
     cause = causes v0.faults v1.faults v2.faults x (Ok y) first.cause last.cause;
+    asked = asked_then v0 v1 v2 first.asked last.asked;
   }
   replace_done {T} {E} x (Err e) first last = let went : Result T E = Ok x in let done : Result T E = Err e in record {
     moments = λ s content it held told. last_moments x done s content first last it held told;
@@ -300,6 +302,7 @@ module _ (tells : Telling) (second : Bool) (bytes : List ℕ) (v0 v1 v2 : View) 
         let both = both_whole tells s content v0 v1 held (reads0 told) it.small it.later x told (as_gated s content went it first) in
         last_stop s content both.0 both.1 both.3 (reads1 told) first.through ((as_placed s content done it last).stopped told steady);
     cause = causes v0.faults v1.faults v2.faults x (Err e) first.cause last.cause;
+    asked = asked_then v0 v1 v2 first.asked last.asked;
   }
     where
       last_stop : (s : Standing) (content : List ℕ) → IsWhole (replaced s content) v1.seen → gate_of (slot (not (not s.second)) v1.seen) ≡ open_gate → Only v1.seen v1.images → v1.images v1.seen → WentThrough tells 4 v0 v1

@@ -7,7 +7,7 @@ use Rattle.zb_disk.proofs.Moments.{started, goes_on, weakened, goes_through}
 use Rattle.zb_store.specs.Layout.{Standing, IsWhole, slot, base_of, gate_of, open_gate}
 use Rattle.zb_store.specs.Steps.{WentThrough, PlaceStop, IsPlaced}
 use Rattle.zb_store.specs.Store.{other_gate, both_gates_open, OpenStop, WasThere, IsFound, IsSettled}
-use Rattle.zb_store.proofs.Going.{one_through, one_stopped, through_then, stopped_then, causes}
+use Rattle.zb_store.proofs.Going.{one_through, one_stopped, through_then, stopped_then, causes, one_asked, asked_then}
 use Rattle.zb_store.proofs.Replacing.{closes, closed_held, closing_of, both_open}
 use Rattle.zb_store.proofs.Laying.{both_are}
 
@@ -24,6 +24,7 @@ module _ (tells : Telling) (second other_open : Bool) (v0 v1 v2 : View) (only_no
     through = tt;
     stopped = λ s found told steady. OpenStop.not_synced (one_stopped sync.counted) (record { seen = sync.seen; images = sync.images; images_kept = sync.images_kept });
     cause = sync.counted.cause;
+    asked = one_asked sync.counted;
   }
 
   pub settle_closed : {T E : Type 0} (x : T) → other_open ≡ false → IsSync {T = T} {E = E} tells v0 v1 (Ok x) → IsSettled {T = T} {E = E} tells second other_open v0 v1 (Ok x)
@@ -36,6 +37,7 @@ module _ (tells : Telling) (second other_open : Bool) (v0 v1 v2 : View) (only_no
     through = subst (λ b. WentThrough tells (if b then 3 else 1) v0 v1) (sym shut) (one_through sync.counted);
     stopped = tt;
     cause = sync.counted.cause;
+    asked = one_asked sync.counted;
   }
 
   pub settle_done : {T E : Type 0} (x : T) (r : Result T E) → other_open ≡ true → IsSync {T = T} {E = E} tells v0 v1 (Ok x) → IsPlaced {T = T} {E = E} tells (base_of (not second)) (0 ∷ []) v1 v2 r → IsSettled {T = T} {E = E} tells second other_open v0 v2 r
@@ -68,6 +70,7 @@ module _ (tells : Telling) (second other_open : Bool) (v0 v1 v2 : View) (only_no
         through = subst (λ b. WentThrough tells (if b then 3 else 1) v0 v2) (sym wide) (through_then 1 2 v0 v1 v2 (one_through sync.counted) done.through);
         stopped = tt;
         cause = causes v0.faults v1.faults v2.faults x (Ok y) sync.counted.cause done.cause;
+        asked = asked_then v0 v1 v2 (one_asked sync.counted) done.asked;
       }
       by_result (Err e) done = record {
         moments = all_moments (Err e) done;
@@ -75,4 +78,5 @@ module _ (tells : Telling) (second other_open : Bool) (v0 v1 v2 : View) (only_no
         through = tt;
         stopped = λ s found told steady. stop_of s found told ((here s (Err e) found done).stopped told steady);
         cause = causes v0.faults v1.faults v2.faults x (Err e) sync.counted.cause done.cause;
+        asked = asked_then v0 v1 v2 (one_asked sync.counted) done.asked;
       }

@@ -1,7 +1,7 @@
 -- What stands on a disk in memory once the power is back, after a stop or a failure inside a commit.
 use Rattle.std.specs.Prelude.{ℕ, ◌+◌, ◌≤◌, ◌<◌, ◌≡◌, ◌==◌, ◌&&◌, ◌||◌, List, [], ◌∷◌, Bool, true, false, nat_lt, if◌then◌else◌}
 use Rattle.zb_base.specs.Outside.{risen}
-use Rattle.zb_disk.specs.Memory.{Medium, is_stopped}
+use Rattle.zb_disk.specs.Memory.{Medium, is_stopped, will_refuse}
 use Rattle.zb_store.specs.Layout.{open_gate}
 
 -- Whether the one gate that is unsynced then reads open: by the first byte that the stop leaves, or as it was written
@@ -39,9 +39,11 @@ pub record StopFell (calls run : ℕ) (old new : Medium) : Type 0 where
   pub made : new.calls ≡ risen old.calls (calls + 1)
   pub off : is_stopped new.arming ≡ true
 
--- An armed failure fell within one: on the call of its number, counted from 1, and the disk isn't off.
+-- An armed failure fell within one: on the call of its number, counted from 1. The disk isn't off, and refuses no
+-- further call.
 pub record FailureFell (call run : ℕ) (old new : Medium) : Type 0 where
   pub first : 1 ≤ call
   pub within : call ≤ run
   pub made : new.calls ≡ risen old.calls call
   pub on : is_stopped new.arming ≡ false
+  pub spent : will_refuse new.arming ≡ false

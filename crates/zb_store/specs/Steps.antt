@@ -1,5 +1,5 @@
 -- How far a run of writes and syncs came.
-use Rattle.std.specs.Prelude.{ℕ, ◌+◌, ◌<◌, ◌≡◌, ◌⊎◌, List, [], ◌∷◌, length, true, false, IsTrue, Result, OnOk, OnErr}
+use Rattle.std.specs.Prelude.{ℕ, ◌+◌, ◌<◌, ◌≡◌, ◌==◌, ◌⊎◌, List, [], ◌∷◌, length, true, false, IsTrue, Result, OnOk, OnErr, if◌then◌else◌}
 use Rattle.zb_base.specs.Outside.{risen, HasCause}
 use Rattle.zb_disk.specs.View.{Telling, View, Torn, Follows, Opens, Only, IsSame, LeavesOnly, overwrite}
 use Rattle.zb_store.specs.Layout.{open_gate}
@@ -13,17 +13,30 @@ pub record WentThrough (tells : Telling) (n : ℕ) (old new : View) : Type 0 whe
   pub on : IsTrue tells.refusals → new.off 0 ≡ false
   pub torn : IsTrue tells.refusals → new.torn ≡ old.torn
 
--- the next one after so many was refused, and whether the disk is off since then was told
+-- the next one after so many was refused, and those after it, and whether the disk is off since then, were told
 pub record StoppedAfter (tells : Telling) (n : ℕ) (old new : View) : Type 0 where
   pub calls : new.calls ≡ risen old.calls (n + 1)
   pub foretold : IsTrue tells.refusals → (k : ℕ) → k < n → old.refuses k ≡ false
   pub refused : IsTrue tells.refusals → old.refuses n ≡ true
+  pub later : IsTrue tells.refusals → (k : ℕ) → new.refuses k ≡ old.refuses (k + (n + 1))
   pub off : IsTrue tells.refusals → new.off 0 ≡ old.off (n + 1)
   pub torn : IsTrue tells.refusals → new.torn ≡ old.torn
 
 -- one of a run of so many was refused
 abbrev pub StoppedWithin : Telling → ℕ → View → View → Type 0
 StoppedWithin tells run old new = (n : ℕ) × (n < run) × StoppedAfter tells n old new
+
+-- a count of calls after so many more, which stops at 2^64 - 1
+abbrev pub calls_then : ℕ → ℕ → ℕ
+calls_then count n = if n == 0 then count else risen count n
+
+-- Some writes and syncs were asked for, whether they went through or not. How many is told by the count of calls, and
+-- the disk refuses those after them as was told.
+pub record WasAsked (tells : Telling) (old new : View) : Type 0 where
+  pub made : ℕ
+  pub calls : new.calls ≡ calls_then old.calls made
+  pub later : IsTrue tells.refusals → (k : ℕ) → new.refuses k ≡ old.refuses (k + made)
+  pub off : IsTrue tells.refusals → (k : ℕ) → new.off k ≡ old.off (k + made)
 
 -- an image that is an old one, torn at one place
 abbrev pub TornFrom : (List ℕ → Type 0) → ℕ → ℕ → List ℕ → Type 0
@@ -48,6 +61,7 @@ pub record IsPlaced {T E : Type 0} (tells : Telling) (at : ℕ) (bytes : List �
   pub past : LeavesOnly old new (TornFrom old.images at (length bytes))
   pub stopped : OnErr result (IsTrue tells.content → IsTrue tells.steady → PlaceStop tells at bytes old new)
   pub cause : HasCause old.faults new.faults result
+  pub asked : WasAsked tells old new
 
 -- what is read once a range after a gate is written, and once the gate is open too
 abbrev pub staged : ℕ → List ℕ → List ℕ → List ℕ
@@ -75,3 +89,4 @@ pub record IsGated {T E : Type 0} (tells : Telling) (gate : ℕ) (bytes : List �
   pub past : IsTrue tells.content → LeavesOnly old new (IsStage gate bytes old)
   pub stopped : OnErr result (IsTrue tells.content → IsTrue tells.steady → GateStop tells gate bytes old new)
   pub cause : HasCause old.faults new.faults result
+  pub asked : WasAsked tells old new

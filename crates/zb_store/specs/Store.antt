@@ -5,7 +5,7 @@ use Rattle.zb_disk.specs.View.{Telling, View, Torn, Follows, IsSame, IsStill, Is
 use Rattle.zb_base.specs.Outside.{HasCause}
 use Rattle.zb_base.specs.Sizes.{record_room}
 use Rattle.zb_store.specs.Layout.{Standing, IsWhole, stands, slot, gate_of, open_gate, base_of, end_of, body}
-use Rattle.zb_store.specs.Steps.{WentThrough, StoppedAfter}
+use Rattle.zb_store.specs.Steps.{WentThrough, StoppedAfter, WasAsked}
 
 -- where a store goes on: its slot, the generation, the place in the slot after the last entry, and how many entries
 -- stand
@@ -118,6 +118,7 @@ pub record IsReplaced {T E : Type 0} (tells : Telling) (second : Bool) (bytes : 
   pub through : OnOk result (WentThrough tells 6 old new)
   pub stopped : OnErr result ((s : Standing) (content : List ℕ) → IsReplacement s content second bytes → IsHeld s old → IsTrue tells.content → IsTrue tells.steady → PutStop tells s content old new)
   pub cause : HasCause old.faults new.faults result
+  pub asked : WasAsked tells old new
 
 -- an image is whole and represents what an image at the beginning stood for
 abbrev pub WasThere : View → List ℕ → Type 0
@@ -136,6 +137,7 @@ pub record IsSettled {T E : Type 0} (tells : Telling) (second other_open : Bool)
   pub through : OnOk result (WentThrough tells (if other_open then 3 else 1) old new)
   pub stopped : OnErr result ((s : Standing) → IsFound s second other_open old → IsTrue tells.content → IsTrue tells.steady → OpenStop tells s old new)
   pub cause : HasCause old.faults new.faults result
+  pub asked : WasAsked tells old new
 
 -- what stands on a disk that was formatted
 abbrev pub formatted : List ℕ → Standing
@@ -160,6 +162,7 @@ pub record IsLaidOut {T E : Type 0} (tells : Telling) (bytes : List ℕ) (old ne
   pub through : OnOk result (WentThrough tells 5 old new)
   pub stopped : OnErr result ((content : List ℕ) → bytes ≡ body 1 content → length content ≤ record_room → IsTrue tells.content → IsTrue tells.steady → FormatStop tells content old new)
   pub cause : HasCause old.faults new.faults result
+  pub asked : WasAsked tells old new
 
 -- each image is whole
 abbrev pub AllWhole : View → Type 0

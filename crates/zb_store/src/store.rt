@@ -5,7 +5,7 @@ ghost use Rattle.zb_base.specs.Outside.{Unrisen};
 ghost use Rattle.zb_store.specs.Layout.{Standing, stands};
 ghost use Rattle.zb_store.specs.Reading.{AreCounted, AreContents};
 ghost use Rattle.zb_base.specs.Sizes.{record_room, payload_room, entries_room, payloads_room};
-ghost use Rattle.zb_store.specs.Steps.{WentThrough};
+ghost use Rattle.zb_store.specs.Steps.{WentThrough, WasAsked};
 ghost use Rattle.zb_store.specs.Store.{IsReady, IsWholeEither, appended, replaced, formatted, open_calls, IsAnswer, AllWhole, WasThere, AppendStop, PutStop, OpenStop, FormatStop};
 ghost use Rattle.zb_store.specs.Faults.{OnlyReads, IsSpared, IsAppendFault, IsPutFault, IsFormatFault, IsReadFault, IsStandingFault};
 
@@ -82,6 +82,7 @@ impl Store {
         ensures faults { IfErr result (IsAppendFault change.now (D.state disk.old) (D.state disk.new)) }
         ensures count { (D.state disk.old).faults ≤ (D.state disk.new).faults }
         ensures unrisen { OnOk result (Unrisen (D.state disk.old).faults (D.state disk.new).faults) }
+        ensures asked { WasAsked D.tells (D.state disk.old) (D.state disk.new) }
     {
         if change.len() > PAYLOAD_ROOM {
             return Err(StoreFault::TooLarge {
@@ -127,6 +128,7 @@ impl Store {
         ensures faults { IfErr result (IsPutFault self content.now (D.state disk.old) (D.state disk.new)) }
         ensures count { (D.state disk.old).faults ≤ (D.state disk.new).faults }
         ensures unrisen { OnOk result (Unrisen (D.state disk.old).faults (D.state disk.new).faults) }
+        ensures asked { WasAsked D.tells (D.state disk.old) (D.state disk.new) }
     {
         if content.len() > RECORD_ROOM {
             return Err(StoreFault::TooLarge {
@@ -170,6 +172,7 @@ impl Store {
         ensures faults { IfErr result (IsFormatFault first.now (D.state disk.old) (D.state disk.new)) }
         ensures count { (D.state disk.old).faults ≤ (D.state disk.new).faults }
         ensures unrisen { OnOk result (Unrisen (D.state disk.old).faults (D.state disk.new).faults) }
+        ensures asked { WasAsked D.tells (D.state disk.old) (D.state disk.new) }
     {
         if first.len() > RECORD_ROOM {
             return Err(StoreFault::TooLarge {
@@ -223,6 +226,7 @@ impl Store {
         ensures faults { IfErr result (IsReadFault D.tells (D.state disk.old) (D.state disk.new)) }
         ensures count { (D.state disk.old).faults ≤ (D.state disk.new).faults }
         ensures unrisen { OnOk result (Unrisen (D.state disk.old).faults (D.state disk.new).faults) }
+        ensures asked { WasAsked D.tells (D.state disk.old) (D.state disk.new) }
     {
         let buffer = Vec::with_capacity(alloc, BODY_ROOM)?;
         let contents = read_standing(alloc, disk)?;

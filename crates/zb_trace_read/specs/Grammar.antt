@@ -1,8 +1,10 @@
 -- How the words of a line are read: each kind of line has a shape, which says what stands after its first words.
-use Rattle.std.specs.Prelude.{ℕ, ◌==◌, List, [], ◌∷◌, length, codes, bytes_eq, if◌then◌else◌, Option, Some, None}
+use Rattle.std.specs.Prelude.{ℕ, ◌==◌, List, [], ◌∷◌, length, map, codes, bytes_eq, if◌then◌else◌, Option, Some, None}
 use Rattle.std.specs.Option.{option_map, option_and_then}
 use Rattle.std.specs.Result.{result_ok}
 use Rattle.hex.specs.Hex.{decode_of}
+use Rattle.zb_model.specs.Data.{Down, Malformed, NotForMe, Unsecured, NoKey, CounterMax, BadMic, Policy, NotMember, WrongState, KeysFull, RowsFull, NoDraw, CounterSpent, WrongHash, NoFrame}
+use Rattle.zb_node_types.specs.Reasons.{reason_word, stale_word, key_old_word, key_in_use_word}
 use Rattle.zb_text.specs.Fields.{name_of, eui_of, short_of, key_of}
 use Rattle.zb_text.specs.Hexadecimal.{fixed_of, bytes_of}
 use Rattle.zb_text.specs.Numbers.{number_of}
@@ -84,7 +86,8 @@ two_forms one first other second words =
     else None)
     (first_of words)
 
--- The reasons of a refusal that have no detail: those of frames, and those of the policy.
+-- The reasons of a refusal that have no detail: those of frames, and those of the policy. Their words are those that are
+-- printed.
 abbrev pub reason_or : (List ℕ → Option Word) → List (List ℕ) → List ℕ → Option Word
 reason_or other [] word = other word
 reason_or other (one ∷ more) word = if bytes_eq word one then Some (Fixed one) else reason_or other more word
@@ -92,20 +95,18 @@ reason_or other (one ∷ more) word = if bytes_eq word one then Some (Fixed one)
 unfoldable pub policy_reason : List ℕ → Option Word
 policy_reason word =
     reason_or (λ _. None)
-    (codes "not-member" ∷ codes "wrong-state" ∷ codes "keys-full" ∷ codes "rows-full" ∷ codes "no-draw" ∷ codes "counter-spent"
-    ∷ codes "wrong-hash" ∷ codes "no-frame" ∷ []) word
+    (map reason_word (NotMember ∷ WrongState ∷ KeysFull ∷ RowsFull ∷ NoDraw ∷ CounterSpent ∷ WrongHash ∷ NoFrame ∷ [])) word
 
 unfoldable pub plain_reason : List ℕ → Option Word
 plain_reason word =
     reason_or policy_reason
-    (codes "down" ∷ codes "malformed" ∷ codes "not-for-me" ∷ codes "unsecured" ∷ codes "no-key" ∷ codes "counter-max" ∷ codes "bad-mic"
-    ∷ codes "policy" ∷ []) word
+    (map reason_word (Down ∷ Malformed ∷ NotForMe ∷ Unsecured ∷ NoKey ∷ CounterMax ∷ BadMic ∷ Policy ∷ [])) word
 
 abbrev pub behind_reason : Word → List ℕ → List (List ℕ) → Option (List Word)
 behind_reason place word words =
-    if bytes_eq word (codes "stale") then option_map (λ behind. place ∷ Fixed (codes "stale") ∷ behind) (shaped (a_count ∷ []) words)
-    else if bytes_eq word (codes "key-old") then option_map (λ behind. place ∷ Fixed (codes "key-old") ∷ behind) (shaped (a_count ∷ []) words)
-    else if bytes_eq word (codes "key-in-use") then option_map (λ behind. place ∷ Fixed (codes "key-in-use") ∷ behind) (shaped (AnAddress ∷ []) words)
+    if bytes_eq word stale_word then option_map (λ behind. place ∷ Fixed stale_word ∷ behind) (shaped (a_count ∷ []) words)
+    else if bytes_eq word key_old_word then option_map (λ behind. place ∷ Fixed key_old_word ∷ behind) (shaped (a_count ∷ []) words)
+    else if bytes_eq word key_in_use_word then option_map (λ behind. place ∷ Fixed key_in_use_word ∷ behind) (shaped (AnAddress ∷ []) words)
     else option_and_then (λ reason. option_map (λ behind. place ∷ reason ∷ behind) (shaped [] words)) (plain_reason word)
 
 -- where and why an event was refused

@@ -11,5 +11,7 @@ pub mod origins;
 pub mod passing;
 pub mod terms;
 pub mod watch;
+mod words;
 
 pub use watch::Watch;
+pub use words::{ideal, private};

@@ -1,5 +1,5 @@
-"""Finds the packet of IEEE 802.15.4 in a captured one, whatever its link type: behind TAP, PHY, or IP, UDP and ZEP
-headers."""
+"""Finds the packet of IEEE 802.15.4 in a captured one, whatever its link type: behind TAP, PHY or PPI headers, or
+those of IP, UDP and ZEP."""
 import collections
 import struct
 
@@ -7,7 +7,9 @@ from .packets import import_scapy
 
 ZEP_PORT = 17754
 PLAIN = {195: 'crc', 230: 'none', 147: 'crc'}
-PHY, TAP = 215, 283
+PHY, TAP, PPI = 215, 283, 192
+# 4 bytes of a protocol family, or none, and then IP of either version
+BEFORE_IP = {0: 4, 108: 4, 12: 0, 14: 0, 101: 0}
 START_OF_FRAME = 0xA7
 # ZEP header: its size, and the places of the mode and the length of the packet
 ZEP_FORMS = {1: (16, 6, 15), 2: (32, 7, 31)}
@@ -37,6 +39,16 @@ def in_tap(kept, whole):
     if check not in (0, 1):
         raise LeftOut('check sequence that has not 2 bytes')
     return Wrapped(kept[size:], whole - size, 'crc' if check == 1 else 'none', f'TAP {check}')
+
+
+def in_ppi(packet):
+    """Returns the captured packet behind a PPI header: version, flags, length, and link type of what follows."""
+    if len(packet.kept) < 8 or packet.kept[0] != 0:
+        raise LeftOut('no PPI header of version 0')
+    size, link = struct.unpack_from('<HI', packet.kept, 2)
+    if size < 8 or size > len(packet.kept) or link == PPI:
+        raise LeftOut('PPI header that is not whole')
+    return packet._replace(link=link, kept=packet.kept[size:], whole=packet.whole - size)
 
 
 def in_phy(kept, whole):
@@ -83,7 +95,7 @@ class Links:
             return in_tap(packet.kept, packet.whole)
         if packet.link == PHY:
             return in_phy(packet.kept, packet.whole)
-        return self.in_udp(packet)
+        return self.unwrap(in_ppi(packet)) if packet.link == PPI else self.in_udp(packet)
 
     def load(self):
         """Imports the layers of scapy that lead to UDP, once."""
@@ -93,16 +105,23 @@ class Links:
             import scapy.layers.inet6
             import scapy.layers.l2  # noqa: F401: so that link types are known
 
-            self.udp = scapy.layers.inet.UDP
+            self.udp, self.ip, self.ip6 = scapy.layers.inet.UDP, scapy.layers.inet.IP, scapy.layers.inet6.IPv6
+
+    def layers_of(self, packet):
+        """Returns the reader of scapy for a captured packet, and the bytes that it reads."""
+        if packet.link in BEFORE_IP:
+            body = packet.kept[BEFORE_IP[packet.link] :]
+            return (self.ip6 if body[:1] and body[0] >> 4 == 6 else self.ip), body
+        return self.scapy.config.conf.l2types.num2layer.get(packet.link), packet.kept
 
     def in_udp(self, packet):
         """Returns what the ZEP packet in a UDP packet holds. Raises LeftOut where there is none."""
         self.load()
-        kind = self.scapy.config.conf.l2types.num2layer.get(packet.link)
+        kind, body = self.layers_of(packet)
         if kind is None:
             raise LeftOut(f'link type {packet.link}, which is not read')
         try:
-            read = kind(packet.kept)
+            read = kind(body)
         except Exception:  # scapy raises whatever it meets in broken packets
             raise LeftOut('broken packet around ZEP') from None
         if self.udp not in read:

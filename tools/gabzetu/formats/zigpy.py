@@ -104,7 +104,11 @@ def notes_of(value):
         'channel': 'channel',
         'nwk_update_id': 'update identifier',
     }
-    return {word: printable(value[name]).upper() for name, word in names.items() if value.get(name) is not None}
+    return {
+        word: printable(value[name]).upper().replace(':', '')
+        for name, word in names.items()
+        if value.get(name) is not None
+    }
 
 
 def seeds_of(value):
@@ -139,6 +143,50 @@ def read_backup(value):
     )
 
 
+def list_of(value, name):
+    """Returns the list that a member of zigpy's tables is, empty where it is missing."""
+    found = value.get(name, [])
+    if not isinstance(found, list):
+        raise Bad(f'network_info.{name} should be a list')
+    return found
+
+
+def devices_in_tables(network):
+    """Returns the devices in zigpy's tables of short addresses, children and link keys, as objects of `devices`."""
+    shorts = get_object(network, 'nwk_addresses', 'network_info.') if 'nwk_addresses' in network else {}
+    found = {eui: {'ieee_address': eui, 'nwk_address': short} for eui, short in shorts.items()}
+    for eui in map(str, list_of(network, 'children')):
+        found.setdefault(eui, {'ieee_address': eui})
+    for row in list_of(network, 'key_table'):
+        eui = str(row.get('partner_ieee')) if isinstance(row, dict) else ''
+        found.setdefault(eui, {'ieee_address': eui})['link_key'] = row
+    return sorted(found.values(), key=lambda it: it['ieee_address'])
+
+
+def open_form(value):
+    """Returns the open coordinator backup of a backup of zigpy's database, which is what ZHA hands out."""
+    network, node = get_object(value, 'network_info'), get_object(value, 'node_info')
+    key = get_object(network, 'network_key', 'network_info.')
+    return {
+        **{name: network.get(name) for name in ('pan_id', 'extended_pan_id', 'channel', 'nwk_update_id')},
+        'metadata': {
+            'format': FORMAT,
+            'version': VERSION,
+            'source': network.get('source'),
+            'internal': {'creation_time': value.get('backup_time')},
+        },
+        'coordinator_ieee': node.get('ieee'),
+        'security_level': network.get('security_level'),
+        'network_key': {
+            'key': key.get('key'),
+            'sequence_number': key.get('seq') or 0,
+            'frame_counter': key.get('tx_counter') or 0,
+        },
+        'devices': devices_in_tables(network),
+        'stack_specific': network.get('stack_specific'),
+    }
+
+
 def parse_json(text, path):
     """Returns the JSON value of a text. Stops where it is none."""
     try:
@@ -148,16 +196,14 @@ def parse_json(text, path):
 
 
 def parse_backup(data, path):
-    """Returns the backup that the bytes of a file are. ZHA puts it into an object with the one member `backup`."""
+    """Returns the backup that the bytes of a file are. ZHA puts it into an object with the one member `backup`,
+    and either form of zigpy is read."""
     value = parse_json(data.decode('utf-8-sig', 'replace'), path)
     if isinstance(value, dict) and isinstance(value.get('backup'), dict):
         value = value['backup']
-    if isinstance(value, dict) and 'network_info' in value:
-        raise Stop(
-            f"{path}: this is a backup as zigpy's database keeps it. Save it as an open coordinator backup first.",
-            UNREADABLE,
-        )
     try:
+        if isinstance(value, dict) and 'network_info' in value:
+            value = open_form(value)
         return read_backup(value)
     except Bad as why:
         raise Stop(f'{path}: {why}', UNREADABLE) from why

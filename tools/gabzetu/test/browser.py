@@ -85,6 +85,18 @@ def open_page(path, mark=''):
     return Page(ran.stdout), re.findall(r'CONSOLE.*', ran.stderr)
 
 
+def print_page(path):
+    """Returns the texts of the sheets of a page that is printed."""
+    words = [it for it in WORDS if it != '--dump-dom']
+    with tempfile.TemporaryDirectory() as folder:
+        sheets = f'{folder}/sheets.pdf'
+        words += [f'--user-data-dir={folder}', f'--print-to-pdf={sheets}', '--no-pdf-header-footer']
+        how = {'capture_output': True, 'timeout': LONGEST, 'check': True}
+        subprocess.run([find_browser(), *words, pathlib.Path(path).resolve().as_uri()], **how)
+        ran = subprocess.run(['pdftotext', '-layout', sheets, '-'], **how)
+    return ran.stdout.decode().split('\f')[:-1]
+
+
 def add_script(path, script):
     """Adds a program of a test to a page, whose policy would forbid it and is taken out."""
     with open(path, encoding='utf-8') as file:

@@ -4,6 +4,7 @@ import io
 import json
 import os
 import re
+import shutil
 import time
 import unittest
 
@@ -171,6 +172,19 @@ class Browsed(Explored):
         self.assertIn('Found in itkey 2 00010203.., in round 1', page.of_id('panel'))
         page = self.open('#keys', REPORT)
         self.assertIn('key 3 A0A1A2A3.., came out of packet 6, inside what key 2 opened, round 2', page.of_id('panel'))
+
+    @unittest.skipUnless(shutil.which('pdftotext'), 'poppler-utils is missing')
+    def test_printed(self):
+        text = read(example('join.transcript')).rpartition('end ')[0]
+        text += ''.join(f'{it} boot d\n' for it in range(18, 3030)) + 'end 3029 19 13 0 yes yes\n'
+        path = self.write('long.transcript', text)
+        sheets = browser.print_page(self.explore(path))
+        self.assertGreater(len(sheets), 20)
+        for sheet in sheets:
+            self.assertIn('device 1A2B', sheet)
+        self.assertIn('29 further rows are not printed', sheets[-1])
+        printed = [line.split()[0] for sheet in sheets for line in sheet.splitlines() if line.strip()]
+        self.assertEqual([printed.count(it) for it in ('18', '1500', '3000', '3001')], [1, 1, 1, 0])
 
     def test_hostile_names(self):
         text = re.sub(r'(?m)(?<= )[rd](?= |$)', lambda found: NAMES[found.group()], read(example('join.transcript')))

@@ -1,10 +1,12 @@
 """Tests of open: every link type, packet numbers, addresses, keys, reasons, pipes, files that grow."""
 import contextlib
+import functools
 import gzip
 import io
 import json
 import os
 import shutil
+import signal
 import subprocess
 import sys
 import time
@@ -242,7 +244,10 @@ class Open(Folder):
 class Live(Folder):
     def start(self, *words, **how):
         command = [sys.executable, os.path.join(TOP, 'gabzetu'), 'open', *words, '--code', CODE, '--follow', '--json']
-        process = subprocess.Popen(command, stdout=subprocess.PIPE, stderr=subprocess.PIPE, **how)
+        # a shell lets what it runs in the background ignore interrupts
+        heed = functools.partial(signal.signal, signal.SIGINT, signal.SIG_DFL)
+        how = {'stdout': subprocess.PIPE, 'stderr': subprocess.PIPE, 'preexec_fn': heed, **how}
+        process = subprocess.Popen(command, **how)
         self.addCleanup(process.wait)
         self.addCleanup(process.kill)
         return process
@@ -275,7 +280,7 @@ class Live(Folder):
             file.write(content[1000:])
             file.flush()
             self.assertIn(29, self.first_packets(process, 30))
-        process.send_signal(2)
+        process.send_signal(signal.SIGINT)
         output, _ = process.communicate(timeout=LONGEST)
         self.assertEqual(json.loads(output.splitlines()[-1])['packets'], 30)
         self.assertEqual(process.returncode, 0)

@@ -23,12 +23,15 @@ STAND_IN = shutil.which('true')
 INSTALLED = '''
 ./usr/bin/gabzetu
 ./usr/lib/gabzetu/tc
+./usr/lib/gabzetu/tc_centre
 ./usr/lib/gabzetu/KIT
 ./usr/share/gabzetu/gabzetu
 ./usr/share/gabzetu/VERSION
 ./usr/share/gabzetu/COMMIT
 ./usr/share/gabzetu/tools/gabzetu/cli.py
 ./usr/share/gabzetu/tools/gabzetu/explorer/web/page.html
+./usr/share/gabzetu/tools/hub-log
+./usr/share/gabzetu/tools/hub/log.py
 ./usr/share/doc/gabzetu/README.md
 ./usr/share/doc/gabzetu/docs/FORMATS.md
 ./usr/share/doc/gabzetu/examples/join.sched
@@ -49,10 +52,10 @@ def git(folder, *words):
 
 def make_repository(folder):
     """Writes and commits what a release takes from a repository."""
-    for name in ('gabzetu', 'VERSION', 'README.md', 'tools/release'):
+    for name in ('gabzetu', 'VERSION', 'README.md', 'tools/release', 'tools/hub-log'):
         os.makedirs(os.path.dirname(os.path.join(folder, name)), exist_ok=True)
         shutil.copy(os.path.join(TOP, name), os.path.join(folder, name))
-    for name in ('docs', 'examples', 'tools/gabzetu', 'tools/releasing'):
+    for name in ('docs', 'examples', 'tools/gabzetu', 'tools/releasing', 'tools/hub'):
         shutil.copytree(
             os.path.join(TOP, name), os.path.join(folder, name), ignore=shutil.ignore_patterns('__pycache__')
         )
@@ -68,7 +71,7 @@ def release(top, *words, program=STAND_IN, version=None):
     """Runs tools/release of a repository. Returns its status and what it said."""
     with open(os.path.join(top, 'VERSION'), encoding='ascii') as file:
         version = version or file.read().strip()
-    words = [version, '--gate', '-', '--kit', 'kit 1', '--program', program, '--no-root', *words]
+    words = [version, '--gate', '-', '--kit', 'kit 1', '--program', program, '--centre', STAND_IN, '--no-root', *words]
     ran = subprocess.run(
         [os.path.join(top, 'tools', 'release'), *words],
         input=GATE,
@@ -112,6 +115,7 @@ class Release(unittest.TestCase):
         modes = {row[5]: row[0] for row in rows}
         self.assertEqual(modes['./usr/lib/gabzetu/tc'], '-rwxr-xr-x')
         self.assertEqual(modes['./usr/lib/gabzetu/KIT'], '-rw-r--r--')
+        self.assertEqual(modes['./usr/share/gabzetu/tools/hub-log'], '-rwxr-xr-x')
 
     def test_the_package_says_what_it_needs(self):
         said = output_of('dpkg-deb', '-f', self.made('_amd64.deb'))

@@ -1,10 +1,11 @@
 """Tests of from-zigpy and to-zigpy. zigpy.json and zigbee2mqtt.json have the shapes that zigpy and zigbee-herdsman
-write."""
+write; zha.json was written by zigpy 0.53.1 of zigpy.json. Where zigpy is installed, it reads and writes as well."""
 import copy
 import datetime
 import json
 import os
 import stat
+import subprocess
 import unittest
 
 from gabzetu.commands.from_zigpy import days_since
@@ -12,6 +13,29 @@ from gabzetu.test.captures import data
 from gabzetu.test.support import Folder, example, needs_tc, run
 
 KEY, LINK = '01030507090B0D0F00020406080A0C0D', 'E0F0F1F2F3F4F5F6F7F8F9FAFBFCFDFE'
+
+
+# zigpy's own reader and writer: what it reads of a file, as `open` or `zha` has it
+BY_ZIGPY = '''
+import json, sys
+from zigpy.backups import NetworkBackup
+backup = NetworkBackup.from_dict(json.load(open(sys.argv[1])))
+print(json.dumps(backup.as_dict() if sys.argv[2] == 'zha' else backup.as_open_coordinator_json()))
+'''
+SYSTEM_PYTHON = '/usr/bin/python3'
+
+
+def has_zigpy():
+    try:
+        return not subprocess.run([SYSTEM_PYTHON, '-c', 'import zigpy.backups'], stderr=subprocess.DEVNULL).returncode
+    except OSError:
+        return False
+
+
+def by_zigpy(path, form):
+    """Returns what zigpy writes of a backup that it reads."""
+    ran = subprocess.run([SYSTEM_PYTHON, '-c', BY_ZIGPY, path, form], stdout=subprocess.PIPE, check=True)
+    return json.loads(ran.stdout.decode())
 
 
 def read(name):
@@ -57,6 +81,15 @@ class FromZigpy(Folder):
             'says `router`',
         ):
             self.assertIn(words, ran.said)
+
+    def test_of_zha(self):
+        ran, other = (run('from-zigpy', data(name), '--skip', '0') for name in ('zha.json', 'zigpy.json'))
+        self.assertEqual((ran.status, ran.output), (0, other.output))
+        self.assertEqual(ran.said, other.said)
+        zha = {'backup': read(data('zha.json')), 'is_complete': True}
+        self.assertEqual(self.convert(zha, '--skip', '0').output, other.output)
+        zha['backup']['network_info']['key_table'][0]['key'] = '01'
+        self.assertIn('link_key.key should be 32 hexadecimal digits', self.convert(zha).said)
 
     def test_of_zigbee2mqtt_makes_a_store(self):
         ran = run('from-zigpy', data('zigbee2mqtt.json'), '--skip', '1000', '-o', self.path('script'))
@@ -148,9 +181,8 @@ class FromZigpy(Folder):
                 ran = run('from-zigpy', self.write('bad', text))
                 self.assertEqual((ran.status, ran.output), (66, ''))
                 self.assertNotIn('Traceback', ran.said)
-        self.assertIn(
-            'open coordinator backup first', run('from-zigpy', self.write('zha', '{"network_info": {}}')).said
-        )
+        ran = run('from-zigpy', self.write('zha', '{"network_info": {}}'))
+        self.assertIn('node_info should be an object', ran.said)
         self.assertEqual(run('from-zigpy', self.path('none')).status, 66)
 
     def test_foreign_words_stay_in_their_line(self):
@@ -207,6 +239,35 @@ class ToZigpy(Folder):
         self.assertEqual(set(value['metadata']['internal']), set(shape['metadata']['internal']) - {'ezsp'})
         self.assertEqual(set(value['metadata']['internal']['network']), set(shape['metadata']['internal']['network']))
         self.assertEqual(value['network_key']['frame_counter'], 1000004)
+
+    @unittest.skipUnless(has_zigpy(), 'python3-zigpy is missing')
+    def test_zigpy_reads_the_same(self):
+        run('from-zigpy', data('zigpy.json'), '--skip', '0', '-o', self.path('script'))
+        with open(self.path('script'), 'a', encoding='ascii') as file:
+            file.write('backup\n')
+        run('admin', self.path('store'), self.path('script'), '-o', self.path('hub.backup'))
+        words = ['--script', self.path('script'), '--pan', '1A62', '--channel', '15', '--skip', '7']
+        run('to-zigpy', self.path('hub.backup'), *words, '-o', self.path('coordinator.json'))
+        ours, theirs = read(self.path('coordinator.json')), by_zigpy(self.path('coordinator.json'), 'open')
+        for part in (ours, ours['metadata']['internal']):
+            part.pop('stack_specific', None)
+            part.pop('node', None)
+        for member in set(ours) - {'metadata'}:
+            self.assertEqual(theirs[member], ours[member], member)
+        self.assertEqual(theirs['network_key']['frame_counter'], 66788)
+        again = run('from-zigpy', self.write('zha', json.dumps(by_zigpy(self.path('coordinator.json'), 'zha'))))
+        self.assertEqual(again.status, 0)
+        self.assertEqual([row['key'] for row in backup_in(again.output)['links']], [LINK])
+
+    @unittest.skipUnless(has_zigpy(), 'python3-zigpy is missing')
+    def test_the_samples_are_as_zigpy_writes_them(self):
+        self.assertEqual(by_zigpy(data('zigpy.json'), 'zha'), read(data('zha.json')))
+        sample, written = read(data('zigpy.json')), by_zigpy(data('zigpy.json'), 'open')
+        for value in (sample, written):
+            for name in ('model', 'manufacturer', 'version'):
+                value['metadata']['internal']['node'].pop(name, None)
+            value['metadata']['internal']['network'].pop('security_level', None)
+        self.assertEqual(written, sample)
 
     def test_says_what_cannot_be_carried(self):
         ran = run('to-zigpy', example('admin.backup'))

@@ -12,6 +12,8 @@ const LABEL = 17;
 const ARROW = 16;
 const AROUND = 120; // rows that are drawn above and below those that are seen
 const RIGHT_ROOM = 330; // for labels of frames of the last lane
+const PRINTED = 3000; // rows that are printed at most
+const PAPER = 960; // the width of a sheet, in pixels
 
 const measure = document.createElement('canvas').getContext('2d');
 measure.font = '11.5px system-ui, "Segoe UI", "DejaVu Sans", sans-serif';
@@ -59,7 +61,8 @@ class Lanes {
     this.chosen = '';
     this.scroller.addEventListener('scroll', () => this.drawSeen());
     window.addEventListener('resize', () => this.drawSeen());
-    window.addEventListener('beforeprint', () => this.drawRows(0, Math.min(this.count, 3000)));
+    window.addEventListener('beforeprint', () => this.drawPaper());
+    window.addEventListener('afterprint', () => this.drawSeen());
     this.box.addEventListener('click', (event) => {
       const row = event.target.closest('.row');
       if (row) this.choose(row.dataset.target);
@@ -145,6 +148,16 @@ class Lanes {
     const rows = [];
     for (let i = first; i < last; i += 1) rows.push(this.makeRow(i));
     this.box.replaceChildren(...[...this.box.children].slice(0, this.lives), ...rows);
+  }
+
+  /** Draws the first rows for paper, as wide as a sheet, and says how many are left out. */
+  drawPaper() {
+    if (!this.tops) return;
+    this.drawRows(0, Math.min(this.count, PRINTED));
+    document.documentElement.style.setProperty('--fit', Math.min(1, PAPER / this.total));
+    const left = this.count - PRINTED;
+    if (left > 0) this.box.append(make('p', 'left-out', `${left} further rows are not printed: filter them first.`));
+    this.first = -1;
   }
 
   makeRow(i) {

@@ -12,9 +12,9 @@ returns-in-Ok-clause-carried g c = λ told setting s up.
     let is = h.told s up in
     record {
       after = always c.tell.result (h.up told s up);
-      lines = on_ok_then c.tell.result (λ text. text ∙ ap (λ l. c.args.page.now.items ++ page l) (told_lines c.args.line c.in-Ok.out (answer real setting s (task_of c.args.event.now)) is)) c.tell.ensures.text;
+      lines = on_ok_then c.tell.result (λ text. text ∙ ap (λ l. c.args.page.now.items ++ page l) (told_lines c.args.line c.in-Ok.plan (answer real setting s (task_of c.args.event.now)) is)) c.tell.ensures.text;
       between = λ e. h.moments told s up;
-      spared = always c.tell.result (event_spared g.D.Disk.tells setting c.args.line (task_of c.args.event.now) s c.args.host.now c.handle.new.host (g.D.Disk.state c.args.disk.now) (g.D.Disk.state c.handle.new.disk) c.in-Ok.out h told up c.requires.own);
+      spared = always c.tell.result (event_spared g.D.Disk.tells setting c.args.line (task_of c.args.event.now) s c.args.host.now c.handle.new.host (g.D.Disk.state c.args.disk.now) (g.D.Disk.state c.handle.new.disk) c.in-Ok.plan h told up c.requires.own);
     }
 
 pub returns-in-Ok-clause-store : goal.returns-in-Ok-clause-store

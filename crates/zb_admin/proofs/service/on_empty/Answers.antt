@@ -1,6 +1,6 @@
 use Rattle.std.proofs.Common.{ℕ, List, subst}
-use Rattle.zb_admin.specs.Commands.{HasLaidOut}
-use Rattle.zb_admin.specs.Served.{tables_of}
+use Rattle.zb_centre_store.specs.Calls.{HasLaidOut}
+use Rattle.zb_centre_store.specs.Makings.{tables_of}
 use Rattle.zb_setting.specs.Settings.{setting_for}
 use Rattle.zb_record.specs.Records.{record_read}
 use Rattle.zb_skip.specs.Skipping.{skipped}

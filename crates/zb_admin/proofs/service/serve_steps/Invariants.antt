@@ -1,8 +1,8 @@
 -- The commands so far were served, and the others lead to the whole.
 use Rattle.std.proofs.Common.{◌≡◌, ◌≤◌, [], Option, IsTrue}
-use Rattle.zb_admin.specs.Commands.{HasStore}
+use Rattle.zb_centre_store.specs.Calls.{HasStore}
 use Rattle.zb_admin.specs.Serving.{outside}
-use Rattle.zb_admin.specs.Standing.{Stands}
+use Rattle.zb_centre_store.specs.Standing.{Stands}
 use Rattle.zb_base.specs.Outside.{Unrisen}
 use Rattle.zb_model.specs.State.{NodeState}
 use Rattle.zb_setting.specs.Settings.{setting_for}

@@ -19,5 +19,6 @@ returns g c = λ payload.
       untouched = λ worn. put_untouched old new c.put.result worn c.put.ensures.untouched;
       count = c.put.ensures.count;
       unrisen = c.put.ensures.unrisen;
+      asked = c.put.ensures.asked;
     } in
     subst (λ (w : List ℕ). IsCommit g.D.Disk.tells true w payload c.args.store old new c.put.result) c.record-len.ensures.bytes it

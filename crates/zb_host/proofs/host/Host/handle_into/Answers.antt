@@ -1,9 +1,11 @@
-use Rattle.std.proofs.Common.{rules, ◌≡◌, ◌==◌, ◌||◌, Bool, Option, Ok, Err, Result, refl, sym, ◌∙◌, ap, subst}
+use Rattle.std.proofs.Common.{rules, ◌≡◌, ◌≢◌, ◌==◌, ◌||◌, List, [], Bool, Option, Ok, Err, Result, refl, sym, ◌∙◌, ap, subst}
+use Rattle.arrayvec.specs.declared.array_vec.ArrayVec.{ArrayVec}
+use Rattle.zb_node_types.specs.declared.change.Change.{Change}
 use Rattle.zb_store.specs.Store.{Place}
 use Rattle.zb_host.specs.declared.fault.CommitFault.TheVariants as commit
 use Rattle.zb_store.specs.declared.fault.StoreFault.{StoreFault}
 use Rattle.zb_host.specs.HostFaults.{IsUnstored}
-use Rattle.zb_host.specs.Hosts.{Hosted, IsCommit, is_full, writes_whole}
+use Rattle.zb_host.specs.Hosts.{Hosted, HasStopped, IsCommit, is_full, writes_whole}
 use Rattle.zb_host.proofs.Commits.{Leading, host_moments, host_kept, host_stopped, host_leads, went_not_worn, disk_not_worn, of_disk, of_worn, same_fault, unstored}
 use Rattle.zb_host.proofs.host.Host.handle_into.Goals as goal
 
@@ -71,9 +73,11 @@ returns-in-Err g c =
     let whole : writes_whole host ≡ (c.self.inside.whole || c.unwrap-store.result.entries == 32) = sym (ap (λ (h : Hosted g.row.C.Denot). writes_whole h) c.self.view_is) ∙ ap (λ (o : Option Place). c.self.inside.whole || is_full o) inside in
     let ended = subst (λ (r : Result Place StoreFault). IsCommit g.D.Disk.tells (c.self.inside.whole || c.unwrap-store.result.entries == 32) (g.C.Core.recorded after) payload c.unwrap-store.result old new r) c.in-Err.is c.commit.ensures.commits in
     let it = subst (λ (b : Bool). IsCommit g.D.Disk.tells b (g.C.Core.recorded after) payload c.unwrap-store.result old new (Err f)) (sym whole) ended in
+    let kept : c.withhold.new.self.changes.items ≡ p.changes.items = ap (λ (v : ArrayVec Change 16 (Unit {0})). v.items) c.withhold.ensures.changes in
     record {
-      planned = plan;
-      after = done;
+      planned = tt;
+      after = tt;
+      withheld = (p, plan, done, c.withhold.ensures.changes, c.withhold.ensures.out);
       step = record {
         moments = λ s current told. host_moments g.C.Core.restored g.C.Core.recorded g.D.Disk.tells s host after c.unwrap-store.result payload old new (Err f) is laws it current told;
         kept = tt;
@@ -85,11 +89,12 @@ returns-in-Err g c =
       idle_store = tt;
       idle_whole = tt;
       stopped = λ fault s current told steady.
-          let disk = of_disk f (sym c.fault_of.ensures ∙ same_fault c.fault_of.result commit.Disk _ _ refl refl fault) in (
+          let disk = of_disk f (sym c.fault_of.ensures ∙ same_fault c.fault_of.result commit.Disk _ _ refl refl fault) in
+          subst (λ (l : List Change). HasStopped g.D.Disk.tells g.C.Core.restored (writes_whole host) s (g.C.Core.recorded after) (g.C.Core.payload l) old new) (sym kept) (
             host_stopped g.C.Core.restored g.C.Core.recorded g.D.Disk.tells s host after c.unwrap-store.result payload old new f is disk it current told steady,
             host_leads g.C.Core.restored g.C.Core.recorded s host after payload old laws current,
           );
-      changed = search rules;
+      changed = subst (λ (l : List Change). l ≢ []) (sym kept) (search rules);
       entry_next = tt;
       not_worn = tt;
       worn = λ fault. it.untouched (ap (λ (x : StoreFault). Err x) (of_worn (writes_whole host) c.unwrap-store.result old new f (sym c.fault_of.ensures ∙ same_fault c.fault_of.result commit.Worn _ _ refl refl fault) it.faults));
@@ -98,4 +103,5 @@ returns-in-Err g c =
       faults = subst (IsUnstored (writes_whole host) host.store old new) (sym c.fault_of.ensures) (unstored (writes_whole host) c.unwrap-store.result host.store old new f is it.faults);
       count = it.count;
       unrisen = tt;
+      asked = it.asked;
     }

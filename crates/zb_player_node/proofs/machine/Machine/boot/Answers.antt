@@ -11,19 +11,19 @@ pub returns-in_err-host-in-Centre : goal.returns-in_err-host-in-Centre
 returns-in_err-host-in-Centre c =
     let a = armed_of c.args.arms.now in
     subst (λ (role : Role). HasMade (model_role role) c.args.config.now a c.args.disk.now (made c.from_residual.result) c.boot_armed.new.disk) (sym c.in-Centre.is)
-    (no_host model.Centre c.args.config.now a c.args.disk.now c.in_err-host-in-Centre.field-0.0 c.boot_armed.new.disk c.in_err-host-in-Centre.ensures.fallen c.from_residual.result c.from_residual.ensures.1)
+    (no_host model.Centre c.args.config.now a c.args.disk.now c.in_err-host-in-Centre.field-0.0 c.boot_armed.new.disk c.in_err-host-in-Centre.ensures.fallen c.in_err-host-in-Centre.ensures.ended c.from_residual.result c.from_residual.ensures.1)
 
 pub returns-in_err-host-in-Router : goal.returns-in_err-host-in-Router
 returns-in_err-host-in-Router c =
     let a = armed_of c.args.arms.now in
     subst (λ (role : Role). HasMade (model_role role) c.args.config.now a c.args.disk.now (made c.from_residual-in_err-host-in-Router.result) c.boot_armed-in-Router.new.disk) (sym c.in-Router.is)
-    (no_host model.Router c.args.config.now a c.args.disk.now c.in_err-host-in-Router.field-0.0 c.boot_armed-in-Router.new.disk c.in_err-host-in-Router.ensures.fallen c.from_residual-in_err-host-in-Router.result c.from_residual-in_err-host-in-Router.ensures.1)
+    (no_host model.Router c.args.config.now a c.args.disk.now c.in_err-host-in-Router.field-0.0 c.boot_armed-in-Router.new.disk c.in_err-host-in-Router.ensures.fallen c.in_err-host-in-Router.ensures.ended c.from_residual-in_err-host-in-Router.result c.from_residual-in_err-host-in-Router.ensures.1)
 
 pub returns-in_err-host-in-Device : goal.returns-in_err-host-in-Device
 returns-in_err-host-in-Device c =
     let a = armed_of c.args.arms.now in
     subst (λ (role : Role). HasMade (model_role role) c.args.config.now a c.args.disk.now (made c.from_residual-in_err-host-in-Device.result) c.boot_armed-in-Device.new.disk) (sym c.in-Device.is)
-    (no_host model.Device c.args.config.now a c.args.disk.now c.in_err-host-in-Device.field-0.0 c.boot_armed-in-Device.new.disk c.in_err-host-in-Device.ensures.fallen c.from_residual-in_err-host-in-Device.result c.from_residual-in_err-host-in-Device.ensures.1)
+    (no_host model.Device c.args.config.now a c.args.disk.now c.in_err-host-in-Device.field-0.0 c.boot_armed-in-Device.new.disk c.in_err-host-in-Device.ensures.fallen c.in_err-host-in-Device.ensures.ended c.from_residual-in_err-host-in-Device.result c.from_residual-in_err-host-in-Device.ensures.1)
 
 pub returns-in_ok-host-in-Centre : goal.returns-in_ok-host-in-Centre
 returns-in_ok-host-in-Centre c =

@@ -1,0 +1,3 @@
+mod Nets
+mod Links
+pub mod Said

@@ -1,0 +1,73 @@
+-- What lines say of a node's rows and of a rollover, with no tables and no counters: of each thing the last line of the
+-- node that speaks of it decides.
+use Rattle.std.specs.Prelude.{ℕ, Bool, true, false, if◌then◌else◌, ◌&&◌, List, [], ◌∷◌, ◌++◌, fold, find, map, Option, Some, None, nat_eq, option_map}
+use Rattle.std.specs.List.{list_any}
+use Rattle.zb_model.specs.Data.{Attribute, Bytes, DropLink, DropNet, Install, Moved, Provisional, Roll, Row}
+use Rattle.zb_model.specs.Lines.{Changed, GivenLink, GivenNet, Line}
+use Rattle.zb_model.specs.Readings.{speaker}
+use Rattle.zb_model.specs.State.{LinkKey, NetKey, NodeState, is_link, same_key}
+
+-- what a node's own lines say one after the other: others say nothing of it
+abbrev pub said_own : {A : Type 0} → (Line → A → A) → A → List Line → ℕ → A
+said_own says first h n = fold (λ found l. if nat_eq (speaker l) n then says l found else found) first h
+
+-- whether the node sends a new network key around: by the last `roll` line
+abbrev pub rolls : Line → Bool → Bool
+rolls (Changed e n (Moved (Roll sending))) found = sending
+rolls _ found = found
+
+-- the network keys, in the order of their first lines
+abbrev pub with_key : Bytes → List Bytes → List Bytes
+with_key key keys = if list_any (λ k. same_key k key) keys then keys else keys ++ key ∷ []
+
+abbrev pub names_key : Line → List Bytes → List Bytes
+names_key (GivenNet n key sequence) found = with_key key found
+names_key (Changed e n (Moved (Install key sequence))) found = with_key key found
+names_key _ found = found
+
+-- Whether a network key is live, where it has a row: from the first line that gives it until a drop of it. A dropped
+-- key that comes again isn't taken.
+abbrev pub first_given : Option Bool → Option Bool
+first_given None = Some true
+first_given (Some live) = Some live
+
+abbrev pub net_says : Bytes → Line → Option Bool → Option Bool
+net_says key (GivenNet n k sequence) found = if same_key key k then first_given found else found
+net_says key (Changed e n (Moved (Install k sequence))) found = if same_key key k then first_given found else found
+net_says key (Changed e n (Moved (DropNet k))) found = if same_key key k then option_map (λ (live : Bool). false) found else found
+net_says key _ found = found
+
+-- A link row, where there is one. Its attribute is that of the last line that gives the row, and a code's is
+-- provisional. It is live unless it was dropped since.
+pub record LinkSaid : Type 0 where
+  pub attribute : Attribute
+  pub live : Bool
+
+abbrev pub given_as : Attribute → Option LinkSaid
+given_as attribute = Some (record { attribute = attribute; live = true })
+
+abbrev pub dropped_said : LinkSaid → LinkSaid
+dropped_said x = record x { live = false }
+
+abbrev pub is_row : ℕ → Bytes → ℕ → Bytes → Bool
+is_row partner key p k = nat_eq partner p && same_key key k
+
+abbrev pub link_says : ℕ → Bytes → Line → Option LinkSaid → Option LinkSaid
+link_says partner key (GivenLink n p k) found = if is_row partner key p k then given_as Provisional else found
+link_says partner key (Changed e n (Moved (Row p k attribute))) found = if is_row partner key p k then given_as attribute else found
+link_says partner key (Changed e n (Moved (DropLink p k))) found = if is_row partner key p k then option_map dropped_said found else found
+link_says partner key _ found = found
+
+-- the same of a state
+
+abbrev pub keys_of : NodeState → List Bytes
+keys_of s = map (λ (r : NetKey). r.key) s.nets
+
+abbrev pub net_of_state : Bytes → NodeState → Option Bool
+net_of_state key s = option_map (λ (r : NetKey). r.live) (find (λ (r : NetKey). same_key r.key key) s.nets)
+
+abbrev pub link_said : LinkKey → LinkSaid
+link_said r = record { attribute = r.attribute; live = r.live }
+
+abbrev pub link_of_state : ℕ → Bytes → NodeState → Option LinkSaid
+link_of_state partner key s = option_map link_said (find (is_link partner key) s.links)

@@ -1,0 +1,22 @@
+//! The lockout of removed devices, in plain words: of what a device seals after its removal it doesn't matter when. The
+//! function says a law and does nothing.
+#![tactic(auto)]
+
+ghost use Rattle.std.specs.Prelude.{◌≡◌, List, true};
+ghost use Rattle.zb_model.specs.Claims.{Fresh, Locked};
+ghost use Rattle.zb_model.specs.Lines.{Line};
+ghost use Rattle.zb_model.specs.Secrets.{ideal};
+ghost use Rattle.zb_model.specs.Tools.{Tools};
+ghost use Rattle.law_lockout.specs.LockedOut.{LockedOut};
+
+/// States that lines lock a removed device out of what it seals before an acceptance exactly where they lock it out of
+/// all that it seals.
+///
+/// The second follows where no two seals have one sealing key and nonce, and what is accepted was sealed or forged
+/// before. Then nothing is accepted that is sealed only later.
+#[tactic(auto, using(crate::proofs::Words::locked_out, crate::proofs::Words::locked))]
+pub fn the_lockout_is_of_all_later_seals()
+    ensures all { (tools : Tools) (lines : List Line) → Fresh tools lines → ideal tools lines ≡ true
+        → Locked tools lines → LockedOut tools lines }
+    ensures no_more { (tools : Tools) (lines : List Line) → LockedOut tools lines → Locked tools lines }
+{}

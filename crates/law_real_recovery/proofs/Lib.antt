@@ -1,0 +1,4 @@
+pub mod Arriving
+pub mod Networks
+pub mod Whole
+pub mod Ending

@@ -1,0 +1,43 @@
+//! Nothing wedges, of real frames and of each schedule that a text gives. Each law is the contract of a function with
+//! an empty body; docs/THEOREMS.md says it in words.
+#![tactic(auto)]
+
+ghost use Rattle.std.specs.Prelude.{◌≡◌, ℕ, ◌++◌, true, false, List};
+ghost use Rattle.law_recovery.specs.KeyFrames.{DeliversKeys};
+ghost use Rattle.law_recovery.specs.Rejoining.{AreOfOneNetwork};
+ghost use Rattle.law_real_recovery.specs.Texts.{MayRejoin, first_front};
+ghost use Rattle.law_recovery_runs.specs.Fronts.{EndsRejoined, after_events, rejoin_events};
+ghost use Rattle.law_schedules.specs.Schedules.{schedule_of};
+ghost use Rattle.zb_model.specs.Play.{Event, setting_of};
+ghost use Rattle.zb_model.specs.Schedules.{Names};
+ghost use Rattle.zb_model.specs.State.{is_centre};
+ghost use Rattle.zb_model_real.specs.Real.{real};
+ghost use Rattle.zb_sched.specs.Schedules.{Schedule};
+ghost use Rattle.zb_sched.specs.Valid.{IsSchedule};
+
+/// States that the real frame of a network key is read, opened and understood as it was sealed.
+pub fn real_frames_deliver_keys()
+    ensures { DeliversKeys real }
+{}
+
+/// States that the centre of a schedule and each other node of it are of one network.
+///
+/// Each knows the address of the other, and their short addresses differ.
+pub fn nodes_of_a_schedule_are_of_one_network()
+    ensures { (p : Schedule) → IsSchedule p → (c d : ℕ) → Names (schedule_of p) c → Names (schedule_of p) d
+        → is_centre (setting_of (schedule_of p) c).me.role ≡ true
+        → is_centre (setting_of (schedule_of p) d).me.role ≡ false
+        → AreOfOneNetwork (setting_of (schedule_of p) c) (setting_of (schedule_of p) d) }
+{}
+
+/// States that a member rejoins at the end of each schedule's run, unless one of the named obstacles holds.
+///
+/// The schedule ends with the three events of the exchange, and may have any events before them: deliveries, losses,
+/// forged and injected frames, resets, stops and failures.
+pub fn a_member_rejoins_in_each_schedule()
+    ensures { (p : Schedule) → IsSchedule p → (before : List Event) (c d : ℕ)
+        → (schedule_of p).events
+        ≡ before ++ rejoin_events (after_events real (schedule_of p) (first_front (schedule_of p)) before) c d
+        → MayRejoin (schedule_of p) (after_events real (schedule_of p) (first_front (schedule_of p)) before) c d
+        → EndsRejoined (after_events real (schedule_of p) (first_front (schedule_of p)) (schedule_of p).events) c d }
+{}

@@ -1,0 +1,5 @@
+pub mod Airs
+pub mod Exchanged
+mod Booted
+mod Rolled
+mod Joined

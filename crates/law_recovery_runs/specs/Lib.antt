@@ -1,0 +1,3 @@
+pub mod Fronts
+pub mod Rolled
+pub mod Joining

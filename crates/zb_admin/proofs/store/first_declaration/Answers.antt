@@ -1,5 +1,0 @@
-use Rattle.zb_admin.proofs.StoreLemmas.{first_fits}
-use Rattle.zb_admin.proofs.store.first_declaration.Goals as goal
-
-pub returns-clause-fits : goal.returns-clause-fits
-returns-clause-fits c = first_fits c.args.key.0 c.requires

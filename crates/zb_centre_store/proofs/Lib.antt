@@ -1,0 +1,3 @@
+pub mod RefusedLemmas
+pub mod StoreLemmas
+pub mod RowLemmas

@@ -1,0 +1,4 @@
+pub mod Said
+pub mod Grammar
+pub mod Views
+pub mod Answers

@@ -1,0 +1,6 @@
+pub mod Faults
+pub mod WholeLines
+pub mod Feeding
+pub mod Moments
+pub mod ServedLines
+pub mod Serving

@@ -1,0 +1,17 @@
+//! The changes of a node's rows: a key comes, is offered, proved or shared, becomes active, or goes.
+//!
+//! Each call tells the changes of its rows in order, or why there are none. None changes the tables or takes memory:
+//! `Tables::apply` makes the changes.
+#![tactic(auto)]
+
+mod adding;
+mod link_keys;
+mod network_keys;
+mod pairs;
+mod proving;
+
+pub use adding::{add, add_drop};
+pub use link_keys::{add_offer, drop_partner, has_key, offer, partner, provision, row_refusal};
+pub use network_keys::{add_active, install_net, switch};
+pub use pairs::{add_pair, pair};
+pub use proving::{is_proved, verified, verified_row, verify};

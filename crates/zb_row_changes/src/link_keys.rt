@@ -1,0 +1,185 @@
+//! The changes of link keys: one is entered, offered, shared with a partner, or goes.
+ghost use Rattle.std.specs.Prelude.{◌≡◌, ◌≤◌, ◌+◌, ◌++◌, ◌∷◌, [], List, false, length, map, option_map};
+ghost use Rattle.std.specs.Option.{option_copied};
+ghost use Rattle.zb_node_types.specs.Changes.{edits};
+ghost use Rattle.zb_model.specs.Commands.{has_key, take_row};
+ghost use Rattle.zb_model.specs.Data.{Live, Move, Moved, Provisional, Row, Unverified, Verified};
+ghost use Rattle.zb_model.specs.OwnEvents.{provision};
+ghost use Rattle.zb_model.specs.Rules.{drop_partner, drop_row};
+ghost use Rattle.zb_model.specs.State.{is_live, offered};
+ghost use Rattle.zb_record.specs.RowViews.{link_key};
+ghost use Rattle.zb_row_changes.specs.Planned.{answered, offer_rule, partner_rule, refused_or, told, IsFew};
+
+use crate::adding::{add, add_drop};
+use arrayvec::ArrayVec;
+use zb_base::{Attribute, Eui, Key};
+use zb_keys::{LinkRow, Tables};
+use zb_node_types::{Change, Changes, KeyError};
+use zb_rows::{add_drop_partner, has_link, links_full, live_link, other_user};
+
+/// Returns why a link key gets no row: there is no room for one, or another partner's row has the key.
+#[tactic(auto, unfolding(crate::specs::Chains::steps))]
+pub fn row_refusal(tables: &Tables, partner: Eui, key: &Key) -> Option<KeyError>
+    ensures { (moves : List Move) → told (take_row tables.now partner.0 key.now.0 moves) ≡ refused_or result moves }
+{
+    if !has_link(tables, partner, key) && links_full(tables) {
+        return Some(KeyError::RowsFull);
+    }
+    match other_user(tables, partner, key) {
+        Some(row) => Some(KeyError::KeyInUse {
+            partner: row.partner,
+        }),
+        None => None,
+    }
+}
+
+/// Lists what an admission changes: the code's row is new or revived, provisional, and the device is live.
+fn admitted(device: Eui, key: &Key) -> Changes
+    ensures made { edits result.items ≡ map Moved (Row device.0 key.now.0 Provisional ∷ Live device.0 ∷ []) }
+    ensures few { length result.items ≤ 5 }
+{
+    let mut changes = ArrayVec::new();
+    add(
+        &mut changes,
+        Change::Row {
+            partner: device,
+            key: *key,
+            attribute: Attribute::Provisional,
+        },
+    );
+    add(&mut changes, Change::Live { device });
+    changes
+}
+
+/// Tells what the link key of a device's install code changes at the centre: its row is new or revived, and it is live.
+///
+/// Requires a device that isn't live.
+///
+/// # Errors
+/// `RowsFull` where a new row has no room; `KeyInUse` where another device's row has the key.
+#[tactic(auto, unfolding(zb_model::specs::OwnEvents::provision, crate::specs::Chains::steps))]
+pub fn provision(tables: &Tables, device: Eui, key: &Key) -> Result<Changes, KeyError>
+    requires { is_live tables.now device.0 ≡ false }
+    ensures rule { answered result ≡ told (provision tables.now device.0 key.now.0) }
+    ensures few { IsFew result }
+{
+    if !has_link(tables, device, key) && links_full(tables) {
+        return Err(KeyError::RowsFull);
+    }
+    match other_user(tables, device, key) {
+        Some(row) => Err(KeyError::KeyInUse {
+            partner: row.partner,
+        }),
+        None => Ok(admitted(device, key)),
+    }
+}
+
+/// Returns whether that row has the key.
+pub fn has_key(row: Option<&LinkRow>, key: &Key) -> bool
+    ensures { result ≡ has_key key.now.0 (option_map link_key (option_copied row.entry)) }
+{
+    match row {
+        Some(row) => row.key == *key,
+        None => false,
+    }
+}
+
+/// Adds what a link key changes that is offered: it is the offered one, in place of another.
+///
+/// Requires room for two more.
+pub fn add_offer(changes: &mut Changes, tables: &Tables, partner: Eui, key: &Key)
+    requires room { length changes.old.items ≤ 14 }
+    ensures made { edits changes.new.items ≡ edits changes.old.items
+        ++ map Moved (drop_row (offered tables.now partner.0) ++ (Row partner.0 key.now.0 Unverified ∷ [])) }
+    ensures longer { length changes.new.items ≤ length changes.old.items + 2 }
+{
+    add_drop(changes, tables.offered(partner));
+    add(
+        changes,
+        Change::Row {
+            partner,
+            key: *key,
+            attribute: Attribute::Unverified,
+        },
+    );
+}
+
+/// Lists what a link key changes that is offered.
+fn offered(tables: &Tables, partner: Eui, key: &Key) -> Changes
+    ensures made { edits result.items ≡ map Moved (drop_row (offered tables.now partner.0)
+        ++ (Row partner.0 key.now.0 Unverified ∷ [])) }
+    ensures few { length result.items ≤ 5 }
+{
+    let mut changes = ArrayVec::new();
+    add_offer(&mut changes, tables, partner, key);
+    changes
+}
+
+/// Tells what a link key changes that is offered: nothing where it is the current or the offered one.
+///
+/// Else it is the offered one, in place of another: its row is new or revived, unverified.
+///
+/// # Errors
+/// `RowsFull` where a new row has no room; `KeyInUse` where another partner's row has the key.
+#[tactic(auto, unfolding(crate::specs::Planned::offer_rule, zb_model::specs::Rules::choose))]
+pub fn offer(tables: &Tables, partner: Eui, key: &Key) -> Result<Changes, KeyError>
+    ensures rule { answered result ≡ told (offer_rule tables.now partner.0 key.now.0) }
+    ensures few { IsFew result }
+{
+    if has_key(tables.current(partner), key) || has_key(tables.offered(partner), key) {
+        return Ok(ArrayVec::new());
+    }
+    match row_refusal(tables, partner, key) {
+        Some(error) => Err(error),
+        None => Ok(offered(tables, partner, key)),
+    }
+}
+
+/// Lists what a key with a partner changes: it takes the place of the partner's rows in use, verified.
+fn shared(tables: &Tables, partner: Eui, key: &Key) -> Changes
+    ensures made { edits result.items ≡ map Moved (drop_partner tables.now partner.0
+        ++ (Row partner.0 key.now.0 Verified ∷ [])) }
+    ensures few { length result.items ≤ 5 }
+{
+    let mut changes = ArrayVec::new();
+    add_drop_partner(tables, &mut changes, partner);
+    add(
+        &mut changes,
+        Change::Row {
+            partner,
+            key: *key,
+            attribute: Attribute::Verified,
+        },
+    );
+    changes
+}
+
+/// Tells what a key with a partner changes: nothing where the partner's row in use has it.
+///
+/// Else it takes the place of the partner's rows in use: its row is new or revived, verified.
+///
+/// # Errors
+/// `RowsFull` where a new row has no room; `KeyInUse` where another partner's row has the key.
+#[tactic(auto, unfolding(crate::specs::Planned::partner_rule, zb_model::specs::Rules::choose))]
+pub fn partner(tables: &Tables, partner: Eui, key: &Key) -> Result<Changes, KeyError>
+    ensures rule { answered result ≡ told (partner_rule tables.now partner.0 key.now.0) }
+    ensures few { IsFew result }
+{
+    if has_key(live_link(tables, partner), key) {
+        return Ok(ArrayVec::new());
+    }
+    match row_refusal(tables, partner, key) {
+        Some(error) => Err(error),
+        None => Ok(shared(tables, partner, key)),
+    }
+}
+
+/// Tells what drops a partner: each of its rows in use goes, of which there are two at most.
+pub fn drop_partner(tables: &Tables, partner: Eui) -> Changes
+    ensures rule { edits result.items ≡ map Moved (drop_partner tables.now partner.0) }
+    ensures few { length result.items ≤ 2 }
+{
+    let mut changes = ArrayVec::new();
+    add_drop_partner(tables, &mut changes, partner);
+    changes
+}

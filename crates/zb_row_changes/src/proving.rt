@@ -1,0 +1,86 @@
+//! The changes of a link key that a partner proves by its hash.
+ghost use Rattle.std.specs.Prelude.{◌≡◌, ◌≤◌, ◌++◌, ◌∷◌, [], length, map, option_map};
+ghost use Rattle.std.specs.Option.{option_copied};
+ghost use Rattle.zb_node_types.specs.Changes.{edits};
+ghost use Rattle.zb_model.specs.Commands.{proves, verified_current};
+ghost use Rattle.zb_model.specs.Data.{Moved, Row, Verified};
+ghost use Rattle.zb_model.specs.Rules.{drop_row};
+ghost use Rattle.zb_model.specs.State.{current};
+ghost use Rattle.zb_model_real.specs.Real.{real};
+ghost use Rattle.zb_record.specs.RowViews.{link_key};
+ghost use Rattle.zb_row_changes.specs.Planned.{answered, told, verify_rule, IsFew};
+
+use crate::adding::{add, add_drop};
+use arrayvec::ArrayVec;
+use zb_base::{Attribute, Eui, Key};
+use zb_keys::{LinkRow, Tables};
+use zb_mmo::verify_hash;
+use zb_node_types::{Change, Changes, KeyError};
+
+/// Returns whether the hash is that of the row's key.
+#[tactic(auto, unfolding(zb_model_real::specs::Real::real))]
+pub fn is_proved(row: Option<&LinkRow>, hash: &[u8; 16]) -> bool
+    ensures { result ≡ proves real hash.now (option_map link_key (option_copied row.entry)) }
+{
+    match row {
+        Some(row) => verify_hash(&row.key) == *hash,
+        None => false,
+    }
+}
+
+/// Returns the current row of a partner where it is verified.
+pub fn verified_row<'a>(tables: &'a Tables, partner: Eui) -> Option<&'a LinkRow>
+    ensures { option_map link_key (option_copied result) ≡ verified_current tables.now partner.0 }
+{
+    match tables.current(partner) {
+        None => None,
+        Some(row) => { if row.is_verified() { Some(row) } else { None } }
+    }
+}
+
+/// Lists what a proof of the offered key changes: it is verified, and the current one goes.
+pub fn verified(tables: &Tables, partner: Eui, key: &Key) -> Changes
+    ensures made { edits result.items ≡ map Moved
+        (drop_row (current tables.now partner.0) ++ (Row partner.0 key.now.0 Verified ∷ [])) }
+    ensures few { length result.items ≤ 5 }
+{
+    let mut changes = ArrayVec::new();
+    add_drop(&mut changes, tables.current(partner));
+    add(
+        &mut changes,
+        Change::Row {
+            partner,
+            key: *key,
+            attribute: Attribute::Verified,
+        },
+    );
+    changes
+}
+
+/// Tells what the proof of a partner's key by its hash changes.
+///
+/// Of the offered key: it is verified, and the current one goes. Of the verified current key: nothing.
+///
+/// # Errors
+/// `NoRow` where the partner has neither an offered row nor a verified current one; `WrongHash` where it has, and the
+/// hash is that of neither.
+#[tactic(auto, unfolding(crate::specs::Planned::verify_rule, crate::specs::Chains::steps))]
+pub fn verify(tables: &Tables, partner: Eui, hash: &[u8; 16]) -> Result<Changes, KeyError>
+    ensures rule { answered result ≡ told (verify_rule real tables.now partner.0 hash.now) }
+    ensures few { IsFew result }
+{
+    if tables.offered(partner).is_none() && verified_row(tables, partner).is_none() {
+        return Err(KeyError::NoRow);
+    }
+    if let Some(row) = tables.offered(partner) {
+        if is_proved(Some(row), hash) {
+            return Ok(verified(tables, partner, &row.key));
+        }
+    }
+    if let Some(row) = verified_row(tables, partner) {
+        if is_proved(Some(row), hash) {
+            return Ok(ArrayVec::new());
+        }
+    }
+    Err(KeyError::WrongHash)
+}

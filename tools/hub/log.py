@@ -1,0 +1,95 @@
+"""Reads logs of sessions: `start` where tc_centre was started, `> LINE` for a line to it, `< LINE` for one of it."""
+import re
+
+HEADER = ('centre', 'peer', 'log', 'open')
+QUESTIONS = ('list', 'backup')
+# the last line of a session that ended by itself
+ENDS = ('usage', 'read fault', 'no memory', 'store fault', 'no store', 'worn', 'busy', 'too long', 'bad store')
+
+
+class BadLog(Exception):
+    """Why a text is no log of sessions."""
+
+
+class Asked:
+    """A line to the program with its number in the session. `lines` answer it, the last one left out, which is `word`:
+    `ok`, `refuse`, or none where no answer came."""
+
+    def __init__(self, number, text, place):
+        self.number, self.text, self.place = number, text, place
+        self.lines, self.word = [], None
+
+    @property
+    def kind(self):
+        """Returns the first word of the line."""
+        return self.text.split(' ')[0]
+
+    @property
+    def is_event(self):
+        """Returns whether the line is one of an event, and was carried out where it was answered."""
+        return self.kind not in HEADER + QUESTIONS and self.word != 'refuse'
+
+
+class Session:
+    """What was asked in one run of the program, and the line with which it ended by itself, or none."""
+
+    def __init__(self):
+        self.asked, self.end, self.lines = [], None, 0
+
+    def ask(self, text, place):
+        """Takes a line to the program. Empty lines and comments count, and have no answer."""
+        self.lines += 1
+        if text and not text.startswith('#'):
+            self.asked.append(Asked(self.lines, text, place))
+
+    def hear(self, text, place):
+        """Takes a line from the program."""
+        waiting = next((it for it in self.asked if it.word is None), None)
+        if text.startswith(ENDS):
+            self.end = text
+        elif waiting is None:
+            raise BadLog(f'line {place}: an answer where nothing was asked')
+        elif re.fullmatch(rf'(ok|refuse) {waiting.number}(?: .*)?', text):
+            waiting.word = text.split(' ')[0]
+        else:
+            waiting.lines.append(text)
+
+    def header(self, word):
+        """Returns the words of the header lines of a kind that were taken."""
+        return [it.text.split(' ') for it in self.asked if it.kind == word and it.word == 'ok']
+
+    def events(self):
+        """Returns the events that were answered."""
+        return [it for it in self.asked if it.is_event and it.word == 'ok']
+
+    def cut(self):
+        """Returns the event that had no answer when the session ended, or none."""
+        return next((it for it in self.asked if it.is_event and it.word is None), None)
+
+    def first_backup(self):
+        """Returns the backup that was answered before any event, or none."""
+        for it in self.asked:
+            if it.is_event:
+                return None
+            if it.kind == 'backup' and it.word == 'ok':
+                return it.lines[0]
+        return None
+
+
+def read(lines):
+    """Returns the sessions of a log. Empty lines are passed over: a host that starts anew ends a line that its
+    predecessor may have begun."""
+    sessions = []
+    for place, line in enumerate(lines, 1):
+        sign, _, text = line.partition(' ')
+        if line == '':
+            continue
+        if line == 'start':
+            sessions.append(Session())
+        elif sign not in ('>', '<') or not sessions:
+            raise BadLog(f'line {place}: it is neither `start` nor begins with `> ` or `< `')
+        elif sign == '>':
+            sessions[-1].ask(text, place)
+        else:
+            sessions[-1].hear(text, place)
+    return [it for it in sessions if it.header('open')]

@@ -1,0 +1,1 @@
+"""Tests of what the tools around a living centre share."""
