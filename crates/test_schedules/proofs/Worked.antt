@@ -11,11 +11,11 @@ use Rattle.zb_crc.specs.Division.{added, divided, message_bits, remainder}
 use Rattle.zb_install.specs.Crc.{crc}
 use Rattle.zb_mmo.specs.Hash.{blocks_of, hash}
 use Rattle.zb_model.specs.Rules.{centre_of}
-use Rattle.zb_model.proofs.Runs.ApplicationKeys as application_keys
-use Rattle.zb_model.proofs.Runs.ConfirmationStopped as confirmation_stopped
-use Rattle.zb_model.proofs.Runs.JoinUnderCentre as join_under_centre
-use Rattle.zb_model.proofs.Runs.KeyComesInUnseen as key_comes_in_unseen
-use Rattle.zb_model.proofs.Runs.RemovalAndRollover as removal_and_rollover
+use Rattle.law_worked_runs.proofs.Runs.ApplicationKeys as application_keys
+use Rattle.law_worked_runs.proofs.Runs.ConfirmationStopped as confirmation_stopped
+use Rattle.law_worked_runs.proofs.Runs.JoinUnderCentre as join_under_centre
+use Rattle.law_worked_runs.proofs.Runs.KeyComesInUnseen as key_comes_in_unseen
+use Rattle.law_worked_runs.proofs.Runs.RemovalAndRollover as removal_and_rollover
 use Rattle.zb_sched.specs.Reading.{schedule_in}
 use Rattle.law_schedules.specs.Schedules.{event_for, schedule_of}
 

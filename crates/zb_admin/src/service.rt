@@ -12,7 +12,7 @@ ghost use Rattle.zb_admin.specs.Texts.{ok_line, refuse_line};
 ghost use Rattle.zb_backup.specs.Format.{backup_text};
 ghost use Rattle.zb_base.specs.Config.{IsConfig};
 ghost use Rattle.zb_base.specs.Outside.{AppendsFront, Rose, Unrisen};
-ghost use Rattle.zb_centre.specs.Tasks.{task_of};
+ghost use Rattle.zb_centre_store.specs.Tasks.{task_of};
 ghost use Rattle.zb_host.specs.Hosts.{Hosted};
 ghost use Rattle.zb_model.specs.Data as model;
 ghost use Rattle.zb_model.specs.Rules.{Setting};
@@ -26,9 +26,9 @@ ghost use Rattle.zb_text.specs.Pages.{ended, page as page_of};
 use crate::lines::{put_ok, put_refusal, put_refused, put_sent};
 use std::alloc::{AllocError, Global};
 use zb_base::{Config, Failed, Frame, Sink};
-use zb_centre::{Centre, CentreEvent};
 use zb_centre_store::{
-    AdminFault, centre_tables, handle, init, judge, put_backup, put_tables, restore,
+    AdminFault, Centre, CentreEvent, centre_tables, handle, init, judge, put_backup, put_tables,
+    restore,
 };
 use zb_disk::Disk;
 use zb_host::{Host, Outcome};

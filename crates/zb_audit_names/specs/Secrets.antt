@@ -7,7 +7,7 @@ use Rattle.zb_audit_names.specs.Naming.{declares, declared_in, is_centres, is_of
 use Rattle.zb_model.specs.Data.{Bytes, Centre, Router, Device, Role, Station, Term}
 use Rattle.zb_model.specs.Secrets.{brings, carried, holds, holds_some, rounds, same_term, well_known}
 use Rattle.zb_model.specs.Tools.{Tools}
-use Rattle.zb_model_real.specs.Terms.{model_term}
+use Rattle.zb_trace.specs.Terms.{model_term}
 use Rattle.zb_trace.specs.declared.line.Line.{Line}
 use Rattle.zb_trace.specs.declared.line.Line.TheVariants as line
 

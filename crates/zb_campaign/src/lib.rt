@@ -9,3 +9,4 @@ mod writing;
 
 pub use fault::CampaignFault;
 pub use writing::campaign;
+pub use zb_player::{PlayFault, Still, play};

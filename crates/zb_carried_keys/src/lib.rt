@@ -5,3 +5,4 @@
 mod carrying;
 
 pub use carrying::{carried, is_command};
+pub use zb_seal::Term;

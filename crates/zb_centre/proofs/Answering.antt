@@ -15,8 +15,8 @@ use Rattle.zb_model.specs.State.{NodeState, is_centre}
 use Rattle.zb_model_real.specs.Real.{real}
 use Rattle.zb_node_types.specs.declared.refusal.Refusal.{Refusal}
 use Rattle.zb_seal.specs.declared.term.Term.{Term}
-use Rattle.zb_plan.specs.Answers.{IsAnswer, answer_to}
-use Rattle.zb_plan.specs.Storing.{own_plan}
+use Rattle.zb_core.specs.Answers.{IsAnswer, answer_to}
+use Rattle.zb_core.specs.Storing.{own_plan}
 
 -- an event of the node's own, not a delivery
 abbrev is_own : Task → Bool

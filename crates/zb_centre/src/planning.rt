@@ -6,21 +6,19 @@ ghost use Rattle.zb_model.specs.Answer.{answer};
 ghost use Rattle.zb_model.specs.OwnEvents.{own_at_centre};
 ghost use Rattle.zb_model.specs.State.{is_centre};
 ghost use Rattle.zb_model_real.specs.Real.{real};
-ghost use Rattle.zb_plan.specs.Answers.{IsAnswer};
-ghost use Rattle.zb_rules.specs.Outcomes.{Keeps, decided, told};
+ghost use Rattle.zb_core.specs.Answers.{IsAnswer};
+ghost use Rattle.zb_delivery.specs.Outcomes.{Keeps, decided, told};
 
 use crate::event::CentreEvent;
 use zb_base::Place;
-use zb_centre_rules::{
-    again, centre_timer, child_of_centre, provision, remove_device, roll, share, switch_over,
+use zb_core::{NodeCore, plan_own};
+use zb_delivery::{
+    Effect, again, centre_timer, child_of_centre, plan_received, provision, remove_device, roll,
+    say, share, switch_over,
 };
-use zb_core::NodeCore;
-use zb_delivery::plan_received;
 use zb_host::{Outcome, Plan};
 use zb_keys::Tables;
 use zb_node_types::Refusal;
-use zb_plan::plan_own;
-use zb_rules::{Effect, say};
 use zb_seal::{KeyMemo, Term};
 use zb_send::copied;
 use zb_setting::Network;

@@ -5,3 +5,5 @@ pub mod Makings
 pub mod Faults
 pub mod Calls
 pub mod Outside
+pub use Rattle.zb_centre.specs.Tasks
+pub use Rattle.zb_centre.specs.declared.event.CentreEvent

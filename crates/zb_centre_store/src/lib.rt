@@ -11,3 +11,4 @@ pub use backup::put_backup;
 pub use fault::AdminFault;
 pub use rows::put_tables;
 pub use store::{centre_tables, handle, init, judge, restore};
+pub use zb_centre::{Centre, CentreEvent};

@@ -7,7 +7,7 @@ use Rattle.law_real_nodes.specs.Sound.{NodesAreSound}
 use Rattle.law_real_runs.specs.Headline.{Holds}
 use Rattle.law_run_readings.specs.Agreeing.{RunAgrees}
 use Rattle.law_schedules.specs.Schedules.{schedule_of}
-use Rattle.zb_player.specs.Runs.{transcript_text}
+use Rattle.zb_campaign.specs.Runs.{transcript_text}
 use Rattle.zb_sched.specs.Reading.{schedule_in}
 use Rattle.zb_sched.specs.Schedules.{Schedule}
 use Rattle.zb_command.specs.Outcomes.{Played}

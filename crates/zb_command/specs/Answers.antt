@@ -14,7 +14,7 @@ use Rattle.zb_model.specs.Data.{Bytes}
 use Rattle.zb_pcap.specs.Extracts.{extracted}
 use Rattle.zb_pcap.specs.declared.extraction.Extraction.{Extraction}
 use Rattle.zb_pcap.specs.declared.fault.PcapError.{PcapError}
-use Rattle.zb_player.specs.Runs.{transcript_text}
+use Rattle.zb_campaign.specs.Runs.{transcript_text}
 use Rattle.zb_sched.specs.Schedules as sched
 use Rattle.zb_sched.specs.Printed.{printed}
 use Rattle.zb_sched.specs.Reading.{schedule_in}

@@ -6,7 +6,7 @@ ghost use Rattle.zb_command.specs.Answers.{wanted, Writes};
 ghost use Rattle.zb_command.specs.Commands.{Playing};
 ghost use Rattle.zb_command.specs.Inputs.{TakesAtMost};
 ghost use Rattle.zb_command.specs.Outcomes.{Ends, Played};
-ghost use Rattle.zb_player.specs.Runs.{transcript_text};
+ghost use Rattle.zb_campaign.specs.Runs.{transcript_text};
 ghost use Rattle.zb_sched.specs.Schedules as sched;
 ghost use Rattle.zb_sched.specs.Valid.{IsSchedule};
 ghost use Rattle.zb_base.specs.Limits.{first_too_long};
@@ -17,7 +17,7 @@ use law_real_nodes::{lines_of_each_run_agree, nodes_are_sound_in_each_run};
 use law_schedules::each_schedule_holds;
 use std::alloc::Global;
 use zb_base::{OrMemory, Sink, Source};
-use zb_player::{PlayFault, Still, play};
+use zb_campaign::{PlayFault, Still, play};
 use zb_sched::{Schedule, read};
 
 /// Plays the schedule on the input, and writes its transcript.

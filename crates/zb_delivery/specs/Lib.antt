@@ -1,1 +1,2 @@
 pub mod Taking
+pub use Rattle.zb_rules.specs.Outcomes

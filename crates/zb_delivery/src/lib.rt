@@ -7,3 +7,8 @@ mod delivery;
 mod payload;
 
 pub use delivery::plan_received;
+pub use zb_centre_rules::{
+    again, centre_timer, child_of_centre, provision, remove_device, roll, share, switch_over,
+};
+pub use zb_member_rules::{ask, child_of_router, knock, member_timer, rejoin, tell};
+pub use zb_rules::{Effect, say};

@@ -1,1 +1,2 @@
 pub mod Tasks
+pub use Rattle.zb_plan.specs.Answers

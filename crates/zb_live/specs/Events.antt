@@ -1,8 +1,8 @@
 -- The task of the centre that an event of a session stands for.
 use Rattle.std.specs.Prelude.{ℕ, ◌≡◌, bytes_eq, if◌then◌else◌, List, Option, Some, None, Result, Ok, Err}
 use Rattle.zb_base.specs.declared.address.Eui.{Eui}
-use Rattle.zb_centre.specs.Tasks.{task_of}
-use Rattle.zb_centre.specs.declared.event.CentreEvent.{CentreEvent}
+use Rattle.zb_centre_store.specs.Tasks.{task_of}
+use Rattle.zb_centre_store.specs.CentreEvent.{CentreEvent}
 use Rattle.zb_install.specs.Code.{code_key}
 use Rattle.zb_live_line.specs.Said.{Event, Delivers, Adopts, Ticks, Says, Provisions, Removes, Rolls, Switches, Repeats, Shares}
 use Rattle.zb_live_line.specs.declared.cause.Cause.{Cause}

@@ -5,7 +5,7 @@ ghost use Rattle.zb_live_line.specs.Views.{event_of};
 ghost use Rattle.zb_script.specs.Judge.{device_named, parent_named};
 
 use zb_base::{Eui, Name};
-use zb_centre::CentreEvent;
+use zb_centre_store::CentreEvent;
 use zb_install::InstallCode;
 use zb_live_line::{Cause, Event};
 use zb_script::Draft;

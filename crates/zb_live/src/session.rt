@@ -2,7 +2,7 @@
 ghost use Rattle.std.specs.Prelude.{◌≡◌, ◌≤◌, ◌++◌, ℕ, List, None, Some, Ok, Err, is_some, true, IsTrue, OnOk, IfErr, IfOk};
 ghost use Rattle.zb_backup.specs.Format.{backup_text};
 ghost use Rattle.zb_base.specs.Outside.{Unrisen};
-ghost use Rattle.zb_centre.specs.Tasks.{task_of};
+ghost use Rattle.zb_centre_store.specs.Tasks.{task_of};
 ghost use Rattle.zb_centre_store.specs.Calls.{IsShort};
 ghost use Rattle.zb_centre_store.specs.Rows.{listed};
 ghost use Rattle.zb_centre_store.specs.Standing.{IsUp};
@@ -29,8 +29,9 @@ use crate::event::event_for;
 use crate::telling::{Place, put_event};
 use std::alloc::Global;
 use zb_base::{Eui, Name, OrMemory, Peer};
-use zb_centre::{Centre, CentreEvent};
-use zb_centre_store::{AdminFault, centre_tables, handle, judge, put_backup, put_tables};
+use zb_centre_store::{
+    AdminFault, Centre, CentreEvent, centre_tables, handle, judge, put_backup, put_tables,
+};
 use zb_disk::Disk;
 use zb_host::{Host, Outcome, Plan};
 use zb_keys::Tables;

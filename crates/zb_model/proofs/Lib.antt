@@ -1,8 +1,6 @@
 mod Bytes
-mod Toy
-mod Terms
+pub mod Toy
 mod Small
-pub mod Runs
 mod Refusals
 mod Cases
 mod FitCases

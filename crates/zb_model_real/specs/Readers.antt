@@ -17,7 +17,7 @@ use Rattle.zb_model.specs.Tools.{NwkShown, NwkAuxiliary, ApsShown, ApsAuxiliary,
 use Rattle.zb_nwk.specs.declared.auxiliary.NwkAux.{NwkAux}
 use Rattle.zb_nwk.specs.declared.fault.NwkError.{NwkError}
 use Rattle.zb_nwk.specs.declared.frame.NwkFrame.{NwkFrame}
-use Rattle.zb_seal.specs.Opening.{label_of}
+use Rattle.zb_carried_keys.specs.Opening.{label_of}
 use Rattle.zb_model_real.specs.Terms.{model_label}
 
 abbrev pub model_command : Command → model.Command

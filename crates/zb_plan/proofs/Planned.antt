@@ -19,8 +19,8 @@ use Rattle.zb_plan.proofs.Stored.{Apart, stored_is}
 use Rattle.zb_rules.specs.Outcomes.{told, decided}
 use Rattle.zb_rules.specs.declared.effect.Effect.{Effect}
 use Rattle.zb_seal.specs.declared.term.Term.{Term}
-use Rattle.zb_send.specs.Sendings.{sending_of}
-use Rattle.zb_send.specs.Sent.{IsCounting, seals_of, sent_seen}
+use Rattle.zb_rules.specs.Sendings.{sending_of}
+use Rattle.zb_rules.specs.Sent.{IsCounting, seals_of, sent_seen}
 
 apart_terms : (nwk aps : Option Term) → IsNwk nwk → IsAps aps → Apart (terms nwk aps)
 apart_terms None None n a = tt

@@ -11,7 +11,7 @@ use Rattle.zb_plan.specs.Answers.{terms}
 use Rattle.zb_rules.specs.Outcomes.{decided, most_changes, told}
 use Rattle.zb_rules.specs.declared.effect.Effect.{Effect}
 use Rattle.zb_seal.specs.declared.term.Term.{Term}
-use Rattle.zb_send.specs.Sendings.{CanBeSent}
+use Rattle.zb_rules.specs.Sendings.{CanBeSent}
 
 -- what was decided of an event: what was accepted of a frame at each layer, and what a rule then decided
 pub record Decision : Type 0 where

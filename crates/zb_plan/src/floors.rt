@@ -9,8 +9,7 @@ ghost use Rattle.zb_plan.specs.Storing.{floor_edits};
 use zb_base::Layer;
 use zb_keys::Tables;
 use zb_node_types::{Change, Changes};
-use zb_rows::{floor_of, link_of, net_of};
-use zb_rules::add;
+use zb_rules::{add, floor_of, link_of, net_of};
 use zb_seal::Term;
 use zb_setting::Network;
 

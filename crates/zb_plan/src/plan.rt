@@ -9,8 +9,8 @@ ghost use Rattle.zb_plan.specs.Answers.{IsAnswer, answer_to, terms};
 ghost use Rattle.zb_plan.specs.Deciding.{CanBePlanned, IsAps, IsDecision, IsNwk, IsSmall, decision_in};
 ghost use Rattle.zb_plan.specs.Storing.{own_plan, stored_edits};
 ghost use Rattle.zb_rules.specs.Outcomes.{Keeps, decided, told, most_changes};
-ghost use Rattle.zb_send.specs.Sendings.{CanBeSent, sending_of};
-ghost use Rattle.zb_send.specs.Sent.{IsCounting, sent_seen};
+ghost use Rattle.zb_rules.specs.Sendings.{CanBeSent, sending_of};
+ghost use Rattle.zb_rules.specs.Sent.{IsCounting, sent_seen};
 
 use crate::floors::add_floors;
 use crate::reserves::add_reserve;
@@ -19,9 +19,8 @@ use zb_base::Layer;
 use zb_host::{Outcome, Plan};
 use zb_keys::Tables;
 use zb_node_types::{Changes, Refusal};
-use zb_rules::Effect;
+use zb_rules::{Effect, send_out};
 use zb_seal::{KeyMemo, Term};
-use zb_send::send_out;
 use zb_setting::Network;
 
 /// Lists all that an effect stores: reserves, floors, and the changes that change something.

@@ -2,13 +2,12 @@
 ghost use Rattle.std.specs.Prelude.{◌≡◌, ◌<◌, ◌≤◌, ◌+◌, ◌++◌, length, option_map};
 ghost use Rattle.zb_node_types.specs.Changes.{edits, model_layer};
 ghost use Rattle.zb_plan.specs.Storing.{reserve_edits};
-ghost use Rattle.zb_send.specs.Sendings.{sending_of};
+ghost use Rattle.zb_rules.specs.Sendings.{sending_of};
 
 use zb_base::Layer;
 use zb_keys::Tables;
 use zb_node_types::{Change, Changes};
-use zb_rules::add;
-use zb_send::{Sending, reserve};
+use zb_rules::{Sending, add, reserve};
 use zb_setting::Network;
 
 /// Adds the limit that a frame reserves at a layer, where there is one.

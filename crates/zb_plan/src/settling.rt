@@ -8,8 +8,7 @@ use zb_base::Key;
 use zb_keys::Tables;
 use zb_node_types::{Change, Changes};
 use zb_record::state_byte;
-use zb_rows::{first_counter, has_row_as, has_started, is_active_key};
-use zb_rules::add;
+use zb_rules::{add, first_counter, has_row_as, has_started, is_active_key};
 
 /// Returns whether a change doesn't leave a thing as it is.
 #[tactic(auto, unfolding(zb_model::specs::Answer::changes))]

@@ -4,18 +4,15 @@ ghost use Rattle.zb_model.specs.Answer.{answer};
 ghost use Rattle.zb_model.specs.Data.{HasChild, Task};
 ghost use Rattle.zb_model.specs.State.{is_centre};
 ghost use Rattle.zb_model_real.specs.Real.{real};
-ghost use Rattle.zb_plan.specs.Answers.{IsAnswer};
+ghost use Rattle.zb_device.specs.Answers.{IsAnswer};
 ghost use Rattle.zb_router.specs.Tasks.{IsTaskOf};
 
 use crate::event::RouterEvent;
 use zb_base::Eui;
-use zb_core::NodeCore;
-use zb_device::plan_member;
+use zb_device::{NodeCore, child_of_router, plan_member, plan_own};
 use zb_host::{Outcome, Plan};
 use zb_keys::Tables;
-use zb_member_rules::child_of_router;
 use zb_node_types::Refusal;
-use zb_plan::plan_own;
 use zb_seal::{KeyMemo, Term};
 use zb_setting::Network;
 

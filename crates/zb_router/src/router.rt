@@ -5,7 +5,7 @@ ghost use Rattle.zb_model.specs.Data as model;
 use crate::event::RouterEvent;
 use crate::planning::plan_router;
 use zb_base::Role;
-use zb_core::{NodeCore, Policy, PolicyCore};
+use zb_device::{NodeCore, Policy, PolicyCore};
 use zb_host::{Outcome, Plan};
 use zb_node_types::Refusal;
 use zb_seal::Term;

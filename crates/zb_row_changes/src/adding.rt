@@ -4,10 +4,10 @@ ghost use Rattle.std.specs.Option.{option_copied};
 ghost use Rattle.zb_node_types.specs.Changes.{edit, edits};
 ghost use Rattle.zb_model.specs.Data.{Moved};
 ghost use Rattle.zb_model.specs.Rules.{drop_row};
-ghost use Rattle.zb_record.specs.RowViews.{link_key};
+ghost use Rattle.zb_rows.specs.RowViews.{link_key};
 
 use zb_node_types::{Change, Changes};
-use zb_record::LinkRow;
+use zb_rows::LinkRow;
 
 /// Adds a change at the end.
 ///

@@ -15,3 +15,7 @@ pub use link_keys::{add_offer, drop_partner, has_key, offer, partner, provision,
 pub use network_keys::{add_active, install_net, switch};
 pub use pairs::{add_pair, pair};
 pub use proving::{is_proved, verified, verified_row, verify};
+pub use zb_rows::{
+    LinkRow, Tables, first_counter, floor_of, has_row_as, has_started, is_active_key, is_spent,
+    link_of, net_of, usable_active,
+};

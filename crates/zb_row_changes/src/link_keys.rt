@@ -7,15 +7,14 @@ ghost use Rattle.zb_model.specs.Data.{Live, Move, Moved, Provisional, Row, Unver
 ghost use Rattle.zb_model.specs.OwnEvents.{provision};
 ghost use Rattle.zb_model.specs.Rules.{drop_partner, drop_row};
 ghost use Rattle.zb_model.specs.State.{is_live, offered};
-ghost use Rattle.zb_record.specs.RowViews.{link_key};
+ghost use Rattle.zb_rows.specs.RowViews.{link_key};
 ghost use Rattle.zb_row_changes.specs.Planned.{answered, offer_rule, partner_rule, refused_or, told, IsFew};
 
 use crate::adding::{add, add_drop};
 use arrayvec::ArrayVec;
 use zb_base::{Attribute, Eui, Key};
-use zb_keys::{LinkRow, Tables};
 use zb_node_types::{Change, Changes, KeyError};
-use zb_rows::{add_drop_partner, has_link, links_full, live_link, other_user};
+use zb_rows::{LinkRow, Tables, add_drop_partner, has_link, links_full, live_link, other_user};
 
 /// Returns why a link key gets no row: there is no room for one, or another partner's row has the key.
 #[tactic(auto, unfolding(crate::specs::Chains::steps))]

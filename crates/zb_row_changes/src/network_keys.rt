@@ -8,11 +8,10 @@ ghost use Rattle.zb_row_changes.specs.Planned.{answered, arrival, net_rule, sett
 use crate::adding::add;
 use arrayvec::ArrayVec;
 use zb_base::Key;
-use zb_keys::Tables;
 use zb_node_types::{Change, Changes, KeyError};
 use zb_rows::{
-    activates, add_drop_old, dropped_place, first_counter, has_net, has_started, is_active_key,
-    live_of, nets_full,
+    Tables, activates, add_drop_old, dropped_place, first_counter, has_net, has_started,
+    is_active_key, live_of, nets_full,
 };
 
 /// Adds what makes a network key active, which is nothing where it is active already.

@@ -8,9 +8,8 @@ ghost use Rattle.zb_row_changes.specs.Planned.{answered, pair_rule, told, IsFew}
 use crate::adding::add;
 use arrayvec::ArrayVec;
 use zb_base::{Eui, Key};
-use zb_keys::Tables;
 use zb_node_types::{Change, Changes, KeyError};
-use zb_rows::pairs_full;
+use zb_rows::{Tables, pairs_full};
 
 /// Adds the pair of two devices, the smaller address first.
 ///

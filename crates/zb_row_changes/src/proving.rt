@@ -7,15 +7,15 @@ ghost use Rattle.zb_model.specs.Data.{Moved, Row, Verified};
 ghost use Rattle.zb_model.specs.Rules.{drop_row};
 ghost use Rattle.zb_model.specs.State.{current};
 ghost use Rattle.zb_model_real.specs.Real.{real};
-ghost use Rattle.zb_record.specs.RowViews.{link_key};
+ghost use Rattle.zb_rows.specs.RowViews.{link_key};
 ghost use Rattle.zb_row_changes.specs.Planned.{answered, told, verify_rule, IsFew};
 
 use crate::adding::{add, add_drop};
 use arrayvec::ArrayVec;
 use zb_base::{Attribute, Eui, Key};
-use zb_keys::{LinkRow, Tables};
 use zb_mmo::verify_hash;
 use zb_node_types::{Change, Changes, KeyError};
+use zb_rows::{LinkRow, Tables};
 
 /// Returns whether the hash is that of the row's key.
 #[tactic(auto, unfolding(zb_model_real::specs::Real::real))]

@@ -1,1 +1,2 @@
 pub mod Asking
+pub use Rattle.zb_record.specs.RowViews

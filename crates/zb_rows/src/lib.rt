@@ -22,4 +22,4 @@ pub use nets::{
     usable_active, usable_of,
 };
 pub use senders::is_full_for;
-pub use zb_keys::floor_of;
+pub use zb_keys::{LinkRow, NetRow, Tables, floor_of};

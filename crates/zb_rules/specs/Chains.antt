@@ -3,7 +3,7 @@
 use Rattle.std.specs.Prelude.{⊤}
 use Rattle.zb_model.specs.Rules.{unless, found_or, choose}
 use Rattle.zb_row_changes.specs.Planned.{partner_rule}
-use Rattle.zb_model_real.specs.Real.{real}
+use Rattle.zb_row_changes.specs.Real.{real}
 
 unfoldable pub steps : ⊤
 unfolding unless found_or choose partner_rule

@@ -2,8 +2,8 @@
 use Rattle.std.specs.Prelude.{ℕ, Option, Some, None, option_map}
 use Rattle.zb_base.specs.declared.address.Eui.{Eui}
 use Rattle.zb_model.specs.Commands as model
-use Rattle.zb_model_real.specs.Terms.{model_label}
-use Rattle.zb_record.specs.RowViews.{link_key}
+use Rattle.zb_row_changes.specs.Terms.{model_label}
+use Rattle.zb_row_changes.specs.RowViews.{link_key}
 use Rattle.zb_rules.specs.declared.heard.Heard.{Heard}
 use Rattle.zb_rules.specs.declared.heard.Heard.TheVariants.{Clear, Sealed}
 

@@ -1,3 +1,5 @@
 pub mod Chains
 pub mod Hearing
 pub mod Outcomes
+pub use Rattle.zb_send.specs.Sendings
+pub use Rattle.zb_send.specs.Sent

@@ -1,6 +1,6 @@
 //! A command as it came to a node.
 use zb_base::{Eui, Label};
-use zb_record::LinkRow;
+use zb_row_changes::LinkRow;
 use zb_setting::Network;
 
 /// Says in which form a command came, and from whom.
@@ -29,8 +29,8 @@ impl Heard {
     ghost use Rattle.std.specs.Option.{option_copied};
     ghost use Rattle.zb_model.specs.Commands.{labelled, is_clear, clear_or_data, nwk_secured, row_is, names_eui};
     ghost use Rattle.zb_model.specs.Rules.{from_centre, acts_as_router};
-    ghost use Rattle.zb_model_real.specs.Terms.{model_label};
-    ghost use Rattle.zb_record.specs.RowViews.{link_key};
+    ghost use Rattle.zb_row_changes.specs.Terms.{model_label};
+    ghost use Rattle.zb_row_changes.specs.RowViews.{link_key};
     ghost use Rattle.zb_rules.specs.Hearing.{heard_of};
 
     /// Returns whether the command wasn't secured at APS.

@@ -11,4 +11,7 @@ pub use effect::{Effect, sending};
 pub use heard::Heard;
 pub use refusing::refused;
 pub use saying::{is_rejoining, say};
-pub use zb_row_changes::{add, add_drop};
+pub use zb_row_changes::{
+    add, add_drop, first_counter, floor_of, has_row_as, has_started, is_active_key, link_of, net_of,
+};
+pub use zb_send::{Sending, reserve, send_out};

@@ -8,9 +8,8 @@ ghost use Rattle.zb_rules.specs.Outcomes.{told, decided, Keeps};
 
 use crate::Effect;
 use zb_base::{Layer, Place, Short, State};
-use zb_keys::Tables;
 use zb_node_types::Refusal;
-use zb_rows::{is_spent, usable_active};
+use zb_row_changes::{Tables, is_spent, usable_active};
 use zb_send::{Body, Payload};
 
 /// Returns whether a node in that state waits to be let in again.

@@ -2,3 +2,4 @@ pub mod Keys
 pub mod Wire
 pub mod Opening
 pub mod Texts
+pub use Rattle.zb_mmo.specs.Keyed

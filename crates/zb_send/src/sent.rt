@@ -6,7 +6,7 @@ ghost use Rattle.zb_model.specs.Rules.{spent};
 ghost use Rattle.zb_model.specs.State.{active_row, next_counter, stored_limit};
 ghost use Rattle.zb_model_real.specs.Real.{real};
 ghost use Rattle.zb_node_types.specs.Changes.{model_layer};
-ghost use Rattle.zb_record.specs.RowViews.{net_key};
+ghost use Rattle.zb_rows.specs.RowViews.{net_key};
 ghost use Rattle.zb_send.specs.Sendings.{CanBeSent, IsSendable, body_of, room, sending_of};
 ghost use Rattle.zb_send.specs.Parts.{part_seen};
 ghost use Rattle.zb_send.specs.Sent.{IsCounting, sent_seen};
@@ -16,8 +16,7 @@ use crate::part::{Part, part_of, sealed};
 use crate::sending::{Body, Sending};
 use crate::terms::{CLEAR, nwk_term};
 use zb_base::{Frame, Layer, Short};
-use zb_keys::{NetRow, Tables};
-use zb_rows::{is_spent, next_counter, stored_limit};
+use zb_rows::{NetRow, Tables, is_spent, next_counter, stored_limit};
 use zb_seal::{KeyMemo, Term};
 use zb_setting::Network;
 

@@ -8,7 +8,7 @@ use Rattle.zb_node_types.specs.Reasons.{reason_word, reason_detail}
 use Rattle.zb_node_types.specs.declared.refusal.Detail.{Detail}
 use Rattle.zb_node_types.specs.declared.refusal.Detail.TheVariants as detail
 use Rattle.zb_node_types.specs.declared.refusal.Refusal.{Refusal}
-use Rattle.zb_seal.specs.declared.term.Term.{Term}
+use Rattle.zb_model_real.specs.Term.{Term}
 pub use Rattle.zb_text.specs.Choices.{role_text, layer_text, label_text, attribute_text, state_text, rollover_text, place_text, answer_text}
 use Rattle.zb_text.specs.Choices as choices
 use Rattle.zb_text.specs.Fields.{is_name, eui_text, short_text}

@@ -7,8 +7,8 @@ ghost use Rattle.zb_trace.specs.declared.line.Line.TheVariants as line;
 use crate::parts::{add_refusal, add_term, begin, begin_of};
 use std::alloc::AllocError;
 use zb_base::{Frame, List, Name};
+use zb_model_real::Term;
 use zb_node_types::Refusal;
-use zb_seal::Term;
 use zb_text::choices::answer_text;
 use zb_text::page::{add_bytes, add_number, add_word, end_line, put};
 

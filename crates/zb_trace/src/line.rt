@@ -1,7 +1,7 @@
 //! The lines of a transcript.
 use zb_base::{Attribute, Eui, Frame, Key, Layer, List, Name, Role, Rollover, Short, State};
+use zb_model_real::Term;
 use zb_node_types::Refusal;
-use zb_seal::Term;
 
 /// One line of a transcript. `event` is the number of the event that gave the line, from 1; the lines of the start
 /// have the number 0. A node is named by its name, and where a line names a partner, a sender or a device, by its

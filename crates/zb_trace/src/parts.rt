@@ -5,8 +5,8 @@ ghost use Rattle.zb_trace.specs.Text.{opening, opening_of, trailing, term_words,
 
 use std::alloc::AllocError;
 use zb_base::Name;
+use zb_model_real::Term;
 use zb_node_types::{Detail, Refusal};
-use zb_seal::Term;
 use zb_text::choices::{label_text, layer_text, place_text};
 use zb_text::numbers::put_number;
 use zb_text::page::{add_bytes, add_eui, add_key, add_number, add_word};

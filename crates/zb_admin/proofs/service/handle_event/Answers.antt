@@ -1,5 +1,5 @@
 use Rattle.std.proofs.Common.{◌∙◌, Some, ap, ◌++◌}
-use Rattle.zb_centre.specs.Tasks.{task_of}
+use Rattle.zb_centre_store.specs.Tasks.{task_of}
 use Rattle.zb_model.specs.Answer.{answer}
 use Rattle.zb_model_real.specs.Real.{real}
 use Rattle.zb_text.specs.Pages.{page}

@@ -3,7 +3,7 @@ use Rattle.zb_command.specs.Answers.{Writes}
 use Rattle.zb_command.proofs.Completeness.{written}
 use Rattle.zb_command.proofs.PlayedRuns.{told}
 use Rattle.zb_command.proofs.play.play_input.Goals as goal
-use Rattle.zb_player.specs.Runs.{transcript_text}
+use Rattle.zb_campaign.specs.Runs.{transcript_text}
 use Rattle.zb_sched.specs.Schedules.{schedule_of}
 
 pub returns-in-Ok-read-clause-played : goal.returns-in-Ok-read-clause-played

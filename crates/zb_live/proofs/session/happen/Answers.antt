@@ -1,4 +1,4 @@
-use Rattle.zb_centre.specs.Tasks.{task_of}
+use Rattle.zb_centre_store.specs.Tasks.{task_of}
 use Rattle.zb_live.proofs.SessionLemmas.{always, event_lines_lack, event_lines_stand, handled_fault, no_setting, told_short}
 use Rattle.zb_live.proofs.session.happen.Goals as goal
 

@@ -2,7 +2,7 @@ use Rattle.std.proofs.Common.{◌≡◌, sym, subst}
 use Rattle.zb_model.specs.Answer.{answer}
 use Rattle.zb_model.specs.Data.{HasChild, Task}
 use Rattle.zb_model_real.specs.Real.{real}
-use Rattle.zb_plan.specs.Answers.{IsAnswer}
+use Rattle.zb_device.specs.Answers.{IsAnswer}
 use Rattle.zb_router.proofs.planning.plan_router.Goals as goal
 
 pub plan_child-requires : goal.plan_child-requires

@@ -1,6 +1,6 @@
 use Rattle.std.proofs.Common.{◌∙◌, rules, Bool, Some, ap, sym}
 use Rattle.std.specs.Prelude.{if◌then◌else◌}
-use Rattle.zb_centre.specs.Tasks.{task_of}
+use Rattle.zb_centre_store.specs.Tasks.{task_of}
 use Rattle.zb_live.specs.Living.{setting_of}
 use Rattle.zb_live.specs.declared.session.Session.{Session}
 use Rattle.zb_live_line.specs.Views.{event_of}

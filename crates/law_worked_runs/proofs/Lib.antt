@@ -1,0 +1,2 @@
+mod Terms
+pub mod Runs
